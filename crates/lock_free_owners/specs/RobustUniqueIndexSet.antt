@@ -1,12 +1,18 @@
 -- The words of the contracts of a robust unique index set: what names it, which pass is for it, and
--- what a pass knows.
-use Rattle.std.specs.Prelude.{◌≡◌, ℕ, ◌-◌, ◌^◌, ◌||◌, Option, Some, if◌then◌else◌, nat_lt}
+-- what a pass knows of the set's history.
+use Rattle.std.specs.Prelude.{◌≡◌, ℕ, ◌+◌, ◌-◌, ◌^◌, ◌||◌, Option, Some, List, if◌then◌else◌, nat_lt}
 use Rattle.std.specs.Arc.{arc_value}
 use Rattle.steps.specs.Enums.{capacity_refusal}
 use Rattle.steps.specs.declared.enums.UniqueIndexCreationError.{UniqueIndexCreationError}
 use Rattle.steps.specs.declared.enums.UniqueIndexCreationError.TheVariants.{ProvidedCapacityGreaterThanMaxCapacity}
+use Rattle.model.specs.declared.event.Event.{Event}
+use Rattle.model.specs.declared.turn.Kind.TheVariants as kinds
+use Rattle.model.specs.Coding.{one_word}
 use Rattle.lock_free_sp.specs.Sets.{SetId}
-use Rattle.lock_free_owners.specs.declared.robust.view.View.{View}
+use Rattle.lock_free_sp.specs.declared.share.Share.{Share}
+use Rattle.history.specs.declared.view.View.{View}
+use Rattle.history.specs.History.{IsHistory}
+use Rattle.history.specs.Passes as passes
 use Rattle.lock_free_owners.specs.declared.mpmc.robust_unique_index_set.RobustUniqueIndexSet.{RobustUniqueIndexSet}
 use Rattle.lock_free_owners.specs.declared.mpmc.robust_unique_index_set.StaticRobustUniqueIndexSet.{StaticRobustUniqueIndexSet}
 use Rattle.lock_free_owners.specs.declared.mpmc.robust_unique_index_set.Pass.{Pass}
@@ -18,15 +24,41 @@ set_id s = record { table = (arc_value s.table).shared.table_id; capacity = s.ca
 abbrev pub capacity_of : RobustUniqueIndexSet → ℕ
 capacity_of s = s.capacity
 
--- what a pass knows, and which set it is for
-abbrev pub view : Pass → View
-view p = p.seated.seat.me.0
-
+-- which set a pass is for
 abbrev pub set_of : Pass → SetId
 set_of p = record { table = p.seated.seat.table_id; capacity = p.capacity }
 
 abbrev pub IsPassOf : RobustUniqueIndexSet → Pass → Type 0
 IsPassOf s p = set_of p ≡ set_id s
+
+-- all that a pass knows
+abbrev pub view : Pass → View ℕ
+view p = p.seated.seat.me.0
+
+-- the beginning of the history that it has seen
+abbrev pub history : Pass → List (Event ℕ)
+history p = p.seated.seat.me.0.seen
+
+-- the events of its own calls, and of those of the passes that it took in
+abbrev pub made : Pass → List (Event ℕ)
+made p = p.seated.seat.me.0.made
+
+-- its share of the right to know the whole
+abbrev pub share : Pass → Share
+share p = p.seated.seat.me.0.share
+
+-- it has seen a history of its set
+abbrev pub HasHistory : Pass → Type 0
+HasHistory p = IsHistory one_word kinds.Robust (set_of p).capacity (history p)
+
+-- with the whole share, the history is what it made
+abbrev pub MissesNothing : Pass → Type 0
+MissesNothing p = passes.MissesNothing (view p)
+
+-- what each call leaves of a pass, and what the pass knows from then on
+pub record GoesOn (old new : Pass) : Type 0 where
+  pub set : set_of new ≡ set_of old
+  pub goes : passes.Goes one_word kinds.Robust (set_of old).capacity (view old) (view new)
 
 -- a capacity from 1 to 2^32 - 1 is admitted
 abbrev pub set_refusal : ℕ → Option UniqueIndexCreationError

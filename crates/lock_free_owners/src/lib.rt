@@ -5,5 +5,6 @@
 #![tactic(auto)]
 
 mod container;
+pub mod laws;
 pub mod mpmc;
 mod robust;

@@ -1,6 +1,5 @@
-//! A robust unique index set, shared between threads: its rule, and what its calls know at their steps.
+//! What the container's calls share with a robust unique index set, at a table whose rule keeps no history.
 pub mod counts;
 pub mod drives;
 pub mod plays;
-pub mod rule;
 pub mod view;

@@ -3,7 +3,5 @@ pub mod Parts
 pub mod LookRuns
 pub mod AcquireRuns
 pub mod ReleaseRuns
-pub mod FindRuns
-pub mod RecoverRuns
 pub mod Finding
 pub mod Recovering

@@ -1,5 +1,6 @@
 -- A handle of a robust unique index set: the set, and the pass that its calls are made with.
-use Rattle.lock_free_owners.specs.declared.robust.view.View.{View}
+use Rattle.std.specs.Prelude.{ℕ}
+use Rattle.history.specs.declared.view.View.{View}
 use Rattle.lock_free_owners.specs.declared.mpmc.robust_unique_index_set.RobustUniqueIndexSet.{RobustUniqueIndexSet}
 use Rattle.lock_free_owners.specs.declared.mpmc.robust_unique_index_set.Pass.{Pass}
 use Rattle.lock_free_owners.specs.declared.mpmc.robust_unique_index_set.handles.Handle.{Handle}
@@ -12,5 +13,5 @@ abbrev pub pass_in : Handle → Pass
 pass_in h = h.pass
 
 -- what its pass knows
-abbrev pub knows : Handle → View
+abbrev pub knows : Handle → View ℕ
 knows h = view h.pass

@@ -65,18 +65,6 @@ AcquireStage v (acquires.TheVariants.ChecksCounter counter) =
 AcquireStage v (acquires.TheVariants.Raises index raise) =
     (v.locked ≡ false) × (index < v.capacity) × RaiseStands raise
 
-abbrev pub AcquireStands : View → Acquire → Type 0
-AcquireStands v call = (call.capacity ≡ v.capacity) × AcquireStage v call.stage
-
-abbrev pub AcquireEnds : View → Acquired → Unit {0} → View → Type 0
-AcquireEnds base (Ok index) room w = FoundOpen base w × (index < base.capacity)
-AcquireEnds base (Err failure) room w = WasRefused failure base w
-
--- how a step of it ends, which leaves the view unless the acquire ends
-abbrev pub AcquireGoes : View → After Acquire Acquired → View → Type 0
-AcquireGoes v (GoOn d) w = (w ≡ v) × AcquireStands w d
-AcquireGoes v (Done end) w = AcquireEnds v end tt w
-
 -- ---- release
 
 -- it locks in the mode for that alone
@@ -85,49 +73,6 @@ ReleaseStage mode v releases.TheVariants.EmptiesCell = Unit {0}
 ReleaseStage mode v (releases.TheVariants.Raises raise) = RaiseStands raise
 ReleaseStage mode v (releases.TheVariants.Locks lock) =
     (mode ≡ LockIfLastIndex) × LockStands v lock
-
-abbrev pub ReleaseStands : GiveBack → View → Release → Type 0
-ReleaseStands given v call =
-    (call.capacity ≡ v.capacity) × (given.index < v.capacity)
-    × ReleaseStage given.mode v call.stage
-
-abbrev pub ReleaseEnds : GiveBack → View → Released → Unit {0} → View → Type 0
-ReleaseEnds given base (Ok state) room w = HasReleased state given.mode base w
-ReleaseEnds given base (Err error) room w = w ≡ base
-
--- ---- find
-
--- how many it has found is at most how many cells it has come to
-abbrev pub FindStage : View → finds.FindStage → Type 0
-FindStage v (finds.TheVariants.LoadsCell index found) = (index < v.capacity) × (found ≤ index)
-FindStage v (finds.TheVariants.Asks index found) = (index < v.capacity) × (found ≤ index + 1)
-
-abbrev pub FindStands : View → Find → Type 0
-FindStands v call = (call.capacity ≡ v.capacity) × FindStage v call.stage
-
-abbrev pub FindEnds : View → ℕ → Unit {0} → View → Type 0
-FindEnds base found room w = w ≡ base
-
--- ---- recover
-
-abbrev pub RecoverStage : View → recovers.RecoverStage → Type 0
-RecoverStage v recovers.TheVariants.LoadsCounter = Unit {0}
-RecoverStage v (recovers.TheVariants.LoadsCell index) = (v.locked ≡ false) × (index < v.capacity)
-RecoverStage v (recovers.TheVariants.Asks index owner) =
-    (v.locked ≡ false) × (index < v.capacity) × (owner < empty)
-RecoverStage v (recovers.TheVariants.EmptiesCell index owner) =
-    (v.locked ≡ false) × (index < v.capacity) × (owner < empty)
-RecoverStage v (recovers.TheVariants.Raises index raise) =
-    (v.locked ≡ false) × (index < v.capacity) × RaiseStands raise
-RecoverStage v (recovers.TheVariants.Locks index lock) =
-    (v.locked ≡ false) × (index < v.capacity) × LockStands v lock
-RecoverStage v recovers.TheVariants.LoadsCounterAgain = v.locked ≡ false
-
-abbrev pub RecoverStands : View → Recover → Type 0
-RecoverStands v call = (call.capacity ≡ v.capacity) × RecoverStage v call.stage
-
-abbrev pub RecoverEnds : View → ReleaseState → Unit {0} → View → Type 0
-RecoverEnds base state room w = HasRecovered state base w
 
 -- ---- looks
 
@@ -169,11 +114,6 @@ module _ {F : Type 0} where
       (g ≡ f) × ((k : ℕ) × (after ≡ find_after call owner k))
   FindMoves step call owner (finds.TheVariants.Asks index found) f after g =
       (a : CallbackProgression) × step f index a g × (after ≡ find_after call owner (says a))
-
--- how a step of a recovery ends, which leaves the view unless the recovery ends
-abbrev pub RecoverGoes : View → After Recover ReleaseState → View → Type 0
-RecoverGoes v (GoOn d) w = (w ≡ v) × RecoverStands w d
-RecoverGoes v (Done state) w = HasRecovered state v w
 
 -- where loads of cells lead from this one on: to a cell or an owner there or further on, or to the end
 abbrev pub HasPassedTo : ℕ → recovers.RecoverStage → Type 0
@@ -221,8 +161,8 @@ module _ {F S : Type 0} where
       → recovers.RecoverStage → F → S → Type 0
   RecoverAsks pre may recovers.TheVariants.LoadsCounter p s = Unit {0}
   RecoverAsks pre may (recovers.TheVariants.LoadsCell index) p s = Unit {0}
-  RecoverAsks pre may (recovers.TheVariants.Asks index owner) p s = pre p owner index
-  RecoverAsks pre may (recovers.TheVariants.EmptiesCell index owner) p s = may s owner index
+  RecoverAsks pre may (recovers.TheVariants.Asks index owner) p s = owner < empty → pre p owner index
+  RecoverAsks pre may (recovers.TheVariants.EmptiesCell index owner) p s = owner < empty → may s owner index
   RecoverAsks pre may (recovers.TheVariants.Raises index raise) p s = Unit {0}
   RecoverAsks pre may (recovers.TheVariants.Locks index lock) p s = Unit {0}
   RecoverAsks pre may recovers.TheVariants.LoadsCounterAgain p s = Unit {0}
@@ -242,10 +182,10 @@ module _ {F S : Type 0} where
   RecoverMoves step tell call mode (recovers.TheVariants.LoadsCell index) p s after q t =
       (q ≡ p) × (t ≡ s) × HasPassed index after
   RecoverMoves step tell call mode (recovers.TheVariants.Asks index owner) p s after q t =
-      (t ≡ s) × ((yes : Bool) × step p owner index yes q
+      (owner < empty) × (t ≡ s) × ((yes : Bool) × step p owner index yes q
       × (after ≡ recover_after call mode (if yes then 1 else 0)))
   RecoverMoves step tell call mode (recovers.TheVariants.EmptiesCell index owner) p s after q t =
-      (q ≡ p) × ((k : ℕ) × (after ≡ recover_after call mode k))
+      (owner < empty) × (q ≡ p) × ((k : ℕ) × (after ≡ recover_after call mode k))
       × (has_freed after ≡ true → tell s owner index t) × (has_freed after ≡ false → t ≡ s)
   RecoverMoves step tell call mode (recovers.TheVariants.Raises index raise) p s after q t =
       GoesQuietly call mode p s after q t

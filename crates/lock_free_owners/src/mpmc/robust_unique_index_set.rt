@@ -1,34 +1,36 @@
 //! A set of indices of which each is handed out to one owner at a time, shared between threads. The indices of an owner
 //! that is dead are recovered.
 //!
-//! Each call but `capacity` is made with a pass of its set, which is the caller's concern. A pass tells whether the lock
-//! was seen: from then on the calls that are made with it find the set locked.
+//! Each call but `capacity` is made with a pass of its set, which is the caller's concern. A pass knows a beginning of
+//! the set's one history, and what of it is its own doing; once it has seen the lock the calls that are made with it find
+//! the set locked.
 //!
 //! Two things are the caller's concern besides, which no contract asks for: an index is given back at most once, by its
-//! holder; and nobody acts for an owner once its recovery has begun. Where a caller breaks them each call still answers
-//! as its contract says, but an index may be handed out that somebody still uses.
+//! holder; and nobody acts for an owner once its recovery has begun. In a history where nobody breaks them (`IsProper`,
+//! `IsHonest`) no index is granted that somebody holds. Where a caller breaks them each call still answers as its contract
+//! says, but an index may be handed out that somebody still uses.
 //!
 //! The generation counter of a set ends at `u64::MAX - 1`. From there on no index is handed out, and the set is locked
 //! no more.
-ghost use Rattle.std.specs.Prelude.{◌≡◌, ◌<◌};
+ghost use Rattle.std.specs.Prelude.{◌≡◌, ◌<◌, ◌+◌, [], None};
 ghost use Rattle.std.specs.Arc.{arc_value};
-ghost use Rattle.lock_free_owners.specs.Robust.Kept.{size};
+ghost use Rattle.lock_free_owners.specs.Robust.Turns.{size};
 
-use crate::robust::rule::{Board, RobustRule};
-use crate::robust::view::View;
-use lock_free_sp::driver::seated::Seated;
+use self::rule::{Board, Seat};
 use std::alloc::Global;
 use std::sync::Arc;
 
 mod acquires;
 mod calls;
-mod cells;
 mod counts;
+mod drives;
+mod finds;
 mod fixed;
 mod handles;
 mod make;
 mod passes;
-mod visits;
+mod recovers;
+pub mod rule;
 
 pub use handles::Handle;
 pub use steps::enums::{CallbackProgression, OwnerId, OwnerIdNewError};
@@ -49,14 +51,18 @@ pub struct StaticRobustUniqueIndexSet<const CAPACITY: usize> {
     set: RobustUniqueIndexSet,
 }
 
-/// What a caller knows of a set: whether it has seen the lock. Each call is made with a pass of its set, which is the
-/// caller's concern, and only the caller's own calls change it. This project's own.
+/// What a caller makes each call on a set with: it says which set it is for, how much of the set's history it has seen,
+/// and what of it is its own doing. Each call is made with a pass of its set, which is the caller's concern. This
+/// project's own.
 #[derive(Drop)]
 pub struct Pass {
-    seated: Seated<View, u64, RobustRule>,
+    seated: Seat,
     capacity: u32,
-    ghost sized: { seated.seat.table_id.words ≡ size capacity },
+    ghost sized: { seated.seat.table_id.words ≡ size capacity + 1 },
     ghost keyed: { (arc_value seated.table).shared.key ≡ capacity },
     ghost known: { seated.seat.me.0.capacity ≡ capacity },
-    ghost some: { 0 < capacity },
+    ghost places: { 0 < capacity },
+    ghost idle: { seated.seat.me.0.going ≡ None },
+    ghost alone: { seated.seat.me.0.other ≡ [] },
+    ghost some: { (0 < seated.seat.me.0.share.part) × (0 < seated.seat.me.0.share.parts) },
 }

@@ -78,27 +78,3 @@ module _ {A : Type 0} (after : ℕ → A) (v : View) (Here : Bool → A → Type
         (λ next stands. more (acquires.TheVariants.Raises index next) (at.0, at.1, stands))
         shut
         (done index at.0 at.1)
-
-pub acquire_rule : (owner : ℕ) → KeepsRule capacity_seen (At AcquireStands) AcquireEnds size (λ key. key) (λ key. Kept (size key)) (λ c. acquire_want c owner) acquire_after (λ c m k. m)
-acquire_rule owner base v c room key words slots id sized known at =
-    acquire_owes (acquire_after c) v (Goes AcquireStands AcquireEnds acquire_after v c room) (Tells AcquireStands AcquireEnds acquire_after v c room) (tells AcquireStands AcquireEnds acquire_after v c room) (size key) key words slots id sized (omega arith) known owner c.capacity at.1.0 (λ a. a)
-    (λ next stands. (refl, (at.1.0, stands)))
-    (λ f k e. sees (Goes AcquireStands AcquireEnds acquire_after v c room) f k (Done (Err failures.IsLocked)) e refl)
-    (λ free. (refl, free))
-    (λ index free within. ((refl, free), within))
-    c.stage (λ k. refl) at.1.1
-
--- what a step leaves
-pub acquire_goes : (v w : View) (a : After Acquire Acquired) (room : Unit {0}) → Next capacity_seen (At AcquireStands) AcquireEnds v a room w → AcquireGoes v a w
-acquire_goes v w (GoOn d) room h = h
-acquire_goes v w (Done (Ok index)) room h = h
-acquire_goes v w (Done (Err failure)) room h = h
-
--- an exchange of a cell leaves the view, whatever stood there
-pub fills_goes : (v : View) (c : Acquire) (counter index k : ℕ) → c.capacity ≡ v.capacity → AcquireStage v (acquires.TheVariants.FillsCell counter index) → AcquireGoes v (acquire_takes c (acquires.TheVariants.FillsCell counter index) k) v
-fills_goes v c counter index k same at =
-    by_eq (λ a. AcquireGoes v a v) k empty (GoOn (at_acquire c (acquires.TheVariants.Raises index raises.TheVariants.LoadsCounter))) (acquire_tries c counter (index + 1))
-    (λ e. (refl, (same, (at.0, at.2, tt))))
-    (λ ne. by_test (λ s. AcquireGoes v (GoOn (at_acquire c s)) v) (nat_lt (index + 1) c.capacity) (acquires.TheVariants.FillsCell counter (index + 1)) (acquires.TheVariants.ChecksCounter counter)
-    (λ t. (refl, (same, (at.0, at.1, (let l : index + 1 < c.capacity = grind (arith, nat_tests) in omega arith)))))
-    (λ t. (refl, (same, (at.0, at.1)))))

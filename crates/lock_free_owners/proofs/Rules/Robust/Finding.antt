@@ -1,5 +1,5 @@
 -- What the closure of a find was called with so far.
-use Rattle.std.proofs.Common.{◌≡◌, ℕ, ◌+◌, ◌^◌, ◌<◌, nat_lt, inl, inr, List, [], ◌∷◌, ◌++◌, length, refl, sym, ap, ◌∙◌, subst, arith, length-append}
+use Rattle.std.proofs.Common.{◌≡◌, ℕ, ◌+◌, ◌^◌, ◌<◌, ◌≤◌, nat_lt, inl, inr, List, [], ◌∷◌, ◌++◌, length, refl, sym, ap, ◌∙◌, subst, arith, length-append}
 use Rattle.std.specs.List.{All, FoldsTo}
 use Rattle.std.proofs.lemmas.Fn.{FoldsTo-push}
 use Rattle.std.proofs.lemmas.List.Elements.{All-nil, All-push, All-weaker}
@@ -13,10 +13,9 @@ use Rattle.steps.specs.declared.indices.robust.find.Find.{Find}
 use Rattle.steps.specs.declared.indices.robust.find.FindStage as finds
 use Rattle.steps.specs.Indices.Robust.Parts.{one_more}
 use Rattle.steps.specs.Indices.Robust.Find.{at_find, find_comes_to, find_takes, find_after}
-use Rattle.lock_free_owners.specs.declared.robust.view.View.{View}
 use Rattle.lock_free_sp.specs.Callable.{Ascends, TakesPlaces}
 use Rattle.lock_free_owners.specs.Robust.Callable.{HasFound}
-use Rattle.lock_free_owners.specs.Robust.Stages.{FindStage, FindStands, FindAsks, FindMoves, says}
+use Rattle.lock_free_owners.specs.Robust.Stages.{FindAsks, FindMoves, says}
 
 -- ---- indices that ascend
 
@@ -30,6 +29,11 @@ pub below_more : (xs : List ℕ) (x : ℕ) → All (λ y. y < x) xs → All (λ 
 below_more xs x below = All-weaker (λ y. y < x) (λ y. y < x + 1) (λ y l. omega arith) xs below
 
 -- ---- find
+
+-- which index it is at, and how many it has found
+abbrev pub FindIn : ℕ → finds.FindStage → Type 0
+FindIn cap (finds.TheVariants.LoadsCell index found) = (index < cap) × (found ≤ index)
+FindIn cap (finds.TheVariants.Asks index found) = index < cap
 
 module _ {F : Type 0} (step : F → ℕ → CallbackProgression → F → Type 0) (cap : ℕ) (f : F) where
   -- the calls from f on that led to p: n of them, below this index, each of which was told to go on
@@ -91,20 +95,20 @@ module _ {F : Type 0} (step : F → ℕ → CallbackProgression → F → Type 0
   asked c owner index found Continue p q within hit h = comes c (index + 1) found q (subst (λ z. Came (index + 1) z q) h.1 (came_more index h.0 p q within hit h.2))
   asked c owner index found Stop p q within hit h = found_last index h.0 found p q within h.1 hit h.2
 
-  by_stage : (c : Find) (stage : finds.FindStage) → c.stage ≡ stage → (owner : ℕ) (v : View) → v.capacity ≡ cap → cap < 2 ^ 32 → FindStage v stage
+  by_stage : (c : Find) (stage : finds.FindStage) → c.stage ≡ stage → (owner : ℕ) → cap < 2 ^ 32 → FindIn cap stage
       → (p q : F) (a : After Find ℕ) → SoFar stage p → FindMoves step c owner stage p a q → Onward a q
-  by_stage c (finds.TheVariants.LoadsCell index found) is owner v same small at p q a so m =
+  by_stage c (finds.TheVariants.LoadsCell index found) is owner small at p q a so m =
       subst (λ z. Onward z q) (ap (λ s. find_takes c s owner m.1.0) (sym is) ∙ sym m.1.1) (loaded c owner m.1.0 index found (let l = at.0 in let few = at.1 in omega arith) q (subst (Came index found) (sym m.0) so))
-  by_stage c (finds.TheVariants.Asks index found) is owner v same small at p q a so m =
-      subst (λ z. Onward z q) (ap (λ s. find_takes c s owner (says m.0)) (sym is) ∙ sym m.2) (asked c owner index found m.0 p q (let l = at.0 in omega arith) m.1 so)
+  by_stage c (finds.TheVariants.Asks index found) is owner small at p q a so m =
+      subst (λ z. Onward z q) (ap (λ s. find_takes c s owner (says m.0)) (sym is) ∙ sym m.2) (asked c owner index found m.0 p q at m.1 so)
 
-  pub onward : (c : Find) (owner : ℕ) (v : View) → v.capacity ≡ cap → cap < 2 ^ 32 → FindStands v c → (p q : F) (a : After Find ℕ) → SoFar c.stage p → FindMoves step c owner c.stage p a q → Onward a q
-  onward c owner v same small at = by_stage c c.stage refl owner v same small at.1
+  pub onward : (c : Find) (owner : ℕ) → cap < 2 ^ 32 → FindIn cap c.stage → (p q : F) (a : After Find ℕ) → SoFar c.stage p → FindMoves step c owner c.stage p a q → Onward a q
+  onward c owner small at = by_stage c c.stage refl owner small at
 
   -- the closure may be asked about the index that it has come to
-  pub may_ask : {pre : F → ℕ → Type 0} → TakesPlaces pre (λ p x q. step p x Continue q) cap f → (v : View) → v.capacity ≡ cap → (stage : finds.FindStage) → FindStage v stage → (p : F) → SoFar stage p → FindAsks pre stage p
-  may_ask takes v same (finds.TheVariants.LoadsCell index found) at p so = tt
-  may_ask takes v same (finds.TheVariants.Asks index found) at p so = takes.at so.2.indices p index so.2.calls so.2.ascend so.2.below (let l = at.0 in omega arith)
+  pub may_ask : {pre : F → ℕ → Type 0} → TakesPlaces pre (λ p x q. step p x Continue q) cap f → (stage : finds.FindStage) → FindIn cap stage → (p : F) → SoFar stage p → FindAsks pre stage p
+  may_ask takes (finds.TheVariants.LoadsCell index found) at p so = tt
+  may_ask takes (finds.TheVariants.Asks index found) at p so = takes.at so.2.indices p index so.2.calls so.2.ascend so.2.below at
 
   -- whatever it did with the closure, it went on as its table says
   goes_at : (c : Find) (stage : finds.FindStage) → c.stage ≡ stage → (owner : ℕ) (p q : F) (a : After Find ℕ) → FindMoves step c owner stage p a q → (k : ℕ) × (a ≡ find_after c owner k)

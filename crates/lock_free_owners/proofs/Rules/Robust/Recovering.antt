@@ -17,9 +17,14 @@ use Rattle.steps.specs.declared.indices.robust.recover.Recover.{Recover}
 use Rattle.steps.specs.declared.indices.robust.recover.RecoverStage as recovers
 use Rattle.steps.specs.Indices.Robust.Parts.{empty, locked, raise_after, lock_after}
 use Rattle.steps.specs.Indices.Robust.Recover.{at_recover, recover_comes_to, recover_raised, recover_locked, recover_takes}
-use Rattle.lock_free_owners.specs.declared.robust.view.View.{View}
 use Rattle.lock_free_owners.specs.Robust.Callable.{Owned, Asked, IsOwned, TheyAscend, QuestionsAscend, WasAgreed, asks, tells, TakesQuestions, TakesFreed, HasVisited}
-use Rattle.lock_free_owners.specs.Robust.Stages.{RecoverStage, RecoverStands, RecoverGoes, RecoverAsks, RecoverMoves, GoesQuietly, HasPassedTo, HasPassed, PassesCells, LooksAgain, has_freed}
+use Rattle.lock_free_owners.specs.Robust.Stages.{RecoverAsks, RecoverMoves, GoesQuietly, HasPassedTo, HasPassed, PassesCells, LooksAgain, has_freed}
+
+-- what is known of the lock and of the index where a closure may be called
+abbrev pub Knows : ℕ → Bool → recovers.RecoverStage → Type 0
+Knows cap shut (recovers.TheVariants.Asks index owner) = (shut ≡ false) × (index < cap)
+Knows cap shut (recovers.TheVariants.EmptiesCell index owner) = (shut ≡ false) × (index < cap)
+Knows cap shut stage = Unit {0}
 
 abbrev owned : ℕ → ℕ → Owned
 owned owner index = record { owner = owner; index = index }
@@ -33,18 +38,19 @@ AskedBelow low xs = All (λ (a : Asked). a.of.index < low) xs
 abbrev ToldBelow : ℕ → List Owned → Type 0
 ToldBelow low xs = All (λ (o : Owned). o.index < low) xs
 
-module _ {F S : Type 0} (step : F → ℕ → ℕ → Bool → F → Type 0) (tell : S → ℕ → ℕ → S → Type 0) (v : View) (f : F) (s : S) where
+module _ {F S : Type 0} (step : F → ℕ → ℕ → Bool → F → Type 0) (tell : S → ℕ → ℕ → S → Type 0) (cap : ℕ) (shut : Bool) (f : F) (s : S) where
   -- the calls that led to p and q, at indices below these
   pub record Visits (low high : ℕ) (p : F) (q : S) : Type 0 where
     pub asked : List Asked
     pub told : List Owned
     pub questions : FoldsTo (asks step) f asked p
     pub calls : FoldsTo (tells tell) s told q
-    pub asked_ascend : QuestionsAscend v.capacity asked
-    pub told_ascend : TheyAscend v.capacity told
+    pub asked_ascend : QuestionsAscend cap asked
+    pub told_ascend : TheyAscend cap told
     pub asked_below : AskedBelow low asked
     pub told_below : ToldBelow high told
     pub agreed : All (WasAgreed asked) told
+    pub nothing : shut ≡ true → asked ≡ []
 
   abbrev pub SoFar : recovers.RecoverStage → F → S → Type 0
   SoFar recovers.TheVariants.LoadsCounter p q = (p ≡ f) × (q ≡ s)
@@ -57,7 +63,7 @@ module _ {F S : Type 0} (step : F → ℕ → ℕ → Bool → F → Type 0) (te
 
   abbrev pub Onward : After Recover ReleaseState → F → S → Type 0
   Onward (GoOn d) p q = SoFar d.stage p q
-  Onward (Done state) p q = HasVisited step tell v.capacity v.locked f s p q
+  Onward (Done state) p q = HasVisited step tell cap shut f s p q
 
   abbrev none : Visits 0 0 f s
   none =
@@ -66,16 +72,17 @@ module _ {F S : Type 0} (step : F → ℕ → ℕ → Bool → F → Type 0) (te
         told = [];
         questions = refl;
         calls = refl;
-        asked_ascend = ((λ i j d lt within. absurd (omega arith)), All-nil (λ (a : Asked). IsOwned v.capacity a.of));
-        told_ascend = ((λ i j d lt within. absurd (omega arith)), All-nil (IsOwned v.capacity));
+        asked_ascend = ((λ i j d lt within. absurd (omega arith)), All-nil (λ (a : Asked). IsOwned cap a.of));
+        told_ascend = ((λ i j d lt within. absurd (omega arith)), All-nil (IsOwned cap));
         asked_below = All-nil (λ (a : Asked). a.of.index < 0);
         told_below = All-nil (λ (o : Owned). o.index < 0);
         agreed = All-nil (WasAgreed []);
+        nothing = λ t. refl;
       }
 
-  -- where the lock was not seen
-  visited : (low high : ℕ) (p : F) (q : S) → v.locked ≡ false → Visits low high p q → HasVisited step tell v.capacity v.locked f s p q
-  visited low high p q free h =
+  -- by what it did so far
+  visited : (low high : ℕ) (p : F) (q : S) → Visits low high p q → HasVisited step tell cap shut f s p q
+  visited low high p q h =
       record {
         asked = h.asked;
         told = h.told;
@@ -84,11 +91,11 @@ module _ {F S : Type 0} (step : F → ℕ → ℕ → Bool → F → Type 0) (te
         asked_ascend = h.asked_ascend;
         told_ascend = h.told_ascend;
         agreed = h.agreed;
-        nothing = λ t. absurd (true≢false (sym t ∙ free));
+        nothing = h.nothing;
       }
 
   -- where it was met at once
-  visited_none : (p : F) (q : S) → (p ≡ f) × (q ≡ s) → HasVisited step tell v.capacity v.locked f s p q
+  visited_none : (p : F) (q : S) → (p ≡ f) × (q ≡ s) → HasVisited step tell cap shut f s p q
   visited_none p q e =
       record {
         asked = [];
@@ -113,26 +120,28 @@ module _ {F S : Type 0} (step : F → ℕ → ℕ → Bool → F → Type 0) (te
         asked_below = All-weaker (λ (a : Asked). a.of.index < low) (λ (a : Asked). a.of.index < above) (λ a l. omega arith) h.asked h.asked_below;
         told_below = All-weaker (λ (o : Owned). o.index < high) (λ (o : Owned). o.index < over) (λ o l. omega arith) h.told h.told_below;
         agreed = h.agreed;
+        nothing = h.nothing;
       }
 
   -- one question more
-  abbrev asks_more : (index owner : ℕ) (answer : Bool) (p p' : F) (q : S) → owner < empty → index < v.capacity → step p owner index answer p' → Visits index index p q → Visits (index + 1) index p' q
-  asks_more index owner answer p p' q named within hit h =
+  abbrev asks_more : (index owner : ℕ) (answer : Bool) (p p' : F) (q : S) → shut ≡ false → owner < empty → index < cap → step p owner index answer p' → Visits index index p q → Visits (index + 1) index p' q
+  asks_more index owner answer p p' q free named within hit h =
       let a : Asked = said owner index answer in
       record {
         asked = h.asked ++ a ∷ [];
         told = h.told;
         questions = FoldsTo-push (asks step) f h.asked p a p' h.questions hit;
         calls = h.calls;
-        asked_ascend = (all_pairs_push (λ (x y : Asked). x.of.index < y.of.index) h.asked a h.asked_ascend.0 h.asked_below, All-push (λ (x : Asked). IsOwned v.capacity x.of) h.asked a h.asked_ascend.1 (named, within));
+        asked_ascend = (all_pairs_push (λ (x y : Asked). x.of.index < y.of.index) h.asked a h.asked_ascend.0 h.asked_below, All-push (λ (x : Asked). IsOwned cap x.of) h.asked a h.asked_ascend.1 (named, within));
         told_ascend = h.told_ascend;
         asked_below = All-push (λ (x : Asked). x.of.index < index + 1) h.asked a (All-weaker (λ (x : Asked). x.of.index < index) (λ (x : Asked). x.of.index < index + 1) (λ x l. omega arith) h.asked h.asked_below) (omega arith);
         told_below = h.told_below;
         agreed = All-weaker (WasAgreed h.asked) (WasAgreed (h.asked ++ a ∷ [])) (λ o i. Contains-append_left h.asked (a ∷ []) (record { of = o; yes = true }) i) h.told h.agreed;
+        nothing = λ t. absurd (true≢false (sym t ∙ free));
       }
 
   -- one index more that is told of
-  tells_more : (index owner : ℕ) (p : F) (q q' : S) → owner < empty → index < v.capacity → tell q owner index q' → (h : Visits (index + 1) index p q) → WasAgreed h.asked (owned owner index) → Visits (index + 1) (index + 1) p q'
+  tells_more : (index owner : ℕ) (p : F) (q q' : S) → owner < empty → index < cap → tell q owner index q' → (h : Visits (index + 1) index p q) → WasAgreed h.asked (owned owner index) → Visits (index + 1) (index + 1) p q'
   tells_more index owner p q q' named within hit h agreed =
       let o : Owned = owned owner index in
       record {
@@ -141,10 +150,11 @@ module _ {F S : Type 0} (step : F → ℕ → ℕ → Bool → F → Type 0) (te
         questions = h.questions;
         calls = FoldsTo-push (tells tell) s h.told q o q' h.calls hit;
         asked_ascend = h.asked_ascend;
-        told_ascend = (all_pairs_push (λ (x y : Owned). x.index < y.index) h.told o h.told_ascend.0 h.told_below, All-push (IsOwned v.capacity) h.told o h.told_ascend.1 (named, within));
+        told_ascend = (all_pairs_push (λ (x y : Owned). x.index < y.index) h.told o h.told_ascend.0 h.told_below, All-push (IsOwned cap) h.told o h.told_ascend.1 (named, within));
         asked_below = h.asked_below;
         told_below = All-push (λ (x : Owned). x.index < index + 1) h.told o (All-weaker (λ (x : Owned). x.index < index) (λ (x : Owned). x.index < index + 1) (λ x l. omega arith) h.told h.told_below) (omega arith);
         agreed = All-push (WasAgreed h.asked) h.told o h.agreed agreed;
+        nothing = h.nothing;
       }
 
   comes : (c : Recover) (index : ℕ) (p : F) (q : S) → Visits index index p q → Onward (recover_comes_to c index) p q
@@ -169,11 +179,11 @@ module _ {F S : Type 0} (step : F → ℕ → ℕ → Bool → F → Type 0) (te
 
   -- ---- what each stage leaves
 
-  raised : (c : Recover) (index : ℕ) (mode : ReleaseMode) (p : F) (q : S) (a : After raises.Raise ReleaseState) → v.locked ≡ false → Visits (index + 1) (index + 1) p q → Onward (recover_raised c index mode a) p q
-  raised c index mode p q (GoOn raise) free h = h
-  raised c index mode p q (Done Locked) free h = visited (index + 1) (index + 1) p q free h
-  raised c index LockIfLastIndex p q (Done Unlocked) free h = h
-  raised c index Default p q (Done Unlocked) free h = comes c (index + 1) p q h
+  raised : (c : Recover) (index : ℕ) (mode : ReleaseMode) (p : F) (q : S) (a : After raises.Raise ReleaseState) → Visits (index + 1) (index + 1) p q → Onward (recover_raised c index mode a) p q
+  raised c index mode p q (GoOn raise) h = h
+  raised c index mode p q (Done Locked) h = visited (index + 1) (index + 1) p q h
+  raised c index LockIfLastIndex p q (Done Unlocked) h = h
+  raised c index Default p q (Done Unlocked) h = comes c (index + 1) p q h
 
   locking : (c : Recover) (index : ℕ) (p : F) (q : S) (a : After locks.Lock ReleaseState) → Visits (index + 1) (index + 1) p q → Onward (recover_locked c index a) p q
   locking c index p q (GoOn lock) h = h
@@ -185,17 +195,17 @@ module _ {F S : Type 0} (step : F → ℕ → ℕ → Bool → F → Type 0) (te
         subst (λ (z : F × S). Onward a z.0 z.1) (λ i. (sym m.0 i, sym m.1 i))
         (subst (λ z. Onward z p q) (ap (λ z. recover_takes c z mode m.2.0) (sym is) ∙ sym m.2.1) (goes m.2.0))
 
-    answered : (index owner : ℕ) (answer : Bool) (p p' : F) (q : S) → owner < empty → index < v.capacity → step p owner index answer p' → Visits index index p q
+    answered : (index owner : ℕ) (answer : Bool) (p p' : F) (q : S) → shut ≡ false → owner < empty → index < cap → step p owner index answer p' → Visits index index p q
         → Onward (recover_takes c (recovers.TheVariants.Asks index owner) mode (if answer then 1 else 0)) p' q
-    answered index owner true p p' q named within hit h =
-        let more = asks_more index owner true p p' q named within hit h in (more, Contains-push h.asked (said owner index true))
-    answered index owner false p p' q named within hit h = comes c (index + 1) p' q (widen (index + 1) index (index + 1) (index + 1) p' q (omega arith) (omega arith) (asks_more index owner false p p' q named within hit h))
+    answered index owner true p p' q free named within hit h =
+        let more = asks_more index owner true p p' q free named within hit h in (more, Contains-push h.asked (said owner index true))
+    answered index owner false p p' q free named within hit h = comes c (index + 1) p' q (widen (index + 1) index (index + 1) (index + 1) p' q (omega arith) (omega arith) (asks_more index owner false p p' q free named within hit h))
 
-    emptied : (index owner k : ℕ) (p : F) (q q' : S) → v.locked ≡ false → owner < empty → index < v.capacity → SoFar (recovers.TheVariants.EmptiesCell index owner) p q
+    emptied : (index owner k : ℕ) (p : F) (q q' : S) → owner < empty → index < cap → SoFar (recovers.TheVariants.EmptiesCell index owner) p q
         → (has_freed (recover_takes c (recovers.TheVariants.EmptiesCell index owner) mode k) ≡ true → tell q owner index q')
         → (has_freed (recover_takes c (recovers.TheVariants.EmptiesCell index owner) mode k) ≡ false → q' ≡ q)
         → Onward (recover_takes c (recovers.TheVariants.EmptiesCell index owner) mode k) p q'
-    emptied index owner k p q q' free named within h =
+    emptied index owner k p q q' named within h =
         by_eq (λ a. (has_freed a ≡ true → tell q owner index q') → (has_freed a ≡ false → q' ≡ q) → Onward a p q') k owner
         (GoOn (at_recover c (recovers.TheVariants.Raises index raises.TheVariants.LoadsCounter))) (recover_comes_to c (index + 1))
         (λ e hit miss. tells_more index owner p q q' named within (hit refl) h.0 h.1)
@@ -204,56 +214,59 @@ module _ {F S : Type 0} (step : F → ℕ → ℕ → Bool → F → Type 0) (te
         (λ t hit miss. subst (Visits (index + 1) (index + 1) p) (sym (miss refl)) (widen (index + 1) index (index + 1) (index + 1) p q (omega arith) (omega arith) h.0))
         (λ t hit miss. (index + 1, subst (Visits (index + 1) (index + 1) p) (sym (miss refl)) (widen (index + 1) index (index + 1) (index + 1) p q (omega arith) (omega arith) h.0))))
 
-    by_stage : (stage : recovers.RecoverStage) → c.stage ≡ stage → RecoverStage v stage → (p p' : F) (q q' : S) (a : After Recover ReleaseState) → SoFar stage p q → RecoverMoves step tell c mode stage p q a p' q' → Onward a p' q'
+    by_stage : (stage : recovers.RecoverStage) → c.stage ≡ stage → Knows cap shut stage → (p p' : F) (q q' : S) (a : After Recover ReleaseState) → SoFar stage p q → RecoverMoves step tell c mode stage p q a p' q' → Onward a p' q'
     by_stage recovers.TheVariants.LoadsCounter is at p p' q q' a so m =
         quietly recovers.TheVariants.LoadsCounter is p p' q q' a
         (λ k. by_eq (λ z. Onward z p q) k locked (Done Locked) (recover_comes_to c 0) (λ e. visited_none p q so) (λ ne. comes c 0 p q (subst (λ (z : F × S). Visits 0 0 z.0 z.1) (λ i. (sym so.0 i, sym so.1 i)) none))) m
     by_stage (recovers.TheVariants.LoadsCell index) is at p p' q q' a so m =
         subst (λ (z : F × S). Onward a z.0 z.1) (λ i. (sym m.0 i, sym m.1 i)) (passed index p q a so m.2)
     by_stage (recovers.TheVariants.Asks index owner) is at p p' q q' a so m =
-        subst (Onward a p') (sym m.0)
-        (subst (λ z. Onward z p' q) (ap (λ z. recover_takes c z mode (if m.1.0 then 1 else 0)) (sym is) ∙ sym m.1.2) (answered index owner m.1.0 p p' q at.2 at.1 m.1.1 so))
+        subst (Onward a p') (sym m.1)
+        (subst (λ z. Onward z p' q) (ap (λ z. recover_takes c z mode (if m.2.0 then 1 else 0)) (sym is) ∙ sym m.2.2)
+        (answered index owner m.2.0 p p' q at.0 m.0 at.1 m.2.1 so))
     by_stage (recovers.TheVariants.EmptiesCell index owner) is at p p' q q' a so m =
-        let goes : a ≡ recover_takes c (recovers.TheVariants.EmptiesCell index owner) mode m.1.0 = m.1.1 ∙ ap (λ z. recover_takes c z mode m.1.0) is in
-        subst (λ z. Onward a z q') (sym m.0)
-        (subst (λ z. Onward z p q') (sym goes) (emptied index owner m.1.0 p q q' at.0 at.2 at.1 so (λ e. m.2 (ap has_freed goes ∙ e)) (λ e. m.3 (ap has_freed goes ∙ e))))
+        let goes : a ≡ recover_takes c (recovers.TheVariants.EmptiesCell index owner) mode m.2.0 = m.2.1 ∙ ap (λ z. recover_takes c z mode m.2.0) is in
+        subst (λ z. Onward a z q') (sym m.1)
+        (subst (λ z. Onward z p q') (sym goes)
+        (emptied index owner m.2.0 p q q' m.0 at.1 so (λ e. m.3 (ap has_freed goes ∙ e)) (λ e. m.4 (ap has_freed goes ∙ e))))
     by_stage (recovers.TheVariants.Raises index raise) is at p p' q q' a so m =
-        quietly (recovers.TheVariants.Raises index raise) is p p' q q' a (λ k. raised c index mode p q (raise_after raise k) at.0 so) m
+        quietly (recovers.TheVariants.Raises index raise) is p p' q q' a (λ k. raised c index mode p q (raise_after raise k) so) m
     by_stage (recovers.TheVariants.Locks index lock) is at p p' q q' a so m =
         quietly (recovers.TheVariants.Locks index lock) is p p' q q' a (λ k. locking c index p q (lock_after c.capacity lock k) so) m
     by_stage recovers.TheVariants.LoadsCounterAgain is at p p' q q' a so m =
-        quietly recovers.TheVariants.LoadsCounterAgain is p p' q q' a (λ k. visited so.0 so.0 p q at so.1) m
+        quietly recovers.TheVariants.LoadsCounterAgain is p p' q q' a (λ k. visited so.0 so.0 p q so.1) m
 
-    pub onward : RecoverStands v c → (p p' : F) (q q' : S) (a : After Recover ReleaseState) → SoFar c.stage p q → RecoverMoves step tell c mode c.stage p q a p' q' → Onward a p' q'
-    onward at = by_stage c.stage refl at.1
+    pub onward : Knows cap shut c.stage → (p p' : F) (q q' : S) (a : After Recover ReleaseState) → SoFar c.stage p q → RecoverMoves step tell c mode c.stage p q a p' q' → Onward a p' q'
+    onward at = by_stage c.stage refl at
 
   -- what may be asked at each stage
-  pub may_ask : {pre : F → ℕ → ℕ → Type 0} {may : S → ℕ → ℕ → Type 0} → (v.locked ≡ false → TakesQuestions pre step v.capacity f) → (v.locked ≡ false → TakesFreed step may tell v.capacity f s)
-      → (stage : recovers.RecoverStage) → RecoverStage v stage → (p : F) (q : S) → SoFar stage p q → RecoverAsks pre may stage p q
+  pub may_ask : {pre : F → ℕ → ℕ → Type 0} {may : S → ℕ → ℕ → Type 0} → (shut ≡ false → TakesQuestions pre step cap f) → (shut ≡ false → TakesFreed step may tell cap f s)
+      → (stage : recovers.RecoverStage) → Knows cap shut stage → (p : F) (q : S) → SoFar stage p q → RecoverAsks pre may stage p q
   may_ask takes frees recovers.TheVariants.LoadsCounter at p q so = tt
   may_ask takes frees (recovers.TheVariants.LoadsCell index) at p q so = tt
-  may_ask takes frees (recovers.TheVariants.Asks index owner) at p q so = (takes at.0).at so.asked p (owned owner index) so.questions so.asked_ascend so.asked_below (at.2, at.1)
+  may_ask takes frees (recovers.TheVariants.Asks index owner) at p q so = λ named. (takes at.0).at so.asked p (owned owner index) so.questions so.asked_ascend so.asked_below (named, at.1)
   may_ask takes frees (recovers.TheVariants.EmptiesCell index owner) at p q so =
-      (frees at.0).at so.0.asked p so.0.told q (owned owner index) so.0.questions so.0.asked_ascend so.1 so.0.calls so.0.told_ascend so.0.told_below (at.2, at.1)
+      λ named. (frees at.0).at so.0.asked p so.0.told q (owned owner index) so.0.questions so.0.asked_ascend so.1 so.0.calls so.0.told_ascend so.0.told_below (named, at.1)
   may_ask takes frees (recovers.TheVariants.Raises index raise) at p q so = tt
   may_ask takes frees (recovers.TheVariants.Locks index lock) at p q so = tt
   may_ask takes frees recovers.TheVariants.LoadsCounterAgain at p q so = tt
 
 -- ---- between two steps
 
-module _ {F S : Type 0} (step : F → ℕ → ℕ → Bool → F → Type 0) (tell : S → ℕ → ℕ → S → Type 0) (base : View) (f : F) (s : S) where
-  abbrev pub Between : View → Recover → F → S → Type 0
-  Between v call p x = (v ≡ base) × RecoverStands base call × SoFar step tell base f s call.stage p x
+module _ {F S : Type 0} (step : F → ℕ → ℕ → Bool → F → Type 0) (tell : S → ℕ → ℕ → S → Type 0) (cap : ℕ) (shut : Bool) (f : F) (s : S) where
+  abbrev pub Between : Recover → F → S → Type 0
+  Between call p x = SoFar step tell cap shut f s call.stage p x
 
-  pub ended : (v : View) (call : Recover) (mode : ReleaseMode) (state : ReleaseState) (p q : F) (x y : S) (after : After Recover ReleaseState) → Between v call p x → RecoverMoves step tell call mode call.stage p x after q y → after ≡ Done state → Onward step tell base f s (Done state) q y
-  ended v call mode state p q x y after so moves is =
-      subst (λ a. Onward step tell base f s a q y) is (onward step tell base f s call mode so.1 p q x y after so.2 moves)
+  pub between : (call next : Recover) (mode : ReleaseMode) (p q : F) (x y : S) (after : After Recover ReleaseState) → Knows cap shut call.stage
+      → Between call p x → RecoverMoves step tell call mode call.stage p x after q y → after ≡ GoOn next → Between next q y
+  between call next mode p q x y after at so moves is =
+      subst (λ a. Onward step tell cap shut f s a q y) is (onward step tell cap shut f s call mode at p q x y after so moves)
 
-  pub between : (v w : View) (call next : Recover) (mode : ReleaseMode) (p q : F) (x y : S) (after : After Recover ReleaseState) → Between v call p x → RecoverGoes v after w → RecoverMoves step tell call mode call.stage p x after q y → after ≡ GoOn next → Between w next q y
-  between v w call next mode p q x y after so goes moves is =
-      let at = subst (λ a. RecoverGoes v a w) is goes in
-      let same : w ≡ base = at.0 ∙ so.0 in
-      (same, subst (λ z. RecoverStands z next) same at.1, subst (λ a. Onward step tell base f s a q y) is (onward step tell base f s call mode so.1 p q x y after so.2 moves))
+  pub ended : (call : Recover) (mode : ReleaseMode) (state : ReleaseState) (p q : F) (x y : S) (after : After Recover ReleaseState)
+      → Knows cap shut call.stage → Between call p x → RecoverMoves step tell call mode call.stage p x after q y → after ≡ Done state
+      → HasVisited step tell cap shut f s q y
+  ended call mode state p q x y after at so moves is =
+      subst (λ a. Onward step tell cap shut f s a q y) is (onward step tell cap shut f s call mode at p q x y after so moves)
 
   -- ---- the first steps, which leave the closures
 
@@ -287,22 +300,24 @@ module _ {F S : Type 0} (step : F → ℕ → ℕ → Bool → F → Type 0) (te
   going_on (Done state) = false
 
   -- a step that may leave the call as it is
-  pub goes_or_stays : (v w : View) (call next : Recover) (mode : ReleaseMode) (p : F) (x : S) (after : After Recover ReleaseState) → Between v call p x → RecoverGoes v after w → Moves call mode call.stage p x after → after ≡ GoOn next → Between w next p x
-  goes_or_stays v w call next mode p x after so goes moves is =
+  pub goes_or_stays : (call next : Recover) (mode : ReleaseMode) (p : F) (x : S) (after : After Recover ReleaseState) → Knows cap shut call.stage
+      → Between call p x → Moves call mode call.stage p x after → after ≡ GoOn next → Between next p x
+  goes_or_stays call next mode p x after at so moves is =
       ⊎_elim
-      (λ stays.
-      let at = subst (λ a. RecoverGoes v a w) stays goes in
-      subst (λ d. Between w d p x) (ap (going call) (sym stays ∙ is)) (at.0 ∙ so.0, so.1, so.2))
-      (λ m. between v w call next mode p p x x after so goes m is) moves
+      (λ stays. subst (λ d. Between d p x) (ap (going call) (sym stays ∙ is)) so)
+      (λ m. between call next mode p p x x after at so m is) moves
 
-  pub ends_or_stays : (v : View) (call : Recover) (mode : ReleaseMode) (state : ReleaseState) (p : F) (x : S) (after : After Recover ReleaseState) → Between v call p x → Moves call mode call.stage p x after → after ≡ Done state → Onward step tell base f s (Done state) p x
-  ends_or_stays v call mode state p x after so moves is =
+  pub ends_or_stays : (call : Recover) (mode : ReleaseMode) (state : ReleaseState) (p : F) (x : S) (after : After Recover ReleaseState)
+      → Knows cap shut call.stage → Between call p x → Moves call mode call.stage p x after → after ≡ Done state
+      → HasVisited step tell cap shut f s p x
+  ends_or_stays call mode state p x after at so moves is =
       ⊎_elim
-      (λ stays. let no : going_on (GoOn call) ≡ going_on (Done state) = ap going_on (sym stays ∙ is) in absurd (true≢false no))
-      (λ m. ended v call mode state p p x x after so m is) moves
+      (λ stays. (let no : going_on (GoOn call) ≡ going_on (Done state) = ap going_on (sym stays ∙ is) in absurd (true≢false no)))
+      (λ m. ended call mode state p p x x after at so m is) moves
 
-  pub asked : {pre : F → ℕ → ℕ → Type 0} {may : S → ℕ → ℕ → Type 0} (v : View) (call : Recover) (p : F) (x : S) → (base.locked ≡ false → TakesQuestions pre step base.capacity f) → (base.locked ≡ false → TakesFreed step may tell base.capacity f s) → Between v call p x → RecoverAsks pre may call.stage p x
-  asked v call p x questions freed so = may_ask step tell base f s questions freed call.stage so.1.1 p x so.2
+  -- nothing was asked before the first step
+  pub at_first : (call : Recover) → call.stage ≡ recovers.TheVariants.LoadsCounter → Between call f s
+  at_first call is = subst (λ stage. SoFar step tell cap shut f s stage f s) (sym is) (refl, refl)
 
 -- ---- the closures at an equal capacity
 

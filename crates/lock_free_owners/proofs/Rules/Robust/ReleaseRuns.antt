@@ -72,13 +72,3 @@ module _ {A : Type 0} (after : ℕ → A) (v : View) (Here : Bool → A → Type
         (λ next stands. more (releases.TheVariants.Locks next) (at.0, stands))
         (λ f k e. shut f k e at.0)
         (λ unlocked. freed (λ e. unlocked))
-
-pub release_rule : (given : GiveBack) → KeepsRule capacity_seen (At (ReleaseStands given)) (ReleaseEnds given) size (λ key. key) (λ key. Kept (size key)) (λ c. release_want c given) (λ c k. release_after c given k) (λ c m k. m)
-release_rule given base v c room key words slots id sized known at =
-    release_owes (release_after c given) v (Goes (ReleaseStands given) (ReleaseEnds given) (λ c k. release_after c given k) v c room) (Tells (ReleaseStands given) (ReleaseEnds given) (λ c k. release_after c given k) v c room) (tells (ReleaseStands given) (ReleaseEnds given) (λ c k. release_after c given k) v c room) (size key) key words slots id sized (omega arith) known given.index given.owner c.capacity at.1.0 at.1.1 (λ a. a)
-    given.mode
-    (λ next stands. (refl, (at.1.0, at.1.1, stands)))
-    refl
-    (λ free. (refl, free))
-    (λ f k e locks. sees (Goes (ReleaseStands given) (ReleaseEnds given) (λ c k. release_after c given k) v c room) f k (Done (Ok Locked)) e (refl, locks))
-    c.stage (λ k. refl) at.1.2

@@ -1,142 +1,123 @@
-//! The acquire on a set.
-ghost use Rattle.std.specs.Prelude.{◌≡◌, ◌+◌, ◌<◌, ℕ, IfSome};
-ghost use Rattle.steps.specs.Indices.Robust.Acquire.{acquire_after};
-ghost use Rattle.steps.specs.declared.ask.After.TheVariants.{GoOn};
+//! The acquire at a seat. The exchanges of cells have a loop of their own.
+ghost use Rattle.std.specs.Prelude.{◌≡◌, ℕ};
+ghost use Rattle.steps.specs.Indices.Robust.Acquire.{first_acquire, acquire_after};
 ghost use Rattle.steps.specs.declared.indices.robust.acquire.AcquireStage.TheVariants as stages;
-ghost use Rattle.lock_free_owners.specs.Robust.Stages.{AcquireStage as StandsAt, AcquireStands, AcquireGoes, AcquireEnds};
-ghost use Rattle.lock_free_owners.specs.RobustUniqueIndexSet.{view, set_of};
+ghost use Rattle.lock_free_sp.specs.Seats.{seen, IsSame};
+ghost use Rattle.lock_free_owners.specs.Robust.Turns.{IsBoard, AcquireAt, AcquireEnds, AcquireStands, AcquireGoes};
 
-use super::{OwnerId, Pass};
-use crate::robust::drives::Acquires;
+use super::OwnerId;
+use super::drives::Takes;
+use super::rule::Seat;
 use std::sync::Wait;
 use steps::ask::After;
 use steps::indices::enums::UniqueIndexSetAcquireFailure;
 use steps::indices::robust::acquire::{Acquire, AcquireStage};
-use steps::indices::robust::parts::EMPTY;
 use steps::routine::Routine;
 
-/// The cell to which the call goes on from one in which it finds this, if all that it does is to pass over it.
+type Acquired = Result<u32, UniqueIndexSetAcquireFailure>;
+
+/// Takes one step of the call.
 #[inline(always)]
-fn tried_next(capacity: u32, cell: usize, found: u64) -> Option<usize>
-    requires { cell < capacity }
-    ensures next { IfSome result (λ next. (next ≡ cell + 1) × (next < capacity)) }
-    ensures after { IfSome result (λ next. (counter : ℕ)
-        → acquire_after (record { capacity = capacity; stage = stages.FillsCell counter cell }) found
-        ≡ GoOn (record { capacity = capacity; stage = stages.FillsCell counter next })) }
+fn step_acquire(seat: &mut Seat, call: Acquire, owner: OwnerId) -> After<Acquire, Acquired>
+    requires board { IsBoard seat.old }
+    requires at { AcquireStands owner (seen seat.old) call }
+    ensures same { IsSame seat.old seat.new }
+    ensures board { IsBoard seat.new }
+    ensures after { (k : ℕ) × (result ≡ acquire_after call k) }
+    ensures goes { AcquireGoes owner (seen seat.old) call result (seen seat.new) }
 {
-    if found == EMPTY {
-        return None;
-    }
-    let next = cell + 1;
-    if next < capacity as usize {
-        Some(next)
-    } else {
-        None
+    seat.step::<Acquire, Takes>(call, &owner, &mut ())
+}
+
+/// Takes the steps of the call that exchange cells, from this one on, past those that have an owner. Their loop keeps the
+/// index alone.
+#[inline(always)]
+fn fill_cells(
+    seat: &mut Seat,
+    capacity: u32,
+    counter: u64,
+    first: u32,
+    owner: OwnerId,
+) -> After<Acquire, Acquired>
+    requires board { IsBoard seat.old }
+    requires at { AcquireStands owner (seen seat.old)
+        (record { capacity = capacity; stage = stages.FillsCell counter first }) }
+    ensures same { IsSame seat.old seat.new }
+    ensures board { IsBoard seat.new }
+    ensures goes { AcquireGoes owner (seen seat.old)
+        (record { capacity = capacity; stage = stages.FillsCell counter first }) result (seen seat.new) }
+{
+    let mut cell = first;
+    'cells: loop {
+        let here = Acquire {
+            capacity,
+            stage: AcquireStage::FillsCell {
+                counter,
+                index: cell,
+            },
+        };
+        match step_acquire(seat, here, owner) {
+            After::GoOn(next) => {
+                let stage = next.stage;
+                match stage {
+                    AcquireStage::FillsCell { index, .. } => cell = index,
+                    _ => return After::GoOn(next),
+                }
+            }
+            After::Done(end) => return After::Done(end),
+        }
     }
 }
 
-impl Pass {
-    /// Takes one step of the call.
-    #[inline(always)]
-    fn step_acquire(
-        &mut self,
-        call: Acquire,
-        owner: OwnerId,
-    ) -> After<Acquire, Result<u32, UniqueIndexSetAcquireFailure>>
-        requires { AcquireStands (view self.old) call }
-        ensures set { set_of self.new ≡ set_of self.old }
-        ensures goes { AcquireGoes (view self.old) result (view self.new) }
-    {
-        self.seated.step::<Acquire, Acquires>(call, &owner, &mut ())
+/// Takes steps of the call.
+#[inline(always)]
+fn acquire_next(seat: &mut Seat, call: Acquire, owner: OwnerId) -> After<Acquire, Acquired>
+    requires board { IsBoard seat.old }
+    requires at { AcquireStands owner (seen seat.old) call }
+    ensures same { IsSame seat.old seat.new }
+    ensures board { IsBoard seat.new }
+    ensures goes { AcquireGoes owner (seen seat.old) call result (seen seat.new) }
+{
+    let stage = call.stage;
+    match stage {
+        AcquireStage::FillsCell { counter, index } => {
+            fill_cells(seat, call.capacity, counter, index, owner)
+        }
+        _ => step_acquire(seat, call, owner),
     }
+}
 
-    /// Takes the steps of the call that exchange cells, from this one on, past those that have an owner. They have a loop
-    /// of their own, which keeps the index alone.
-    #[inline(always)]
-    fn fill_cells(
-        &mut self,
-        counter: u64,
-        first: u32,
-        owner: OwnerId,
-    ) -> After<Acquire, Result<u32, UniqueIndexSetAcquireFailure>>
-        requires { StandsAt (view self.old) (stages.FillsCell counter first) }
-        ensures set { set_of self.new ≡ set_of self.old }
-        ensures goes { AcquireGoes (view self.old) result (view self.new) }
-    {
-        let capacity = self.capacity;
-        let number = owner.value();
-        let mut cell = first as usize;
-        'cells: loop {
-            let found = self.fill_cell(cell, number);
-            match tried_next(capacity, cell, found) {
-                Some(next) => cell = next,
-                None => {
-                    let here = Acquire {
-                        capacity,
-                        stage: AcquireStage::FillsCell {
-                            counter,
-                            index: cell as u32,
-                        },
-                    };
-                    return here.take(&owner, &mut (), found);
-                }
-            }
+/// Takes all steps of the call.
+#[inline(always)]
+pub(crate) fn acquire_all(
+    seat: &mut Seat,
+    rt: &impl Wait,
+    capacity: u32,
+    owner: OwnerId,
+) -> Acquired
+    requires board { IsBoard seat.old }
+    requires at { AcquireAt owner (seen seat.old) (seen seat.old) (first_acquire capacity) tt }
+    ensures same { IsSame seat.old seat.new }
+    ensures board { IsBoard seat.new }
+    ensures ends { AcquireEnds owner (seen seat.old) result tt (seen seat.new) }
+{
+    // The first turns stand by themselves, so that a compiler sees at each of them at which stage the call is.
+    let first = step_acquire(seat, Acquire::new(capacity), owner);
+    let call = match first {
+        After::GoOn(next) => next,
+        After::Done(end) => return end,
+    };
+    let cells = acquire_next(seat, call, owner);
+    let mut call = match cells {
+        After::GoOn(next) => next,
+        After::Done(end) => return end,
+    };
+    for _ in rt.forever() {
+        let after = acquire_next(seat, call, owner);
+        match after {
+            After::GoOn(next) => call = next,
+            After::Done(end) => return end,
         }
     }
-
-    /// Takes the steps of the call that exchange cells, if it has come to them.
-    #[inline(always)]
-    fn fill_next(
-        &mut self,
-        call: Acquire,
-        owner: OwnerId,
-    ) -> After<Acquire, Result<u32, UniqueIndexSetAcquireFailure>>
-        requires { AcquireStands (view self.old) call }
-        ensures set { set_of self.new ≡ set_of self.old }
-        ensures goes { AcquireGoes (view self.old) result (view self.new) }
-    {
-        let stage = call.stage;
-        match stage {
-            AcquireStage::FillsCell { counter, index } => self.fill_cells(counter, index, owner),
-            _ => After::GoOn(call),
-        }
-    }
-
-    /// Takes the other steps of the call.
-    #[inline(always)]
-    fn end_acquire(
-        &mut self,
-        rt: &impl Wait,
-        call: Acquire,
-        owner: OwnerId,
-    ) -> Result<u32, UniqueIndexSetAcquireFailure>
-        requires { AcquireStands (view self.old) call }
-        ensures set { set_of self.new ≡ set_of self.old }
-        ensures ends { AcquireEnds (view self.old) result tt (view self.new) }
-    {
-        match self.fill_next(call, owner) {
-            After::GoOn(next) => self
-                .seated
-                .drive_on::<Acquire, Acquires>(rt, next, &owner, &mut ()),
-            After::Done(end) => end,
-        }
-    }
-
-    /// Takes all steps of the call: the first one, those that exchange cells, and the others, where all may come again.
-    #[inline(always)]
-    pub(crate) fn acquire(
-        &mut self,
-        rt: &impl Wait,
-        call: Acquire,
-        owner: OwnerId,
-    ) -> Result<u32, UniqueIndexSetAcquireFailure>
-        requires { AcquireStands (view self.old) call }
-        ensures set { set_of self.new ≡ set_of self.old }
-        ensures ends { AcquireEnds (view self.old) result tt (view self.new) }
-    {
-        match self.step_acquire(call, owner) {
-            After::GoOn(next) => self.end_acquire(rt, next, owner),
-            After::Done(end) => end,
-        }
-    }
+    unreachable!()
 }

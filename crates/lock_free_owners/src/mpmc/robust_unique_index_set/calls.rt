@@ -1,20 +1,27 @@
 //! The calls on a set by a pass that ask nothing of their caller.
-ghost use Rattle.std.specs.Prelude.{◌≡◌, ◌<◌, IsTrue, IsFalse, IfOk, IfErr, OnOk, OnErr};
-ghost use Rattle.lock_free_owners.specs.Robust.Calls.{FoundOpen, FoundLocked, WasRefused, HasReleased};
-ghost use Rattle.lock_free_owners.specs.RobustUniqueIndexSet.{view, set_of, capacity_of, IsPassOf};
+ghost use Rattle.std.specs.Prelude.{◌≡◌, ◌<◌, ◌≤◌, true, Ok, Err, IfOk, IfErr, OnOk};
+ghost use Rattle.steps.specs.declared.indices.enums.UniqueIndexSetAcquireFailure.TheVariants.{IsLocked as Locked};
+ghost use Rattle.model.specs.declared.event.Answer.TheVariants.{Number, Truth};
+ghost use Rattle.model.specs.declared.families.indices.robust.RobustStart.TheVariants as starts;
+ghost use Rattle.model.specs.Families.Indices.Reading.{is_locked};
+ghost use Rattle.model.specs.Families.Indices.Robust.Calls.{release_answer};
+ghost use Rattle.lock_free_owners.specs.Robust.Told.{HasTaken, HasGiven, HasCounted, HasLooked, WasFilled, WasGranted, WasFreed, WasRefused, Answered, HasReleased, FoundLock};
+ghost use Rattle.lock_free_owners.specs.RobustUniqueIndexSet.{view, history, capacity_of, IsPassOf, GoesOn};
 
+use super::acquires::acquire_all;
+use super::counts::count_all;
+use super::drives::{Gives, LooksLocked};
 use super::{OwnerId, Pass, RobustUniqueIndexSet, RobustUniqueIndexSetReleaseError};
-use crate::robust::drives::{Looks, Releases};
 use std::sync::Wait;
 use steps::indices::enums::{ReleaseMode, ReleaseState, UniqueIndexSetAcquireFailure};
-use steps::indices::robust::acquire::Acquire;
 use steps::indices::robust::looks::IsLocked;
 use steps::indices::robust::release::{GiveBack, Release};
 
 impl RobustUniqueIndexSet {
-    /// Takes an index below the capacity for `owner`, the lowest that it finds without an owner. `OutOfIndices` where
-    /// each index had an owner when the call came to it, or the generation counter is at its end (no clause says so);
-    /// then nothing has changed. `IsLocked` where the set is locked, which leaves the lock seen.
+    /// Takes an index below the capacity for `owner`, the lowest that it finds without an owner: one that had none when
+    /// the call filled it, and that nobody held when it was granted, where nobody acts for an owner who is gone nor gives
+    /// back what is not his. `OutOfIndices` where each index had an owner at a moment of the call, or the generation
+    /// counter is at its end; then nothing has changed. `IsLocked` where the set is locked.
     ///
     /// A pass that has seen the lock gets `IsLocked`. A call that meets the lock only after it has given the index its
     /// owner answers `IsLocked` too, and the index keeps that owner: `find` of the owner comes to it, and so may a recovery
@@ -27,27 +34,29 @@ impl RobustUniqueIndexSet {
         pass: &mut Pass,
     ) -> Result<usize, UniqueIndexSetAcquireFailure>
         requires { IsPassOf self.now pass.old }
-        ensures set { set_of pass.new ≡ set_of pass.old }
-        ensures index { IfOk result (λ index. index < capacity_of self.now) }
-        ensures acquired { OnOk result (FoundOpen (view pass.old) (view pass.new)) }
-        ensures refused { IfErr result (λ e. WasRefused e (view pass.old) (view pass.new)) }
+        ensures goes_on { GoesOn pass.old pass.new }
+        ensures taken { HasTaken owner result (view pass.old) (view pass.new) }
+        ensures within { IfOk result (λ index. index < capacity_of self.now) }
+        ensures filled { IfOk result (λ index. WasFilled index owner (view pass.old) (view pass.new)) }
+        ensures granted { IfOk result (λ index. WasGranted index owner (view pass.old) (view pass.new)) }
+        ensures refused { IfErr result (λ e. WasRefused owner e (view pass.old) (view pass.new)) }
+        ensures lock { is_locked (history pass.old) ≡ true → result ≡ Err Locked }
     {
-        let call = Acquire::new(pass.capacity);
-        match pass.acquire(rt, call, owner) {
+        match acquire_all(&mut pass.seated, rt, pass.capacity, owner) {
             Ok(index) => Ok(index as usize),
             Err(failure) => Err(failure),
         }
     }
 
-    /// Gives `index`, which is below the capacity, back for `owner`. `IndexIsNotOwnedByProvidedOwner` where another
-    /// owner has it, or none (no clause says so); then nothing has changed.
+    /// Gives `index`, which is below the capacity, back for `owner`, who has it then.
+    /// `IndexIsNotOwnedByProvidedOwner` where another owner has it, or none; then nothing has changed.
     ///
     /// In mode `Default` the answer is `Unlocked`, also where the set is locked. In mode `LockIfLastIndex` the set is
     /// locked where no index has an owner by then, unless the generation counter is at its end, where nothing locks any
-    /// more; `Locked` says that the set is locked, by this call or an earlier one, and leaves the lock seen. A pass
-    /// that has seen the lock gets no `Unlocked` in that mode. In mode `Default` 3 atomic steps where nobody else steps
-    /// in between, in mode `LockIfLastIndex` at most 6 more than the capacity; else it may try again for as long as
-    /// others step. After `release` of the Rust crate.
+    /// more; `Locked` says that the set is locked, by this call or an earlier one. A pass that has seen the lock gets no
+    /// `Unlocked` in that mode. In mode `Default` 3 atomic steps where nobody else steps in between, in mode
+    /// `LockIfLastIndex` at most 6 more than the capacity; else it may try again for as long as others step. After
+    /// `release` of the Rust crate.
     pub fn release(
         &self,
         rt: &impl Wait,
@@ -58,9 +67,13 @@ impl RobustUniqueIndexSet {
     ) -> Result<ReleaseState, RobustUniqueIndexSetReleaseError>
         requires pass { IsPassOf self.now pass.old }
         requires index { index < capacity_of self.now }
-        ensures set { set_of pass.new ≡ set_of pass.old }
+        ensures goes_on { GoesOn pass.old pass.new }
+        ensures given { HasGiven (record { index = index; owner = owner; mode = mode }) result
+            (view pass.old) (view pass.new) }
+        ensures freed { OnOk result (WasFreed index owner (view pass.old) (view pass.new)) }
+        ensures answered { Answered (starts.Release index owner mode) (release_answer result)
+            (view pass.old) (view pass.new) }
         ensures released { IfOk result (λ s. HasReleased s mode (view pass.old) (view pass.new)) }
-        ensures refused { OnErr result (view pass.new ≡ view pass.old) }
     {
         let call = Release::new(pass.capacity);
         let given = GiveBack {
@@ -69,18 +82,38 @@ impl RobustUniqueIndexSet {
             mode,
         };
         pass.seated
-            .drive_on::<Release, Releases>(rt, call, &given, &mut ())
+            .drive_on::<Release, Gives>(rt, call, &given, &mut ())
     }
 
-    /// Whether the set is locked. True leaves the lock seen, and is the answer to each pass that has seen it. One atomic
-    /// step. After `is_locked` of the Rust crate.
+    /// How many indices have an owner: some number of which each that had one through the whole call is among them, and
+    /// none that had one at no moment of it; at most the capacity, and 0 where the set is locked: so where the pass has
+    /// seen the lock.
+    ///
+    /// At most 2 atomic steps more than the capacity where nobody else steps in between; else it may try again for as
+    /// long as others step. Where the generation counter is at its end the number is that of one pass over the indices,
+    /// whatever has changed meanwhile. After `borrowed_indices` of the Rust crate.
+    pub fn borrowed_indices(&self, rt: &impl Wait, pass: &mut Pass) -> usize
+        requires { IsPassOf self.now pass.old }
+        ensures goes_on { GoesOn pass.old pass.new }
+        ensures counted { HasCounted result (view pass.old) (view pass.new) }
+        ensures answered { Answered starts.BorrowedIndices (Number result) (view pass.old) (view pass.new) }
+        ensures most { result ≤ capacity_of self.now }
+        ensures lock { is_locked (history pass.old) ≡ true → result ≡ 0 }
+    {
+        count_all(&mut pass.seated, rt, pass.capacity)
+    }
+
+    /// Whether the set is locked. True is the answer to each pass that has seen it. One atomic step. After `is_locked` of
+    /// the Rust crate.
     pub fn is_locked(&self, pass: &mut Pass) -> bool
         requires { IsPassOf self.now pass.old }
-        ensures set { set_of pass.new ≡ set_of pass.old }
-        ensures locked { IsTrue result → FoundLocked (view pass.old) (view pass.new) }
-        ensures open { IsFalse result → FoundOpen (view pass.old) (view pass.new) }
+        ensures goes_on { GoesOn pass.old pass.new }
+        ensures looked { HasLooked result (view pass.old) (view pass.new) }
+        ensures answered { Answered starts.IsLocked (Truth result) (view pass.old) (view pass.new) }
+        ensures lock { FoundLock result (view pass.old) (view pass.new) }
     {
-        pass.seated.drive::<IsLocked, Looks>(IsLocked, &(), &mut ())
+        pass.seated
+            .drive::<IsLocked, LooksLocked>(IsLocked, &(), &mut ())
     }
 
     /// The capacity that it was made with. After `capacity` of the Rust crate.

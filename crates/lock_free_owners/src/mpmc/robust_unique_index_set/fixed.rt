@@ -1,8 +1,8 @@
 //! A set whose greatest capacity is part of its type.
-ghost use Rattle.std.specs.Prelude.{◌≡◌, ◌⊎◌, None, Some, IfOk, IfErr, OnOk};
+ghost use Rattle.std.specs.Prelude.{◌≡◌, ◌⊎◌, [], None, Some, IfOk, IfErr, OnOk};
 ghost use Rattle.steps.specs.declared.enums.UniqueIndexCreationError.TheVariants.{NoMemory};
-ghost use Rattle.lock_free_owners.specs.Robust.Views.{blank};
-ghost use Rattle.lock_free_owners.specs.RobustUniqueIndexSet.{view, capacity_of, IsPassOf, set_in, set_refusal, reduced_refusal};
+ghost use Rattle.lock_free_sp.specs.Shares.{all_shares};
+ghost use Rattle.lock_free_owners.specs.RobustUniqueIndexSet.{capacity_of, IsPassOf, history, made, share, set_in, set_refusal, reduced_refusal};
 
 use super::{Pass, RobustUniqueIndexSet, StaticRobustUniqueIndexSet};
 use std::alloc::Global;
@@ -23,14 +23,17 @@ impl<const CAPACITY: usize> Deref for StaticRobustUniqueIndexSet<CAPACITY> {
 }
 
 impl<const CAPACITY: usize> StaticRobustUniqueIndexSet<CAPACITY> {
-    /// A set of the indices below CAPACITY, and its first pass, which has not seen the lock.
+    /// A set of the indices below CAPACITY, and its first pass, which has seen nothing.
     ///
     /// Refused are, in this order, a CAPACITY above 2^32 - 1 (`ProvidedCapacityGreaterThanMaxCapacity`), 0
     /// (`ProvidedCapacityIsZero`) and memory (`NoMemory`). After `StaticRobustUniqueIndexSet` of the Rust crate.
     pub fn new(
         alloc: Global,
     ) -> Result<(StaticRobustUniqueIndexSet<CAPACITY>, Pass), UniqueIndexCreationError>
-        ensures pass { IfOk result (λ r. IsPassOf (set_in r.0) r.1 × (view r.1 ≡ blank CAPACITY)) }
+        ensures pass { IfOk result (λ r. IsPassOf (set_in r.0) r.1) }
+        ensures seen { IfOk result (λ r. history r.1 ≡ []) }
+        ensures made { IfOk result (λ r. made r.1 ≡ []) }
+        ensures share { IfOk result (λ r. share r.1 ≡ all_shares) }
         ensures capacity { IfOk result (λ r. capacity_of (set_in r.0) ≡ CAPACITY) }
         ensures admitted { OnOk result (set_refusal CAPACITY ≡ None) }
         ensures refused { IfErr result (λ e. (set_refusal CAPACITY ≡ Some e)
@@ -40,7 +43,7 @@ impl<const CAPACITY: usize> StaticRobustUniqueIndexSet<CAPACITY> {
         Ok((StaticRobustUniqueIndexSet { set }, pass))
     }
 
-    /// A set of the indices below `capacity`, and its first pass, which has not seen the lock.
+    /// A set of the indices below `capacity`, and its first pass, which has seen nothing.
     ///
     /// Refused are, in this order, a CAPACITY above 2^32 - 1 or a `capacity` above CAPACITY
     /// (`ProvidedCapacityGreaterThanMaxCapacity`), a `capacity` of 0 (`ProvidedCapacityIsZero`) and memory
@@ -49,7 +52,10 @@ impl<const CAPACITY: usize> StaticRobustUniqueIndexSet<CAPACITY> {
         alloc: Global,
         capacity: usize,
     ) -> Result<(StaticRobustUniqueIndexSet<CAPACITY>, Pass), UniqueIndexCreationError>
-        ensures pass { IfOk result (λ r. IsPassOf (set_in r.0) r.1 × (view r.1 ≡ blank capacity)) }
+        ensures pass { IfOk result (λ r. IsPassOf (set_in r.0) r.1) }
+        ensures seen { IfOk result (λ r. history r.1 ≡ []) }
+        ensures made { IfOk result (λ r. made r.1 ≡ []) }
+        ensures share { IfOk result (λ r. share r.1 ≡ all_shares) }
         ensures capacity { IfOk result (λ r. capacity_of (set_in r.0) ≡ capacity) }
         ensures admitted { OnOk result (reduced_refusal CAPACITY capacity ≡ None) }
         ensures refused { IfErr result (λ e. (reduced_refusal CAPACITY capacity ≡ Some e)

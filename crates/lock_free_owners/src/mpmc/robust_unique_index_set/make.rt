@@ -1,8 +1,8 @@
 //! How a set is made.
-ghost use Rattle.std.specs.Prelude.{◌≡◌, ◌⊎◌, ◌<◌, None, Some, IfOk, IfErr, OnOk};
+ghost use Rattle.std.specs.Prelude.{◌≡◌, ◌⊎◌, ◌<◌, None, Some, [], IfOk, IfErr, OnOk};
 ghost use Rattle.steps.specs.declared.enums.UniqueIndexCreationError.TheVariants.{NoMemory};
-ghost use Rattle.lock_free_owners.specs.Robust.Views.{blank};
-ghost use Rattle.lock_free_owners.specs.RobustUniqueIndexSet.{view, capacity_of, IsPassOf, set_refusal};
+ghost use Rattle.lock_free_sp.specs.Shares.{all_shares};
+ghost use Rattle.lock_free_owners.specs.RobustUniqueIndexSet.{capacity_of, IsPassOf, history, made, share, set_refusal};
 
 use super::{Pass, RobustUniqueIndexSet};
 use atomic_table::Table;
@@ -10,17 +10,22 @@ use lock_free_sp::driver::seated::Seated;
 use std::alloc::{AllocError, Global};
 use std::sync::Arc;
 use steps::enums::{UniqueIndexCreationError, capacity_refusal};
-use steps::indices::robust::parts::{COUNTER, EMPTY, FIRST_CELL};
+use steps::indices::robust::parts::{EMPTY, FIRST_CELL};
 
 /// A set of which no index is out, and its first pass.
 fn open(alloc: Global, capacity: u32) -> Result<(RobustUniqueIndexSet, Pass), AllocError>
     requires { 0 < capacity }
     ensures pass { IfOk result (λ r. IsPassOf r.0 r.1) }
-    ensures view { IfOk result (λ r. view r.1 ≡ blank capacity) }
     ensures capacity { IfOk result (λ r. capacity_of r.0 ≡ capacity) }
+    ensures seen { IfOk result (λ r. history r.1 ≡ []) }
+    ensures made { IfOk result (λ r. made r.1 ≡ []) }
+    ensures share { IfOk result (λ r. share r.1 ≡ all_shares) }
 {
-    let mut words = Vec::from_elem(alloc, EMPTY, FIRST_CELL + capacity as usize)?;
-    words[COUNTER] = 0;
+    let cells = capacity as usize;
+    let mut words = Vec::with_capacity(alloc, FIRST_CELL + cells + 1)?;
+    words.push_reserved(0u64);
+    words.resize(FIRST_CELL + cells, EMPTY)?;
+    words.push_reserved(0);
     let (table, seat) = Table::of_words(alloc, words.as_slice(), &(capacity as u64))?;
     let table = Arc::new(alloc, table)?;
     let shared = Arc::try_clone(&table)?;
@@ -35,8 +40,8 @@ fn open(alloc: Global, capacity: u32) -> Result<(RobustUniqueIndexSet, Pass), Al
 }
 
 impl RobustUniqueIndexSet {
-    /// A set of the indices below `capacity`, none of which is out (tests say so, no clause does), and its first pass,
-    /// which has not seen the lock.
+    /// A set of the indices below `capacity`, none of which is out, and its first pass, which has the whole share and has
+    /// seen nothing: the history is empty.
     ///
     /// Refused are, in this order, a capacity above 2^32 - 1 (`ProvidedCapacityGreaterThanMaxCapacity`), 0
     /// (`ProvidedCapacityIsZero`) and memory (`NoMemory`). This project's own, after `RobustUniqueIndexSet` of the Rust
@@ -45,8 +50,11 @@ impl RobustUniqueIndexSet {
         alloc: Global,
         capacity: usize,
     ) -> Result<(RobustUniqueIndexSet, Pass), UniqueIndexCreationError>
-        ensures pass { IfOk result (λ r. IsPassOf r.0 r.1 × (view r.1 ≡ blank capacity)) }
+        ensures pass { IfOk result (λ r. IsPassOf r.0 r.1) }
         ensures capacity { IfOk result (λ r. capacity_of r.0 ≡ capacity) }
+        ensures seen { IfOk result (λ r. history r.1 ≡ []) }
+        ensures made { IfOk result (λ r. made r.1 ≡ []) }
+        ensures share { IfOk result (λ r. share r.1 ≡ all_shares) }
         ensures admitted { OnOk result (set_refusal capacity ≡ None) }
         ensures refused { IfErr result (λ e. (set_refusal capacity ≡ Some e)
             ⊎ (set_refusal capacity ≡ None) × (e ≡ NoMemory)) }

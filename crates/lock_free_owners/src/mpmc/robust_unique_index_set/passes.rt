@@ -1,21 +1,23 @@
 //! How passes are made of one another.
-ghost use Rattle.std.specs.Prelude.{◌≡◌, IfSome};
-ghost use Rattle.lock_free_owners.specs.Robust.Views.{blank, joined};
-ghost use Rattle.lock_free_owners.specs.RobustUniqueIndexSet.{view, set_of};
+ghost use Rattle.std.specs.Prelude.{◌≡◌, IfSome, IfNone};
+ghost use Rattle.history.specs.Passes.{HasSplit, HasJoined};
+ghost use Rattle.lock_free_owners.specs.RobustUniqueIndexSet.{set_of, view, HasHistory, MissesNothing};
 
 use super::Pass;
-use crate::robust::plays::{Both, Cut};
+use super::drives::Look;
+use history::plays::{Both, Cut};
 use lock_free_sp::driver::seated::Seated;
 use std::sync::Arc;
 
 impl Pass {
-    /// A new pass of the same set that has not seen the lock; this one keeps what it has seen. None, and nothing changes,
-    /// where no further pass can be counted (no clause says when). No step on a word of the set. This project's own.
+    /// A new pass of the same set, which has seen the same and made nothing; this one keeps all that it made, and each has
+    /// half of the share. None, and nothing changes, where no further pass can be counted (no clause says when). This
+    /// project's own.
     pub fn split(&mut self) -> Option<Pass>
         ensures set { set_of self.new ≡ set_of self.old }
-        ensures view { view self.new ≡ view self.old }
-        ensures new { IfSome result
-            (λ p. (set_of p ≡ set_of self.old) × (view p ≡ blank (view self.old).capacity)) }
+        ensures new { IfSome result (λ p. set_of p ≡ set_of self.old) }
+        ensures cut { IfSome result (λ p. HasSplit (view self.old) (view self.new) (view p)) }
+        ensures none { IfNone result (view self.new ≡ view self.old) }
     {
         let seated = &mut self.seated;
         let Ok(table) = Arc::try_clone(&seated.table) else {
@@ -28,11 +30,13 @@ impl Pass {
         })
     }
 
-    /// Takes in what the other pass of the set has seen. No step on a word of the set. This project's own.
+    /// Takes in what the other pass of the set has made and has seen, with its share. This project's own.
     pub fn join(&mut self, other: Pass)
         requires { set_of other ≡ set_of self.old }
         ensures set { set_of self.new ≡ set_of self.old }
-        ensures view { view self.new ≡ joined (view self.old) (view other) }
+        ensures joined { HasJoined (view self.old) (view other) (view self.new) }
+        ensures history { HasHistory self.new }
+        ensures all { MissesNothing self.new }
     {
         let Pass { seated: other, .. } = other;
         let Seated { seat, .. } = other;
@@ -41,5 +45,6 @@ impl Pass {
             .table
             .shared
             .join_seat::<Both>(&mut seated.seat, seat);
+        let _ = seated.table.shared.load::<Look>(&mut seated.seat, 0);
     }
 }

@@ -1,8 +1,13 @@
 //! The calls by a handle: those of its set.
-ghost use Rattle.std.specs.Prelude.{◌≡◌, ◌<◌, ◌≤◌, true, IsTrue, IsFalse, IfSome, IfOk, IfErr, OnOk, OnErr};
-ghost use Rattle.lock_free_owners.specs.Robust.Views.{blank};
-ghost use Rattle.lock_free_owners.specs.Robust.Calls.{FoundOpen, FoundLocked, WasRefused, HasReleased};
-ghost use Rattle.lock_free_owners.specs.RobustUniqueIndexSet.{capacity_of, IsPassOf};
+ghost use Rattle.std.specs.Prelude.{◌≡◌, ◌<◌, ◌≤◌, true, Err, IfSome, IfNone, IfOk, IfErr, OnOk};
+ghost use Rattle.steps.specs.declared.indices.enums.UniqueIndexSetAcquireFailure.TheVariants.{IsLocked as Locked};
+ghost use Rattle.model.specs.declared.event.Answer.TheVariants.{Number, Truth};
+ghost use Rattle.model.specs.declared.families.indices.robust.RobustStart.TheVariants as starts;
+ghost use Rattle.model.specs.Families.Indices.Reading.{is_locked};
+ghost use Rattle.model.specs.Families.Indices.Robust.Calls.{release_answer};
+ghost use Rattle.history.specs.Passes.{HasSplit};
+ghost use Rattle.lock_free_owners.specs.Robust.Told.{HasTaken, HasGiven, HasCounted, HasLooked, WasFilled, WasGranted, WasFreed, WasRefused, Answered, HasReleased, FoundLock};
+ghost use Rattle.lock_free_owners.specs.RobustUniqueIndexSet.{capacity_of, IsPassOf, GoesOn, history};
 ghost use Rattle.lock_free_owners.specs.Robust.Handles.{set_in, pass_in, knows};
 
 use super::Handle;
@@ -31,11 +36,12 @@ impl<'a> Handle<'a> {
         self.pass
     }
 
-    /// A further handle of the set, with a pass that has not seen the lock, as by `Pass::split`.
+    /// A further handle of the set, with a pass that has seen the same and made nothing, as by `Pass::split`.
     pub fn split(&mut self) -> Option<Handle<'a>>
         ensures set { set_in self.new ≡ set_in self.old }
-        ensures view { knows self.new ≡ knows self.old }
-        ensures new { IfSome result (λ h. (set_in h ≡ set_in self.old) × (knows h ≡ blank (knows self.old).capacity)) }
+        ensures new { IfSome result (λ h. set_in h ≡ set_in self.old) }
+        ensures cut { IfSome result (λ h. HasSplit (knows self.old) (knows self.new) (knows h)) }
+        ensures none { IfNone result (knows self.new ≡ knows self.old) }
     {
         let pass = self.pass.split()?;
         Some(Handle {
@@ -58,9 +64,13 @@ impl<'a> Handle<'a> {
         owner: OwnerId,
     ) -> Result<usize, UniqueIndexSetAcquireFailure>
         ensures set { set_in self.new ≡ set_in self.old }
-        ensures index { IfOk result (λ index. index < capacity_of (set_in self.old)) }
-        ensures acquired { OnOk result (FoundOpen (knows self.old) (knows self.new)) }
-        ensures refused { IfErr result (λ e. WasRefused e (knows self.old) (knows self.new)) }
+        ensures goes_on { GoesOn (pass_in self.old) (pass_in self.new) }
+        ensures taken { HasTaken owner result (knows self.old) (knows self.new) }
+        ensures within { IfOk result (λ index. index < capacity_of (set_in self.old)) }
+        ensures filled { IfOk result (λ index. WasFilled index owner (knows self.old) (knows self.new)) }
+        ensures granted { IfOk result (λ index. WasGranted index owner (knows self.old) (knows self.new)) }
+        ensures refused { IfErr result (λ e. WasRefused owner e (knows self.old) (knows self.new)) }
+        ensures lock { is_locked (history (pass_in self.old)) ≡ true → result ≡ Err Locked }
     {
         self.set.acquire(rt, owner, &mut self.pass)
     }
@@ -75,8 +85,13 @@ impl<'a> Handle<'a> {
     ) -> Result<ReleaseState, RobustUniqueIndexSetReleaseError>
         requires { index < capacity_of (set_in self.old) }
         ensures set { set_in self.new ≡ set_in self.old }
+        ensures goes_on { GoesOn (pass_in self.old) (pass_in self.new) }
+        ensures given { HasGiven (record { index = index; owner = owner; mode = mode }) result
+            (knows self.old) (knows self.new) }
+        ensures freed { OnOk result (WasFreed index owner (knows self.old) (knows self.new)) }
+        ensures answered { Answered (starts.Release index owner mode) (release_answer result)
+            (knows self.old) (knows self.new) }
         ensures released { IfOk result (λ s. HasReleased s mode (knows self.old) (knows self.new)) }
-        ensures refused { OnErr result (knows self.new ≡ knows self.old) }
     {
         self.set.release(rt, index, owner, mode, &mut self.pass)
     }
@@ -84,8 +99,10 @@ impl<'a> Handle<'a> {
     /// As `RobustUniqueIndexSet::is_locked`.
     pub fn is_locked(&mut self) -> bool
         ensures set { set_in self.new ≡ set_in self.old }
-        ensures locked { IsTrue result → FoundLocked (knows self.old) (knows self.new) }
-        ensures open { IsFalse result → FoundOpen (knows self.old) (knows self.new) }
+        ensures goes_on { GoesOn (pass_in self.old) (pass_in self.new) }
+        ensures looked { HasLooked result (knows self.old) (knows self.new) }
+        ensures answered { Answered starts.IsLocked (Truth result) (knows self.old) (knows self.new) }
+        ensures lock { FoundLock result (knows self.old) (knows self.new) }
     {
         self.set.is_locked(&mut self.pass)
     }
@@ -93,9 +110,11 @@ impl<'a> Handle<'a> {
     /// As `RobustUniqueIndexSet::borrowed_indices`.
     pub fn borrowed_indices(&mut self, rt: &impl Wait) -> usize
         ensures set { set_in self.new ≡ set_in self.old }
-        ensures view { knows self.new ≡ knows self.old }
+        ensures goes_on { GoesOn (pass_in self.old) (pass_in self.new) }
+        ensures counted { HasCounted result (knows self.old) (knows self.new) }
+        ensures answered { Answered starts.BorrowedIndices (Number result) (knows self.old) (knows self.new) }
         ensures most { result ≤ capacity_of (set_in self.old) }
-        ensures lock { (knows self.old).locked ≡ true → result ≡ 0 }
+        ensures lock { is_locked (history (pass_in self.old)) ≡ true → result ≡ 0 }
     {
         self.set.borrowed_indices(rt, &mut self.pass)
     }

@@ -1,11 +1,16 @@
 //! The calls by a handle that come to the indices of owners.
 ghost use Rattle.std.specs.Prelude.{◌≡◌, false};
 ghost use Rattle.steps.specs.declared.enums.CallbackProgression.TheVariants.{Continue};
+ghost use Rattle.model.specs.declared.event.Answer.TheVariants.{State};
+ghost use Rattle.model.specs.declared.families.indices.robust.RobustStart.TheVariants as starts;
+ghost use Rattle.model.specs.Coding.{one_word};
+ghost use Rattle.model.specs.Families.Indices.Reading.{is_locked};
+ghost use Rattle.history.specs.Finds.{FindsEnd};
 ghost use Rattle.lock_free_sp.specs.Callable.{TakesPlaces};
 ghost use Rattle.lock_free_owners.specs.Robust.Callable.{HasFound, TakesQuestions, TakesFreed, HasVisited};
-ghost use Rattle.lock_free_owners.specs.Robust.Calls.{HasRecovered};
-ghost use Rattle.lock_free_owners.specs.RobustUniqueIndexSet.{capacity_of};
-ghost use Rattle.lock_free_owners.specs.Robust.Handles.{set_in, knows};
+ghost use Rattle.lock_free_owners.specs.Robust.Told.{HasRecovered, Answered, FoundState};
+ghost use Rattle.lock_free_owners.specs.RobustUniqueIndexSet.{capacity_of, history, HasHistory, MissesNothing, GoesOn};
+ghost use Rattle.lock_free_owners.specs.Robust.Handles.{set_in, pass_in, knows};
 
 use super::Handle;
 use crate::mpmc::robust_unique_index_set::{CallbackProgression, OwnerId};
@@ -21,7 +26,9 @@ impl<'a> Handle<'a> {
     ) -> usize
         requires { TakesPlaces F.pre (λ p x q. F.step p x Continue q) (capacity_of (set_in self.old)) visit }
         ensures set { set_in self.new ≡ set_in self.old }
-        ensures view { knows self.new ≡ knows self.old }
+        ensures goes_on { HasHistory (pass_in self.old) → MissesNothing (pass_in self.old)
+            → GoesOn (pass_in self.old) (pass_in self.new) }
+        ensures ended { FindsEnd one_word owner (knows self.old) result tt (knows self.new) }
         ensures found { (last : F) × HasFound (λ p x a q. F.step p x a q)
             (capacity_of (set_in self.old)) visit result last }
     {
@@ -36,15 +43,18 @@ impl<'a> Handle<'a> {
         predicate: F,
         recover_success: S,
     ) -> ReleaseState
-        requires questions { (knows self.old).locked ≡ false → TakesQuestions F.pre
+        requires questions { is_locked (history (pass_in self.old)) ≡ false → TakesQuestions F.pre
             (λ p o i b q. F.step p o i b q) (capacity_of (set_in self.old)) predicate }
-        requires freed { (knows self.old).locked ≡ false → TakesFreed
+        requires freed { is_locked (history (pass_in self.old)) ≡ false → TakesFreed
             (λ p o i b q. F.step p o i b q) S.pre (λ s o i t. S.step s o i tt t)
             (capacity_of (set_in self.old)) predicate recover_success }
         ensures set { set_in self.new ≡ set_in self.old }
-        ensures recovered { HasRecovered result (knows self.old) (knows self.new) }
+        ensures goes_on { GoesOn (pass_in self.old) (pass_in self.new) }
+        ensures recovered { HasRecovered mode result (knows self.old) (knows self.new) }
+        ensures answered { Answered (starts.Recover mode) (State result) (knows self.old) (knows self.new) }
+        ensures lock { FoundState result (knows self.old) (knows self.new) }
         ensures visited { (f_last : F) × (s_last : S) × HasVisited (λ p o i b q. F.step p o i b q)
-            (λ s o i t. S.step s o i tt t) (capacity_of (set_in self.old)) (knows self.old).locked
+            (λ s o i t. S.step s o i tt t) (capacity_of (set_in self.old)) (is_locked (history (pass_in self.old)))
             predicate recover_success f_last s_last }
     {
         self.set

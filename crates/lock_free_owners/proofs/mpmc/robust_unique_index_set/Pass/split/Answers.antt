@@ -1,6 +1,15 @@
-use Rattle.std.proofs.Common.{rules}
-use Rattle.lock_free_owners.proofs.Rules.Robust.Steps.{splits}
+use Rattle.std.proofs.Common.{◌≡◌, ◌<◌, ℕ, rules, subst, arith}
+use Rattle.atomic_table.specs.Seated.{TableId}
+use Rattle.model.specs.Coding.{one_word}
+use Rattle.model.specs.declared.turn.Kind.TheVariants as kinds
+use Rattle.history.proofs.Passes.{splits}
 use Rattle.lock_free_owners.proofs.mpmc.robust_unique_index_set.Pass.split.Goals as goal
 
 pub split_seat-seat-requires : goal.split_seat-seat-requires
-split_seat-seat-requires c = (search rules, search rules, splits _ _ _ _)
+split_seat-seat-requires c =
+    let mine = c.args.self.now in
+    let at : mine.seated.seat.table_id ≡ c.deref.result.now.shared.table_id = search rules in (
+      at,
+      subst (λ (t : TableId). 0 < t.words) at (let size = mine.sized in omega arith),
+      splits one_word kinds.Robust _ mine.seated.seat.id mine.seated.seat.me.0,
+    )

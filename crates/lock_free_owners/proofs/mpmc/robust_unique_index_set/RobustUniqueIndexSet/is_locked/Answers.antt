@@ -1,7 +1,35 @@
-use Rattle.std.proofs.Common.{arith}
-use Rattle.lock_free_owners.specs.Robust.Kept.{size}
-use Rattle.lock_free_owners.proofs.Rules.Robust.LookRuns.{look_rule}
+use Rattle.std.proofs.Common.{rules, subst}
+use Rattle.model.specs.Coding.{one_word}
+use Rattle.model.specs.declared.turn.Kind.TheVariants as kinds
+use Rattle.lock_free_sp.specs.Seats.{seen}
+use Rattle.history.specs.Passes.{Goes}
+use Rattle.history.specs.Robust.{looks_owned}
+use Rattle.history.proofs.RobustCalls.{look_keeps, look_first}
+use Rattle.lock_free_owners.proofs.RobustSet.Facts.{goes, looked, looked_answered, looked_lock}
 use Rattle.lock_free_owners.proofs.mpmc.robust_unique_index_set.RobustUniqueIndexSet.is_locked.Goals as goal
 
 pub drive-requires-clause-rule : goal.drive-requires-clause-rule
-drive-requires-clause-rule c = look_rule size (λ key. omega arith)
+drive-requires-clause-rule c = look_keeps one_word
+
+pub drive-requires-clause-at : goal.drive-requires-clause-at
+drive-requires-clause-at c =
+    let mine = c.args.pass.now in
+    look_first one_word (seen mine.seated) _ tt mine.idle mine.alone mine.some.0
+
+pub returns-clause-goes_on : goal.returns-clause-goes_on
+returns-clause-goes_on c =
+    let v = seen c.args.pass.now.seated in
+    let w = seen c.drive.new.self in
+    record {
+      set = search rules;
+      goes = subst (λ n. Goes one_word kinds.Robust n v w) c.args.pass.now.known (goes looks_owned v w c.drive.result tt c.drive.ensures.end);
+    }
+
+pub returns-clause-looked : goal.returns-clause-looked
+returns-clause-looked c = looked (seen c.args.pass.now.seated) (seen c.drive.new.self) tt c.args.pass.now.idle c.drive.result c.drive.ensures.end
+
+pub returns-clause-answered : goal.returns-clause-answered
+returns-clause-answered c = looked_answered (seen c.args.pass.now.seated) (seen c.drive.new.self) tt c.args.pass.now.idle c.drive.result c.drive.ensures.end
+
+pub returns-clause-lock : goal.returns-clause-lock
+returns-clause-lock c = looked_lock (seen c.args.pass.now.seated) (seen c.drive.new.self) tt c.args.pass.now.idle c.drive.result c.drive.ensures.end

@@ -1,5 +1,46 @@
-use Rattle.lock_free_owners.proofs.Rules.Robust.ReleaseRuns.{release_rule}
+use Rattle.std.proofs.Common.{◌<◌, rules, sym, ap, subst, ◌∙◌}
+use Rattle.steps.specs.Indices.Robust.Release.{first_release}
+use Rattle.steps.specs.declared.indices.robust.release.GiveBack.{GiveBack}
+use Rattle.model.specs.Coding.{one_word}
+use Rattle.model.specs.declared.turn.Kind.TheVariants as kinds
+use Rattle.lock_free_sp.specs.Seats.{seen}
+use Rattle.lock_free_sp.specs.Sets.{SetId}
+use Rattle.history.specs.Passes.{Goes}
+use Rattle.history.specs.Robust.{gives_owned}
+use Rattle.history.specs.Stages.{At}
+use Rattle.history.proofs.RobustCalls.{release_keeps, release_first}
+use Rattle.lock_free_owners.proofs.RobustSet.Facts.{goes, given, given_of, given_answered, freed, released}
 use Rattle.lock_free_owners.proofs.mpmc.robust_unique_index_set.RobustUniqueIndexSet.release.Goals as goal
 
 pub drive_on-requires-clause-rule : goal.drive_on-requires-clause-rule
-drive_on-requires-clause-rule g c = release_rule (record { index = c.args.index; owner = c.args.owner; mode = c.args.mode })
+drive_on-requires-clause-rule g c = release_keeps one_word (given_of (seen c.args.pass.now.seated) (seen c.args.pass.now.seated) tt c.args.pass.now.idle c.args.index c.args.owner c.args.mode)
+
+pub drive_on-requires-clause-at : goal.drive_on-requires-clause-at
+drive_on-requires-clause-at g c =
+    let mine = c.args.pass.now in
+    let v = seen mine.seated in
+    let given : GiveBack = record { index = c.args.index; owner = c.args.owner; mode = c.args.mode } in
+    let size = mine.known ∙ ap (λ (z : SetId). z.capacity) c.requires.pass in
+    subst (λ call. At one_word kinds.Robust (gives_owned given) v v call tt) (ap first_release mine.known ∙ sym c.new-call.ensures)
+    (release_first one_word given v tt mine.idle mine.alone mine.some.0 (subst (λ n. c.args.index < n) (sym size) c.requires.index) (search rules))
+
+pub returns-clause-goes_on : goal.returns-clause-goes_on
+returns-clause-goes_on g c =
+    let v = seen c.args.pass.now.seated in
+    let w = seen c.drive_on.new.self in
+    record {
+      set = search rules;
+      goes = subst (λ n. Goes one_word kinds.Robust n v w) c.args.pass.now.known (goes (gives_owned _) v w c.drive_on.result tt c.drive_on.ensures.end);
+    }
+
+pub returns-clause-given : goal.returns-clause-given
+returns-clause-given g c = given (seen c.args.pass.now.seated) (seen c.drive_on.new.self) tt c.args.pass.now.idle c.args.index c.args.owner c.args.mode c.drive_on.result c.drive_on.ensures.end
+
+pub returns-clause-freed : goal.returns-clause-freed
+returns-clause-freed g c = freed (seen c.args.pass.now.seated) (seen c.drive_on.new.self) tt c.args.pass.now.idle c.args.index c.args.owner c.args.mode c.drive_on.result c.drive_on.ensures.end
+
+pub returns-clause-answered : goal.returns-clause-answered
+returns-clause-answered g c = given_answered (seen c.args.pass.now.seated) (seen c.drive_on.new.self) tt c.args.pass.now.idle c.args.index c.args.owner c.args.mode c.drive_on.result c.drive_on.ensures.end
+
+pub returns-clause-released : goal.returns-clause-released
+returns-clause-released g c = released (seen c.args.pass.now.seated) (seen c.drive_on.new.self) tt c.args.pass.now.idle c.args.index c.args.owner c.args.mode c.drive_on.result c.drive_on.ensures.end

@@ -1,10 +1,22 @@
-use Rattle.std.proofs.Common.{rules, ◌≡◌, length, ap, ◌∙◌, length-set}
-use Rattle.lock_free_owners.specs.Robust.Kept.{size}
-use Rattle.lock_free_owners.proofs.Rules.Robust.Steps.{opens}
+use Rattle.std.proofs.Common.{◌≡◌, ℕ, ◌+◌, ◌-◌, ◌<◌, ◌^◌, [], ◌∷◌, ◌++◌, take, rules, ap, ◌∙◌, arith}
+use Rattle.std.proofs.lemmas.List.{take_all}
+use Rattle.std.specs.Prelude.{vec_len, replicate}
+use Rattle.steps.specs.Indices.Robust.Parts.{empty}
+use Rattle.lock_free_owners.proofs.RobustSet.Opens.{robust_opens}
 use Rattle.lock_free_owners.proofs.mpmc.robust_unique_index_set.make.open.Goals as goal
 
 pub of_words-requires : goal.of_words-requires
 of_words-requires c =
-    let items = c.in_ok-words.words.items in
-    let wide : length items ≡ size c.args.capacity = search rules in
-    opens (size c.args.capacity) c.args.capacity c.as_slice.result.now (ap length c.as_slice.ensures.value ∙ (length-set items 0 0 ∙ wide))
+    let size = 1 + c.args.capacity in
+    let pushed = c.push_reserved.new.self in
+    let none = c.in_ok-words.ensures.len in
+    let one = c.push_reserved.ensures.len in
+    let left : size - vec_len pushed ≡ c.args.capacity = omega arith in
+    let first : pushed.items ≡ 0 ∷ [] = c.push_reserved.ensures.items ∙ ap (λ ws. ws ++ 0 ∷ []) c.in_ok-words.ensures.items in
+    let cells =
+    c.in_ok-resize.ensures.items
+    ∙ (ap (λ ws. take size ws ++ replicate (size - vec_len pushed) empty) first
+    ∙ (ap (λ ws. ws ++ replicate (size - vec_len pushed) empty) (take_all size (0 ∷ []) (omega arith)) ∙ ap (λ n. 0 ∷ replicate n empty) left))
+    in
+    robust_opens c.args.capacity c.requires (search rules) c.as_slice.result.now
+    (c.as_slice.ensures.value ∙ (c.push_reserved-2.ensures.items ∙ ap (λ ws. ws ++ 0 ∷ []) cells))

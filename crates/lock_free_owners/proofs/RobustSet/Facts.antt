@@ -1,0 +1,294 @@
+-- What is known of whole calls on a set.
+use Rattle.std.proofs.Common.{◌≡◌, inl, inr, ⊎_elim, ◌⊎◌, ℕ, ◌<◌, ◌≤◌, Bool, true, false, true≢false, None, Ok, Err, IfOk, IfErr, OnOk, List, [], ◌∷◌, ◌++◌, slice_index, sum_by, refl, sym, ap, subst, ◌∙◌, append_assoc, append-nil, arith}
+use Rattle.steps.specs.Indices.Robust.Acquire.{Acquired}
+use Rattle.steps.specs.Indices.Robust.Parts.{greatest}
+use Rattle.steps.specs.Indices.Robust.Release.{Released}
+use Rattle.steps.specs.declared.indices.enums.ReleaseMode.{ReleaseMode}
+use Rattle.steps.specs.declared.indices.enums.ReleaseMode.TheVariants.{LockIfLastIndex, Default}
+use Rattle.steps.specs.declared.indices.enums.ReleaseState.{ReleaseState}
+use Rattle.steps.specs.declared.indices.enums.ReleaseState.TheVariants as states
+use Rattle.steps.specs.declared.indices.enums.UniqueIndexSetAcquireFailure.{UniqueIndexSetAcquireFailure}
+use Rattle.steps.specs.declared.indices.enums.UniqueIndexSetAcquireFailure.TheVariants.{OutOfIndices, IsLocked as WasLocked}
+use Rattle.steps.specs.declared.indices.robust.release.GiveBack.{GiveBack}
+use Rattle.model.specs.declared.event.Answer.{Answer}
+use Rattle.model.specs.declared.event.Answer.TheVariants.{NoIndex, State, Number, Truth}
+use Rattle.model.specs.declared.event.Event.{Event}
+use Rattle.model.specs.declared.event.Event.TheVariants.{Begun, Filled, Granted, FreedOf, Finished}
+use Rattle.model.specs.declared.event.Start.TheVariants.{Robust}
+use Rattle.model.specs.declared.families.indices.robust.RobustStart.{RobustStart}
+use Rattle.model.specs.declared.families.indices.robust.RobustStart.TheVariants.{Acquire, Release, Recover, BorrowedIndices, IsLocked}
+use Rattle.model.specs.declared.turn.Kind.TheVariants as kinds
+use Rattle.model.specs.Coding.{one_word}
+use Rattle.model.specs.Families.Indices.Reading.{is_locked}
+use Rattle.model.specs.Families.Indices.Robust.Calls.{acquire_answer, release_answer}
+use Rattle.model.specs.Families.Indices.Robust.Promises.{SetDoes, IsProper, HoldsRight}
+use Rattle.model.specs.Reading.{Each}
+use Rattle.robust_laws.specs.Gone.{Word, IsHonest, AnswersBy}
+use Rattle.robust_laws.specs.Open.{IsOpenSet}
+use Rattle.robust_laws.proofs.Counting.{count_most}
+use Rattle.lock_free_sp.specs.Shares.{IsAll}
+use Rattle.history.specs.declared.view.View.{View}
+use Rattle.history.specs.Finds.{FindsEnd, HasLooked as Looked}
+use Rattle.history.specs.History.{IsHistory, Called, IsBeginning}
+use Rattle.history.specs.Passes.{Goes, MissesNothing}
+use Rattle.history.specs.Robust.{takes_owned, gives_owned, recovers_owned, counts_owned, looks_owned}
+use Rattle.history.specs.Stages.{Calling, Ends, opened}
+use Rattle.history.proofs.Called.{called}
+use Rattle.lock_free_owners.specs.Robust.Told.{HasTaken, HasGiven, HasRecovered, HasCounted, HasLooked, WroteAt, WasFilled, WasGranted, WasFreed, IsSound, Answered, WasRefused, HasReleased, FoundLock, FoundState}
+use Rattle.lock_free_owners.proofs.RobustSet.Sound.{sound_history}
+use Rattle.lock_free_owners.proofs.RobustSet.Events.{find_own, lock_stays, not_locked}
+
+module _ (base w : View ℕ) (h : IsHistory one_word kinds.Robust base.capacity w.seen) where
+  sound : IsSound base.capacity w.seen
+  sound = sound_history base.capacity w.seen h
+
+  module _ (p : ℕ) (start : RobustStart) (answer : Answer ℕ) (wrote : List (Event ℕ)) (c : Called p (Robust start) answer wrote base w) where
+    abbrev begin : Event ℕ
+    begin = Begun p (Robust start)
+
+    abbrev last : Event ℕ
+    last = Finished p (Robust start) answer
+
+    -- what was so when it wrote this event
+    pub wrote_at : (event : ℕ → Event ℕ) (first rest : List (Event ℕ)) → wrote ≡ first ++ event p ∷ rest → (Before : ℕ → List (Event ℕ) → Type 0)
+        → ((before after : List (Event ℕ)) → w.seen ≡ before ++ event p ∷ after → Before p before) → WroteAt event Before base w
+    wrote_at event first rest is Before held =
+        let part = find_own p c.during first rest (event p) (c.during_own ∙ is) in
+        let others : List (Event ℕ) = base.seen ++ c.others in
+        let whole : w.seen ≡ (others ++ begin ∷ part.0) ++ event p ∷ (part.1 ++ last ∷ []) =
+        c.is
+        ∙ (ap (λ ds. others ++ begin ∷ (ds ++ last ∷ [])) part.2
+        ∙ (ap (λ zs. others ++ begin ∷ zs) (append_assoc part.0 (event p ∷ part.1) (last ∷ []))
+        ∙ sym (append_assoc others (begin ∷ part.0) (event p ∷ (part.1 ++ last ∷ [])))))
+        in
+        record {
+          by = p;
+          before = others ++ begin ∷ part.0;
+          after = part.1 ++ last ∷ [];
+          is = whole;
+          since = record { rest = c.others ++ begin ∷ part.0; is = append_assoc base.seen c.others (begin ∷ part.0) };
+          held = held (others ++ begin ∷ part.0) (part.1 ++ last ∷ []) whole;
+        }
+
+    -- the last answer, and what stood before it
+    pub answered_by : Answered start answer base w
+    answered_by =
+        let before : List (Event ℕ) = (base.seen ++ c.others) ++ begin ∷ c.during in
+        let is_last : w.seen ≡ before ++ last ∷ [] = c.is ∙ sym (append_assoc (base.seen ++ c.others) (begin ∷ c.during) (last ∷ [])) in
+        record {
+          by = p;
+          before = before;
+          is = is_last;
+          since = record { rest = c.others ++ begin ∷ c.during; is = append_assoc base.seen c.others (begin ∷ c.during) };
+          right = sound.answers before [] last is_last;
+        }
+
+last_of : {start : RobustStart} {answer : Answer ℕ} {old new : View ℕ} → (a : Answered start answer old new) → IsBeginning a.before new.seen
+last_of {start} {answer} {old} {new} a = record { rest = Finished a.by (Robust start) answer ∷ []; is = a.is }
+
+-- what any call leaves of what a pass knows
+module _ {C E : Type 0} (call : Calling ℕ C (Unit {0}) E) where
+  pub goes : (base w : View ℕ) (e : E) (m : Unit {0}) → Ends one_word kinds.Robust call base e m w → Goes one_word kinds.Robust base.capacity base w
+  goes base w e m ends =
+      let more = opened ends.party call.start base.going ++ (ends.since.during ++ Finished ends.party call.start (call.answer e m) ∷ []) in
+      record {
+        share = ends.share;
+        since = record { rest = ends.since.others ++ more; is = ends.since.is ∙ append_assoc base.seen ends.since.others more };
+        history = ends.history;
+        all = λ whole. ends.all (subst IsAll ends.share whole);
+      }
+
+module _ (base w : View ℕ) (m : Unit {0}) (idle : base.going ≡ None) where
+  -- ---- acquire
+
+  module _ (owner : ℕ) where
+    pub taken : (answer : Acquired) → Ends one_word kinds.Robust (takes_owned owner) base answer m w → HasTaken owner answer base w
+    taken answer ends = record {
+      by = ends.party;
+      mine = ends.mine;
+      wrote = ends.wrote;
+      tells = ends.tells idle;
+      called = called one_word kinds.Robust
+          (takes_owned owner) base w answer m idle ends;
+    }
+
+    pub taken_answered : (answer : Acquired) → Ends one_word kinds.Robust (takes_owned owner) base answer m w
+        → Answered (Acquire owner) (acquire_answer answer) base w
+    taken_answered answer ends =
+        (let t = taken answer ends in answered_by base w ends.history t.by (Acquire owner) (acquire_answer answer) t.wrote t.called)
+
+    pub filled : (answer : Acquired) → Ends one_word kinds.Robust (takes_owned owner) base answer m w → IfOk answer (λ index. WasFilled index owner base w)
+    filled (Err e) ends = tt
+    filled (Ok index) ends =
+        let t = taken (Ok index) ends in
+        wrote_at base w ends.history t.by (Acquire owner) (acquire_answer (Ok index)) t.wrote t.called (λ by. Filled by index owner) []
+        (Granted t.by index owner ∷ []) t.tells.1 _
+        (λ before after is. (let does_it = (sound base w ends.history).does before after (Filled t.by index owner) is in (does_it.0, does_it.1, does_it.3)))
+
+    granted_so : (index : ℕ) → Ends one_word kinds.Robust (takes_owned owner) base (Ok index) m w → WasGranted index owner base w
+    granted_so index ends =
+        let t = taken (Ok index) ends in
+        wrote_at base w ends.history t.by (Acquire owner) (acquire_answer (Ok index)) t.wrote t.called (λ by. Granted by index owner)
+        (Filled t.by index owner ∷ []) [] t.tells.1 _
+        (λ before after is. (
+          ((sound base w ends.history).does before after (Granted t.by index owner) is).0,
+          λ proper honest. (sound base w ends.history).holds proper honest before after (Granted t.by index owner) is,
+        ))
+
+    pub granted : (answer : Acquired) → Ends one_word kinds.Robust (takes_owned owner) base answer m w → IfOk answer (λ index. WasGranted index owner base w)
+    granted (Err e) ends = tt
+    granted (Ok index) ends = granted_so index ends
+
+    pub within : (answer : Acquired) → Ends one_word kinds.Robust (takes_owned owner) base answer m w → (capacity : ℕ) → base.capacity ≡ capacity
+        → IfOk answer (λ index. index < capacity)
+    within (Err e) ends capacity size = tt
+    within (Ok index) ends capacity size = subst (λ n. index < n) size (taken (Ok index) ends).tells.0
+
+    refused_so : (e : UniqueIndexSetAcquireFailure) → Ends one_word kinds.Robust (takes_owned owner) base (Err e) m w → WasRefused owner e base w
+    refused_so OutOfIndices ends =
+        let a = taken_answered (Err OutOfIndices) ends in
+        record { answered = a; unlocked = λ same. not_locked a.since a.right.0; locked = λ same. absurd (cc) }
+    refused_so WasLocked ends =
+        let a = taken_answered (Err WasLocked) ends in
+        record { answered = a; unlocked = λ same. absurd (cc); locked = λ same. lock_stays (last_of a) a.right }
+
+    pub refused : (answer : Acquired) → Ends one_word kinds.Robust (takes_owned owner) base answer m w → IfErr answer (λ e. WasRefused owner e base w)
+    refused (Ok index) ends = tt
+    refused (Err e) ends = refused_so e ends
+
+    -- who has seen the lock finds it
+    pub shut : (answer : Acquired) → Ends one_word kinds.Robust (takes_owned owner) base answer m w → is_locked base.seen ≡ true → answer ≡ Err WasLocked
+    shut (Ok index) ends lock =
+        (let g = granted_so index ends in let free = not_locked g.since g.held.0 in absurd (true≢false (sym lock ∙ free)))
+    shut (Err OutOfIndices) ends lock =
+        (let free = (refused_so OutOfIndices ends).unlocked refl in absurd (true≢false (sym lock ∙ free)))
+    shut (Err WasLocked) ends lock = refl
+
+  -- ---- release
+
+  module _ (index owner : ℕ) where
+    abbrev pub given_of : ReleaseMode → GiveBack
+    given_of mode = record { index = index; owner = owner; mode = mode }
+
+    pub given : (mode : ReleaseMode) (answer : Released) → Ends one_word kinds.Robust (gives_owned (given_of mode)) base answer m w
+        → HasGiven (given_of mode) answer base w
+    given mode answer ends = record {
+      by = ends.party;
+      mine = ends.mine;
+      wrote = ends.wrote;
+      tells = ends.tells idle;
+      called = called one_word kinds.Robust
+          (gives_owned (given_of mode)) base w answer m idle ends;
+    }
+
+    pub given_answered : (mode : ReleaseMode) (answer : Released) → Ends one_word kinds.Robust (gives_owned (given_of mode)) base answer m w
+        → Answered (Release index owner mode) (release_answer answer) base w
+    given_answered mode answer ends =
+        (let t = given mode answer ends in answered_by base w ends.history t.by (Release index owner mode) (release_answer answer) t.wrote t.called)
+
+    freed_so : (mode : ReleaseMode) (state : ReleaseState) (rest : List (Event ℕ)) → (ends : Ends one_word kinds.Robust (gives_owned (given_of mode)) base (Ok state) m w)
+        → (given mode (Ok state) ends).wrote ≡ FreedOf (given mode (Ok state) ends).by index owner ∷ rest → WasFreed index owner base w
+    freed_so mode state rest ends is =
+        let t = given mode (Ok state) ends in
+        wrote_at base w ends.history t.by (Release index owner mode) (release_answer (Ok state)) t.wrote t.called (λ by. FreedOf by index owner) [] rest is _
+        (λ before after at. ((sound base w ends.history).does before after (FreedOf t.by index owner) at).0)
+
+    pub freed : (mode : ReleaseMode) (answer : Released) → Ends one_word kinds.Robust (gives_owned (given_of mode)) base answer m w
+        → OnOk answer (WasFreed index owner base w)
+    freed mode (Err e) ends = tt
+    freed mode (Ok states.Unlocked) ends = freed_so mode states.Unlocked [] ends (given mode (Ok states.Unlocked) ends).tells
+    freed mode (Ok states.Locked) ends =
+        ⊎_elim (λ is. freed_so mode states.Locked _ ends is) (λ is. freed_so mode states.Locked _ ends is) (given mode (Ok states.Locked) ends).tells.1
+
+    released_so : (mode : ReleaseMode) (state : ReleaseState) → Ends one_word kinds.Robust (gives_owned (given_of mode)) base (Ok state) m w
+        → HasReleased state mode base w
+    released_so LockIfLastIndex states.Locked ends =
+        (let a = given_answered LockIfLastIndex (Ok states.Locked) ends in (lock_stays (last_of a) a.right, refl))
+    released_so LockIfLastIndex states.Unlocked ends =
+        (let a = given_answered LockIfLastIndex (Ok states.Unlocked) ends in λ same. not_locked a.since a.right.0)
+    released_so Default states.Locked ends = (let no = (given Default (Ok states.Locked) ends).tells.0 in absurd (cc))
+    released_so Default states.Unlocked ends = λ same. absurd (cc)
+
+    pub released : (mode : ReleaseMode) (answer : Released) → Ends one_word kinds.Robust (gives_owned (given_of mode)) base answer m w
+        → IfOk answer (λ s. HasReleased s mode base w)
+    released mode (Err e) ends = tt
+    released mode (Ok state) ends = released_so mode state ends
+
+  -- ---- looks
+
+  pub counted : (n : ℕ) → Ends one_word kinds.Robust counts_owned base n m w → HasCounted n base w
+  counted n ends = record {
+    by = ends.party;
+    mine = ends.mine;
+    wrote = ends.wrote;
+    tells = ends.tells;
+    called = called one_word kinds.Robust
+        counts_owned base w n m idle ends;
+  }
+
+  module _ (n : ℕ) (ends : Ends one_word kinds.Robust counts_owned base n m w) where
+    pub counted_answered : Answered BorrowedIndices (Number n) base w
+    counted_answered = (let t = counted n ends in answered_by base w ends.history t.by BorrowedIndices (Number n) t.wrote t.called)
+
+    pub counted_most : n ≤ base.capacity
+    counted_most = go (is_locked counted_answered.before) refl
+      where
+        go : (b : Bool) → is_locked counted_answered.before ≡ b → n ≤ base.capacity
+        go true t = (let none = counted_answered.right.0 t in omega arith)
+        go false t =
+            let count = counted_answered.right.1 t in
+            let most = count_most count.chosen base.capacity in
+            let is = count.is in
+            omega arith
+
+    pub counted_none : is_locked base.seen ≡ true → n ≡ 0
+    counted_none lock = counted_answered.right.0 (lock_stays counted_answered.since lock)
+
+  pub looked : (b : Bool) → Ends one_word kinds.Robust looks_owned base b m w → HasLooked b base w
+  looked b ends = record {
+    by = ends.party;
+    mine = ends.mine;
+    wrote = ends.wrote;
+    tells = ends.tells;
+    called = called one_word kinds.Robust
+        looks_owned base w b m idle ends;
+  }
+
+  pub looked_answered : (b : Bool) → Ends one_word kinds.Robust looks_owned base b m w → Answered IsLocked (Truth b) base w
+  looked_answered b ends = (let t = looked b ends in answered_by base w ends.history t.by IsLocked (Truth b) t.wrote t.called)
+
+  pub looked_lock : (b : Bool) → Ends one_word kinds.Robust looks_owned base b m w → FoundLock b base w
+  looked_lock true ends = (let a = looked_answered true ends in lock_stays (last_of a) (sym a.right))
+  looked_lock false ends = (let a = looked_answered false ends in not_locked a.since (sym a.right))
+
+  -- ---- recover
+
+  module _ (mode : ReleaseMode) where
+    pub recovered : (state : ReleaseState) → Ends one_word kinds.Robust (recovers_owned mode) base state m w → HasRecovered mode state base w
+    recovered state ends = record {
+      by = ends.party;
+      mine = ends.mine;
+      wrote = ends.wrote;
+      tells = ends.tells idle;
+      called = called one_word kinds.Robust
+          (recovers_owned mode) base w state m idle ends;
+    }
+
+    pub recovered_answered : (state : ReleaseState) → Ends one_word kinds.Robust (recovers_owned mode) base state m w
+        → Answered (Recover mode) (State state) base w
+    recovered_answered state ends =
+        (let t = recovered state ends in answered_by base w ends.history t.by (Recover mode) (State state) t.wrote t.called)
+
+    pub recovered_lock : (state : ReleaseState) → Ends one_word kinds.Robust (recovers_owned mode) base state m w → FoundState state base w
+    recovered_lock states.Locked ends = (let a = recovered_answered states.Locked ends in lock_stays (last_of a) a.right)
+    recovered_lock states.Unlocked ends = (let a = recovered_answered states.Unlocked ends in not_locked a.since a.right.0)
+
+-- ---- find
+
+pub found_goes : (owner : ℕ) (base w : View ℕ) → Looked one_word owner base w → IsHistory one_word kinds.Robust base.capacity base.seen
+    → MissesNothing base → Goes one_word kinds.Robust base.capacity base w
+found_goes owner base w (inl same) history all =
+    subst (λ (z : View ℕ). Goes one_word kinds.Robust base.capacity base z) (sym same)
+    (record { share = refl; since = record { rest = []; is = sym (append-nil base.seen) }; history = history; all = all })
+found_goes owner base w (inr looks) history all =
+    record { share = looks.share; since = looks.mine; history = looks.history; all = λ whole. looks.all (subst IsAll looks.share whole) }

@@ -1,0 +1,22 @@
+-- How a set's table opens.
+use Rattle.std.proofs.Common.{◌≡◌, ℕ, ◌-◌, ◌^◌, ◌<◌, nat_lt, false, List, [], ◌∷◌, ◌++◌, refl, arith}
+use Rattle.std.proofs.lemmas.Bool.Decides.{nat_tests}
+use Rattle.atomic_table.specs.Table.{opening}
+use Rattle.model.specs.declared.turn.Kind.TheVariants as kinds
+use Rattle.model.specs.Coding.{one_word}
+use Rattle.model.specs.Families.Indices.Robust.Opening.{opening_words}
+use Rattle.history.specs.History.{IsMachine}
+use Rattle.history.specs.Views.{first_view}
+use Rattle.history.proofs.Passes.{opens}
+
+module _ (capacity : ℕ) (some : 0 < capacity) (small : capacity < 2 ^ 32) where
+  most : nat_lt (2 ^ 32 - 1) capacity ≡ false
+  most = grind (arith, nat_tests)
+
+  least : nat_lt capacity 1 ≡ false
+  least = grind (arith, nat_tests)
+
+  pub robust_opens : (words : List ℕ) → words ≡ opening_words capacity ++ 0 ∷ []
+      → IsMachine one_word kinds.Robust capacity (opening words [] (first_view capacity))
+  robust_opens words same = opens one_word kinds.Robust capacity words
+      (record { some = omega arith; few = omega arith; sized = λ x. refl; given_back = λ x. refl }) (rw (most, least) refl) same

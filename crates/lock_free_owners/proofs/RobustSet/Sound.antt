@@ -1,0 +1,40 @@
+-- What holds of each history of a set: what the laws of its open runs say.
+use Rattle.std.proofs.Common.{◌≡◌, inl, inr, ⊎_elim, ℕ, List, slice_index, sym, subst, ◌∙◌}
+use Rattle.steps.specs.Indices.Robust.Parts.{greatest}
+use Rattle.steps.specs.declared.indices.enums.ReleaseMode.TheVariants.{LockIfLastIndex}
+use Rattle.steps.specs.declared.indices.enums.ReleaseState.TheVariants.{Unlocked}
+use Rattle.steps.specs.declared.indices.enums.UniqueIndexSetAcquireFailure.TheVariants.{OutOfIndices}
+use Rattle.model.specs.declared.event.Answer.TheVariants.{NoIndex, State}
+use Rattle.model.specs.declared.event.Event.{Event}
+use Rattle.model.specs.declared.event.Event.TheVariants.{Finished}
+use Rattle.model.specs.declared.event.Start.TheVariants.{Robust}
+use Rattle.model.specs.declared.families.indices.robust.RobustStart.TheVariants.{Acquire, Release, Recover}
+use Rattle.model.specs.declared.turn.Kind.TheVariants as kinds
+use Rattle.model.specs.Coding.{one_word}
+use Rattle.model.specs.Families.Indices.Robust.Promises.{SetDoes, IsProper, HoldsRight}
+use Rattle.model.specs.Reading.{Each}
+use Rattle.robust_laws.specs.Gone.{Word, IsHonest, AsksBy, AnswersBy}
+use Rattle.robust_laws.specs.Open.{IsOpenSet}
+use Rattle.history.specs.History.{IsHistory}
+use Rattle.history.proofs.Robusts.{is_open_set}
+use Rattle.lock_free_owners.specs.Robust.Told.{IsWorn, IsSound}
+
+-- what an answer says where its counter may be worn it says where that may be for another reason
+worn_on : {worn other : Type 0} → (worn → other) → (capacity : ℕ) (before : List (Event ℕ)) (e : Event ℕ) → AnswersBy Word worn capacity before e
+    → AnswersBy Word other capacity before e
+worn_on may capacity before (Finished p (Robust (Acquire owner)) (NoIndex OutOfIndices)) h = (h.0, ⊎_elim (λ x. inl (may x)) (λ x. inr x) h.1)
+worn_on may capacity before (Finished p (Robust (Release index owner LockIfLastIndex)) (State Unlocked)) h =
+    (h.0, ⊎_elim (λ x. inl (may x)) (λ x. inr x) h.1)
+worn_on may capacity before (Finished p (Robust (Recover mode)) (State Unlocked)) h = h
+worn_on may capacity before e h = h
+
+pub sound_history : (capacity : ℕ) (events : List (Event ℕ)) → IsHistory one_word kinds.Robust capacity events → IsSound capacity events
+sound_history capacity events h =
+    let set : IsOpenSet h.trace = is_open_set one_word capacity h.trace h.run in
+    record {
+      does = subst (λ n. Each (SetDoes n) events) h.run.sized (subst (Each (SetDoes h.trace.world.capacity)) (sym h.is) set.does);
+      asks = subst (Each (AsksBy Word)) (sym h.is) set.asks;
+      answers = λ before after e is. worn_on (λ worn. record { trace = h.trace; run = h.run; is = h.is; worn = worn }) capacity before e
+          (subst (λ n. AnswersBy Word (slice_index h.trace.world.words 0 ≡ greatest) n before e) h.run.sized (set.answers before after e (sym h.is ∙ is)));
+      holds = λ proper honest. subst (Each HoldsRight) (sym h.is) (set.holds (subst IsProper h.is proper) (subst IsHonest h.is honest));
+    }

@@ -1,0 +1,138 @@
+-- Between two turns of a call: how it has gone on, and where the loops of its own lead.
+use Rattle.std.proofs.Common.{◌≡◌, ℕ, ◌+◌, ◌<◌, ◌≤◌, ◌==◌, nat_lt, if◌then◌else◌, refl, sym, ap, subst, ◌∙◌, arith}
+use Rattle.std.proofs.lemmas.Bool.Decides.{nat_tests}
+use Rattle.steps.specs.Indices.Robust.Acquire.{Acquired, at_acquire, acquire_tries, acquire_after}
+use Rattle.steps.specs.Indices.Robust.Looks.{borrowed_counted, borrowed_after}
+use Rattle.steps.specs.Indices.Robust.Parts.{empty, greatest, one_more, count_comes_to}
+use Rattle.steps.specs.Indices.Robust.Recover.{at_recover, recover_comes_to, recover_after}
+use Rattle.steps.specs.Picks.{by_test}
+use Rattle.steps.specs.declared.ask.After.{After}
+use Rattle.steps.specs.declared.ask.After.TheVariants.{GoOn, Done}
+use Rattle.steps.specs.declared.indices.enums.ReleaseMode.{ReleaseMode}
+use Rattle.steps.specs.declared.indices.enums.ReleaseState.{ReleaseState}
+use Rattle.steps.specs.declared.indices.robust.acquire.Acquire.{Acquire}
+use Rattle.steps.specs.declared.indices.robust.acquire.AcquireStage.{AcquireStage}
+use Rattle.steps.specs.declared.indices.robust.acquire.AcquireStage.TheVariants as acquires
+use Rattle.steps.specs.declared.indices.robust.looks.BorrowedIndices.{BorrowedIndices}
+use Rattle.steps.specs.declared.indices.robust.parts.Count.{Count}
+use Rattle.steps.specs.declared.indices.robust.parts.Count.TheVariants as counts
+use Rattle.steps.specs.declared.indices.robust.parts.Counted.{Counted}
+use Rattle.steps.specs.declared.indices.robust.parts.Counted.TheVariants as ends
+use Rattle.steps.specs.declared.indices.robust.parts.Raise.TheVariants as raises
+use Rattle.steps.specs.declared.indices.robust.recover.Recover.{Recover}
+use Rattle.steps.specs.declared.indices.robust.recover.RecoverStage.{RecoverStage}
+use Rattle.steps.specs.declared.indices.robust.recover.RecoverStage.TheVariants as recovers
+use Rattle.lock_free_sp.specs.Driver.{Next}
+use Rattle.history.specs.declared.view.View.{View}
+use Rattle.lock_free_owners.specs.Robust.Stages.{HasPassed}
+use Rattle.lock_free_owners.specs.Robust.Turns.{Goes}
+
+module _ {C E : Type 0} (at : View ℕ → View ℕ → C → Unit {0} → Type 0) (ends : View ℕ → E → Unit {0} → View ℕ → Type 0) where
+  pub gone_on : (base v w : View ℕ) (c d : C) (a : After C E) → Goes at ends v c a w → a ≡ GoOn d → at base v c tt → at base w d tt
+  gone_on base v w c d a goes is here = subst (λ z. Next (λ (x : View ℕ). x.capacity) at ends base z tt w) is (goes base here)
+
+  pub has_ended : (base v w : View ℕ) (c : C) (e : E) (a : After C E) → Goes at ends v c a w → a ≡ Done e → at base v c tt → ends base e tt w
+  has_ended base v w c e a goes is here = subst (λ z. Next (λ (x : View ℕ). x.capacity) at ends base z tt w) is (goes base here)
+
+-- ---- an exchange of a cell leads to the next cell, or to no cell
+
+module _ (capacity counter cell : ℕ) where
+  abbrev pub fills : ℕ → Acquire
+  fills index = record { capacity = capacity; stage = acquires.FillsCell counter index }
+
+  abbrev FillsNext : ℕ → ℕ → Acquire → Type 0
+  FillsNext other index d = d.stage ≡ acquires.FillsCell other index → (d ≡ fills index) × (cell < index) × (index < capacity)
+
+  pub fills_next : (k other index : ℕ) (d : Acquire) → acquire_after (fills cell) k ≡ GoOn d → FillsNext other index d
+  fills_next k other index d =
+      by_test (λ (a : After Acquire Acquired). a ≡ GoOn d → FillsNext other index d) (k == empty)
+      (GoOn (at_acquire (fills cell) (acquires.Raises cell raises.LoadsCounter))) (acquire_tries (fills cell) counter (cell + 1))
+      (λ t e is. (
+      let same : at_acquire (fills cell) (acquires.Raises cell raises.LoadsCounter) ≡ d = cc in
+      let stage : acquires.Raises cell raises.LoadsCounter ≡ acquires.FillsCell other index = ap (λ (z : Acquire). z.stage) same ∙ is in
+      absurd (cc)))
+      (λ t. by_test (λ (stage : AcquireStage). ◌≡◌ {A = After Acquire Acquired} (GoOn (at_acquire (fills cell) stage)) (GoOn d) → FillsNext other index d)
+      (nat_lt (cell + 1) capacity) (acquires.FillsCell counter (cell + 1)) (acquires.ChecksCounter counter)
+      (λ u e is. (
+      let same : fills (cell + 1) ≡ d = cc in
+      let stage : acquires.FillsCell counter (cell + 1) ≡ acquires.FillsCell other index = ap (λ (z : Acquire). z.stage) same ∙ is in
+      let next : cell + 1 ≡ index = cc in
+      let low : cell + 1 < capacity = grind (arith, nat_tests) in
+      (sym same ∙ ap fills next, omega arith, omega arith)))
+      (λ u e is. (
+      let same : at_acquire (fills cell) (acquires.ChecksCounter counter) ≡ d = cc in
+      let stage : acquires.ChecksCounter counter ≡ acquires.FillsCell other index = ap (λ (z : Acquire). z.stage) same ∙ is in
+      absurd (cc))))
+
+-- ---- so does a load of a cell by a count
+
+module _ (capacity counter cell filled : ℕ) where
+  abbrev pub loads : ℕ → ℕ → BorrowedIndices
+  loads index found = record { capacity = capacity; count = counts.LoadsCell counter index found }
+
+  abbrev LoadsNext : ℕ → ℕ → ℕ → BorrowedIndices → Type 0
+  LoadsNext other index found d = d.count ≡ counts.LoadsCell other index found → (d ≡ loads index found) × (cell < index) × (index < capacity)
+
+  abbrev counted : After Count Counted → After BorrowedIndices ℕ
+  counted a = borrowed_counted (loads cell filled) a
+
+  comes_next : (seen other index found : ℕ) (d : BorrowedIndices) → counted (count_comes_to capacity counter (cell + 1) seen) ≡ GoOn d
+      → LoadsNext other index found d
+  comes_next seen other index found d =
+      by_test (λ (a : After Count Counted). counted a ≡ GoOn d → LoadsNext other index found d) (nat_lt (cell + 1) capacity)
+      (GoOn (counts.LoadsCell counter (cell + 1) seen))
+      (if counter == greatest then Done (ends.Filled seen counter) else GoOn (counts.ExchangesCounter counter seen))
+      (λ u e is. (
+      let same : loads (cell + 1) seen ≡ d = cc in
+      let stage : counts.LoadsCell counter (cell + 1) seen ≡ counts.LoadsCell other index found = ap (λ (z : BorrowedIndices). z.count) same ∙ is in
+      let next : cell + 1 ≡ index = cc in
+      let both : seen ≡ found = cc in
+      let low : cell + 1 < capacity = grind (arith, nat_tests) in
+      (sym same ∙ (ap (λ i. loads i seen) next ∙ ap (loads index) both), omega arith, omega arith)))
+      (λ u. by_test (λ (a : After Count Counted). counted a ≡ GoOn d → LoadsNext other index found d) (counter == greatest)
+      (Done (ends.Filled seen counter)) (GoOn (counts.ExchangesCounter counter seen))
+      (λ t e is. absurd (cc))
+      (λ t e is. (
+      let same : record (loads cell filled) { count = counts.ExchangesCounter counter seen } ≡ d = cc in
+      let stage : counts.ExchangesCounter counter seen ≡ counts.LoadsCell other index found = ap (λ (z : BorrowedIndices). z.count) same ∙ is in
+      absurd (cc))))
+
+  pub loads_next : (k other index found : ℕ) (d : BorrowedIndices) → borrowed_after (loads cell filled) k ≡ GoOn d → LoadsNext other index found d
+  loads_next k other index found d = comes_next (if k == empty then filled else one_more filled) other index found d
+
+-- ---- and a load of a cell by a recovery, which never ends there
+
+module _ (capacity cell : ℕ) (mode : ReleaseMode) where
+  abbrev pub passes : ℕ → Recover
+  passes index = record { capacity = capacity; stage = recovers.LoadsCell index }
+
+  abbrev PassesNext : ℕ → Recover → Type 0
+  PassesNext index d = d.stage ≡ recovers.LoadsCell index → (d ≡ passes index) × (cell < index) × (index < capacity)
+
+  pub passes_next : (k index : ℕ) (d : Recover) → recover_after (passes cell) mode k ≡ GoOn d → PassesNext index d
+  passes_next k index d =
+      by_test (λ (a : After Recover ReleaseState). a ≡ GoOn d → PassesNext index d) (k == empty)
+      (recover_comes_to (passes cell) (cell + 1)) (GoOn (at_recover (passes cell) (recovers.Asks cell k)))
+      (λ t. by_test (λ (stage : RecoverStage). ◌≡◌ {A = After Recover ReleaseState} (GoOn (at_recover (passes cell) stage)) (GoOn d) → PassesNext index d)
+      (nat_lt (cell + 1) capacity) (recovers.LoadsCell (cell + 1)) recovers.LoadsCounterAgain
+      (λ u e is. (
+      let same : passes (cell + 1) ≡ d = cc in
+      let stage : recovers.LoadsCell (cell + 1) ≡ recovers.LoadsCell index = ap (λ (z : Recover). z.stage) same ∙ is in
+      let next : cell + 1 ≡ index = cc in
+      let low : cell + 1 < capacity = grind (arith, nat_tests) in
+      (sym same ∙ ap passes next, omega arith, omega arith)))
+      (λ u e is. (
+      let same : at_recover (passes cell) recovers.LoadsCounterAgain ≡ d = cc in
+      let stage : recovers.LoadsCounterAgain ≡ recovers.LoadsCell index = ap (λ (z : Recover). z.stage) same ∙ is in
+      absurd (cc))))
+      (λ t e is. (
+      let same : at_recover (passes cell) (recovers.Asks cell k) ≡ d = cc in
+      let stage : recovers.Asks cell k ≡ recovers.LoadsCell index = ap (λ (z : Recover). z.stage) same ∙ is in
+      absurd (cc)))
+
+  pub passes_on : (first k : ℕ) → first ≤ cell → HasPassed first (recover_after (passes cell) mode k)
+  passes_on first k up =
+      by_test (HasPassed first) (k == empty) (recover_comes_to (passes cell) (cell + 1)) (GoOn (at_recover (passes cell) (recovers.Asks cell k)))
+      (λ t. by_test (λ (stage : RecoverStage). HasPassed first (GoOn (at_recover (passes cell) stage)))
+      (nat_lt (cell + 1) capacity) (recovers.LoadsCell (cell + 1)) recovers.LoadsCounterAgain (λ u. omega arith) (λ u. tt))
+      (λ t. up)

@@ -1,0 +1,6 @@
+use Rattle.model.specs.Coding.{one_word}
+use Rattle.history.proofs.RobustCalls.{acquire_keeps}
+use Rattle.lock_free_owners.proofs.mpmc.robust_unique_index_set.acquires.step_acquire.Goals as goal
+
+pub step-requires-clause-rule : goal.step-requires-clause-rule
+step-requires-clause-rule c = acquire_keeps one_word c.args.owner

@@ -1,0 +1,6 @@
+use Rattle.model.specs.Coding.{one_word}
+use Rattle.history.proofs.RobustCalls.{count_keeps}
+use Rattle.lock_free_owners.proofs.mpmc.robust_unique_index_set.counts.step_count.Goals as goal
+
+pub step-requires-clause-rule : goal.step-requires-clause-rule
+step-requires-clause-rule c = count_keeps one_word

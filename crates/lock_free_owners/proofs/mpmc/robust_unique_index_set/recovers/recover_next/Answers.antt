@@ -1,0 +1,11 @@
+use Rattle.std.proofs.Common.{sym, subst}
+use Rattle.steps.specs.Indices.Robust.Recover.{at_recover}
+use Rattle.steps.specs.declared.indices.robust.recover.RecoverStage.{RecoverStage}
+use Rattle.lock_free_sp.specs.Seats.{seen}
+use Rattle.lock_free_owners.specs.Robust.Turns.{RecoverGoes}
+use Rattle.lock_free_owners.proofs.mpmc.robust_unique_index_set.recovers.recover_next.Goals as goal
+
+pub returns-in-LoadsCell-clause-goes : goal.returns-in-LoadsCell-clause-goes
+returns-in-LoadsCell-clause-goes g c =
+    subst (λ (stage : RecoverStage). RecoverGoes c.args.mode (seen c.args.seat.now) (at_recover c.args.call stage) c.pass_over-after.result (seen c.pass_over-after.new.seat))
+    (sym c.in-LoadsCell.is) c.pass_over-after.ensures.goes

@@ -1,0 +1,143 @@
+-- What the calls on robust unique index sets add to the history, and what they answer.
+use Rattle.std.specs.Prelude.{◌≡◌, ℕ, ◌<◌, Bool, true, false, Some, None, List, [], ◌∷◌, ◌++◌, slice_index}
+use Rattle.steps.specs.Indices.Robust.Acquire.{Acquired}
+use Rattle.steps.specs.Indices.Robust.Parts.{greatest}
+use Rattle.steps.specs.Indices.Robust.Release.{Released}
+use Rattle.steps.specs.declared.indices.enums.ReleaseMode.{ReleaseMode}
+use Rattle.steps.specs.declared.indices.enums.ReleaseMode.TheVariants.{LockIfLastIndex}
+use Rattle.steps.specs.declared.indices.enums.ReleaseState.{ReleaseState}
+use Rattle.steps.specs.declared.indices.enums.ReleaseState.TheVariants as states
+use Rattle.steps.specs.declared.indices.enums.UniqueIndexSetAcquireFailure.{UniqueIndexSetAcquireFailure}
+use Rattle.steps.specs.declared.indices.enums.UniqueIndexSetAcquireFailure.TheVariants as failures
+use Rattle.steps.specs.declared.indices.robust.release.GiveBack.{GiveBack}
+use Rattle.model.specs.declared.event.Answer.{Answer}
+use Rattle.model.specs.declared.event.Answer.TheVariants.{NoIndex, State, Number, Truth}
+use Rattle.model.specs.declared.event.Event.{Event}
+use Rattle.model.specs.declared.event.Event.TheVariants.{Filled, Granted, FreedOf, Finished}
+use Rattle.model.specs.declared.event.Start.TheVariants.{Robust}
+use Rattle.model.specs.declared.families.indices.robust.RobustStart.{RobustStart}
+use Rattle.model.specs.declared.families.indices.robust.RobustStart.TheVariants.{Acquire, Release, Recover, BorrowedIndices, IsLocked}
+use Rattle.model.specs.declared.turn.Kind.TheVariants as kinds
+use Rattle.model.specs.Coding.{one_word}
+use Rattle.model.specs.Families.Indices.Reading.{is_locked}
+use Rattle.model.specs.Families.Indices.Robust.Calls.{acquire_answer, release_answer}
+use Rattle.model.specs.Families.Indices.Robust.Promises.{IsUnlocked, SetDoes, IsProper, HoldsRight}
+use Rattle.model.specs.Families.Indices.Robust.Reading.{filled_of, holder_of}
+use Rattle.model.specs.Moments.{HeldOnce}
+use Rattle.model.specs.Reading.{Each}
+use Rattle.model.specs.World.{Trace}
+use Rattle.robust_laws.specs.Gone.{Word, IsHonest, AsksBy, AnswersBy}
+use Rattle.history.specs.declared.view.View.{View}
+use Rattle.history.specs.History.{Called, IsBeginning, IsRun}
+use Rattle.history.specs.Robust as robust
+
+-- one call of the history, by a party of the pass, and what it wrote
+pub record HasMade (start : RobustStart) (answer : Answer ℕ) (Wrote : ℕ → List (Event ℕ) → Type 0)
+    (old new : View ℕ) : Type 0 where
+  pub by : ℕ
+  pub mine : new.party ≡ Some by
+  pub wrote : List (Event ℕ)
+  pub tells : Wrote by wrote
+  pub called : Called by (Robust start) answer wrote old new
+
+-- an acquire fills an index and is granted it, or was granted none
+abbrev pub HasTaken : ℕ → Acquired → View ℕ → View ℕ → Type 0
+HasTaken owner answer old =
+    HasMade (Acquire owner) (acquire_answer answer)
+    (λ by es. robust.HasTaken old.capacity by owner answer es) old
+
+-- a release frees the index, and may lock the set
+abbrev pub HasGiven : GiveBack → Released → View ℕ → View ℕ → Type 0
+HasGiven given answer =
+    HasMade (Release given.index given.owner given.mode) (release_answer answer)
+    (λ by es. robust.HasGiven by given answer es)
+
+-- a recovery asks about indices, is told to free some, and frees of them
+abbrev pub HasRecovered : ReleaseMode → ReleaseState → View ℕ → View ℕ → Type 0
+HasRecovered mode state old =
+    HasMade (Recover mode) (State state)
+    (λ by es. robust.HasRecovered old.capacity by mode state es) old
+
+abbrev pub HasCounted : ℕ → View ℕ → View ℕ → Type 0
+HasCounted number = HasMade BorrowedIndices (Number number) (λ by es. es ≡ [])
+
+abbrev pub HasLooked : Bool → View ℕ → View ℕ → Type 0
+HasLooked locked = HasMade IsLocked (Truth locked) (λ by es. es ≡ [])
+
+-- what was so of the history when the call wrote this event
+pub record WroteAt (event : ℕ → Event ℕ) (Before : ℕ → List (Event ℕ) → Type 0)
+    (old new : View ℕ) : Type 0 where
+  pub by : ℕ
+  pub before : List (Event ℕ)
+  pub after : List (Event ℕ)
+  pub is : new.seen ≡ before ++ event by ∷ after
+  pub since : IsBeginning old.seen before
+  pub held : Before by before
+
+-- the index had no owner then, and the set was not locked at some moment of the call
+abbrev pub WasFilled : ℕ → ℕ → View ℕ → View ℕ → Type 0
+WasFilled index owner old new =
+    WroteAt (λ by. Filled by index owner)
+    (λ by before. (index < old.capacity) × (filled_of index before ≡ None)
+    × HeldOnce by IsUnlocked before) old new
+
+-- the set was not locked then, and nobody held the index, where nobody acts for an owner who is gone
+-- nor gives back what is not his
+abbrev pub WasGranted : ℕ → ℕ → View ℕ → View ℕ → Type 0
+WasGranted index owner old new =
+    WroteAt (λ by. Granted by index owner)
+    (λ by before. IsUnlocked before
+    × (IsProper new.seen → IsHonest new.seen → holder_of index before ≡ None)) old new
+
+-- the index had this owner then
+abbrev pub WasFreed : ℕ → ℕ → View ℕ → View ℕ → Type 0
+WasFreed index owner =
+    WroteAt (λ by. FreedOf by index owner) (λ by before. filled_of index before ≡ Some owner)
+
+-- a set with this history may have its counter at its end
+pub record IsWorn (capacity : ℕ) (events : List (Event ℕ)) : Type 0 where
+  pub trace : Trace ℕ
+  pub run : IsRun one_word kinds.Robust capacity trace
+  pub is : events ≡ trace.events
+  pub worn : slice_index trace.world.words 0 ≡ greatest
+
+-- what each event of a set's history does to it, what a recovery asks, and what each answer says; and where nobody acts
+-- for an owner who is gone nor gives back what is not his, no index is granted that somebody holds
+pub record IsSound (capacity : ℕ) (events : List (Event ℕ)) : Type 0 where
+  pub does : Each (SetDoes capacity) events
+  pub asks : Each (AsksBy Word) events
+  pub answers : Each (AnswersBy Word (IsWorn capacity events) capacity) events
+  pub holds : IsProper events → IsHonest events → Each HoldsRight events
+
+-- The last that was seen is the end of the call, and the answer said this of the set at its last step, and at moments of
+-- the call: an acquire fails by OutOfIndices only where each index had an owner at a moment of it, and so on.
+pub record Answered (start : RobustStart) (answer : Answer ℕ) (old new : View ℕ) : Type 0 where
+  pub by : ℕ
+  pub before : List (Event ℕ)
+  pub is : new.seen ≡ before ++ Finished by (Robust start) answer ∷ []
+  pub since : IsBeginning old.seen before
+  pub right : AnswersBy Word (IsWorn old.capacity new.seen) old.capacity before
+      (Finished by (Robust start) answer)
+
+-- ---- the lock
+
+-- an acquire that took no index: the lock had not been seen, or is seen now
+pub record WasRefused (owner : ℕ) (failure : UniqueIndexSetAcquireFailure) (old new : View ℕ)
+    : Type 0 where
+  pub answered : Answered (Acquire owner) (NoIndex failure) old new
+  pub unlocked : failure ≡ failures.OutOfIndices → is_locked old.seen ≡ false
+  pub locked : failure ≡ failures.IsLocked → is_locked new.seen ≡ true
+
+-- a release: Locked in mode LockIfLastIndex alone, and there wherever the lock was seen
+abbrev pub HasReleased : ReleaseState → ReleaseMode → View ℕ → View ℕ → Type 0
+HasReleased states.Locked mode old new = (is_locked new.seen ≡ true) × (mode ≡ LockIfLastIndex)
+HasReleased states.Unlocked mode old new = mode ≡ LockIfLastIndex → is_locked old.seen ≡ false
+
+-- an answer that the set is locked, or is not
+abbrev pub FoundLock : Bool → View ℕ → View ℕ → Type 0
+FoundLock true old new = is_locked new.seen ≡ true
+FoundLock false old new = is_locked old.seen ≡ false
+
+abbrev pub FoundState : ReleaseState → View ℕ → View ℕ → Type 0
+FoundState states.Locked = FoundLock true
+FoundState states.Unlocked = FoundLock false

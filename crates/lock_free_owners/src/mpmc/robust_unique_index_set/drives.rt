@@ -1,0 +1,91 @@
+//! What the calls say of the views at their steps.
+ghost use Rattle.std.specs.Prelude.{◌≡◌, []};
+ghost use Rattle.model.specs.Coding.{one_word};
+ghost use Rattle.model.specs.declared.turn.Kind.TheVariants as kinds;
+
+use atomic_table::Play;
+use history::view::View;
+use lock_free_sp::driver::rule::Drives;
+use steps::indices::robust::acquire::Acquire;
+use steps::indices::robust::find::Find;
+use steps::indices::robust::looks::{BorrowedIndices, IsLocked};
+use steps::indices::robust::recover::Recover;
+use steps::indices::robust::release::Release;
+
+/// Taking an index for an owner.
+pub struct Takes;
+
+impl Drives<View<u64>, Acquire> for Takes {
+    ghost use Rattle.lock_free_owners.specs.Robust.Turns.{AcquireAt, AcquireEnds};
+
+    ghost at = { AcquireAt };
+
+    ghost ends = { AcquireEnds };
+}
+
+/// Giving an index back for its owner.
+pub struct Gives;
+
+impl Drives<View<u64>, Release> for Gives {
+    ghost use Rattle.history.specs.Stages.{At, Ends};
+    ghost use Rattle.history.specs.Robust.{gives_owned};
+
+    ghost at = { λ given. At one_word kinds.Robust (gives_owned given) };
+
+    ghost ends = { λ given. Ends one_word kinds.Robust (gives_owned given) };
+}
+
+/// Coming to the indices of an owner.
+pub struct Finds;
+
+impl Drives<View<u64>, Find> for Finds {
+    ghost use Rattle.history.specs.Finds.{FindsAt, FindsEnd};
+
+    ghost at = { FindsAt one_word };
+
+    ghost ends = { FindsEnd one_word };
+}
+
+/// Freeing the indices of dead owners.
+pub struct Recovers;
+
+impl Drives<View<u64>, Recover> for Recovers {
+    ghost use Rattle.lock_free_owners.specs.Robust.Turns.{RecoverAt, RecoverEnds};
+
+    ghost at = { RecoverAt };
+
+    ghost ends = { RecoverEnds };
+}
+
+/// Counting the indices that have an owner.
+pub struct CountsOwned;
+
+impl Drives<View<u64>, BorrowedIndices> for CountsOwned {
+    ghost use Rattle.lock_free_owners.specs.Robust.Turns.{CountAt, CountEnds};
+
+    ghost at = { λ given. CountAt };
+
+    ghost ends = { λ given. CountEnds };
+}
+
+/// Looking at the lock.
+pub struct LooksLocked;
+
+impl Drives<View<u64>, IsLocked> for LooksLocked {
+    ghost use Rattle.history.specs.Stages.{At, Ends};
+    ghost use Rattle.history.specs.Robust.{looks_owned};
+
+    ghost at = { λ given. At one_word kinds.Robust looks_owned };
+
+    ghost ends = { λ given. Ends one_word kinds.Robust looks_owned };
+}
+
+/// A look at the whole history.
+pub struct Look;
+
+impl Play<(), View<u64>> for Look {
+    ghost use Rattle.history.specs.Views.{Looks};
+
+    ghost then = { λ step old found new.
+        Looks one_word kinds.Robust old.0.capacity old.0 new.0 × (new.1 ≡ []) };
+}

@@ -1,0 +1,36 @@
+//! The rule of a robust unique index set's table: it is a machine of its kind, and one word more.
+ghost use Rattle.model.specs.Coding.{one_word};
+ghost use Rattle.model.specs.declared.turn.Kind.TheVariants as kinds;
+
+use atomic_table::{Table, TableRule};
+use history::view::View;
+use lock_free_sp::driver::rule::Rule;
+use lock_free_sp::driver::seated::Seated;
+use std::alloc::Global;
+
+/// The rule, for the capacity that is the key.
+pub struct RobustRule;
+
+impl TableRule<(), View<u64>, u64> for RobustRule {
+    ghost use Rattle.history.specs.History.{IsMachine};
+    ghost use Rattle.history.specs.Views.{first_view};
+
+    ghost holds = { λ capacity. IsMachine one_word kinds.Robust capacity };
+
+    ghost first = { first_view };
+}
+
+impl Rule<View<u64>, u64> for RobustRule {
+    ghost use Rattle.std.specs.Prelude.{◌+◌};
+    ghost use Rattle.lock_free_owners.specs.Robust.Turns.{size};
+
+    ghost size = { λ capacity. size capacity + 1 };
+
+    ghost capacity = { λ capacity. capacity };
+
+    ghost capacity_seen = { λ v. v.capacity };
+}
+
+pub type Board = Table<(), View<u64>, u64, RobustRule, Global>;
+
+pub type Seat = Seated<View<u64>, u64, RobustRule>;
