@@ -4,6 +4,7 @@
 pub mod mpmc;
 pub mod spsc;
 
+pub use lock_free_owners::laws as owner_laws;
 pub use lock_free_queues::laws as spsc_laws;
 pub use lock_free_sp::laws;
 pub use lock_free_value::{laws as value_laws, spmc};
