@@ -1,6 +1,6 @@
 -- The words of the contracts of a robust unique index set: what names it, which pass is for it, and
 -- what a pass knows of the set's history.
-use Rattle.std.specs.Prelude.{◌≡◌, ℕ, ◌+◌, ◌-◌, ◌^◌, ◌||◌, Option, Some, List, if◌then◌else◌, nat_lt}
+use Rattle.std.specs.Prelude.{◌≡◌, ℕ, ◌-◌, ◌^◌, ◌||◌, Option, Some, List, if◌then◌else◌, nat_lt}
 use Rattle.std.specs.Arc.{arc_value}
 use Rattle.steps.specs.Enums.{capacity_refusal}
 use Rattle.steps.specs.declared.enums.UniqueIndexCreationError.{UniqueIndexCreationError}

@@ -1,7 +1,7 @@
 -- Where a recovery asks about an index, or has been told to free it, the set was not locked when it began.
-use Rattle.std.proofs.Common.{◌≡◌, ◌≢◌, inl, inr, ℕ, ◌+◌, ◌<◌, ◌==◌, nat_lt, Bool, true, false, Option, Some, None, List, [], ◌∷◌, ◌++◌, refl, sym, ap, subst, ◌∙◌, append_assoc}
+use Rattle.std.proofs.Common.{◌≡◌, inl, inr, ℕ, ◌+◌, ◌==◌, nat_lt, Bool, true, false, Option, Some, None, List, [], ◌∷◌, ◌++◌, refl, sym, ap, subst, ◌∙◌, append_assoc}
 use Rattle.steps.specs.Indices.Robust.Parts.{raise_want, lock_want}
-use Rattle.steps.specs.Indices.Robust.Recover.{at_recover, recover_asks, recover_comes_to, recover_takes, recover_after}
+use Rattle.steps.specs.Indices.Robust.Recover.{at_recover, recover_asks, recover_comes_to, recover_takes}
 use Rattle.steps.specs.Picks.{by_test}
 use Rattle.steps.specs.declared.ask.After.{After}
 use Rattle.steps.specs.declared.ask.After.TheVariants.{GoOn, Done}
@@ -16,7 +16,7 @@ use Rattle.steps.specs.declared.indices.robust.recover.Recover.{Recover as Recov
 use Rattle.steps.specs.declared.indices.robust.recover.RecoverStage.{RecoverStage}
 use Rattle.steps.specs.declared.indices.robust.recover.RecoverStage.TheVariants as recovers
 use Rattle.model.specs.declared.event.Event.{Event}
-use Rattle.model.specs.declared.event.Event.TheVariants.{Begun, Asked, Told}
+use Rattle.model.specs.declared.event.Event.TheVariants.{Begun, Asked}
 use Rattle.model.specs.declared.event.Start.{Start}
 use Rattle.model.specs.declared.event.Start.TheVariants.{Robust}
 use Rattle.model.specs.declared.families.Flight.{Flight}
@@ -34,7 +34,7 @@ use Rattle.robust_laws.specs.Gone.{Word, AsksBy}
 use Rattle.history.specs.declared.view.View.{View}
 use Rattle.history.specs.History.{IsHistory, IsBeginning}
 use Rattle.history.specs.Robust.{recovers_owned, RecoverIn, RecoveredAt}
-use Rattle.history.specs.Stages.{Since, opened, IsUnderWay, IsFirst, HasHeard}
+use Rattle.history.specs.Stages.{Since, opened, IsUnderWay, IsFirst}
 use Rattle.history.proofs.Robusts.{is_open_set}
 use Rattle.lock_free_owners.specs.Robust.Turns.{RecoverAt}
 use Rattle.lock_free_owners.proofs.RobustSet.Events.{find_own, not_locked}

@@ -1,7 +1,6 @@
 -- What is known of whole calls on a set.
-use Rattle.std.proofs.Common.{◌≡◌, inl, inr, ⊎_elim, ◌⊎◌, ℕ, ◌<◌, ◌≤◌, Bool, true, false, true≢false, None, Ok, Err, IfOk, IfErr, OnOk, List, [], ◌∷◌, ◌++◌, slice_index, sum_by, refl, sym, ap, subst, ◌∙◌, append_assoc, append-nil, arith}
+use Rattle.std.proofs.Common.{◌≡◌, inl, inr, ⊎_elim, ℕ, ◌<◌, ◌≤◌, Bool, true, false, true≢false, None, Ok, Err, IfOk, IfErr, OnOk, List, [], ◌∷◌, ◌++◌, refl, sym, ap, subst, ◌∙◌, append_assoc, append-nil, arith}
 use Rattle.steps.specs.Indices.Robust.Acquire.{Acquired}
-use Rattle.steps.specs.Indices.Robust.Parts.{greatest}
 use Rattle.steps.specs.Indices.Robust.Release.{Released}
 use Rattle.steps.specs.declared.indices.enums.ReleaseMode.{ReleaseMode}
 use Rattle.steps.specs.declared.indices.enums.ReleaseMode.TheVariants.{LockIfLastIndex, Default}
@@ -11,7 +10,7 @@ use Rattle.steps.specs.declared.indices.enums.UniqueIndexSetAcquireFailure.{Uniq
 use Rattle.steps.specs.declared.indices.enums.UniqueIndexSetAcquireFailure.TheVariants.{OutOfIndices, IsLocked as WasLocked}
 use Rattle.steps.specs.declared.indices.robust.release.GiveBack.{GiveBack}
 use Rattle.model.specs.declared.event.Answer.{Answer}
-use Rattle.model.specs.declared.event.Answer.TheVariants.{NoIndex, State, Number, Truth}
+use Rattle.model.specs.declared.event.Answer.TheVariants.{State, Number, Truth}
 use Rattle.model.specs.declared.event.Event.{Event}
 use Rattle.model.specs.declared.event.Event.TheVariants.{Begun, Filled, Granted, FreedOf, Finished}
 use Rattle.model.specs.declared.event.Start.TheVariants.{Robust}
@@ -21,14 +20,10 @@ use Rattle.model.specs.declared.turn.Kind.TheVariants as kinds
 use Rattle.model.specs.Coding.{one_word}
 use Rattle.model.specs.Families.Indices.Reading.{is_locked}
 use Rattle.model.specs.Families.Indices.Robust.Calls.{acquire_answer, release_answer}
-use Rattle.model.specs.Families.Indices.Robust.Promises.{SetDoes, IsProper, HoldsRight}
-use Rattle.model.specs.Reading.{Each}
-use Rattle.robust_laws.specs.Gone.{Word, IsHonest, AnswersBy}
-use Rattle.robust_laws.specs.Open.{IsOpenSet}
 use Rattle.robust_laws.proofs.Counting.{count_most}
 use Rattle.lock_free_sp.specs.Shares.{IsAll}
 use Rattle.history.specs.declared.view.View.{View}
-use Rattle.history.specs.Finds.{FindsEnd, HasLooked as Looked}
+use Rattle.history.specs.Finds.{HasLooked as Looked}
 use Rattle.history.specs.History.{IsHistory, Called, IsBeginning}
 use Rattle.history.specs.Passes.{Goes, MissesNothing}
 use Rattle.history.specs.Robust.{takes_owned, gives_owned, recovers_owned, counts_owned, looks_owned}
@@ -186,7 +181,8 @@ module _ (base w : View ℕ) (m : Unit {0}) (idle : base.going ≡ None) where
     given_answered mode answer ends =
         (let t = given mode answer ends in answered_by base w ends.history t.by (Release index owner mode) (release_answer answer) t.wrote t.called)
 
-    freed_so : (mode : ReleaseMode) (state : ReleaseState) (rest : List (Event ℕ)) → (ends : Ends one_word kinds.Robust (gives_owned (given_of mode)) base (Ok state) m w)
+    freed_so : (mode : ReleaseMode) (state : ReleaseState) (rest : List (Event ℕ)) → (ends : Ends one_word kinds.Robust (gives_owned (given_of mode)) base
+        (Ok state) m w)
         → (given mode (Ok state) ends).wrote ≡ FreedOf (given mode (Ok state) ends).by index owner ∷ rest → WasFreed index owner base w
     freed_so mode state rest ends is =
         let t = given mode (Ok state) ends in

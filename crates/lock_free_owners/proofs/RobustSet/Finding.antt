@@ -1,9 +1,8 @@
 -- What a find knows of the index that it has come to.
-use Rattle.std.proofs.Common.{◌≡◌, ℕ, ◌<◌, ◌≤◌, arith}
+use Rattle.std.proofs.Common.{ℕ, arith}
 use Rattle.steps.specs.declared.indices.robust.find.Find.{Find}
 use Rattle.steps.specs.declared.indices.robust.find.FindStage.{FindStage}
 use Rattle.steps.specs.declared.indices.robust.find.FindStage.TheVariants as finds
-use Rattle.model.specs.declared.event.Event.{Event}
 use Rattle.model.specs.Coding.{one_word}
 use Rattle.robust_laws.proofs.Counting.{count_most}
 use Rattle.history.specs.declared.view.View.{View}

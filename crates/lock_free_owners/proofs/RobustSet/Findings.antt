@@ -1,6 +1,6 @@
 -- A find between two turns: where it stands on the history, and what its closure was called with.
-use Rattle.std.proofs.Common.{◌≡◌, ℕ, ◌+◌, ◌^◌, ◌<◌, refl, sym, ap, subst, ◌∙◌}
-use Rattle.steps.specs.Indices.Robust.Find.{first_find, find_after}
+use Rattle.std.proofs.Common.{◌≡◌, ℕ, ◌^◌, ◌<◌, sym, subst}
+use Rattle.steps.specs.Indices.Robust.Find.{first_find}
 use Rattle.steps.specs.declared.ask.After.{After}
 use Rattle.steps.specs.declared.ask.After.TheVariants.{GoOn, Done}
 use Rattle.steps.specs.declared.enums.CallbackProgression.{CallbackProgression}

@@ -13,7 +13,7 @@ use Rattle.lock_free_owners.specs.Robust.Stages.{RecoverAsks, RecoverMoves}
 use Rattle.lock_free_owners.specs.Robust.Turns.{RecoverAt, RecoverEnds, RecoverGoes}
 use Rattle.lock_free_owners.proofs.RobustSet.Asking.{knows}
 use Rattle.lock_free_owners.proofs.RobustSet.Turns.{gone_on, has_ended}
-use Rattle.lock_free_owners.proofs.Rules.Robust.Recovering.{Knows, SoFar, Between, Moves, between, ended, goes_or_stays, ends_or_stays, may_ask}
+use Rattle.lock_free_owners.proofs.Rules.Robust.Recovering.{Knows, Between, Moves, between, ended, goes_or_stays, ends_or_stays, may_ask}
 
 module _ {F S : Type 0} (step : F → ℕ → ℕ → Bool → F → Type 0) (tell : S → ℕ → ℕ → S → Type 0) (cap : ℕ) (mode : ReleaseMode) (base : View ℕ)
     (idle : base.going ≡ None) (known : base.capacity ≡ cap) (f : F) (s : S) where

@@ -17,7 +17,7 @@ use Rattle.robust_laws.specs.Gone.{Word, IsHonest, AsksBy, AnswersBy}
 use Rattle.robust_laws.specs.Open.{IsOpenSet}
 use Rattle.history.specs.History.{IsHistory}
 use Rattle.history.proofs.Robusts.{is_open_set}
-use Rattle.lock_free_owners.specs.Robust.Told.{IsWorn, IsSound}
+use Rattle.lock_free_owners.specs.Robust.Told.{IsSound}
 
 -- what an answer says where its counter may be worn it says where that may be for another reason
 worn_on : {worn other : Type 0} → (worn → other) → (capacity : ℕ) (before : List (Event ℕ)) (e : Event ℕ) → AnswersBy Word worn capacity before e

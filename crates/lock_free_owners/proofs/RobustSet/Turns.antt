@@ -1,5 +1,5 @@
 -- Between two turns of a call: how it has gone on, and where the loops of its own lead.
-use Rattle.std.proofs.Common.{◌≡◌, ℕ, ◌+◌, ◌<◌, ◌≤◌, ◌==◌, nat_lt, if◌then◌else◌, refl, sym, ap, subst, ◌∙◌, arith}
+use Rattle.std.proofs.Common.{◌≡◌, ℕ, ◌+◌, ◌<◌, ◌≤◌, ◌==◌, nat_lt, if◌then◌else◌, sym, ap, subst, ◌∙◌, arith}
 use Rattle.std.proofs.lemmas.Bool.Decides.{nat_tests}
 use Rattle.steps.specs.Indices.Robust.Acquire.{Acquired, at_acquire, acquire_tries, acquire_after}
 use Rattle.steps.specs.Indices.Robust.Looks.{borrowed_counted, borrowed_after}

@@ -1,9 +1,7 @@
 -- What is known at each stage of a call on a robust unique index set, and how the call ends: of the
 -- view with which it began, and the view now.
-use Rattle.std.specs.Prelude.{◌≡◌, ℕ, ◌+◌, ◌<◌, ◌≤◌, Bool, true, false, Ok, Err, if◌then◌else◌}
+use Rattle.std.specs.Prelude.{◌≡◌, ℕ, ◌<◌, ◌≤◌, Bool, true, false, if◌then◌else◌}
 use Rattle.steps.specs.Indices.Robust.Parts.{empty, locked, greatest}
-use Rattle.steps.specs.Indices.Robust.Acquire.{Acquired}
-use Rattle.steps.specs.Indices.Robust.Release.{Released}
 use Rattle.steps.specs.Indices.Robust.Find.{find_after}
 use Rattle.steps.specs.Indices.Robust.Recover.{recover_after}
 use Rattle.steps.specs.declared.ask.After.{After}
@@ -16,10 +14,7 @@ use Rattle.steps.specs.declared.indices.enums.ReleaseState.{ReleaseState}
 use Rattle.steps.specs.declared.indices.robust.parts.Raise as raises
 use Rattle.steps.specs.declared.indices.robust.parts.Count as counts
 use Rattle.steps.specs.declared.indices.robust.parts.Lock as locks
-use Rattle.steps.specs.declared.indices.robust.acquire.Acquire.{Acquire}
 use Rattle.steps.specs.declared.indices.robust.acquire.AcquireStage as acquires
-use Rattle.steps.specs.declared.indices.robust.release.Release.{Release}
-use Rattle.steps.specs.declared.indices.robust.release.GiveBack.{GiveBack}
 use Rattle.steps.specs.declared.indices.robust.release.ReleaseStage as releases
 use Rattle.steps.specs.declared.indices.robust.find.Find.{Find}
 use Rattle.steps.specs.declared.indices.robust.find.FindStage as finds
@@ -28,7 +23,7 @@ use Rattle.steps.specs.declared.indices.robust.recover.RecoverStage as recovers
 use Rattle.steps.specs.declared.indices.robust.looks.BorrowedIndices.{BorrowedIndices}
 use Rattle.steps.specs.declared.indices.robust.looks.IsLocked.{IsLocked}
 use Rattle.lock_free_owners.specs.declared.robust.view.View.{View}
-use Rattle.lock_free_owners.specs.Robust.Calls.{FoundOpen, FoundLocked, WasRefused, HasReleased, HasRecovered, WasCounted}
+use Rattle.lock_free_owners.specs.Robust.Calls.{FoundOpen, FoundLocked, WasCounted}
 
 -- until its end a call leaves what is known
 module _ {C M : Type 0} where

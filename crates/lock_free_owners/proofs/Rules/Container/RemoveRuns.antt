@@ -1,5 +1,5 @@
 -- A remove keeps the rule of a container at each of its stages.
-use Rattle.std.proofs.Common.{◌≡◌, ℕ, ◌+◌, ◌<◌, ◌≤◌, Bool, true, false, [], Ok, Err, refl, sym, subst, ◌∙◌, arith}
+use Rattle.std.proofs.Common.{◌≡◌, ℕ, ◌<◌, Bool, true, false, [], Ok, refl, sym, subst, ◌∙◌, arith}
 use Rattle.steps.specs.Ask.{written}
 use Rattle.steps.specs.Indices.Robust.Parts.{one_more}
 use Rattle.steps.specs.Picks.{by_test}
@@ -10,8 +10,6 @@ use Rattle.steps.specs.declared.indices.enums.ReleaseMode.TheVariants.{LockIfLas
 use Rattle.steps.specs.declared.indices.enums.ReleaseState.{ReleaseState}
 use Rattle.steps.specs.declared.indices.enums.ReleaseState.TheVariants.{Locked, Unlocked}
 use Rattle.steps.specs.declared.indices.robust.release.GiveBack.{GiveBack}
-use Rattle.steps.specs.declared.indices.robust.release.ReleaseStage as releases
-use Rattle.steps.specs.declared.container.enums.ContainerRemoveError.TheVariants.{ContainerHandleNotOwnedByContainer}
 use Rattle.steps.specs.declared.container.remove.Remove.{Remove}
 use Rattle.steps.specs.declared.container.remove.RemoveStage as removes
 use Rattle.steps.specs.Container.Layout.{change_word, count_word, total_words, is_even}
@@ -20,7 +18,6 @@ use Rattle.lock_free_sp.specs.Driver.{Owes, Told, KeepsRule}
 use Rattle.lock_free_owners.specs.declared.robust.view.View.{View}
 use Rattle.lock_free_owners.specs.Robust.Kept.{Kept}
 use Rattle.lock_free_owners.specs.Robust.Views.{saw_lock}
-use Rattle.lock_free_owners.specs.Robust.Stages.{ReleaseStage}
 use Rattle.lock_free_owners.specs.Container.Stages.{HasRemoved, RemoveStage, RemoveAt, RemoveEnds}
 use Rattle.lock_free_owners.proofs.Rules.Robust.Steps.{capacity_seen, seen_after, sees, cell_step}
 use Rattle.lock_free_owners.proofs.Rules.Robust.ReleaseRuns.{release_owes}

@@ -1,5 +1,5 @@
 -- A replace keeps the rule of a container at each of its stages.
-use Rattle.std.proofs.Common.{◌≡◌, ℕ, ◌+◌, ◌*◌, ◌<◌, ◌≤◌, nat_lt, Bool, false, List, [], Ok, Err, slice_index, refl, sym, subst, ◌∙◌, arith}
+use Rattle.std.proofs.Common.{◌≡◌, ℕ, ◌+◌, ◌*◌, ◌<◌, ◌≤◌, nat_lt, Bool, false, List, [], Err, slice_index, refl, sym, subst, ◌∙◌, arith}
 use Rattle.std.proofs.lemmas.Bool.Decides.{nat_tests}
 use Rattle.steps.specs.Ask.{written}
 use Rattle.steps.specs.Indices.Robust.Parts.{cell_word, one_more}

@@ -1,5 +1,5 @@
 -- What a call on a container makes of a step, whatever room it has.
-use Rattle.std.proofs.Common.{◌≡◌, ℕ, ◌<◌, ◌≤◌, Bool, true, false, [], refl, subst, arith}
+use Rattle.std.proofs.Common.{◌≡◌, ℕ, ◌<◌, ◌≤◌, Bool, true, false, [], refl, subst}
 use Rattle.steps.specs.declared.ask.After.{After}
 use Rattle.atomic_table.specs.Table.{Allows}
 use Rattle.lock_free_sp.specs.Driver.{Next, Told, moves}

@@ -11,12 +11,12 @@ use Rattle.steps.specs.declared.indices.robust.parts.Raise as raises
 use Rattle.steps.specs.declared.indices.robust.acquire.Acquire.{Acquire}
 use Rattle.steps.specs.declared.indices.robust.acquire.AcquireStage as acquires
 use Rattle.steps.specs.Indices.Robust.Parts.{cell_word, empty, locked, greatest}
-use Rattle.steps.specs.Indices.Robust.Acquire.{Acquired, at_acquire, acquire_asks, acquire_want, acquire_tries, acquire_sees, acquire_raised, acquire_takes, acquire_after}
-use Rattle.lock_free_sp.specs.Driver.{Next, Owes, KeepsRule}
+use Rattle.steps.specs.Indices.Robust.Acquire.{Acquired, acquire_asks, acquire_tries, acquire_sees, acquire_raised, acquire_takes}
+use Rattle.lock_free_sp.specs.Driver.{Owes}
 use Rattle.lock_free_owners.specs.declared.robust.view.View.{View}
 use Rattle.lock_free_owners.specs.Robust.Kept.{size, Kept}
-use Rattle.lock_free_owners.specs.Robust.Stages.{At, AcquireStage, AcquireStands, AcquireEnds, AcquireGoes}
-use Rattle.lock_free_owners.proofs.Rules.Robust.Steps.{capacity_seen, unseen, seen_after, Goes, Tells, tells, Shows, stays, sees, counter_step, cell_step}
+use Rattle.lock_free_owners.specs.Robust.Stages.{AcquireStage}
+use Rattle.lock_free_owners.proofs.Rules.Robust.Steps.{unseen, seen_after, Shows, stays, counter_step, cell_step}
 use Rattle.lock_free_owners.proofs.Rules.Robust.Parts.{kept_locked, not_exchanged, raise_owes}
 
 -- the acquire as a part of a call, which makes of each outcome what it says

@@ -15,12 +15,12 @@ use Rattle.steps.specs.declared.indices.robust.release.Release.{Release}
 use Rattle.steps.specs.declared.indices.robust.release.GiveBack.{GiveBack}
 use Rattle.steps.specs.declared.indices.robust.release.ReleaseStage as releases
 use Rattle.steps.specs.Indices.Robust.Parts.{cell_word, empty, locked, first_lock}
-use Rattle.steps.specs.Indices.Robust.Release.{Released, release_asks, release_want, release_raised, release_locked, release_takes, release_after}
-use Rattle.lock_free_sp.specs.Driver.{Owes, KeepsRule}
+use Rattle.steps.specs.Indices.Robust.Release.{Released, release_asks, release_raised, release_locked, release_takes}
+use Rattle.lock_free_sp.specs.Driver.{Owes}
 use Rattle.lock_free_owners.specs.declared.robust.view.View.{View}
 use Rattle.lock_free_owners.specs.Robust.Kept.{size, Kept}
-use Rattle.lock_free_owners.specs.Robust.Stages.{At, ReleaseStage, ReleaseStands, ReleaseEnds}
-use Rattle.lock_free_owners.proofs.Rules.Robust.Steps.{capacity_seen, seen_after, Goes, Tells, tells, Shows, stays, sees, cell_step}
+use Rattle.lock_free_owners.specs.Robust.Stages.{ReleaseStage}
+use Rattle.lock_free_owners.proofs.Rules.Robust.Steps.{seen_after, Shows, stays, cell_step}
 use Rattle.lock_free_owners.proofs.Rules.Robust.Parts.{raise_owes, lock_owes}
 
 -- the release as a part of a call, which makes of each outcome what it says

@@ -289,7 +289,12 @@ impl RobustUniqueIndexSet {
             predicate recover_success f_last s_last }
     {
         let (state, _, _) = recover_all(
-            &mut pass.seated, rt, pass.capacity, mode, predicate, recover_success,
+            &mut pass.seated,
+            rt,
+            pass.capacity,
+            mode,
+            predicate,
+            recover_success,
         );
         state
     }

@@ -42,7 +42,7 @@ load-requires c =
     (let more = positive mine.seated.seat.me.0.share.part other.share.parts mine.some.0 c.args.other.some.1 in omega arith) in (
       at,
       (let wide = mine.sized in let old : c.join_seat.new.seat.table_id ≡ mine.seated.seat.table_id = search rules in
-      let same = ap (λ (t : TableId). t.words) (sym at ∙ old) in omega arith),
+          let same = ap (λ (t : TableId). t.words) (sym at ∙ old) in omega arith),
       subst (λ (m : Me (Unit {0}) (View ℕ)). Owed c.deref-2.result.now.shared.key slots id 0 m) (sym me)
           (subst (λ k. Owed k slots id 0 (w, [])) size owed),
     )

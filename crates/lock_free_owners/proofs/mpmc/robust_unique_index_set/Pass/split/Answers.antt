@@ -1,4 +1,4 @@
-use Rattle.std.proofs.Common.{◌≡◌, ◌<◌, ℕ, rules, subst, arith}
+use Rattle.std.proofs.Common.{◌≡◌, ◌<◌, rules, subst, arith}
 use Rattle.atomic_table.specs.Seated.{TableId}
 use Rattle.model.specs.Coding.{one_word}
 use Rattle.model.specs.declared.turn.Kind.TheVariants as kinds

@@ -1,10 +1,9 @@
-use Rattle.std.proofs.Common.{◌≡◌, true, Err, IfOk, IfErr, rules, sym, ap, subst, ◌∙◌}
+use Rattle.std.proofs.Common.{◌≡◌, Err, IfOk, IfErr, rules, subst}
 use Rattle.steps.specs.Indices.Robust.Acquire.{Acquired, first_acquire}
 use Rattle.model.specs.Coding.{one_word}
 use Rattle.lock_free_sp.specs.Seats.{seen}
 use Rattle.history.proofs.RobustCalls.{acquire_first}
 use Rattle.lock_free_owners.specs.Robust.Turns.{AcquireAt}
-use Rattle.model.specs.Families.Indices.Reading.{is_locked}
 use Rattle.steps.specs.declared.indices.enums.UniqueIndexSetAcquireFailure.TheVariants.{IsLocked as Locked}
 use Rattle.lock_free_owners.specs.Robust.Told.{WasFilled, WasGranted, WasRefused}
 use Rattle.lock_free_owners.proofs.RobustSet.Facts.{filled, granted, refused, shut}
@@ -14,19 +13,22 @@ pub acquire_all-requires-clause-at : goal.acquire_all-requires-clause-at
 acquire_all-requires-clause-at g c =
     let mine = c.args.pass.now in
     let v = seen mine.seated in
-    subst (λ n. AcquireAt c.args.owner v v (first_acquire n) tt) mine.known (acquire_first one_word c.args.owner v tt mine.idle mine.alone mine.some.0 (search rules))
+    subst (λ n. AcquireAt c.args.owner v v (first_acquire n) tt) mine.known (acquire_first one_word c.args.owner v tt mine.idle mine.alone mine.some.0
+    (search rules))
 
 pub returns-in-Ok-clause-filled : goal.returns-in-Ok-clause-filled
 returns-in-Ok-clause-filled g c =
     let v = seen c.args.pass.now.seated in
     let w = seen c.acquire_all.new.seat in
-    subst (λ (a : Acquired). IfOk a (λ index. WasFilled index c.args.owner v w)) c.in-Ok.is (filled v w tt c.args.pass.now.idle c.args.owner c.acquire_all.result c.acquire_all.ensures.ends)
+    subst (λ (a : Acquired). IfOk a (λ index. WasFilled index c.args.owner v w)) c.in-Ok.is
+    (filled v w tt c.args.pass.now.idle c.args.owner c.acquire_all.result c.acquire_all.ensures.ends)
 
 pub returns-in-Ok-clause-granted : goal.returns-in-Ok-clause-granted
 returns-in-Ok-clause-granted g c =
     let v = seen c.args.pass.now.seated in
     let w = seen c.acquire_all.new.seat in
-    subst (λ (a : Acquired). IfOk a (λ index. WasGranted index c.args.owner v w)) c.in-Ok.is (granted v w tt c.args.pass.now.idle c.args.owner c.acquire_all.result c.acquire_all.ensures.ends)
+    subst (λ (a : Acquired). IfOk a (λ index. WasGranted index c.args.owner v w)) c.in-Ok.is
+    (granted v w tt c.args.pass.now.idle c.args.owner c.acquire_all.result c.acquire_all.ensures.ends)
 
 pub returns-in-Ok-clause-lock : goal.returns-in-Ok-clause-lock
 returns-in-Ok-clause-lock g c locked =
@@ -38,10 +40,12 @@ pub returns-in-Err-clause-refused : goal.returns-in-Err-clause-refused
 returns-in-Err-clause-refused g c =
     let v = seen c.args.pass.now.seated in
     let w = seen c.acquire_all.new.seat in
-    subst (λ (a : Acquired). IfErr a (λ e. WasRefused c.args.owner e v w)) c.in-Err.is (refused v w tt c.args.pass.now.idle c.args.owner c.acquire_all.result c.acquire_all.ensures.ends)
+    subst (λ (a : Acquired). IfErr a (λ e. WasRefused c.args.owner e v w)) c.in-Err.is
+    (refused v w tt c.args.pass.now.idle c.args.owner c.acquire_all.result c.acquire_all.ensures.ends)
 
 pub returns-in-Err-clause-lock : goal.returns-in-Err-clause-lock
 returns-in-Err-clause-lock g c locked =
     let v = seen c.args.pass.now.seated in
     let w = seen c.acquire_all.new.seat in
-    subst (λ (a : Acquired). a ≡ Err Locked) c.in-Err.is (shut v w tt c.args.pass.now.idle c.args.owner c.acquire_all.result c.acquire_all.ensures.ends locked)
+    subst (λ (a : Acquired). a ≡ Err Locked) c.in-Err.is (shut v w tt c.args.pass.now.idle c.args.owner c.acquire_all.result c.acquire_all.ensures.ends
+    locked)

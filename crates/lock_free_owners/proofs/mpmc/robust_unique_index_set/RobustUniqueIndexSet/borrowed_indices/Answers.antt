@@ -1,4 +1,4 @@
-use Rattle.std.proofs.Common.{◌≤◌, rules, sym, ap, subst, ◌∙◌}
+use Rattle.std.proofs.Common.{◌≤◌, rules, ap, subst, ◌∙◌}
 use Rattle.steps.specs.Indices.Robust.Looks.{first_borrowed}
 use Rattle.model.specs.Coding.{one_word}
 use Rattle.model.specs.declared.turn.Kind.TheVariants as kinds
@@ -27,10 +27,12 @@ returns-clause-goes_on g c =
     }
 
 pub returns-clause-counted : goal.returns-clause-counted
-returns-clause-counted g c = counted (seen c.args.pass.now.seated) (seen c.count_all.new.seat) tt c.args.pass.now.idle c.count_all.result c.count_all.ensures.ends
+returns-clause-counted g c = counted (seen c.args.pass.now.seated)
+    (seen c.count_all.new.seat) tt c.args.pass.now.idle c.count_all.result c.count_all.ensures.ends
 
 pub returns-clause-answered : goal.returns-clause-answered
-returns-clause-answered g c = counted_answered (seen c.args.pass.now.seated) (seen c.count_all.new.seat) tt c.args.pass.now.idle c.count_all.result c.count_all.ensures.ends
+returns-clause-answered g c = counted_answered (seen c.args.pass.now.seated)
+    (seen c.count_all.new.seat) tt c.args.pass.now.idle c.count_all.result c.count_all.ensures.ends
 
 pub returns-clause-most : goal.returns-clause-most
 returns-clause-most g c =
@@ -38,4 +40,5 @@ returns-clause-most g c =
     (counted_most (seen c.args.pass.now.seated) (seen c.count_all.new.seat) tt c.args.pass.now.idle c.count_all.result c.count_all.ensures.ends)
 
 pub returns-clause-lock : goal.returns-clause-lock
-returns-clause-lock g c = counted_none (seen c.args.pass.now.seated) (seen c.count_all.new.seat) tt c.args.pass.now.idle c.count_all.result c.count_all.ensures.ends
+returns-clause-lock g c = counted_none (seen c.args.pass.now.seated)
+    (seen c.count_all.new.seat) tt c.args.pass.now.idle c.count_all.result c.count_all.ensures.ends

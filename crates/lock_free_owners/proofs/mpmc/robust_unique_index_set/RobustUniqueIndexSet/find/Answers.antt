@@ -35,7 +35,8 @@ returns-clause-goes_on g c history all =
     record {
       set = search rules;
       goes = subst (λ n. Goes one_word kinds.Robust n v w) mine.known
-          (found_goes c.args.owner v w c.find_all-found.ensures.ends.looked (subst (λ n. IsHistory one_word kinds.Robust n v.seen) (sym mine.known) history) all);
+          (found_goes c.args.owner v w c.find_all-found.ensures.ends.looked (subst (λ n. IsHistory one_word kinds.Robust n v.seen)
+          (sym mine.known) history) all);
     }
 
 pub returns-clause-found : goal.returns-clause-found

@@ -1,4 +1,4 @@
-use Rattle.std.proofs.Common.{rules, sym, ap, subst, ◌∙◌}
+use Rattle.std.proofs.Common.{rules, sym, ap, subst}
 use Rattle.steps.specs.Indices.Robust.Recover.{first_recover}
 use Rattle.model.specs.Coding.{one_word}
 use Rattle.model.specs.declared.turn.Kind.TheVariants as kinds

@@ -13,7 +13,8 @@ use Rattle.lock_free_owners.proofs.RobustSet.Facts.{goes, given, given_of, given
 use Rattle.lock_free_owners.proofs.mpmc.robust_unique_index_set.RobustUniqueIndexSet.release.Goals as goal
 
 pub drive_on-requires-clause-rule : goal.drive_on-requires-clause-rule
-drive_on-requires-clause-rule g c = release_keeps one_word (given_of (seen c.args.pass.now.seated) (seen c.args.pass.now.seated) tt c.args.pass.now.idle c.args.index c.args.owner c.args.mode)
+drive_on-requires-clause-rule g c = release_keeps one_word (given_of (seen c.args.pass.now.seated)
+    (seen c.args.pass.now.seated) tt c.args.pass.now.idle c.args.index c.args.owner c.args.mode)
 
 pub drive_on-requires-clause-at : goal.drive_on-requires-clause-at
 drive_on-requires-clause-at g c =
@@ -34,13 +35,17 @@ returns-clause-goes_on g c =
     }
 
 pub returns-clause-given : goal.returns-clause-given
-returns-clause-given g c = given (seen c.args.pass.now.seated) (seen c.drive_on.new.self) tt c.args.pass.now.idle c.args.index c.args.owner c.args.mode c.drive_on.result c.drive_on.ensures.end
+returns-clause-given g c = given (seen c.args.pass.now.seated)
+    (seen c.drive_on.new.self) tt c.args.pass.now.idle c.args.index c.args.owner c.args.mode c.drive_on.result c.drive_on.ensures.end
 
 pub returns-clause-freed : goal.returns-clause-freed
-returns-clause-freed g c = freed (seen c.args.pass.now.seated) (seen c.drive_on.new.self) tt c.args.pass.now.idle c.args.index c.args.owner c.args.mode c.drive_on.result c.drive_on.ensures.end
+returns-clause-freed g c = freed (seen c.args.pass.now.seated)
+    (seen c.drive_on.new.self) tt c.args.pass.now.idle c.args.index c.args.owner c.args.mode c.drive_on.result c.drive_on.ensures.end
 
 pub returns-clause-answered : goal.returns-clause-answered
-returns-clause-answered g c = given_answered (seen c.args.pass.now.seated) (seen c.drive_on.new.self) tt c.args.pass.now.idle c.args.index c.args.owner c.args.mode c.drive_on.result c.drive_on.ensures.end
+returns-clause-answered g c = given_answered (seen c.args.pass.now.seated)
+    (seen c.drive_on.new.self) tt c.args.pass.now.idle c.args.index c.args.owner c.args.mode c.drive_on.result c.drive_on.ensures.end
 
 pub returns-clause-released : goal.returns-clause-released
-returns-clause-released g c = released (seen c.args.pass.now.seated) (seen c.drive_on.new.self) tt c.args.pass.now.idle c.args.index c.args.owner c.args.mode c.drive_on.result c.drive_on.ensures.end
+returns-clause-released g c = released (seen c.args.pass.now.seated)
+    (seen c.drive_on.new.self) tt c.args.pass.now.idle c.args.index c.args.owner c.args.mode c.drive_on.result c.drive_on.ensures.end

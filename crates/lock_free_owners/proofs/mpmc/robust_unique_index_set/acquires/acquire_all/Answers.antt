@@ -7,21 +7,27 @@ use Rattle.lock_free_owners.proofs.mpmc.robust_unique_index_set.acquires.acquire
 pub returns-in-Done-clause-ends : goal.returns-in-Done-clause-ends
 returns-in-Done-clause-ends g c =
     let base = seen c.args.seat.now in
-    has_ended (AcquireAt c.args.owner) (AcquireEnds c.args.owner) base base (seen c.step_acquire-first.new.seat) c.new.result c.in-Done.end c.step_acquire-first.result c.step_acquire-first.ensures.goes
+    has_ended (AcquireAt c.args.owner) (AcquireEnds c.args.owner) base base
+    (seen c.step_acquire-first.new.seat) c.new.result c.in-Done.end c.step_acquire-first.result c.step_acquire-first.ensures.goes
     c.in-Done.is (subst (λ d. AcquireAt c.args.owner base base d tt) (sym c.new.ensures) c.requires.at)
 
 pub acquire_next-cells-requires-clause-at : goal.acquire_next-cells-requires-clause-at
 acquire_next-cells-requires-clause-at g c =
-    let base = seen c.args.seat.now in
-    (base, gone_on (AcquireAt c.args.owner) (AcquireEnds c.args.owner) base base (seen c.step_acquire-first.new.seat) c.new.result c.in-GoOn.next c.step_acquire-first.result c.step_acquire-first.ensures.goes
-    c.in-GoOn.is (subst (λ d. AcquireAt c.args.owner base base d tt) (sym c.new.ensures) c.requires.at))
+    let base = seen c.args.seat.now in (
+      base,
+      gone_on (AcquireAt c.args.owner) (AcquireEnds c.args.owner) base base
+          (seen c.step_acquire-first.new.seat) c.new.result c.in-GoOn.next c.step_acquire-first.result c.step_acquire-first.ensures.goes
+          c.in-GoOn.is (subst (λ d. AcquireAt c.args.owner base base d tt) (sym c.new.ensures) c.requires.at),
+    )
 
 pub returns-in-Done-cells-clause-ends : goal.returns-in-Done-cells-clause-ends
 returns-in-Done-cells-clause-ends g c =
     let base = seen c.args.seat.now in
-    has_ended (AcquireAt c.args.owner) (AcquireEnds c.args.owner) base (seen c.step_acquire-first.new.seat) (seen c.acquire_next-cells.new.seat) c.in-GoOn.next c.in-Done-cells.end c.acquire_next-cells.result
+    has_ended (AcquireAt c.args.owner) (AcquireEnds c.args.owner) base (seen c.step_acquire-first.new.seat)
+    (seen c.acquire_next-cells.new.seat) c.in-GoOn.next c.in-Done-cells.end c.acquire_next-cells.result
     c.acquire_next-cells.ensures.goes c.in-Done-cells.is
-    (gone_on (AcquireAt c.args.owner) (AcquireEnds c.args.owner) base base (seen c.step_acquire-first.new.seat) c.new.result c.in-GoOn.next c.step_acquire-first.result c.step_acquire-first.ensures.goes
+    (gone_on (AcquireAt c.args.owner) (AcquireEnds c.args.owner) base base
+    (seen c.step_acquire-first.new.seat) c.new.result c.in-GoOn.next c.step_acquire-first.result c.step_acquire-first.ensures.goes
     c.in-GoOn.is (subst (λ d. AcquireAt c.args.owner base base d tt) (sym c.new.ensures) c.requires.at))
 
 pub loop-init : goal.loop-init
@@ -31,9 +37,11 @@ loop-init g c =
     let cells = c.acquire_next-cells.ensures.same in (
       (cells.0 ∙ first.0, cells.1 ∙ first.1, cells.2 ∙ first.2),
       c.acquire_next-cells.ensures.board,
-      gone_on (AcquireAt c.args.owner) (AcquireEnds c.args.owner) base (seen c.step_acquire-first.new.seat) (seen c.acquire_next-cells.new.seat) c.in-GoOn.next c.in-GoOn-cells.next c.acquire_next-cells.result
+      gone_on (AcquireAt c.args.owner) (AcquireEnds c.args.owner) base (seen c.step_acquire-first.new.seat)
+          (seen c.acquire_next-cells.new.seat) c.in-GoOn.next c.in-GoOn-cells.next c.acquire_next-cells.result
           c.acquire_next-cells.ensures.goes c.in-GoOn-cells.is
-          (gone_on (AcquireAt c.args.owner) (AcquireEnds c.args.owner) base base (seen c.step_acquire-first.new.seat) c.new.result c.in-GoOn.next c.step_acquire-first.result c.step_acquire-first.ensures.goes
+          (gone_on (AcquireAt c.args.owner) (AcquireEnds c.args.owner) base base
+          (seen c.step_acquire-first.new.seat) c.new.result c.in-GoOn.next c.step_acquire-first.result c.step_acquire-first.ensures.goes
           c.in-GoOn.is (subst (λ d. AcquireAt c.args.owner base base d tt) (sym c.new.ensures) c.requires.at)),
     )
 
@@ -44,7 +52,8 @@ loop-preserved g c =
     let called = c.acquire_next-after in (
       (called.ensures.same.0 ∙ so_far.0.0, called.ensures.same.1 ∙ so_far.0.1, called.ensures.same.2 ∙ so_far.0.2),
       called.ensures.board,
-      gone_on (AcquireAt c.args.owner) (AcquireEnds c.args.owner) base (seen c.loop.seat) (seen called.new.seat) c.loop.call c.in-GoOn-after.next called.result called.ensures.goes c.in-GoOn-after.is
+      gone_on (AcquireAt c.args.owner) (AcquireEnds c.args.owner) base (seen c.loop.seat)
+          (seen called.new.seat) c.loop.call c.in-GoOn-after.next called.result called.ensures.goes c.in-GoOn-after.is
           so_far.2,
     )
 
@@ -52,5 +61,6 @@ pub returns-in-Done-after-clause-ends : goal.returns-in-Done-after-clause-ends
 returns-in-Done-after-clause-ends g c =
     let base = seen c.args.seat.now in
     let called = c.acquire_next-after in
-    has_ended (AcquireAt c.args.owner) (AcquireEnds c.args.owner) base (seen c.loop.seat) (seen called.new.seat) c.loop.call c.in-Done-after.end called.result called.ensures.goes c.in-Done-after.is
+    has_ended (AcquireAt c.args.owner) (AcquireEnds c.args.owner) base (seen c.loop.seat)
+    (seen called.new.seat) c.loop.call c.in-Done-after.end called.result called.ensures.goes c.in-Done-after.is
     c.loop.invariant.2

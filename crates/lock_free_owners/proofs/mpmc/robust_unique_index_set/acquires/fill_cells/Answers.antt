@@ -27,10 +27,12 @@ pub returns-in_default-clause-goes : goal.returns-in_default-clause-goes
 returns-in_default-clause-goes c base at =
     let called = c.step_acquire in
     gone_on (AcquireAt c.args.owner) (AcquireEnds c.args.owner) base (seen c.cells.seat) (seen called.new.seat)
-    (fills c.args.capacity c.args.counter c.cells.cell c.cells.cell) c.in-GoOn.next called.result called.ensures.goes c.in-GoOn.is (c.cells.invariant.2 base at)
+    (fills c.args.capacity c.args.counter c.cells.cell c.cells.cell) c.in-GoOn.next called.result called.ensures.goes c.in-GoOn.is
+    (c.cells.invariant.2 base at)
 
 pub returns-in-Done-clause-goes : goal.returns-in-Done-clause-goes
 returns-in-Done-clause-goes c base at =
     let called = c.step_acquire in
     has_ended (AcquireAt c.args.owner) (AcquireEnds c.args.owner) base (seen c.cells.seat) (seen called.new.seat)
-    (fills c.args.capacity c.args.counter c.cells.cell c.cells.cell) c.in-Done.end called.result called.ensures.goes c.in-Done.is (c.cells.invariant.2 base at)
+    (fills c.args.capacity c.args.counter c.cells.cell c.cells.cell) c.in-Done.end called.result called.ensures.goes c.in-Done.is
+    (c.cells.invariant.2 base at)

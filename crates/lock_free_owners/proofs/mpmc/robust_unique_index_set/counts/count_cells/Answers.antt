@@ -13,7 +13,8 @@ cells-preserved c =
     let so_far = c.cells.invariant in
     let called = c.step_count in
     let here = loads c.args.capacity c.args.counter c.cells.cell c.cells.found c.cells.cell c.cells.found in
-    let next = loads_next c.args.capacity c.args.counter c.cells.cell c.cells.found called.ensures.after.0 _ c.in-LoadsCell.index c.in-LoadsCell.filled c.in-GoOn.next
+    let next = loads_next c.args.capacity c.args.counter c.cells.cell c.cells.found called.ensures.after.0 _ c.in-LoadsCell.index c.in-LoadsCell.filled
+    c.in-GoOn.next
     (sym called.ensures.after.1 ∙ c.in-GoOn.is) c.in-LoadsCell.is in (
       (called.ensures.same.0 ∙ so_far.0.0, called.ensures.same.1 ∙ so_far.0.1, called.ensures.same.2 ∙ so_far.0.2),
       called.ensures.board,
@@ -26,10 +27,12 @@ pub returns-in_default-clause-goes : goal.returns-in_default-clause-goes
 returns-in_default-clause-goes c base at =
     let called = c.step_count in
     gone_on CountAt CountEnds base (seen c.cells.seat) (seen called.new.seat)
-    (loads c.args.capacity c.args.counter c.cells.cell c.cells.found c.cells.cell c.cells.found) c.in-GoOn.next called.result called.ensures.goes c.in-GoOn.is (c.cells.invariant.2 base at)
+    (loads c.args.capacity c.args.counter c.cells.cell c.cells.found c.cells.cell c.cells.found) c.in-GoOn.next called.result called.ensures.goes
+    c.in-GoOn.is (c.cells.invariant.2 base at)
 
 pub returns-in-Done-clause-goes : goal.returns-in-Done-clause-goes
 returns-in-Done-clause-goes c base at =
     let called = c.step_count in
     has_ended CountAt CountEnds base (seen c.cells.seat) (seen called.new.seat)
-    (loads c.args.capacity c.args.counter c.cells.cell c.cells.found c.cells.cell c.cells.found) c.in-Done.end called.result called.ensures.goes c.in-Done.is (c.cells.invariant.2 base at)
+    (loads c.args.capacity c.args.counter c.cells.cell c.cells.found c.cells.cell c.cells.found) c.in-Done.end called.result called.ensures.goes
+    c.in-Done.is (c.cells.invariant.2 base at)

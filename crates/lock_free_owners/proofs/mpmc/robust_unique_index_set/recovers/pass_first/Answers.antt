@@ -7,5 +7,6 @@ use Rattle.lock_free_owners.proofs.mpmc.robust_unique_index_set.recovers.pass_fi
 
 pub returns-in-LoadsCell-clause-goes : goal.returns-in-LoadsCell-clause-goes
 returns-in-LoadsCell-clause-goes c =
-    subst (λ (stage : RecoverStage). RecoverGoes c.args.mode (seen c.args.seat.now) (at_recover c.args.call stage) c.pass_over.result (seen c.pass_over.new.seat))
+    subst (λ (stage : RecoverStage). RecoverGoes c.args.mode (seen c.args.seat.now) (at_recover c.args.call stage) c.pass_over.result
+    (seen c.pass_over.new.seat))
     (sym c.in-LoadsCell.is) c.pass_over.ensures.goes

@@ -1,9 +1,6 @@
-use Rattle.std.proofs.Common.{ℕ, ◌≡◌, ◌≤◌, ◌∙◌, sym, ap, subst, arith}
+use Rattle.std.proofs.Common.{◌∙◌, sym, ap, subst, arith}
 use Rattle.steps.specs.Indices.Robust.Recover.{recover_after}
-use Rattle.steps.specs.declared.ask.After.{After}
-use Rattle.steps.specs.declared.indices.enums.ReleaseState.{ReleaseState}
 use Rattle.steps.specs.declared.indices.robust.recover.Recover.{Recover}
-use Rattle.history.specs.declared.view.View.{View}
 use Rattle.lock_free_sp.specs.Seats.{seen}
 use Rattle.lock_free_owners.specs.Robust.Stages.{HasPassed}
 use Rattle.lock_free_owners.specs.Robust.Turns.{RecoverAt, RecoverEnds, RecoverGoes}
@@ -31,7 +28,8 @@ cells-preserved c =
     let goes : RecoverGoes mode (seen c.cells.seat) here called.result (seen called.new.seat)
     = subst (λ (d : Recover). RecoverGoes mode (seen c.cells.seat) d called.result (seen called.new.seat)) c.at_cell.ensures called.ensures.goes in
     let after = called.ensures.after.1 ∙ ap (λ (d : Recover). recover_after d mode called.ensures.after.0) c.at_cell.ensures in
-    let next = passes_next c.args.capacity cell mode called.ensures.after.0 c.in-LoadsCell.index c.in-GoOn.next (sym after ∙ c.in-GoOn.is) c.in-LoadsCell.is in
+    let next = passes_next c.args.capacity cell mode called.ensures.after.0 c.in-LoadsCell.index c.in-GoOn.next
+    (sym after ∙ c.in-GoOn.is) c.in-LoadsCell.is in
     let low = so_far.3 in
     let up = next.1 in (
       (called.ensures.same.0 ∙ so_far.0.0, called.ensures.same.1 ∙ so_far.0.1, called.ensures.same.2 ∙ so_far.0.2),

@@ -8,5 +8,6 @@ abbrev pub invariant-loop : goal.invariant-loop
 invariant-loop g l =
     IsSame l.fn.seat l.seat × IsBoard l.seat
     × RecoverAt l.fn.mode (seen l.fn.seat) (seen l.seat) l.call tt
-    × Between (λ p o i b q. goal.F-step g p o i b q) (λ s o i t. goal.S-step g s o i tt t) l.fn.capacity (is_locked (seen l.fn.seat).seen) l.fn.predicate l.fn.recovered
+    × Between (λ p o i b q. goal.F-step g p o i b q) (λ s o i t. goal.S-step g s o i tt t) l.fn.capacity (is_locked
+    (seen l.fn.seat).seen) l.fn.predicate l.fn.recovered
     l.call l.predicate l.recovered

@@ -7,5 +7,6 @@ use Rattle.lock_free_owners.proofs.mpmc.robust_unique_index_set.recovers.recover
 
 pub returns-in-LoadsCell-clause-goes : goal.returns-in-LoadsCell-clause-goes
 returns-in-LoadsCell-clause-goes g c =
-    subst (λ (stage : RecoverStage). RecoverGoes c.args.mode (seen c.args.seat.now) (at_recover c.args.call stage) c.pass_over-after.result (seen c.pass_over-after.new.seat))
+    subst (λ (stage : RecoverStage). RecoverGoes c.args.mode (seen c.args.seat.now) (at_recover c.args.call stage) c.pass_over-after.result
+    (seen c.pass_over-after.new.seat))
     (sym c.in-LoadsCell.is) c.pass_over-after.ensures.goes
