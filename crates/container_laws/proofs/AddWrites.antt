@@ -24,19 +24,20 @@ use Rattle.model.specs.declared.families.container.calls.ContainerFlight as call
 use Rattle.model.specs.declared.party.Party.{Party}
 use Rattle.model.specs.Families.Container.Calls.{added}
 use Rattle.model.specs.Families.Container.Reading.{Act, Places, Hides, places, contents_after, contents_of, announced_after, announced_of}
-use Rattle.model.specs.Families.Indices.Robust.Reading.{Deed, filled_after, holder_after, is_dead}
+use Rattle.model.specs.Families.Indices.Robust.Reading.{Deed, filled_after, holder_after}
 use Rattle.model.specs.Families.Queues.Calls.{as_it_is}
 use Rattle.model.specs.Parties.{put}
 use Rattle.model.specs.Step.{as_call}
 use Rattle.model.specs.Turns.{words_after, step_count}
-use Rattle.robust_laws.proofs.Effects.{at_same, at_other, proper_less}
+use Rattle.robust_laws.proofs.Effects.{at_same, at_other}
+use Rattle.robust_laws.proofs.Gone.{calm_less, gone_less, lives_settled}
 use Rattle.robust_laws.proofs.Rights.{right_after}
 use Rattle.robust_laws.proofs.Stages.{loads_same, exchanges, fails_same}
 use Rattle.robust_laws.proofs.Stages as set_stages
 use Rattle.container_laws.proofs.Adds.{acquire_step}
 use Rattle.container_laws.proofs.Contents.{store_writes}
 use Rattle.container_laws.proofs.Core.{count_at, count_set}
-use Rattle.container_laws.proofs.Invariant.{Scene, Inv, before, after, of_set, inv_of_set, view}
+use Rattle.container_laws.proofs.Invariant.{Scene, Inv, ActsFor, before, after, of_set, inv_of_set, view}
 use Rattle.container_laws.proofs.Knows.{AddOwns, Covers, Writes, HasPlaced, Stood, AddKnows, Knows}
 use Rattle.container_laws.proofs.Left.{left_after, left_of}
 use Rattle.container_laws.proofs.Proper.{IsProperSoFar}
@@ -53,7 +54,7 @@ pub placed_once : {T : Type 0} (acts : List (Act T)) (i : ℕ) (value : T) → (
 placed_once all_acts i value h =
     ⊎_elim (λ e. ap (λ d. places (d ++ Places i value ∷ [])) e) (λ e. ap (λ d. places (d ++ Places i value ∷ [])) e) h
 
-module _ {T : Type 0} (scene : Scene T) (inv : Inv scene) (value : T) (owner : ℕ) (fits : owner < empty) (alive : is_dead owner scene.events ≡ false) (i : ℕ) (granted : IsGranted scene.capacity scene.coding.size (all scene) (done scene) owner i) where
+module _ {T : Type 0} (scene : Scene T) (inv : Inv scene) (value : T) (owner : ℕ) (fits : owner < empty) (acts : ActsFor scene owner) (i : ℕ) (granted : IsGranted scene.capacity scene.coding.size (all scene) (done scene) owner i) where
   open scene use {coding as code, capacity as c, party as p, steps as steps, backs as backs, events as events, latest as latest}
 
   abbrev ws : List ℕ
@@ -81,13 +82,13 @@ module _ {T : Type 0} (scene : Scene T) (inv : Inv scene) (value : T) (owner : �
 
   module _ (k : AddOwns c owner i (sees_now scene)) where
     mine : Proper (before scene) → IsWriter p i owner events
-    mine proper = inl (k.owns proper.frees alive).by
+    mine proper = inl (k.owns proper.calm (acts.stays proper.kept)).by
 
     nobody_else : {A : Type 0} → Proper (before scene) → (q : ℕ) → q ≢ p → (o : ℕ) → IsWriter q i o events → A
-    nobody_else holds q ne o theirs = absurd (ne (one_writer q p i o owner events (inv.good.owned (holds.frees, tt)) theirs (mine holds)))
+    nobody_else holds q ne o theirs = absurd (ne (one_writer q p i o owner events (inv.good.owned holds.calm) theirs (mine holds)))
 
     -- it owns its index still
-    owns_calm : (ask : Option Ask) (y : Party T) → AddOwns c owner i (view (words_after ws ask) scene.states (put p y latest) events p (since_then scene ask) (changes_then scene ask) (backs_then scene false))
+    owns_calm : (ask : Option Ask) (y : Party T) → AddOwns c owner i (view scene.terms (words_after ws ask) scene.states (put p y latest) events p (since_then scene ask) (changes_then scene ask) (backs_then scene false))
     owns_calm ask y = record { paid = let paid = k.paid in omega arith; within = below; owns = k.owns }
 
     owns_hidden : (ask : Option Ask) (y : Party T) → AddOwns c owner i (then_sees scene ask false scene.states y (Hidden p i ∷ []))
@@ -95,8 +96,8 @@ module _ {T : Type 0} (scene : Scene T) (inv : Inv scene) (value : T) (owner : �
         record {
           paid = let paid = k.paid in omega arith;
           within = below;
-          owns = λ proper lives.
-              let h = k.owns (proper_less events (Hidden p i ∷ []) proper) alive in
+          owns = λ calm lives.
+              let h = k.owns (calm_less scene.terms.by events (Hidden p i ∷ []) calm) (gone_less scene.terms.by owner events (Hidden p i ∷ []) lives) in
               record {
                 by = record { right = fold-append (right_after i) _ events (Hidden p i ∷ []) ∙ h.by.right; filled = fold-append (filled_after i) None events (Hidden p i ∷ []) ∙ h.by.filled };
                 held = fold-append (holder_after i) None events (Hidden p i ∷ []) ∙ h.held;
@@ -108,8 +109,8 @@ module _ {T : Type 0} (scene : Scene T) (inv : Inv scene) (value : T) (owner : �
         record {
           paid = let paid = k.paid in omega arith;
           within = below;
-          owns = λ proper lives.
-              let h = k.owns (proper_less events (Placed p i value ∷ []) proper) alive in
+          owns = λ calm lives.
+              let h = k.owns (calm_less scene.terms.by events (Placed p i value ∷ []) calm) (gone_less scene.terms.by owner events (Placed p i value ∷ []) lives) in
               record {
                 by = record { right = fold-append (right_after i) _ events (Placed p i value ∷ []) ∙ h.by.right; filled = fold-append (filled_after i) None events (Placed p i value ∷ []) ∙ h.by.filled };
                 held = fold-append (holder_after i) None events (Placed p i value ∷ []) ∙ h.held;
@@ -119,15 +120,15 @@ module _ {T : Type 0} (scene : Scene T) (inv : Inv scene) (value : T) (owner : �
     -- ---- a step that changes nothing and writes nothing
 
     calm_step : (stage next : AddStage) (ask : Option Ask) → words_after ws ask ≡ ws → Here stage → add_owes next ≡ true → steps + step_count ask ≤ add_number c code.size next (backs_then scene false) → AddAt c code.size (all scene) (done scene) owner next
-        → Knows code c (at_stage next) (view (words_after ws ask) scene.states (put p (then_at next ask) latest) events p (since_then scene ask) (changes_then scene ask) (backs_then scene false)) → Leads scene start ask false scene.states [] (GoOn (at_stage next))
+        → Knows code c (at_stage next) (view scene.terms (words_after ws ask) scene.states (put p (then_at next ask) latest) events p (since_then scene ask) (changes_then scene ask) (backs_then scene false)) → Leads scene start ask false scene.states [] (GoOn (at_stage next))
     calm_step stage next ask same here owe few at known =
         goes_calmly scene start (at_stage next) ask false scene.states here.span
         (loads scene inv start (at_stage stage) tt here (then_at next ask) (words_after ws ask) same (was_proper scene start tt here.span (words_after ws ask) (then_at next ask) [] tt) (λ was. owe))
         few (refl, refl, fits, at) known
 
     -- it goes on to the words of its value, from an even number
-    first_word : (ask : Option Ask) (y : Party T) → words_after ws ask ≡ ws → (Proper (before scene) → count_in code c (before scene) i % 2 ≡ 0) → (IsProperSoFar (put p y latest) events → Proper (before scene))
-        → Writes code c owner i value 0 (view (words_after ws ask) scene.states (put p y latest) events p (since_then scene ask) (changes_then scene ask) (backs_then scene false))
+    first_word : (ask : Option Ask) (y : Party T) → words_after ws ask ≡ ws → (Proper (before scene) → count_in code c (before scene) i % 2 ≡ 0) → (IsProperSoFar scene.terms (put p y latest) events → Proper (before scene))
+        → Writes code c owner i value 0 (view scene.terms (words_after ws ask) scene.states (put p y latest) events p (since_then scene ask) (changes_then scene ask) (backs_then scene false))
     first_word ask y same even proper =
         record {
           few = omega arith;
@@ -177,7 +178,7 @@ module _ {T : Type 0} (scene : Scene T) (inv : Inv scene) (value : T) (owner : �
               let new = hides_count scene inv i count below is in
               let now_odd : now_at % 2 ≡ 1 = ap (λ n. n % 2) is ∙ odd in
               let proper = was_proper scene start tt here.span (words_after ws hide_it) y (Hidden p i ∷ []) (refl, tt) in
-              let after : count_at c (words_after ws hide_it) i ≡ now_at + 1 = ap (λ w. count_at c w i) new ∙ count_set c code.size ws i (now_at + 1) (omega arith) in
+              let after : count_at c (words_after ws hide_it) i ≡ one_more now_at = ap (λ w. count_at c w i) new ∙ count_set c code.size ws i (one_more now_at) (omega arith) in
               goes_on scene start (at_stage (adds.TheVariants.Stores i 0)) hide_it false scene.states (Hidden p i ∷ []) here.span (λ start w. refl)
               (hides scene inv start (at_stage (adds.TheVariants.Hides i count)) tt here y (words_after ws hide_it) i below new refl now_odd (λ holds q ne o theirs fresh. nobody_else holds q ne o theirs) proper)
               ((granted.1, none), tt) (omega arith)
@@ -189,7 +190,7 @@ module _ {T : Type 0} (scene : Scene T) (inv : Inv scene) (value : T) (owner : �
               let y = then_at (adds.TheVariants.Stores i 0) hide_it in
               let same = fails_same ws (count_word c i) count (one_more count) other in
               calm_step (adds.TheVariants.Hides i count) (adds.TheVariants.Stores i 0) hide_it same here refl (omega arith) (granted, inl none, omega arith)
-              (owns_calm hide_it y, first_word hide_it y same (λ holds. ⊎_elim (λ e. absurd (other e)) (λ even. even) (covers holds alive)) (was_proper_calmly scene start tt here.span y))
+              (owns_calm hide_it y, first_word hide_it y same (λ holds. ⊎_elim (λ e. absurd (other e)) (λ even. even) (covers holds (acts.stays holds.kept))) (was_proper_calmly scene start tt here.span y))
 
     -- ---- a word is stored
 
@@ -198,20 +199,20 @@ module _ {T : Type 0} (scene : Scene T) (inv : Inv scene) (value : T) (owner : �
       store_it = Some (stores_to (element_word c code.size i at) (get_or (code.words_of value) at 0))
 
       store_to : (next : AddStage) → add_owes next ≡ true → steps + 1 ≤ add_number c code.size next (backs_then scene false) → AddAt c code.size (all scene) (done scene) owner next
-          → Knows code c (at_stage next) (view (words_after ws store_it) scene.states (put p (then_at next store_it) latest) events p (since_then scene store_it) (changes_then scene store_it) (backs_then scene false)) → Leads scene start store_it false scene.states [] (GoOn (at_stage next))
+          → Knows code c (at_stage next) (view scene.terms (words_after ws store_it) scene.states (put p (then_at next store_it) latest) events p (since_then scene store_it) (changes_then scene store_it) (backs_then scene false)) → Leads scene start store_it false scene.states [] (GoOn (at_stage next))
       store_to next owe few stands known =
           goes_calmly scene start (at_stage next) store_it false scene.states here.span
-          (stores_word scene inv start (at_stage (adds.TheVariants.Stores i at)) tt here (then_at next store_it) (words_after ws store_it) i below at ats value owner alive mine (λ holds. w.has holds alive) refl
+          (stores_word scene inv start (at_stage (adds.TheVariants.Stores i at)) tt here (then_at next store_it) (words_after ws store_it) i below at ats value owner mine (λ holds. w.has holds (acts.stays holds.kept)) refl
           (was_proper scene start tt here.span (words_after ws store_it) (then_at next store_it) [] tt) (λ was. owe))
           few (refl, refl, fits, stands) known
 
-      one_more_word : (next : AddStage) → Writes code c owner i value (at + 1) (view (words_after ws store_it) scene.states (put p (then_at next store_it) latest) events p (since_then scene store_it) (changes_then scene store_it) (backs_then scene false))
+      one_more_word : (next : AddStage) → Writes code c owner i value (at + 1) (view scene.terms (words_after ws store_it) scene.states (put p (then_at next store_it) latest) events p (since_then scene store_it) (changes_then scene store_it) (backs_then scene false))
       one_more_word next =
           record {
             few = omega arith;
             has = λ holds lives.
                 let before_it = was_proper_calmly scene start tt here.span (then_at next store_it) holds in
-                store_writes code c ws events (inv.elements.whole before_it) inv.elements.wide i below value at ats (w.has before_it alive);
+                store_writes code c ws events (inv.elements.whole before_it) inv.elements.wide i below value at ats (w.has before_it (acts.stays before_it.kept));
           }
 
       stores_step : StepOf scene start (at_stage (adds.TheVariants.Stores i at))
@@ -226,7 +227,7 @@ module _ {T : Type 0} (scene : Scene T) (inv : Inv scene) (value : T) (owner : �
               let last : code.size ≤ at + 1 = grind (arith, nat_tests) in
               let is : at + 1 ≡ code.size = omega arith in
               store_to (adds.TheVariants.AddsCount i) refl (omega arith) (granted, hidden)
-              (owns_calm store_it (then_at (adds.TheVariants.AddsCount i) store_it), subst (λ n. Writes code c owner i value n (view (words_after ws store_it) scene.states (put p (then_at (adds.TheVariants.AddsCount i) store_it) latest) events p (since_then scene store_it) (changes_then scene store_it) (backs_then scene false))) is (one_more_word (adds.TheVariants.AddsCount i)))
+              (owns_calm store_it (then_at (adds.TheVariants.AddsCount i) store_it), subst (λ n. Writes code c owner i value n (view scene.terms (words_after ws store_it) scene.states (put p (then_at (adds.TheVariants.AddsCount i) store_it) latest) events p (since_then scene store_it) (changes_then scene store_it) (backs_then scene false))) is (one_more_word (adds.TheVariants.AddsCount i)))
 
     -- ---- the value is placed
 
@@ -240,7 +241,7 @@ module _ {T : Type 0} (scene : Scene T) (inv : Inv scene) (value : T) (owner : �
       abbrev y : Party T
       y = then_at (adds.TheVariants.AddsChange i) add_it
 
-      new : words_after ws add_it ≡ set ws (count_word c i) (count_now + 1)
+      new : words_after ws add_it ≡ set ws (count_word c i) (one_more count_now)
       new = adds_to_count scene inv i below
 
       places_step : StepOf scene start (at_stage (adds.TheVariants.AddsCount i))
@@ -251,7 +252,7 @@ module _ {T : Type 0} (scene : Scene T) (inv : Inv scene) (value : T) (owner : �
               let es = Placed p i value ∷ [] in
               let proper = was_proper scene start tt here.span (words_after ws add_it) y es (refl, tt) in
               goes_on scene start (at_stage (adds.TheVariants.AddsChange i)) add_it false scene.states es here.span (λ start w. refl)
-              (places_it scene inv start (at_stage (adds.TheVariants.AddsCount i)) tt here y (words_after ws add_it) i below new refl value owner alive mine (λ holds. w.has holds alive) proper)
+              (places_it scene inv start (at_stage (adds.TheVariants.AddsCount i)) tt here y (words_after ws add_it) i below new refl value owner acts mine (λ holds. w.has holds (acts.stays holds.kept)) proper)
               ((refl, granted.1, hidden), tt) (omega arith)
               (refl, refl, fits, (below, ap (λ (d : List Deed). d ++ []) granted.1)) (
                 owns_placed add_it y,
@@ -263,11 +264,11 @@ module _ {T : Type 0} (scene : Scene T) (inv : Inv scene) (value : T) (owner : �
               )
           go false t =
               let proper = was_proper scene start tt here.span (words_after ws add_it) y [] tt in
-              let improper = λ (holds : Proper (after scene (words_after ws add_it) y [])). let even = (w.has (proper holds) alive).even in let odd = odd_is count_now t in absurd {A = ⊥} (omega arith) in
+              let improper = λ (holds : Proper (after scene (words_after ws add_it) y [])). let even = (w.has (proper holds) (acts.stays holds.kept)).even in let odd = odd_is count_now t in absurd {A = ⊥} (omega arith) in
               goes_calmly scene start (at_stage (adds.TheVariants.AddsChange i)) add_it false scene.states here.span
               (misplaces scene inv start (at_stage (adds.TheVariants.AddsCount i)) tt here y (words_after ws add_it) i below new refl proper improper)
               (omega arith) (refl, refl, fits, granted)
-              (owns_calm add_it y, (λ holds. absurd (improper (subst (λ es. IsProperSoFar (put p y latest) es) (sym (append-nil events)) holds))), (λ holds lives. absurd (improper (subst (λ es. IsProperSoFar (put p y latest) es) (sym (append-nil events)) holds))))
+              (owns_calm add_it y, (λ holds. absurd (improper (subst (λ es. IsProperSoFar scene.terms (put p y latest) es) (sym (append-nil events)) holds))), (λ holds lives. absurd (improper (subst (λ es. IsProperSoFar scene.terms (put p y latest) es) (sym (append-nil events)) holds))))
 
     -- ---- the change is counted, and the call ends
 
@@ -283,21 +284,21 @@ module _ {T : Type 0} (scene : Scene T) (inv : Inv scene) (value : T) (owner : �
           let new = adds_to_change scene inv in
           ends scene start (Index i) end_it false scene.states [] here.span none_lengthens
           (ends_counted scene inv start (at_stage (adds.TheVariants.AddsChange i)) tt here y (words_after ws end_it) (Index i)
-          (settles (of_set scene) (inv_of_set scene inv) (words_after ws end_it) (leaves_behind (of_set scene) (inv_of_set scene inv) (words_after ws end_it) (change_word c) _ (omega arith) new) i owner value alive (λ calm. k.owns calm.0 alive))
+          (settles (of_set scene) (inv_of_set scene inv) (words_after ws end_it) (leaves_behind (of_set scene) (inv_of_set scene inv) (words_after ws end_it) (change_word c) _ (omega arith) new) i owner value (λ calm. k.owns (calm_less scene.terms.by events es calm) (lives_settled scene.terms.by p i owner value events acts.alive calm.1)))
           tt proper (λ holds. placed (proper holds)) new says)
           ((refl, granted.1), tt) (omega arith) (let paid = k.paid in omega arith)
         where
           says : Proper (before scene) → (a : ℕ) → announced_after a (announced_of a events) (Finished p (Container (Add value owner)) (Index i)) ≡ true → is_some (contents_of a events) ≡ true
-          says holds a said = ⊎_elim (λ e. subst (λ b. is_some (contents_of b events) ≡ true) (sym e) (stood holds alive).1) (λ ne. inv.elements.announced holds a (sym (at_other i a true (announced_of a events) ne) ∙ said)) (cases_eq a i)
+          says holds a said = ⊎_elim (λ e. subst (λ b. is_some (contents_of b events) ≡ true) (sym e) (stood holds (acts.stays holds.kept)).1) (λ ne. inv.elements.announced holds a (sym (at_other i a true (announced_of a events) ne) ∙ said)) (cases_eq a i)
 
 -- ---- any step of an add
 
-module _ {T : Type 0} (scene : Scene T) (inv : Inv scene) (value : T) (owner : ℕ) (fits : owner < empty) (alive : is_dead owner scene.events ≡ false) where
+module _ {T : Type 0} (scene : Scene T) (inv : Inv scene) (value : T) (owner : ℕ) (fits : owner < empty) (acts : ActsFor scene owner) where
   pub add_step : (stage : AddStage) → IsHere scene (Add value owner) (add_at scene.capacity value owner stage) → AddAt scene.capacity scene.coding.size (all scene) (done scene) owner stage → AddKnows scene.coding scene.capacity value owner stage (sees_now scene)
       → scene.steps ≤ add_number scene.capacity scene.coding.size stage scene.backs → StepOf scene (Add value owner) (add_at scene.capacity value owner stage)
-  add_step (adds.TheVariants.Acquires stage) here at k s = acquire_step scene inv value owner fits alive stage here at.1 at.0 k s
-  add_step (adds.TheVariants.LoadsCount i) here at k s = loads_step scene inv value owner fits alive i at.0 k here at.1 s
-  add_step (adds.TheVariants.Hides i count) here at k s = hides_step scene inv value owner fits alive i at.0 k.0 count here at.1 at.2 k.1 s
-  add_step (adds.TheVariants.Stores i word) here at k s = stores_step scene inv value owner fits alive i at.0 k.0 word here at.1 at.2 k.1 s
-  add_step (adds.TheVariants.AddsCount i) here at k s = places_step scene inv value owner fits alive i at.0 k.0 here at.1 k.1 s
-  add_step (adds.TheVariants.AddsChange i) here at k s = ends_step scene inv value owner fits alive i at k.0 here k.1 k.2 s
+  add_step (adds.TheVariants.Acquires stage) here at k s = acquire_step scene inv value owner fits acts stage here at.1 at.0 k s
+  add_step (adds.TheVariants.LoadsCount i) here at k s = loads_step scene inv value owner fits acts i at.0 k here at.1 s
+  add_step (adds.TheVariants.Hides i count) here at k s = hides_step scene inv value owner fits acts i at.0 k.0 count here at.1 at.2 k.1 s
+  add_step (adds.TheVariants.Stores i word) here at k s = stores_step scene inv value owner fits acts i at.0 k.0 word here at.1 at.2 k.1 s
+  add_step (adds.TheVariants.AddsCount i) here at k s = places_step scene inv value owner fits acts i at.0 k.0 here at.1 k.1 s
+  add_step (adds.TheVariants.AddsChange i) here at k s = ends_step scene inv value owner fits acts i at k.0 here k.1 k.2 s

@@ -1,5 +1,5 @@
 -- The steps of an add while it acquires its index: what the acquire of the set leads to, in a call that goes on after the grant.
-use Rattle.std.proofs.Common.{◌+◌, set, subst, ⊎_elim, ◌≡◌, ℕ, ◌<◌, ◌≤◌, Bool, false, Option, List, [], ◌∷◌, ◌++◌, refl, ap, arith}
+use Rattle.std.proofs.Common.{inl, inr, ◌+◌, ◌∙◌, ⊎_elim, ◌≡◌, ℕ, ◌<◌, ◌≤◌, Bool, false, Option, List, [], ◌∷◌, ◌++◌, refl, ap, arith}
 use Rattle.std.specs.Prelude.{Err}
 use Rattle.steps.specs.declared.ask.Ask.{Ask}
 use Rattle.steps.specs.declared.ask.After.{After}
@@ -27,12 +27,11 @@ use Rattle.model.specs.declared.families.container.calls.ContainerFlight as call
 use Rattle.model.specs.declared.party.Party.{Party}
 use Rattle.model.specs.Families.Container.Calls.{added}
 use Rattle.model.specs.Families.Container.Reading.{Act}
-use Rattle.model.specs.Families.Indices.Robust.Reading.{Fills, Grants, is_dead}
+use Rattle.model.specs.Families.Indices.Robust.Reading.{Fills, Grants}
 use Rattle.model.specs.Families.Queues.Calls.{as_it_is}
 use Rattle.model.specs.Step.{as_call}
 use Rattle.model.specs.Turns.{words_after}
 use Rattle.robust_laws.proofs.Alone.{grants_alone, owns_then}
-use Rattle.robust_laws.specs.Gone.{Death}
 use Rattle.robust_laws.proofs.Core as set_core
 use Rattle.robust_laws.proofs.Effects as set_effects
 use Rattle.robust_laws.proofs.Held.{Caller, WhyNot, FewEnd, held_step}
@@ -41,7 +40,7 @@ use Rattle.robust_laws.proofs.Knows as set_knows
 use Rattle.robust_laws.proofs.Stages as set_stages
 use Rattle.robust_laws.proofs.Standing.{acquire_at, acquire_number, AcquireAt}
 use Rattle.container_laws.proofs.Effects.{OwesStill}
-use Rattle.container_laws.proofs.Invariant.{Scene, Inv, before, after, of_set, inv_of_set}
+use Rattle.container_laws.proofs.Invariant.{Scene, Inv, ActsFor, before, after, of_set, inv_of_set}
 use Rattle.container_laws.proofs.Sets.{quiet_end}
 use Rattle.container_laws.proofs.SetSteps.{rest_set, wide_set, fills, grants}
 use Rattle.container_laws.proofs.Stages.{IsHere, all, done, Leads, none_lengthens, StepOf, party_then, goes_on, goes_calmly, ends, owes_none, was_proper}
@@ -49,11 +48,7 @@ use Rattle.container_laws.proofs.Standing.{add_at}
 use Rattle.container_laws.proofs.Steps.{loads, ends_calmly}
 use Rattle.container_laws.proofs.Turns.{Proper}
 
--- where owners die a raise goes up by one
-raised_new : {T : Type 0} (scene : set_invariant.Scene T) → scene.by ≡ Death → (words' : List ℕ) → set_effects.IsRaised scene words' → words' ≡ set scene.set.words 0 (set_core.counter_of scene.set.words + 1)
-raised_new scene dies words' raised = ⊎_elim (λ h. h.1) (λ h. absurd (subst (λ b. set_invariant.IsWorn b scene.set.words) dies h.0)) raised
-
-module _ {T : Type 0} (scene : Scene T) (inv : Inv scene) (value : T) (owner : ℕ) (fits : owner < empty) (alive : is_dead owner scene.events ≡ false) (stage : AcquireStage)
+module _ {T : Type 0} (scene : Scene T) (inv : Inv scene) (value : T) (owner : ℕ) (fits : owner < empty) (acts : ActsFor scene owner) (stage : AcquireStage)
     (here : IsHere scene (Add value owner) (add_at scene.capacity value owner (adds.TheVariants.Acquires stage))) where
   open scene use {coding as code, capacity as c, party as p, steps as steps, backs as backs, events as events}
 
@@ -79,8 +74,8 @@ module _ {T : Type 0} (scene : Scene T) (inv : Inv scene) (value : T) (owner : �
     still : (words' : List ℕ) (y : Party T) (es : List (Event T)) (proper : Proper (after scene words' y es) → Proper (before scene)) → OwesStill scene inv words' y es proper
     still words' y es proper = owes_none scene start flight y here refl
 
-    refuses : (failure : failures.UniqueIndexSetAcquireFailure) (ask : Option Ask) (back : Bool) → words_after ws ask ≡ ws → WhyNot (of_set scene) (inv_of_set scene inv) owner fits alive 0 failure → set_knows.IsPaid (set_stages.sees (of_set scene) ask back)
-        → FewEnd (of_set scene) (inv_of_set scene inv) owner fits alive 0 ask back → Lead ask back [] (Done (Err failure))
+    refuses : (failure : failures.UniqueIndexSetAcquireFailure) (ask : Option Ask) (back : Bool) → words_after ws ask ≡ ws → WhyNot (of_set scene) (inv_of_set scene inv) owner fits acts.alive 0 failure → set_knows.IsPaid (set_stages.sees (of_set scene) ask back)
+        → FewEnd (of_set scene) (inv_of_set scene inv) owner fits acts.alive 0 ask back → Lead ask back [] (Done (Err failure))
     refuses failures.TheVariants.IsLocked ask back same why paid few =
         let y = party_then scene start ask back (Done (NoPlace add_failures.TheVariants.IsLocked)) in
         let es = Finished p (Container start) (NoPlace add_failures.TheVariants.IsLocked) ∷ [] in
@@ -97,10 +92,10 @@ module _ {T : Type 0} (scene : Scene T) (inv : Inv scene) (value : T) (owner : �
         ends scene start (NoPlace add_failures.TheVariants.OutOfSpace) ask back scene.states [] here.span none_lengthens
         (ends_calmly scene inv start flight tt here y (words_after ws ask) (NoPlace add_failures.TheVariants.OutOfSpace)
         (set_effects.quietly (of_set scene) (inv_of_set scene inv) (words_after ws ask) es (set_effects.stays_same (of_set scene) (inv_of_set scene inv) (words_after ws ask) same).leaves (quiet_end (of_set scene) (inv_of_set scene inv) start (NoPlace add_failures.TheVariants.OutOfSpace) (λ i o. refl) (λ i r. refl)) (refl, tt) (tt, tt) (tt, tt))
-        (why.0, ⊎_elim (λ worn. absurd worn) (λ all_filled. all_filled) why.1) proper (λ holds. tt) same (λ i b. refl) (still (words_after ws ask) y es proper))
+        (why.0, ⊎_elim (λ worn. inl (set_invariant.worn_on scene.terms.by ws (words_after ws ask) (λ end. ap set_core.counter_of same ∙ end) worn)) (λ all_filled. inr all_filled) why.1) proper (λ holds. tt) same (λ i b. refl) (still (words_after ws ask) y es proper))
         ((refl, why.2), tt) (omega arith) (omega arith)
 
-    caller : Caller (of_set scene) (inv_of_set scene inv) owner fits alive 0 Lead
+    caller : Caller (of_set scene) (inv_of_set scene inv) owner fits acts.alive 0 Lead
     caller =
         record {
           quiet = λ next ask back same at known few.
@@ -119,21 +114,21 @@ module _ {T : Type 0} (scene : Scene T) (inv : Inv scene) (value : T) (owner : �
               (refl, refl, fits, ((below, ap (λ d. d ++ Fills i owner ∷ []) empty_all), ap (λ (d : List (Act T)). d ++ []) none)) known;
           fails = refuses;
           grants = λ i ask back below filled mine raised paid few.
-              let new = raised_new (of_set scene) refl (words_after ws ask) raised in
+              let stays = set_effects.raised_stays (of_set scene) (inv_of_set scene inv) (words_after ws ask) raised in
               let y = party_then scene start ask back (GoOn (goes_to (adds.TheVariants.LoadsCount i))) in
               let es = Granted p i owner ∷ [] in
               let proper = was_proper scene start tt here.span (words_after ws ask) y es (refl, tt) in
-              let alone = grants_alone (of_set scene) (inv_of_set scene inv) (words_after ws ask) i owner mine alive raised in
+              let alone = grants_alone (of_set scene) (inv_of_set scene inv) (words_after ws ask) i owner mine acts.alive raised in
               goes_on scene start (goes_to (adds.TheVariants.LoadsCount i)) ask back scene.states es here.span (λ start w. refl)
-              (grants scene inv start flight tt here y (words_after ws ask) (rest_set scene inv start flight tt here y (words_after ws ask) 0 _ (omega arith) new) (wide_set scene inv start flight tt here y (words_after ws ask) 0 _ new) i owner alone proper (still (words_after ws ask) y es proper))
+              (grants scene inv start flight tt here y (words_after ws ask) (λ n behind. stays.others n (omega arith)) stays.leaves.wide i owner alone proper (still (words_after ws ask) y es proper))
               ((refl, filled), tt) (omega arith)
               (refl, refl, fits, ((below, ap (λ d. d ++ Grants i owner ∷ []) filled), ap (λ (d : List (Act T)). d ++ []) none))
               (record {
                 paid = omega arith;
                 within = below;
-                owns = λ proper lives. let k = owns_then (of_set scene) (inv_of_set scene inv) (words_after ws ask) i owner mine alive raised (proper, tt) in record { by = k.0; held = k.1 };
+                owns = λ calm lives. let k = owns_then (of_set scene) (inv_of_set scene inv) (words_after ws ask) i owner mine acts.alive raised calm in record { by = k.0; held = k.1 };
               });
         }
 
     pub acquire_step : AcquireAt c owner (all scene) stage → set_knows.Knows c (acquire_at c owner stage) (set_stages.now (of_set scene)) → steps ≤ acquire_number c stage backs → StepOf scene (Add value owner) (add_at c value owner (adds.TheVariants.Acquires stage))
-    acquire_step at k s = held_step (of_set scene) (inv_of_set scene inv) owner fits alive 0 Lead caller stage at k (omega arith)
+    acquire_step at k s = held_step (of_set scene) (inv_of_set scene inv) owner fits acts.alive 0 Lead caller stage at k (omega arith)

@@ -48,6 +48,7 @@ use Rattle.container_laws.proofs.LooksTell.{no_end}
 use Rattle.container_laws.proofs.Sound.{Shown, kept_is, kept_now, is_there, begins_own}
 use Rattle.container_laws.proofs.Stages.{any_call}
 use Rattle.container_laws.proofs.Standing.{At}
+use Rattle.container_laws.proofs.Terms.{dying}
 
 -- ---- what a party asks about in a machine
 
@@ -87,7 +88,7 @@ module _ {T : Type 0} (shown : Shown T) (code : Coding T) (c : ℕ) (t : Trace T
     pub asked : question_at t q ≡ question_in code (Some (flights.TheVariants.Container flight))
     pub span : span_of q t.events ≡ Open (Container start) (wrote_of q t.events)
     pub at : At c code.size (deeds_of q t.events) (acts_of q t.events) start flight
-    pub knows : Knows code c flight (view s.state.words s.state.states t.world.latest t.events q since t.world.changes backs)
+    pub knows : Knows code c flight (view dying s.state.words s.state.states t.world.latest t.events q since t.world.changes backs)
     pub wrote : events_of t.world turn
         ≡ (effects code q (state_of q s.state.states) flight answer ++ questions q flight answer)
         ++ ending_of q (Container start) (answer_in (any_call (after code (state_of q s.state.states) flight answer)))
@@ -125,9 +126,9 @@ module _ {T : Type 0} (shown : Shown T) (code : Coding T) (c : ℕ) (t : Trace T
     From y kept a flight =
         Wrote y kept a flight → Asks y kept a flight → ((p : ℕ) → p ≢ q → question_at (after_turn t turn) p ≡ question_at t p) → ByYes y flight → question_at t q ≡ question_in y (Some flight) → Went flight
 
-    by_names : (a : Start T) (flight : Flight T) → StandsThere (family code c) t s q x since a flight → From code (kept_now shown code c t s) a flight
+    by_names : (a : Start T) (flight : Flight T) → StandsThere (family code c) t s q x since a flight → From code (kept_now shown dying code c t s) a flight
     by_names (Container start) (flights.TheVariants.Container flight) stands wrote asks others told asked =
-        let there = is_there shown code c t s q x since small found start flight stands in
+        let there = is_there shown dying code c t s q x since found start flight stands in
         record {
           on =
               record {

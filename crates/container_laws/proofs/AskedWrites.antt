@@ -55,6 +55,7 @@ use Rattle.container_laws.proofs.Invariant.{family, view, wrote_of}
 use Rattle.container_laws.proofs.Knows.{View, FindKnows, RecoverKnows, Knows}
 use Rattle.container_laws.proofs.Sound.{Shown as Proved}
 use Rattle.container_laws.proofs.Standing.{At}
+use Rattle.container_laws.proofs.Terms.{dying}
 
 module _ {T : Type 0} (code : Coding T) (c : ℕ) (t : Trace T) (turn : Turn T) (q : ℕ) where
   abbrev new : Trace T
@@ -221,5 +222,5 @@ module _ {T : Type 0} (shown : Proved T) (code : Coding T) (c : ℕ) (t : Trace 
   goes_right g =
       subst (AllByRecursion (WritesRight t turn (after_turn t turn))) (sym g.wrote)
       (joined code c t turn q (effects code q (state_of q s.state.states) g.flight g.answer ++ questions q g.flight g.answer) _
-      (any_call_right code c t turn q (state_of q s.state.states) (view s.state.words s.state.states t.world.latest t.events q g.since t.world.changes g.backs) refl refl g.start g.flight g.answer g.span g.at g.knows g.asks (λ due some. g.by_yes due some))
+      (any_call_right code c t turn q (state_of q s.state.states) (view dying s.state.words s.state.states t.world.latest t.events q g.since t.world.changes g.backs) refl refl g.start g.flight g.answer g.span g.at g.knows g.asks (λ due some. g.by_yes due some))
       (end_right code c t turn q g.start _))

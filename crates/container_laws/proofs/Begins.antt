@@ -1,5 +1,5 @@
 -- What a call does as it begins, and what its first stage knows. The party's span was shut.
-use Rattle.std.proofs.Common.{◌≡◌, ◌≢◌, ℕ, ◌<◌, ⊎_elim, inl, if◌then◌else◌, nat_lt, not, Bool, true, false, Option, Some, None, is_some, List, [], ◌∷◌, ◌++◌, refl, sym, ap, subst, ◌∙◌, arith}
+use Rattle.std.proofs.Common.{◌≡◌, ◌≢◌, ℕ, ◌<◌, ⊎_elim, inl, if◌then◌else◌, nat_lt, Bool, true, false, Option, Some, None, is_some, List, [], ◌∷◌, ◌++◌, refl, sym, ap, subst, ◌∙◌, arith}
 use Rattle.std.proofs.lemmas.Bool.Decides.{nat_tests}
 use Rattle.std.proofs.lemmas.List.{length-replicate}
 use Rattle.std.proofs.lemmas.List.Sums.{fold-append}
@@ -14,28 +14,24 @@ use Rattle.model.specs.declared.event.Start.TheVariants.{Container}
 use Rattle.model.specs.declared.families.container.ContainerStart.{ContainerStart}
 use Rattle.model.specs.declared.families.container.ContainerStart as starts
 use Rattle.model.specs.declared.party.Party.{Party}
-use Rattle.model.specs.declared.turn.Refusal.TheVariants.{OwnerLives}
 use Rattle.model.specs.Families.Container.Calls.{first}
 use Rattle.model.specs.Families.Container.Looks.{is_looking}
-use Rattle.model.specs.Families.Container.Opening.{names_owner, call_rows, states_at_begin}
+use Rattle.model.specs.Families.Container.Opening.{names_owner, states_at_begin}
 use Rattle.model.specs.Families.Container.Promises.{StandsProper, WasShown}
 use Rattle.model.specs.Families.Container.Reading.{Sees, contents_after, contents_of, announced_after, announced_of, acts, acts_of}
 use Rattle.model.specs.Families.Container.States.{state_of, with_state, fresh}
-use Rattle.model.specs.Families.Indices.Robust.Dead.{has_died}
 use Rattle.model.specs.Families.Indices.Robust.Opening.{is_owner}
 use Rattle.model.specs.Families.Indices.Robust.Promises.{IsFilledWith}
-use Rattle.model.specs.Families.Indices.Robust.Reading.{Yes, deeds, deeds_of, dead_after, is_dead, filled_after, settled_of, wrote_in, IsOneOf}
+use Rattle.model.specs.Families.Indices.Robust.Reading.{Yes, deeds, deeds_of, dead_after, filled_after, settled_of, wrote_in, IsOneOf}
 use Rattle.model.specs.Parties.{party_of, put, doing_of, flight_of}
 use Rattle.model.specs.Reading.{Open, span_of}
-use Rattle.model.specs.Rows.{first_row}
 use Rattle.model.specs.Shape.{IsShut}
 use Rattle.model.proofs.Parties.{party_put_other, found_put_same, found_put_other}
 use Rattle.model.proofs.Readings.{no_more, span_of-own}
-use Rattle.model.proofs.Rows.{row_passed}
 use Rattle.robust_laws.proofs.Counting.{count_none}
-use Rattle.robust_laws.specs.Gone.{Death}
+use Rattle.robust_laws.specs.Gone.{GoneBy, Death, Word, is_gone}
 use Rattle.robust_laws.proofs.Effects.{both_ways}
-use Rattle.robust_laws.proofs.Gone.{calm_less}
+use Rattle.robust_laws.proofs.Gone.{calm_less, gone_begun}
 use Rattle.robust_laws.proofs.Invariant as set
 use Rattle.robust_laws.proofs.Past.{since_begun}
 use Rattle.robust_laws.proofs.Rights.{IsBy, AreOwned}
@@ -48,7 +44,7 @@ use Rattle.container_laws.proofs.Replaces.{replace_begun}
 use Rattle.container_laws.proofs.SetBegins.{begins, takes_right}
 use Rattle.container_laws.proofs.Opening.{shows_same}
 use Rattle.container_laws.proofs.Sights.{Rests, rests_later}
-use Rattle.container_laws.proofs.Sound.{first_party, Begins}
+use Rattle.container_laws.proofs.Sound.{MayRecover, first_party, Begins}
 use Rattle.container_laws.proofs.Standing.{At, RemoveAt, ReplaceAt}
 use Rattle.container_laws.proofs.Turns.{Now, Proper, Owing, owes, Passes}
 
@@ -58,7 +54,7 @@ is_below owner t = grind (arith, nat_tests)
 none_of : {X : Type 0} {A : Type 0} (one : X) (done before after : List X) → done ≡ [] → done ≡ before ++ one ∷ after → A
 none_of one done before after none is = absurd (no_more before one after (sym none ∙ is))
 
-module _ {T : Type 0} (scene : Scene T) (g : set.Good Death scene.capacity scene.words scene.dead scene.events scene.turns) (h : Elements scene.coding scene.capacity (before scene) scene.states scene.turns) (free : flight_of (doing_of (party_of scene.party scene.latest)) ≡ None)
+module _ {T : Type 0} (scene : Scene T) (g : set.Good scene.terms.by scene.capacity scene.words scene.dead scene.events scene.turns) (h : Elements scene.coding scene.capacity (before scene) scene.states scene.turns) (free : flight_of (doing_of (party_of scene.party scene.latest)) ≡ None)
     (shut : IsShut (span_of scene.party scene.events)) where
   open scene use {coding as code, capacity as c, party as p, changes as changes, turns as turns, latest as latest, events as events}
 
@@ -84,7 +80,7 @@ module _ {T : Type 0} (scene : Scene T) (g : set.Good Death scene.capacity scene
   stands_shut (Some x) = λ index owner value wrote span steps found. absurd (subst IsShut span shut)
 
   was_proper : (start : ContainerStart T) → Proper (m' start) → Proper m
-  was_proper start = proper_before p (y start) latest events (begun start) (refl, tt) (λ proper. stands_shut (party_of p latest))
+  was_proper start = proper_before scene.terms p (y start) latest events (begun start) (refl, tt) (λ proper. stands_shut (party_of p latest))
 
   same_contents : (start : ContainerStart T) (i : ℕ) → contents_of i (events ++ begun start) ≡ contents_of i events
   same_contents start i = fold-append (contents_after i) None events (begun start)
@@ -106,8 +102,9 @@ module _ {T : Type 0} (scene : Scene T) (g : set.Good Death scene.capacity scene
   passes start =
       record {
         proper = was_proper start;
-        counts = λ i below. omega arith;
-        change = omega arith;
+        kept = λ kept. kept;
+        counts = λ kept i below. omega arith;
+        change = λ kept. omega arith;
         stands = λ proper i below same. same_contents start i;
         words = λ proper i below same odd j js. refl;
         stood = λ proper i below was is. refl;
@@ -130,8 +127,8 @@ module _ {T : Type 0} (scene : Scene T) (g : set.Good Death scene.capacity scene
               alone = λ alone i below. refl;
             };
         wide = refl;
-        counts = λ i below. let few = h.counts i below in omega arith;
-        change = let few = h.change in omega arith;
+        counts = λ kept i below. let few = h.counts kept i below in omega arith;
+        change = λ kept. let few = h.change kept in omega arith;
         within = λ i value e. h.within i value (sym (same_contents start i) ∙ e);
         announced = λ proper i e. ap is_some (same_contents start i) ∙ h.announced (was_proper start proper) i (sym (same_announced start i) ∙ e);
         whole = λ proper i below. rw (same_contents start i) (h.whole (was_proper start proper) i below);
@@ -182,7 +179,7 @@ module _ {T : Type 0} (scene : Scene T) (g : set.Good Death scene.capacity scene
   -- ---- what its first stage knows
 
   abbrev v : ContainerStart T → View T
-  v start = view scene.words (states' start) (put p (y start) latest) (events ++ begun start) p changes changes 0
+  v start = view scene.terms scene.words (states' start) (put p (y start) latest) (events ++ begun start) p changes changes 0
 
   paid : (start : ContainerStart T) → IsPaid (v start)
   paid start = omega arith
@@ -219,7 +216,7 @@ module _ {T : Type 0} (scene : Scene T) (g : set.Good Death scene.capacity scene
         (record {
           paid = paid removing;
           scanned = tt;
-          owns = λ calm alive began. taken index owner mode (g.owned (calm_less Death events (begun removing) calm)) (since_begun p (λ part. settled_of index part ≡ Some owner) events (Container removing) began);
+          owns = λ calm alive began. taken index owner mode (g.owned (calm_less scene.terms.by events (begun removing) calm)) (since_begun p (λ part. settled_of index part ≡ Some owner) events (Container removing) began);
           says = tt;
           gone = tt;
         })
@@ -234,14 +231,14 @@ module _ {T : Type 0} (scene : Scene T) (g : set.Good Death scene.capacity scene
     replace_at_first false t = let past : nat_lt c c ≡ false = grind (arith, nat_tests) in rw past (grind (arith, nat_tests), refl, refl)
 
     replaces_know : (b : Bool) → nat_lt index c ≡ b → ReplacesKnow code c (if b then index else c) value owner (if nat_lt (if b then index else c) c then replaces.TheVariants.LoadsCell else replaces.TheVariants.Refuses) (v replacing)
-    replaces_know true t = rw t (paid replacing, replace_begun p index owner value events)
+    replaces_know true t = rw t (paid replacing, replace_begun scene.terms.by p index owner value events)
     replaces_know false t = let past : nat_lt c c ≡ false = grind (arith, nat_tests) in rw past (paid replacing)
 
   -- a look's state
-  new_state : (start : ContainerStart T) → LookRests code c (view scene.words (with_state p (fresh code c) scene.states) (put p (y start) latest) (events ++ begun start) p changes changes 0)
+  new_state : (start : ContainerStart T) → LookRests code c (view scene.terms scene.words (with_state p (fresh code c) scene.states) (put p (y start) latest) (events ++ begun start) p changes changes 0)
   new_state start = record { state = fresh code c; found = found_put_same p (fresh code c) scene.states; rests = rests_later code c m (m' start) (begun start) refl (passes start) p (fresh code c) (h.fresh p); own = λ getting i value ne is. let none : None ≡ Some value = sym (shows_same _ c i) ∙ is in absurd (cc) }
 
-  old_state : (start : ContainerStart T) → start ≢ starts.TheVariants.GetState → (o : Option (ContainerState T)) → state_of p scene.states ≡ o → LookRests code c (view scene.words (if is_some o then scene.states else with_state p (fresh code c) scene.states) (put p (y start) latest) (events ++ begun start) p changes changes 0)
+  old_state : (start : ContainerStart T) → start ≢ starts.TheVariants.GetState → (o : Option (ContainerState T)) → state_of p scene.states ≡ o → LookRests code c (view scene.terms scene.words (if is_some o then scene.states else with_state p (fresh code c) scene.states) (put p (y start) latest) (events ++ begun start) p changes changes 0)
   old_state start other None e = new_state start
   old_state start other (Some s) e =
       record { state = s; found = e; rests = still_rests start s e; own = λ getting. let name : Some (Container start) ≡ Some (Container starts.TheVariants.GetState) = sym (ap name_of (span_begun start)) ∙ getting in absurd (other (cc)) }
@@ -258,7 +255,11 @@ module _ {T : Type 0} (scene : Scene T) (g : set.Good Death scene.capacity scene
   at_first starts.TheVariants.IsEmpty named = (refl, refl, tt, refl)
   at_first starts.TheVariants.IsLocked named = refl
 
-  knows_first : (start : ContainerStart T) → first_row (call_rows scene.dead start) ≡ None → Knows code c (first c start) (v start)
+  gone_then : (by : GoneBy) (owner : ℕ) (mode : ReleaseMode) → MayRecover by events (starts.TheVariants.Recover owner mode) → is_gone by owner (events ++ begun (starts.TheVariants.Recover owner mode)) ≡ true
+  gone_then Death owner mode dead = fold-append (dead_after owner) false events (begun (starts.TheVariants.Recover owner mode)) ∙ dead
+  gone_then Word owner mode may = gone_begun p owner mode events
+
+  knows_first : (start : ContainerStart T) → MayRecover scene.terms.by events start → Knows code c (first c start) (v start)
   knows_first (starts.TheVariants.Add value owner) r = record { paid = paid (starts.TheVariants.Add value owner); scanned = tt; owns = tt; says = tt; gone = tt }
   knows_first (starts.TheVariants.Remove index owner mode) r = remove_knows index owner mode (nat_lt index c) refl
   knows_first (starts.TheVariants.Replace index value owner) r = replaces_know index value owner (nat_lt index c) refl
@@ -268,27 +269,22 @@ module _ {T : Type 0} (scene : Scene T) (g : set.Good Death scene.capacity scene
       (length-replicate {A = ℕ} 128 0, (paid start, none, λ proper. record { count = none; copied = λ index less chosen through. absurd (omega arith) }))
   knows_first (starts.TheVariants.Recover owner mode) r =
       let start : ContainerStart T = starts.TheVariants.Recover owner mode in
-      let died : has_died owner scene.dead ≡ true = is_dead_by (has_died owner scene.dead) (row_passed (not (has_died owner scene.dead)) OwnerLives None r).0 in
-      let dead : is_dead owner (events ++ begun start) ≡ true = fold-append (dead_after owner) false events (begun start) ∙ (sym (g.died owner) ∙ died) in (
+      let dead = gone_then scene.terms.by owner mode r in (
         length-replicate {A = ℕ} 128 0,
         (
           paid start,
           dead,
-          λ i. ⊎_elim
+          λ honest i. ⊎_elim
               (λ (told : IsOneOf (Yes i owner) (deeds_of p (events ++ begun start))). none_of (Yes i owner) (deeds_of p (events ++ begun start)) told.before told.after (no_deeds start) told.is)
               (λ (seen : WasShown p i (events ++ begun start)). none_of (Sees i) (acts_of p (events ++ begun start)) seen.before seen.after (no_acts start) seen.is),
         ),
         tt,
       )
-    where
-      is_dead_by : (b : Bool) → not b ≡ false → b ≡ true
-      is_dead_by true e = refl
-      is_dead_by false e = absurd (cc)
   knows_first starts.TheVariants.GetState r = (paid starts.TheVariants.GetState, new_state starts.TheVariants.GetState)
   knows_first starts.TheVariants.UpdateState r = (paid starts.TheVariants.UpdateState, old_state starts.TheVariants.UpdateState (λ e. cc) (state_of p scene.states) refl)
   knows_first starts.TheVariants.Len r = record { paid = paid starts.TheVariants.Len; scanned = tt; owns = tt; says = tt; gone = tt }
   knows_first starts.TheVariants.IsEmpty r = record { paid = paid starts.TheVariants.IsEmpty; scanned = tt; owns = tt; says = tt; gone = tt }
   knows_first starts.TheVariants.IsLocked r = record { paid = paid starts.TheVariants.IsLocked; scanned = tt; owns = tt; says = tt; gone = tt }
 
-  pub begins_shown : (start : ContainerStart T) → names_owner start ≡ true → first_row (call_rows scene.dead start) ≡ None → Begins scene start
+  pub begins_shown : (start : ContainerStart T) → names_owner start ≡ true → MayRecover scene.terms.by events start → Begins scene start
   begins_shown start named r = record { does = does start; at = at_first start named; knows = knows_first start r }

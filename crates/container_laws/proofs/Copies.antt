@@ -8,35 +8,36 @@ use Rattle.steps.specs.Copied.{value_in}
 use Rattle.model.specs.Coding.{Coding, IsCoding}
 use Rattle.model.specs.Families.Container.Reading.{contents_of}
 use Rattle.container_laws.proofs.Contents.{IsWhole, Stands}
-use Rattle.container_laws.proofs.Knows.{View, now, Copying}
+use Rattle.container_laws.proofs.Knows.{View, now, HasCome, Copying}
+use Rattle.container_laws.proofs.Terms.{Keeps}
 use Rattle.container_laws.proofs.Turns.{Proper, count_in, datum_in}
 
 module _ {T : Type 0} (code : Coding T) (c : ℕ) where
   -- ---- its first word is to be read
 
-  pub copying_first : (v : View T) (index count : ℕ) (copy : List ℕ) → index < c → length copy ≡ 128 → count % 2 ≡ 1 → count ≤ count_in code c (now v) index → Copying code c index count copy 0 v
+  pub copying_first : (v : View T) (index count : ℕ) (copy : List ℕ) → index < c → length copy ≡ 128 → count % 2 ≡ 1 → HasCome code c index count v → Copying code c index count copy 0 v
   copying_first v index count copy within room odd below =
       record { within = within; few = omega arith; room = room; odd = odd; below = below; same = λ proper is j js. absurd (omega arith) }
 
   -- ---- a word is read, by a step that leaves the words
 
-  pub copying_more : (v v' : View T) (index count : ℕ) (copy : List ℕ) (at : ℕ) → at < code.size → code.size ≤ 128 → v'.words ≡ v.words → (Proper (now v') → Proper (now v)) → Copying code c index count copy at v
+  pub copying_more : (v v' : View T) (index count : ℕ) (copy : List ℕ) (at : ℕ) → at < code.size → code.size ≤ 128 → v'.words ≡ v.words → (Keeps v'.terms → Keeps v.terms) → (Proper (now v') → Proper (now v)) → Copying code c index count copy at v
       → Copying code c index count (set copy at (datum_in code c (now v) index at)) (at + 1) v'
-  copying_more v v' index count copy at ats few same proper h =
+  copying_more v v' index count copy at ats few same kept proper h =
       record {
         within = h.within;
         few = omega arith;
         room = length-set copy at _ ∙ h.room;
         odd = h.odd;
-        below = let low = h.below in let eq = count_same in omega arith;
+        below = λ keeps. let low = h.below (kept keeps) in let eq = count_same in omega arith;
         same = λ holds is j js. ⊎_elim (λ e. here j e) (λ ne. there holds is j js ne) (cases_eq j at);
       }
     where
       count_same : count_in code c (now v') index ≡ count_in code c (now v) index
-      count_same = ap (λ w. count_in code c (record { words = w; latest = v.latest; events = v.events }) index) same
+      count_same = ap (λ w. count_in code c (record { terms = v.terms; words = w; latest = v.latest; events = v.events }) index) same
 
       datum_same : (j : ℕ) → datum_in code c (now v') index j ≡ datum_in code c (now v) index j
-      datum_same j = ap (λ w. datum_in code c (record { words = w; latest = v.latest; events = v.events }) index j) same
+      datum_same j = ap (λ w. datum_in code c (record { terms = v.terms; words = w; latest = v.latest; events = v.events }) index j) same
 
       here : (j : ℕ) → j ≡ at → get_or (set copy at (datum_in code c (now v) index at)) j 0 ≡ datum_in code c (now v') index j
       here j e =

@@ -21,7 +21,7 @@ use Rattle.model.specs.declared.families.container.calls.CountOf as counts
 use Rattle.model.specs.declared.party.Party.{Party}
 use Rattle.model.specs.Families.Container.Bounds.{most_steps}
 use Rattle.model.specs.Families.Container.Calls.{counted}
-use Rattle.model.specs.Families.Container.Promises.{IsLength, AnswersRight}
+use Rattle.model.specs.Families.Container.Promises.{IsLength}
 use Rattle.model.specs.Families.Container.Reading.{Act, announced_after}
 use Rattle.model.specs.Families.Container.Spans.{HasDone}
 use Rattle.model.specs.Families.Indices.Robust.Promises.{IsFilled}
@@ -37,6 +37,9 @@ use Rattle.robust_laws.proofs.Parts.{count_ask, count_step as part_step, IsSaid}
 use Rattle.robust_laws.proofs.Rights.{Right, right_after}
 use Rattle.robust_laws.proofs.Stages as set_stages
 use Rattle.robust_laws.proofs.Standing.{count_number, CountAt}
+use Rattle.robust_laws.specs.Gone.{GoneBy}
+use Rattle.robust_laws.proofs.Invariant.{IsWorn}
+use Rattle.container_laws.specs.Gone.{AnswersBy}
 use Rattle.container_laws.proofs.Effects.{OwesStill}
 use Rattle.container_laws.proofs.HiddenKnows.{EndsRight}
 use Rattle.container_laws.proofs.Invariant.{Scene, Inv, before, after, of_set, inv_of_set}
@@ -68,9 +71,9 @@ module _ (T : Type 0) where
   few_count counts.TheVariants.Len c z n backs few = few
   few_count counts.TheVariants.IsEmpty c z n backs few = few
 
-  answers_count : (which : CountOf) (c p number : ℕ) (events : List (Event T)) → IsLength p c number events → AnswersRight c events (Finished p (Container (counts_as which)) (counted which number))
-  answers_count counts.TheVariants.Len c p number events h = h
-  answers_count counts.TheVariants.IsEmpty c p number events h = record { number = number; is = refl; length = h }
+  answers_count : (by : GoneBy) (worn : Type 0) (which : CountOf) (c p number : ℕ) (events : List (Event T)) → IsLength p c number events → AnswersBy by worn c events (Finished p (Container (counts_as which)) (counted which number))
+  answers_count by worn counts.TheVariants.Len c p number events h = h
+  answers_count by worn counts.TheVariants.IsEmpty c p number events h = record { number = number; is = refl; length = h }
 
   does_count : (which : CountOf) (number : ℕ) (deeds : List Deed) (acts : List (Act T)) → deeds ≡ [] → HasDone (counts_as {T = T} which) (counted which number) deeds acts
   does_count counts.TheVariants.Len number deeds acts none = none
@@ -127,7 +130,7 @@ module _ {T : Type 0} (scene : Scene T) (inv : Inv scene) where
         let proper = was_proper scene start (no_replace T which) here.span (words_after ws ask) y es (refl, tt) in
         ends scene start (counted which number) ask false scene.states [] here.span none_lengthens
         (ends_there scene inv start (count_at which c count) tt here y (words_after ws ask) stays (counted which number) (quiet_end (of_set scene) (inv_of_set scene inv) start (counted which number) (settles_not T which p number) (rights_not T which p number)) (announces_not T which p number)
-        (answers_count T which c p number events is) proper (λ holds. places_not T which p number events) (still (words_after ws ask) y es proper))
+        (answers_count T scene.terms.by (IsWorn scene.terms.by (words_after ws ask)) which c p number events is) proper (λ holds. places_not T which p number events) (still (words_after ws ask) y es proper))
         ((refl, does_count T which number (all scene) (done scene) none), tt) (few_count T which c code.size _ (backs_then scene false) few) (omega arith)
 
     counts_move : counts_to (Some (count_ask count)) (count_goes_back count (old_of ws (Some (count_ask count)))) (count_after c count (old_of ws (Some (count_ask count))))
@@ -145,7 +148,10 @@ module _ {T : Type 0} (scene : Scene T) (inv : Inv scene) where
         let low = few 0 (c + 2) (omega arith) (omega arith) in
         counts_end 0 ask (stays_same (of_set scene) (inv_of_set scene inv) (words_after ws ask) same)
         (record { none = λ t. refl; some = λ f. both_ways _ f (is_shut (of_set scene) (inv_of_set scene inv) shut) }) paid (omega arith))
-        (λ filled ask same worn end most says paid few. absurd worn)
+        (λ filled ask same worn end most says paid few.
+        let low = few 0 (c + 2) (omega arith) (omega arith) in
+        counts_end filled ask (stays_same (of_set scene) (inv_of_set scene inv) (words_after ws ask) same)
+        (record { none = λ t. both_ways _ (unlocked (of_set scene) (inv_of_set scene inv) (λ shut. absurd (omega arith))) t; some = λ f. says }) paid (omega arith))
         (λ filled ask less new most says unheld paid few.
         let low = few 0 (c + 2) (omega arith) (omega arith) in
         counts_end filled ask (stays_raised (of_set scene) (inv_of_set scene inv) (words_after ws ask) less new)

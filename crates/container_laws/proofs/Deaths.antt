@@ -6,15 +6,15 @@ use Rattle.model.specs.declared.event.Event.{Event}
 use Rattle.model.specs.declared.event.Event.TheVariants.{Died}
 use Rattle.model.specs.declared.party.Party.{Party}
 use Rattle.model.specs.Coding.{Coding}
-use Rattle.model.specs.Families.Container.Promises.{AsksRight, RecoversRight, AnswersRight, ContainsRight, ReplacesRight}
+use Rattle.model.specs.Families.Container.Promises.{ContainsRight, ReplacesRight}
 use Rattle.model.specs.Families.Container.Reading.{contents_after, contents_of, announced_after, announced_of}
-use Rattle.model.specs.Families.Indices.Robust.Promises.{FreesRight}
 use Rattle.model.specs.Families.Indices.Robust.Reading.{is_dead}
 use Rattle.model.specs.Parties.{party_of}
 use Rattle.model.proofs.Readings.{Each-append, span_of-death}
-use Rattle.robust_laws.specs.Gone.{Death}
+use Rattle.robust_laws.proofs.Gone.{calm_less}
 use Rattle.robust_laws.proofs.Deaths.{death_good, death_goes, death_spares}
 use Rattle.robust_laws.proofs.Invariant as set
+use Rattle.container_laws.specs.Gone.{AsksBy, RecoversBy, AnswersBy}
 use Rattle.container_laws.proofs.HiddenKnows.{EndsRight}
 use Rattle.container_laws.proofs.Invariant.{Elements, moment, view}
 use Rattle.container_laws.proofs.Keeping.{still_knows}
@@ -22,18 +22,19 @@ use Rattle.container_laws.proofs.Left.{left_after, left_of}
 use Rattle.container_laws.proofs.Proper.{each_less, stands_less}
 use Rattle.container_laws.proofs.Sights.{rests_later}
 use Rattle.container_laws.proofs.Sound.{Dies}
+use Rattle.container_laws.proofs.Terms.{Terms}
 use Rattle.container_laws.proofs.Turns.{Now, Proper, Passes, Leaves}
 
-module _ {T : Type 0} (code : Coding T) (c : ℕ) (words dead : List ℕ) (states : List (ℕ × ContainerState T)) (latest : List (ℕ × Party T)) (events : List (Event T)) (turns o : ℕ) (g : set.Good Death c words dead events turns) (h : Elements code c (moment words latest events) states turns)
+module _ {T : Type 0} (terms : Terms) (code : Coding T) (c : ℕ) (words dead : List ℕ) (states : List (ℕ × ContainerState T)) (latest : List (ℕ × Party T)) (events : List (Event T)) (turns o : ℕ) (g : set.Good terms.by c words dead events turns) (h : Elements code c (moment terms words latest events) states turns)
     (alive : is_dead o events ≡ false) where
   abbrev es : List (Event T)
   es = Died o ∷ []
 
   abbrev m : Now T
-  m = moment words latest events
+  m = moment terms words latest events
 
   abbrev m' : Now T
-  m' = moment words latest (events ++ es)
+  m' = moment terms words latest (events ++ es)
 
   same_contents : (i : ℕ) → contents_of i (events ++ es) ≡ contents_of i events
   same_contents i = fold-append (contents_after i) None events es
@@ -47,7 +48,8 @@ module _ {T : Type 0} (code : Coding T) (c : ℕ) (words dead : List ℕ) (state
   was_proper : Proper m' → Proper m
   was_proper proper =
       record {
-        frees = each_less FreesRight events es proper.frees;
+        kept = proper.kept;
+        calm = calm_less terms.by events es proper.calm;
         replaced = each_less ReplacesRight events es proper.replaced;
         replaces = λ q. stands_less q (party_of q latest) events es tt (span_of-death q events o) (proper.replaces q);
       }
@@ -56,8 +58,9 @@ module _ {T : Type 0} (code : Coding T) (c : ℕ) (words dead : List ℕ) (state
   passes =
       record {
         proper = was_proper;
-        counts = λ i below. omega arith;
-        change = omega arith;
+        kept = λ kept. kept;
+        counts = λ kept i below. omega arith;
+        change = λ kept. omega arith;
         stands = λ proper i below same. same_contents i;
         words = λ proper i below same odd j js. refl;
         stood = λ proper i below was is. refl;
@@ -82,26 +85,26 @@ module _ {T : Type 0} (code : Coding T) (c : ℕ) (words dead : List ℕ) (state
       record {
         coded = h.coded;
         wide = h.wide;
-        counts = λ i below. let few = h.counts i below in omega arith;
-        change = let few = h.change in omega arith;
+        counts = λ kept i below. let few = h.counts kept i below in omega arith;
+        change = λ kept. let few = h.change kept in omega arith;
         within = λ i value e. h.within i value (sym (same_contents i) ∙ e);
         announced = λ proper i e. ap is_some (same_contents i) ∙ h.announced (was_proper proper) i (sym (same_announced i) ∙ e);
         whole = λ proper i below. rw (same_contents i) (h.whole (was_proper proper) i below);
-        asks = Each-append AsksRight events es h.asks (tt, tt);
-        recovers = Each-append RecoversRight events es h.recovers (tt, tt);
-        answers = Each-append (AnswersRight c) events es h.answers (tt, tt);
+        asks = Each-append (AsksBy terms.by) events es h.asks (tt, tt);
+        recovers = Each-append (RecoversBy terms.by) events es h.recovers (tt, tt);
+        answers = Each-append (AnswersBy terms.by (set.IsWorn terms.by words) c) events es h.answers (tt, tt);
         contains = λ proper. Each-append ContainsRight events es (h.contains (was_proper proper)) (tt, tt);
         places = λ proper. Each-append EndsRight events es (h.places (was_proper proper)) (tt, tt);
         rests = λ q s idle found. rests_later code c m m' es refl passes q s (h.rests q s idle found);
         fresh = λ q. rests_later code c m m' es refl passes q _ (h.fresh q);
       }
 
-  pub dies : Dies code c words dead states latest events turns o
+  pub dies : Dies terms code c words dead states latest events turns o
   dies =
       record {
-        good = death_good Death c words dead events turns o g alive;
+        good = death_good terms.by c words dead events turns o g alive;
         elements = elements_then;
         knows = λ q since changes backs flight k.
-            still_knows code c (view words states latest events q since changes backs) words states latest es changes (death_goes Death c words dead events turns o g alive) (death_spares Death c words dead events turns o g alive q) (inl (refl, refl)) passes (leaves q) (span_of-death q events o) refl refl
+            still_knows code c (view terms words states latest events q since changes backs) words states latest es changes (death_goes terms.by c words dead events turns o g alive) (death_spares terms.by c words dead events turns o g alive q) (inl (refl, refl)) passes (leaves q) (span_of-death q events o) refl refl
             flight k;
       }

@@ -4,23 +4,26 @@ use Rattle.std.proofs.Common.{◌≡◌, ◌≢◌, ⊎_elim, inl, inr, ℕ, ◌
 use Rattle.std.proofs.lemmas.Bool.{cases_eq}
 use Rattle.std.proofs.lemmas.List.{length-set}
 use Rattle.steps.specs.Container.Layout.{change_word, count_word, element_word}
+use Rattle.steps.specs.Indices.Robust.Parts.{one_more}
 use Rattle.model.specs.declared.event.Event.{Event}
 use Rattle.model.specs.declared.event.Start.{Start}
 use Rattle.model.specs.declared.party.Party.{Party}
 use Rattle.model.specs.Families.Container.Looks.{WasAlone}
 use Rattle.model.specs.Families.Container.Reading.{contents_of, announced_of}
-use Rattle.model.specs.Families.Indices.Robust.Reading.{is_dead, filled_of}
+use Rattle.model.specs.Families.Indices.Robust.Reading.{filled_of}
 use Rattle.model.specs.Parties.{party_of, put, doing_of, flight_of}
 use Rattle.model.specs.Reading.{Open, span_of}
 use Rattle.model.specs.Shape.{IsShut}
 use Rattle.model.proofs.Moments.{others_begin_none}
 use Rattle.model.proofs.Parties.{party_put_same, party_put_other}
 use Rattle.model.proofs.Readings.{AreOwn}
+use Rattle.robust_laws.specs.Gone.{is_gone}
 use Rattle.container_laws.proofs.Alone.{alone_less, others_shut}
 use Rattle.container_laws.proofs.Contents.{IsWhole, Writing, Stands, stands_on, store_whole}
 use Rattle.container_laws.proofs.Core.{count_at, datum_at, change_at, counts_stay, data_stay, count_set, count_stays, data_all_stay, change_set, changes_no_count, changes_no_datum}
 use Rattle.container_laws.proofs.Invariant.{Scene, Inv, Elements, Changes, before, after}
 use Rattle.container_laws.proofs.Left.{left_of}
+use Rattle.container_laws.proofs.Terms.{Keeps}
 use Rattle.container_laws.proofs.Turns.{Owing, owes, Now, Proper, count_in, datum_in, change_in}
 use Rattle.container_laws.proofs.Writers.{IsWriter, one_writer}
 
@@ -67,7 +70,7 @@ module _ {T : Type 0} (scene : Scene T) (inv : Inv scene) (words' : List ℕ) (y
     pub announced : (i : ℕ) → announced_of i (events ++ es) ≡ announced_of i events
     pub left : (i : ℕ) → left_of i events ≡ true → left_of i (events ++ es) ≡ true
     -- nor frees an index where another writes
-    pub spares : Proper m' → (q : ℕ) → q ≢ p → (i o : ℕ) → is_dead o events ≡ false → IsWriter q i o events → left_of i events ≡ false → left_of i (events ++ es) ≡ false
+    pub spares : Proper m' → (q : ℕ) → q ≢ p → (i o : ℕ) → is_gone scene.terms.by o events ≡ false → IsWriter q i o events → left_of i events ≡ false → left_of i (events ++ es) ≡ false
 
   still_stands : ((i : ℕ) → i < c → count_in code c m' i ≡ count_in code c m i) → ((i : ℕ) → i < c → (j : ℕ) → j < code.size → datum_in code c m' i j ≡ datum_in code c m i j)
       → ((i : ℕ) → contents_of i (events ++ es) ≡ contents_of i events) → Proper m' → IsWhole code c words' (events ++ es)
@@ -92,8 +95,9 @@ module _ {T : Type 0} (scene : Scene T) (inv : Inv scene) (words' : List ℕ) (y
           passes =
               record {
                 proper = proper;
-                counts = λ i low. let same = same_count i low in omega arith;
-                change = let same = same_change in omega arith;
+                kept = λ kept. kept;
+                counts = λ kept i low. let same = same_count i low in omega arith;
+                change = λ kept. let same = same_change in omega arith;
                 stands = λ holds i low is. calm.contents i;
                 words = λ holds i low is odd j js. same_datum i j;
                 stood = λ holds i low was now. same_count i low;
@@ -111,8 +115,8 @@ module _ {T : Type 0} (scene : Scene T) (inv : Inv scene) (words' : List ℕ) (y
                 alone = λ was i low. same_count i low;
               };
           wide = wide;
-          counts = λ i low. let same = same_count i low in let few = e.counts i low in omega arith;
-          change = let same = same_change in let few = e.change in omega arith;
+          counts = λ kept i low. let same = same_count i low in let few = e.counts kept i low in omega arith;
+          change = λ kept. let same = same_change in let few = e.change kept in omega arith;
           within = λ i value is. e.within i value (sym (calm.contents i) ∙ is);
           announced = λ holds i said. ap is_some (calm.contents i) ∙ e.announced (proper holds) i (sym (calm.announced i) ∙ said);
           whole = still_stands same_count (λ i low j js. same_datum i j) calm.contents;
@@ -120,19 +124,26 @@ module _ {T : Type 0} (scene : Scene T) (inv : Inv scene) (words' : List ℕ) (y
 
   -- ---- the number of changes
 
-  module _ (new : words' ≡ set ws (change_word c) (change_in code c m + 1)) (contents : (i : ℕ) → contents_of i (events ++ es) ≡ contents_of i events)
+  module _ (new : words' ≡ set ws (change_word c) (one_more (change_in code c m))) (contents : (i : ℕ) → contents_of i (events ++ es) ≡ contents_of i events)
       (left : (i : ℕ) → left_of i (events ++ es) ≡ left_of i events) (says : Proper m' → (i : ℕ) → announced_of i (events ++ es) ≡ true → is_some (contents_of i events) ≡ true) where
     within_words : change_word c < length ws
     within_words = let wide = e.wide in omega arith
 
-    raised : change_in code c m' ≡ change_in code c m + 1
-    raised = ap (change_at c) new ∙ change_set c code.size ws (change_in code c m + 1) within_words
+    raised : change_in code c m' ≡ one_more (change_in code c m)
+    raised = ap (change_at c) new ∙ change_set c code.size ws (one_more (change_in code c m)) within_words
+
+    raised_few : Keeps scene.terms → change_in code c m' ≡ change_in code c m + 1
+    raised_few kept =
+        let more = raised in
+        let few = e.change kept in
+        let small = inv.small kept in
+        omega arith
 
     count_as_it_was : (i : ℕ) → count_in code c m' i ≡ count_in code c m i
-    count_as_it_was i = ap (λ w. count_at c w i) new ∙ changes_no_count c code.size ws (change_in code c m + 1) i
+    count_as_it_was i = ap (λ w. count_at c w i) new ∙ changes_no_count c code.size ws (one_more (change_in code c m)) i
 
     datum_as_it_was : (i j : ℕ) → datum_in code c m' i j ≡ datum_in code c m i j
-    datum_as_it_was i j = ap (λ w. datum_at c code.size w i j) new ∙ changes_no_datum c code.size ws (change_in code c m + 1) i j
+    datum_as_it_was i j = ap (λ w. datum_at c code.size w i j) new ∙ changes_no_datum c code.size ws (one_more (change_in code c m)) i j
 
     pub counts_change : Changes scene words' y es
     counts_change =
@@ -140,8 +151,9 @@ module _ {T : Type 0} (scene : Scene T) (inv : Inv scene) (words' : List ℕ) (y
           passes =
               record {
                 proper = proper;
-                counts = λ i low. let same = count_as_it_was i in omega arith;
-                change = let more = raised in omega arith;
+                kept = λ kept. kept;
+                counts = λ kept i low. let same = count_as_it_was i in omega arith;
+                change = λ kept. let more = raised_few kept in omega arith;
                 stands = λ holds i low is. contents i;
                 words = λ holds i low is odd j js. datum_as_it_was i j;
                 stood = λ holds i low was now. count_as_it_was i;
@@ -158,9 +170,9 @@ module _ {T : Type 0} (scene : Scene T) (inv : Inv scene) (words' : List ℕ) (y
                 placed = λ holds i o low lives mine fresh some. (left i ∙ fresh, ap is_some (contents i) ∙ some);
                 alone = λ was i low. count_as_it_was i;
               };
-          wide = ap length new ∙ length-set ws (change_word c) (change_in code c m + 1);
-          counts = λ i low. let same = count_as_it_was i in let few = e.counts i low in omega arith;
-          change = let more = raised in let few = e.change in omega arith;
+          wide = ap length new ∙ length-set ws (change_word c) (one_more (change_in code c m));
+          counts = λ kept i low. let same = count_as_it_was i in let few = e.counts kept i low in omega arith;
+          change = λ kept. let more = raised_few kept in let few = e.change kept in omega arith;
           within = λ i value is. e.within i value (sym (contents i) ∙ is);
           announced = λ holds i said. ap is_some (contents i) ∙ says holds i said;
           whole = still_stands (λ i low. count_as_it_was i) (λ i low j js. datum_as_it_was i j) contents;
@@ -168,7 +180,7 @@ module _ {T : Type 0} (scene : Scene T) (inv : Inv scene) (words' : List ℕ) (y
 
   -- ---- a word of an element, by one who writes there
 
-  module _ (i : ℕ) (below : i < c) (k : ℕ) (ks : k < code.size) (value : T) (owner : ℕ) (alive : is_dead owner events ≡ false) (mine : Proper m → IsWriter p i owner events) (writing : Proper m → Writing code c ws i value k)
+  module _ (i : ℕ) (below : i < c) (k : ℕ) (ks : k < code.size) (value : T) (owner : ℕ) (mine : Proper m → IsWriter p i owner events) (writing : Proper m → Writing code c ws i value k)
       (new : words' ≡ set ws (element_word c code.size i k) (get_or (code.words_of value) k 0)) (calm : IsCalm) (still : OwesStill) where
     count_kept : (a : ℕ) → a < c → count_in code c m' a ≡ count_in code c m a
     count_kept a low = ap (λ w. count_at c w a) new ∙ counts_stay c code.size ws i k _ a low
@@ -190,7 +202,7 @@ module _ {T : Type 0} (scene : Scene T) (inv : Inv scene) (words' : List ℕ) (y
     not_theirs : Proper m' → (q : ℕ) → q ≢ p → (a o : ℕ) → IsWriter q a o events → a ≢ i
     not_theirs holds q ne a o theirs same =
         let h = proper holds in
-        ne (one_writer q p i o owner events (inv.good.owned (h.frees, tt)) (subst (λ b. IsWriter q b o events) same theirs) (mine h))
+        ne (one_writer q p i o owner events (inv.good.owned h.calm) (subst (λ b. IsWriter q b o events) same theirs) (mine h))
 
     pub stores : Changes scene words' y es
     stores =
@@ -198,8 +210,9 @@ module _ {T : Type 0} (scene : Scene T) (inv : Inv scene) (words' : List ℕ) (y
           passes =
               record {
                 proper = proper;
-                counts = λ a low. let same = count_kept a low in omega arith;
-                change = let same = change_kept in omega arith;
+                kept = λ kept. kept;
+                counts = λ kept a low. let same = count_kept a low in omega arith;
+                change = λ kept. let same = change_kept in omega arith;
                 stands = λ holds a low is. calm.contents a;
                 words = λ holds a low is odd j js. datum_kept a j (elsewhere holds a odd) js;
                 stood = λ holds a low was now. count_kept a low;
@@ -217,8 +230,8 @@ module _ {T : Type 0} (scene : Scene T) (inv : Inv scene) (words' : List ℕ) (y
                 alone = λ was a low. count_kept a low;
               };
           wide = ap length new ∙ length-set ws (element_word c code.size i k) _;
-          counts = λ a low. let same = count_kept a low in let few = e.counts a low in omega arith;
-          change = let same = change_kept in let few = e.change in omega arith;
+          counts = λ kept a low. let same = count_kept a low in let few = e.counts kept a low in omega arith;
+          change = λ kept. let same = change_kept in let few = e.change kept in omega arith;
           within = λ a v is. e.within a v (sym (calm.contents a) ∙ is);
           announced = λ holds a said. ap is_some (calm.contents a) ∙ e.announced (proper holds) a (sym (calm.announced a) ∙ said);
           whole = λ holds a low.
@@ -229,16 +242,23 @@ module _ {T : Type 0} (scene : Scene T) (inv : Inv scene) (words' : List ℕ) (y
 
   -- ---- the number of an element
 
-  module _ (i : ℕ) (below : i < c) (new : words' ≡ set ws (count_word c i) (count_in code c m i + 1)) (own : AreOwn p es) (start : Start T) (wrote : List (Event T)) (open_now : span_of p events ≡ Open start wrote)
+  module _ (i : ℕ) (below : i < c) (new : words' ≡ set ws (count_word c i) (one_more (count_in code c m i))) (own : AreOwn p es) (start : Start T) (wrote : List (Event T)) (open_now : span_of p events ≡ Open start wrote)
       (owed : owes (flight_of (Some y.doing)) ≡ true) where
-    count_here : count_in code c m' i ≡ count_in code c m i + 1
-    count_here = let wide = e.wide in ap (λ w. count_at c w i) new ∙ count_set c code.size ws i (count_in code c m i + 1) (omega arith)
+    count_here : count_in code c m' i ≡ one_more (count_in code c m i)
+    count_here = let wide = e.wide in ap (λ w. count_at c w i) new ∙ count_set c code.size ws i (one_more (count_in code c m i)) (omega arith)
+
+    count_few : Keeps scene.terms → count_in code c m' i ≡ count_in code c m i + 1
+    count_few kept =
+        let here = count_here in
+        let few = e.counts kept i below in
+        let small = inv.small kept in
+        omega arith
 
     count_there : (a : ℕ) → a ≢ i → count_in code c m' a ≡ count_in code c m a
-    count_there a ne = ap (λ w. count_at c w a) new ∙ count_stays c code.size ws i (count_in code c m i + 1) a ne
+    count_there a ne = ap (λ w. count_at c w a) new ∙ count_stays c code.size ws i (one_more (count_in code c m i)) a ne
 
     datum_all : (a j : ℕ) → datum_in code c m' a j ≡ datum_in code c m a j
-    datum_all a j = ap (λ w. datum_at c code.size w a j) new ∙ data_all_stay c code.size ws i (count_in code c m i + 1) a j below
+    datum_all a j = ap (λ w. datum_at c code.size w a j) new ∙ data_all_stay c code.size ws i (one_more (count_in code c m i)) a j below
 
     change_same : change_in code c m' ≡ change_in code c m
     change_same = ap (change_at c) new ∙ get_or-set_other ws (count_word c i) (change_word c) _ 0 (λ e. absurd (omega arith))
@@ -262,8 +282,8 @@ module _ {T : Type 0} (scene : Scene T) (inv : Inv scene) (words' : List ℕ) (y
       pub placed : Proper m' → (q : ℕ) → q ≢ p → (o : ℕ) → IsWriter q i o events → left_of i events ≡ false → is_some (contents_of i events) ≡ true → ⊥
       pub stood : Proper m' → is_some (contents_of i events) ≡ true → is_some (contents_of i (events ++ es)) ≡ true → ⊥
       pub under : Proper m' → (q : ℕ) → q ≢ p → (a o : ℕ) → IsWriter q a o events → count_in code c m a % 2 ≡ 0 → a ≢ i
-      pub over : Proper m' → (q : ℕ) → q ≢ p → (o : ℕ) → IsWriter q i o events → (count_in code c m i + 1) % 2 ≡ 0
-      pub lost : Proper m' → (o : ℕ) → is_dead o events ≡ true → filled_of i events ≡ Some o → count_in code c m i % 2 ≡ 1
+      pub over : Proper m' → (q : ℕ) → q ≢ p → (o : ℕ) → IsWriter q i o events → one_more (count_in code c m i) % 2 ≡ 0
+      pub lost : Proper m' → (o : ℕ) → is_gone scene.terms.by o events ≡ true → filled_of i events ≡ Some o → count_in code c m i % 2 ≡ 1
       pub whole : Proper m' → IsWhole code c words' (events ++ es)
 
     pub counts_one : IsCounted → Changes scene words' y es
@@ -272,8 +292,9 @@ module _ {T : Type 0} (scene : Scene T) (inv : Inv scene) (words' : List ℕ) (y
           passes =
               record {
                 proper = proper;
-                counts = λ a low. ⊎_elim (λ same. grown a same) (λ ne. let is = count_there a ne in omega arith) (cases_eq a i);
-                change = let same = change_same in omega arith;
+                kept = λ kept. kept;
+                counts = λ kept a low. ⊎_elim (λ same. grown kept a same) (λ ne. let is = count_there a ne in omega arith) (cases_eq a i);
+                change = λ kept. let same = change_same in omega arith;
                 stands = λ holds a low is. h.contents a (moved a is);
                 words = λ holds a low is odd j js. datum_all a j;
                 stood = λ holds a low was now. ⊎_elim (λ same. absurd (h.stood holds (subst (λ b. is_some (contents_of b events) ≡ true) same was) (subst (λ b. is_some (contents_of b (events ++ es)) ≡ true) same now))) (λ ne. count_there a ne) (cases_eq a i);
@@ -292,25 +313,25 @@ module _ {T : Type 0} (scene : Scene T) (inv : Inv scene) (words' : List ℕ) (y
                 alone = λ was a low. not_alone q ne was;
               };
           wide = ap length new ∙ length-set ws (count_word c i) _;
-          counts = λ a low. ⊎_elim (λ same. bounded a same) (λ ne. let is = count_there a ne in let few = e.counts a low in omega arith) (cases_eq a i);
-          change = let same = change_same in let few = e.change in omega arith;
+          counts = λ kept a low. ⊎_elim (λ same. bounded kept a same) (λ ne. let is = count_there a ne in let few = e.counts kept a low in omega arith) (cases_eq a i);
+          change = λ kept. let same = change_same in let few = e.change kept in omega arith;
           within = λ a v is. ⊎_elim (λ same. subst (λ b. b < c) (sym same) below) (λ ne. e.within a v (sym (h.contents a ne) ∙ is)) (cases_eq a i);
           announced = λ holds a said. let k = h.announced holds a said in ap is_some (h.contents a k.0) ∙ e.announced (proper holds) a k.1;
           whole = h.whole;
         }
       where
-        grown : (a : ℕ) → a ≡ i → count_in code c m a ≤ count_in code c m' a
-        grown a same = subst (λ b. count_in code c m b ≤ count_in code c m' b) (sym same) (let here = count_here in omega arith)
+        grown : Keeps scene.terms → (a : ℕ) → a ≡ i → count_in code c m a ≤ count_in code c m' a
+        grown kept a same = subst (λ b. count_in code c m b ≤ count_in code c m' b) (sym same) (let here = count_few kept in omega arith)
 
-        bounded : (a : ℕ) → a ≡ i → count_in code c m' a ≤ turns + 1
-        bounded a same = subst (λ b. count_in code c m' b ≤ turns + 1) (sym same) (let here = count_here in let few = e.counts i below in omega arith)
+        bounded : Keeps scene.terms → (a : ℕ) → a ≡ i → count_in code c m' a ≤ turns + 1
+        bounded kept a same = subst (λ b. count_in code c m' b ≤ turns + 1) (sym same) (let here = count_few kept in let few = e.counts kept i below in omega arith)
 
         over_here : Proper m' → (q : ℕ) → q ≢ p → (a o : ℕ) → a ≡ i → IsWriter q a o events → count_in code c m' a % 2 ≡ 0
         over_here holds q ne a o same theirs =
             subst (λ b. count_in code c m' b % 2 ≡ 0) (sym same)
             (ap (λ n. n % 2) count_here ∙ h.over holds q ne o (subst (λ b. IsWriter q b o events) same theirs))
 
-        lost_here : Proper m' → (a o : ℕ) → a ≡ i → is_dead o events ≡ true → filled_of a events ≡ Some o → (count_in code c m a % 2 ≡ 1) × (count_in code c m' a % 2 ≡ 0)
+        lost_here : Proper m' → (a o : ℕ) → a ≡ i → is_gone scene.terms.by o events ≡ true → filled_of a events ≡ Some o → (count_in code c m a % 2 ≡ 1) × (count_in code c m' a % 2 ≡ 0)
         lost_here holds a o same dead filled =
             let odd = h.lost holds o dead (subst (λ b. filled_of b events ≡ Some o) same filled) in
             let new = count_here in

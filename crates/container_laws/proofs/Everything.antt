@@ -21,9 +21,9 @@ module _ {T : Type 0} where
   calls : (scene : Scene T) → Inv scene → CallSteps scene
   calls scene inv =
       record {
-        add = λ value owner fits alive stage here at k s. add_step scene inv value owner fits alive stage here at k s;
-        remove = λ index owner mode fits alive stage at here k s. remove_step scene inv index owner mode fits alive stage at here k s;
-        replace = λ index value owner fits alive stage at here k s. replace_step scene inv index value owner fits alive stage at here k s;
+        add = λ value owner fits acts stage here at k s. add_step scene inv value owner fits acts stage here at k s;
+        remove = λ index owner mode fits acts stage at here k s. remove_step scene inv index owner mode fits acts stage at here k s;
+        replace = λ index value owner fits acts stage at here k s. replace_step scene inv index value owner fits acts stage at here k s;
         find = λ owner fits room stage at here k s. find_step scene inv owner fits room stage at here k s;
         find_decided = λ owner fits room index found at here k s answer. find_decided scene inv owner fits room index found at here k s answer;
         recover = λ owner mode fits room stage at here k s. recover_step scene inv owner mode fits room stage at here k s;
@@ -33,13 +33,13 @@ module _ {T : Type 0} where
         lock = λ none here k s. lock_step scene inv here none k s;
       }
 
-  shown : Shown T
+  pub shown : Shown T
   shown =
       record {
         calls = calls;
-        begins = λ scene g h small free shut start named r. begins_shown scene g h free shut start named r;
-        dies = λ code c words dead states latest events turns o g h alive. dies code c words dead states latest events turns o g h alive;
-        opens = λ code c coded some few. opens code c coded some few;
+        begins = λ scene g h free shut start named may. begins_shown scene g h free shut start named may;
+        dies = λ terms code c words dead states latest events turns o g h alive. dies terms code c words dead states latest events turns o g h alive;
+        opens = λ terms code c coded some few. opens terms code c coded some few;
       }
 
   -- what is proved of every run of the container

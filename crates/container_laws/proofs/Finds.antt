@@ -180,7 +180,7 @@ module _ {T : Type 0} (scene : Scene T) (inv : Inv scene) (owner : ℕ) (fits : 
 
     abbrev SeesCalmly : rooms.Kept 128 → FindStage → Option Ask → View T
     SeesCalmly room' next ask =
-        view (words_after ws ask) scene.states (put p (then_at room' next ask) latest) events p (since_then scene ask) (changes_then scene ask) (backs_then scene false)
+        view scene.terms (words_after ws ask) scene.states (put p (then_at room' next ask) latest) events p (since_then scene ask) (changes_then scene ask) (backs_then scene false)
 
     right_none : (words' : List ℕ) (y : Party T) → AreAllRight scene words' y []
     right_none words' y = record { asks = tt; recovers = tt; answers = tt; contains = λ h. tt; places = λ h. tt }
@@ -265,7 +265,7 @@ module _ {T : Type 0} (scene : Scene T) (inv : Inv scene) (owner : ℕ) (fits : 
               (
                 counts_calm room (finds.TheVariants.LoadsCount k found) here at.0 room (finds.TheVariants.LoadsWord k found number 0) load_it (k + 1) k found h.0.0 h.0.1 h.0.2,
                 (λ holds through. ap (λ w. count_at c w k) same),
-                copying_first code c (SeesCalmly room (finds.TheVariants.LoadsCount k found) here at.0 room (finds.TheVariants.LoadsWord k found number 0) load_it) k number room.words at.1 long (odd_is number t) (let eq = ap (λ w. count_at c w k) same in omega arith),
+                copying_first code c (SeesCalmly room (finds.TheVariants.LoadsCount k found) here at.0 room (finds.TheVariants.LoadsWord k found number 0) load_it) k number room.words at.1 long (odd_is number t) (λ kept. let eq = ap (λ w. count_at c w k) same in omega arith),
                 h.1,
               ),
             )
@@ -289,7 +289,7 @@ module _ {T : Type 0} (scene : Scene T) (inv : Inv scene) (owner : ℕ) (fits : 
     -- what it knows of the copy then
     copied_on : (next : FindStage) → Copying code c k count room'.words (at + 1) (SeesCalmly room (finds.TheVariants.LoadsWord k found count at) here stands.0 room' next load_word)
     copied_on next =
-        copying_more code c v (SeesCalmly room (finds.TheVariants.LoadsWord k found count at) here stands.0 room' next load_word) k count room.words at stands.2 inv.elements.coded.few same_words
+        copying_more code c v (SeesCalmly room (finds.TheVariants.LoadsWord k found count at) here stands.0 room' next load_word) k count room.words at stands.2 inv.elements.coded.few same_words (λ kept. kept)
         (was_proper_calmly scene start tt here.span (then_at room (finds.TheVariants.LoadsWord k found count at) here stands.0 room' next load_word)) h.2
 
     steady_on : (next : FindStage) → Steady code c k count (SeesCalmly room (finds.TheVariants.LoadsWord k found count at) here stands.0 room' next load_word)

@@ -17,6 +17,7 @@ use Rattle.model.proofs.Moments.{held_now, held_so}
 use Rattle.robust_laws.proofs.Effects.{some_none}
 use Rattle.container_laws.proofs.KeptCopies.{IsGetting, HasCopied, ShowsOwn}
 use Rattle.container_laws.proofs.Sights.{number_in, number_at, Rests, Course}
+use Rattle.container_laws.proofs.Terms.{Keeps}
 use Rattle.container_laws.proofs.Turns.{Owing, Now, Proper, count_in, change_in}
 
 module _ {T : Type 0} where
@@ -131,11 +132,11 @@ module _ {T : Type 0} (code : Coding T) (c : ℕ) (m : Now T) (p : ℕ) where
             record {
               wide = h.sight.wide;
               below = h.sight.below;
-              change = omega arith;
+              change = λ kept. omega arith;
               copied = h.sight.copied;
               same = h.sight.same;
               caught = λ proper same i low. absurd (omega arith);
-              owed = λ same i low. absurd (omega arith);
+              owed = λ kept same i low. absurd (omega arith);
             };
         known = h.known;
         room = h.room;
@@ -155,14 +156,14 @@ module _ {T : Type 0} (code : Coding T) (c : ℕ) (m : Now T) (p : ℕ) where
     shown_there : (i : ℕ) → i ≢ k → shows s' i ≡ shows s i
     shown_there i ne = ap value_if (put.there i ne)
 
-    number_below : (i : ℕ) → i < c → number_at s' i ≤ count_in code c m i
-    number_below i low = ⊎_elim here there (cases_eq i k)
+    number_below : Keeps m.terms → (i : ℕ) → i < c → number_at s' i ≤ count_in code c m i
+    number_below kept i low = ⊎_elim here there (cases_eq i k)
       where
         here : i ≡ k → number_at s' i ≤ count_in code c m i
         here e = subst (λ n. number_at s' n ≤ count_in code c m n) (sym e) (omega arith)
 
         there : i ≢ k → number_at s' i ≤ count_in code c m i
-        there ne = let same = number_there i ne in let was = h.sight.below i low in omega arith
+        there ne = let same = number_there i ne in let was = h.sight.below kept i low in omega arith
 
     known_then : length s'.seen.counts ≡ c
     known_then = ap (λ n. length n.counts) put.seen ∙ h.known
@@ -191,11 +192,11 @@ module _ {T : Type 0} (code : Coding T) (c : ℕ) (m : Now T) (p : ℕ) where
                 record {
                   wide = put.wide ∙ h.sight.wide;
                   below = number_below;
-                  change = let same = put.change in let was = h.sight.change in omega arith;
+                  change = λ kept. let same = put.change in let was = h.sight.change kept in omega arith;
                   copied = λ i value ne is. let was = sym (shown_there i ne) ∙ is in h.sight.copied i value (apart i (within i value was) ne) was;
                   same = λ proper i low ne is. shown_there i ne ∙ h.sight.same proper i low (apart i low ne) (sym (number_there i ne) ∙ is);
                   caught = λ proper is i less low said. number_there i (λ e. absurd (omega arith)) ∙ h.sight.caught proper (sym put.change ∙ is) i less low said;
-                  owed = λ is i less low. ⊎_elim (λ e. inl (number_there i (λ e. absurd (omega arith)) ∙ e)) (λ o. inr o) (h.sight.owed (sym put.change ∙ is) i less low);
+                  owed = λ kept is i less low. ⊎_elim (λ e. inl (number_there i (λ e. absurd (omega arith)) ∙ e)) (λ o. inr o) (h.sight.owed kept (sym put.change ∙ is) i less low);
                 };
             known = known_then;
             room = room_then;
@@ -224,7 +225,7 @@ module _ {T : Type 0} (code : Coding T) (c : ℕ) (m : Now T) (p : ℕ) where
                 record {
                   wide = put.wide ∙ h.sight.wide;
                   below = number_below;
-                  change = let same = put.change in let was = h.sight.change in omega arith;
+                  change = λ kept. let same = put.change in let was = h.sight.change kept in omega arith;
                   copied = λ i value ne is.
                       both (λ n. shows s' n ≡ Some value → WasCopied p n value m.events) i
                       (λ other shown. h.sight.copied i value (apart i other ne) (sym (shown_there i other) ∙ shown)) (copied value) is;
@@ -234,9 +235,9 @@ module _ {T : Type 0} (code : Coding T) (c : ℕ) (m : Now T) (p : ℕ) where
                   caught = λ proper is i less low said.
                       both (λ n. number_at s' n ≡ count_in code c m n) i
                       (λ other. number_there i other ∙ h.sight.caught proper (sym put.change ∙ is) i (before_or i less other) low said) number;
-                  owed = λ is i less low.
+                  owed = λ kept is i less low.
                       both (λ n. (number_at s' n ≡ count_in code c m n) ⊎ Owing m.latest) i
-                      (λ other. ⊎_elim (λ e. inl (number_there i other ∙ e)) (λ o. inr o) (h.sight.owed (sym put.change ∙ is) i (before_or i less other) low)) (inl number);
+                      (λ other. ⊎_elim (λ e. inl (number_there i other ∙ e)) (λ o. inr o) (h.sight.owed kept (sym put.change ∙ is) i (before_or i less other) low)) (inl number);
                 };
             known = known_then;
             room = room_then;

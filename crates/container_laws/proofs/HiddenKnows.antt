@@ -10,8 +10,9 @@ use Rattle.model.specs.Coding.{Coding}
 use Rattle.model.specs.Families.Container.Reading.{contents_of}
 use Rattle.model.specs.Families.Container.Removals.{EmptySinceFreed, HidesRight}
 use Rattle.model.specs.Families.Container.Promises.{PlacesRight}
-use Rattle.model.specs.Families.Indices.Robust.Reading.{Frees, filled_of, settled_of, is_dead, deeds_of, IsOneOf}
+use Rattle.model.specs.Families.Indices.Robust.Reading.{Frees, filled_of, settled_of, deeds_of, IsOneOf}
 use Rattle.model.specs.Moments.{SinceBegin}
+use Rattle.robust_laws.specs.Gone.{is_gone}
 use Rattle.container_laws.proofs.Turns.{Now, Proper, count_in}
 
 module _ {T : Type 0} (code : Coding T) (c : ℕ) where
@@ -23,7 +24,7 @@ module _ {T : Type 0} (code : Coding T) (c : ℕ) where
   -- so it is before a remove that may give the index back
   abbrev pub RemoveCovers : ℕ → ℕ → ℕ → ℕ → Now T → Type 0
   RemoveCovers p owner index count m =
-      Proper m → is_dead owner m.events ≡ false
+      Proper m → is_gone m.terms.by owner m.events ≡ false
       → SinceBegin p (λ part since. settled_of index part ≡ Some owner) m.events
       → Covered index count m
 

@@ -5,10 +5,11 @@ use Rattle.model.specs.declared.party.Party.{Party}
 use Rattle.model.specs.Coding.{Coding}
 use Rattle.model.specs.Families.Container.Reading.{contents_of}
 use Rattle.model.specs.Families.Container.Removals.{EmptySinceFreed}
-use Rattle.model.specs.Families.Indices.Robust.Reading.{Frees, settled_of, is_dead, deeds_of, IsOneOf}
+use Rattle.model.specs.Families.Indices.Robust.Reading.{Frees, settled_of, deeds_of, IsOneOf}
 use Rattle.model.specs.Moments.{SinceBegin}
 use Rattle.model.proofs.Moments.{held_now, held_later}
-use Rattle.robust_laws.specs.Gone.{Death, IsCalm}
+use Rattle.robust_laws.specs.Gone.{is_gone, IsCalm}
+use Rattle.robust_laws.proofs.Gone.{gone_less, stays_lost}
 use Rattle.robust_laws.proofs.Knows.{Goes, Spares}
 use Rattle.robust_laws.proofs.Past.{since_less}
 use Rattle.robust_laws.proofs.Rights.{IsBy}
@@ -26,25 +27,25 @@ module _ {T : Type 0} where
   empty_now p owner i index events freed is none =
       held_now p (λ part. IsOneOf (Frees i owner) (deeds_of p part) × (contents_of i part ≡ None)) events (freed, ap (λ n. contents_of n events) is ∙ none)
 
-module _ {T : Type 0} (code : Coding T) (c q owner index count : ℕ) (m : Now T) (words' : List ℕ) (latest' : List (ℕ × Party T)) (es : List (Event T)) (goes : Goes m.words words' m.events es) (spares : Spares Death q m.events es)
-    (passes : Passes code c m (record { words = words'; latest = latest'; events = m.events ++ es })) (leaves : Leaves code c q m (record { words = words'; latest = latest'; events = m.events ++ es })) (below : index < c) where
+module _ {T : Type 0} (code : Coding T) (c q owner index count : ℕ) (m : Now T) (words' : List ℕ) (latest' : List (ℕ × Party T)) (es : List (Event T)) (goes : Goes m.words words' m.events es) (spares : Spares m.terms.by q m.events es)
+    (passes : Passes code c m (record { terms = m.terms; words = words'; latest = latest'; events = m.events ++ es })) (leaves : Leaves code c q m (record { terms = m.terms; words = words'; latest = latest'; events = m.events ++ es })) (below : index < c) where
   abbrev m' : Now T
-  m' = record { words = words'; latest = latest'; events = m.events ++ es }
+  m' = record { terms = m.terms; words = words'; latest = latest'; events = m.events ++ es }
 
-  pub remove_covers : (IsCalm Death m.events → is_dead owner m.events ≡ false → SinceBegin q (λ part since. settled_of index part ≡ Some owner) m.events → IsBy q index owner m.events) → RemoveCovers code c q owner index count m → RemoveCovers code c q owner index count m'
+  pub remove_covers : (IsCalm m.terms.by m.events → is_gone m.terms.by owner m.events ≡ false → SinceBegin q (λ part since. settled_of index part ≡ Some owner) m.events → IsBy q index owner m.events) → RemoveCovers code c q owner index count m → RemoveCovers code c q owner index count m'
   remove_covers owns h proper alive since =
       let before = passes.proper proper in
-      let lives = goes.lives owner alive in
+      let lives = gone_less m.terms.by owner m.events es alive in
       let began = since_less q (λ part. settled_of index part ≡ Some owner) m.events es spares.none since in
-      let mine = owns (before.frees, tt) lives began in
+      let mine = owns before.calm lives began in
       ⊎_elim
       (λ is. ⊎_elim (λ same. inl (same ∙ is)) (λ even. inr even) (leaves.over proper index owner below lives (inl mine)))
       (λ even. inr (ap (λ n. n % 2) (leaves.under proper index owner below lives (inl mine) even).0 ∙ even))
       (h before lives began)
 
-  pub recover_covers : is_dead owner m.events ≡ true → RecoverCovers code c owner index count m → RecoverCovers code c owner index count m'
+  pub recover_covers : is_gone m.terms.by owner m.events ≡ true → RecoverCovers code c owner index count m → RecoverCovers code c owner index count m'
   recover_covers dead h proper filled =
-      let had = goes.fills index owner dead filled in
+      let had = stays_lost m.terms.by m.events es goes.fills index owner proper.calm.1 dead filled in
       let turn = passes.lost proper index owner below dead had in
       ⊎_elim
       (λ is. ⊎_elim (λ same. inl (same ∙ is)) (λ lost. inr lost.1) turn)
@@ -61,8 +62,8 @@ module _ {T : Type 0} (code : Coding T) (c q owner index count : ℕ) (m : Now T
       ⊎_elim (λ gone. inl (held_later q _ m.events es spares.none gone)) (λ s. stands_on proper i freed s (is_some (contents_of index (m.events ++ es))) refl)
       (h (passes.proper proper) i (subst (IsOneOf (Frees i owner)) spares.deeds freed))
 
-module _ {T : Type 0} (code : Coding T) (c q owner : ℕ) (But : ℕ → Type 0) (m : Now T) (words' : List ℕ) (latest' : List (ℕ × Party T)) (es : List (Event T)) (spares : Spares Death q m.events es) (passes : Passes code c m (record { words = words'; latest = latest'; events = m.events ++ es })) where
-  pub hidden_later : HasHidden code c q owner But m → HasHidden code c q owner But (record { words = words'; latest = latest'; events = m.events ++ es })
+module _ {T : Type 0} (code : Coding T) (c q owner : ℕ) (But : ℕ → Type 0) (m : Now T) (words' : List ℕ) (latest' : List (ℕ × Party T)) (es : List (Event T)) (spares : Spares m.terms.by q m.events es) (passes : Passes code c m (record { terms = m.terms; words = words'; latest = latest'; events = m.events ++ es })) where
+  pub hidden_later : HasHidden code c q owner But m → HasHidden code c q owner But (record { terms = m.terms; words = words'; latest = latest'; events = m.events ++ es })
   hidden_later h proper i freed =
       ⊎_elim (λ gone. inl (held_later q _ m.events es spares.none gone)) (λ but. inr but)
       (h (passes.proper proper) i (subst (IsOneOf (Frees i owner)) spares.deeds freed))

@@ -51,7 +51,7 @@ module _ {T : Type 0} (scene : Scene T) (start : ContainerStart T) (none : NoRep
   -- that writes nothing
   module _ (words' : List ℕ) (y : Party T) where
     abbrev calm : Now T
-    calm = moment words' (put p y latest) events
+    calm = moment scene.terms words' (put p y latest) events
 
     pub hidden_calm : HasHidden code c p owner no_index (before scene) → HasHidden code c p owner no_index calm
     hidden_calm h proper i freed = h (was_proper_calmly scene start none span y proper) i freed

@@ -1,5 +1,5 @@
 -- The end of a remove: it hides what stands there, unless that has changed, and counts its change.
-use Rattle.std.proofs.Common.{◌≡◌, ◌≢◌, ⊎_elim, ℕ, ◌+◌, ◌%◌, ◌<◌, ◌≤◌, ◌==◌, if◌then◌else◌, Bool, false, true, Option, Some, List, [], ◌∷◌, ◌++◌, refl, sym, ap, subst, ◌∙◌, append-nil, arith}
+use Rattle.std.proofs.Common.{◌≡◌, ◌≢◌, ⊎_elim, inl, inr, ℕ, ◌+◌, ◌%◌, ◌<◌, ◌≤◌, ◌==◌, if◌then◌else◌, Bool, false, true, Option, Some, List, [], ◌∷◌, ◌++◌, refl, sym, ap, subst, ◌∙◌, append-nil, arith}
 use Rattle.std.proofs.lemmas.Bool.Decides.{nat_tests}
 use Rattle.steps.specs.declared.ask.Ask.{Ask}
 use Rattle.steps.specs.declared.ask.After.TheVariants.{GoOn, Done}
@@ -11,7 +11,7 @@ use Rattle.steps.specs.declared.indices.enums.ReleaseState.{ReleaseState}
 use Rattle.steps.specs.declared.indices.enums.ReleaseState as states
 use Rattle.steps.specs.declared.indices.robust.release.GiveBack.{GiveBack}
 use Rattle.steps.specs.Container.Layout.{change_word, count_word}
-use Rattle.steps.specs.Indices.Robust.Parts.{empty, one_more}
+use Rattle.steps.specs.Indices.Robust.Parts.{empty, greatest, one_more}
 use Rattle.model.specs.declared.event.Answer.TheVariants as answers
 use Rattle.model.specs.declared.event.Event.{Event}
 use Rattle.model.specs.declared.event.Event.TheVariants.{Hidden, Finished}
@@ -22,19 +22,21 @@ use Rattle.model.specs.declared.families.container.calls.ContainerFlight.{Contai
 use Rattle.model.specs.declared.party.Party.{Party}
 use Rattle.model.specs.Families.Container.Bounds.{most_steps}
 use Rattle.model.specs.Families.Container.Calls.{place_of}
-use Rattle.model.specs.Families.Container.Promises.{AnswersRight}
 use Rattle.model.specs.Families.Container.Reading.{Act}
 use Rattle.model.specs.Families.Container.Spans.{HasDone}
-use Rattle.model.specs.Families.Indices.Robust.Promises.{IsUnlocked}
-use Rattle.model.specs.Families.Indices.Robust.Reading.{Deed, Frees, Locks, is_dead, IsOneOf}
+use Rattle.model.specs.Families.Indices.Robust.Promises.{IsUnlocked, FilledSinceFreed}
+use Rattle.model.specs.Families.Indices.Robust.Reading.{Deed, Frees, Locks, IsOneOf}
 use Rattle.model.specs.Moments.{BeginsNone}
 use Rattle.model.specs.Turns.{words_after}
 use Rattle.model.proofs.Moments.{held_later}
+use Rattle.robust_laws.proofs.Core.{counter_of}
+use Rattle.robust_laws.proofs.Invariant.{IsWorn, worn_on}
 use Rattle.robust_laws.proofs.Effects.{both_ways}
 use Rattle.robust_laws.proofs.Effects as set_effects
 use Rattle.robust_laws.proofs.Stages.{exchanges, fails_same}
+use Rattle.container_laws.specs.Gone.{AnswersBy}
 use Rattle.container_laws.proofs.HiddenOn.{hidden_other, hidden_on, hides_it}
-use Rattle.container_laws.proofs.Invariant.{Scene, Inv, before, of_set, inv_of_set}
+use Rattle.container_laws.proofs.Invariant.{Scene, Inv, ActsFor, before, of_set, inv_of_set}
 use Rattle.container_laws.proofs.Keeping.{shut_later}
 use Rattle.container_laws.proofs.Knows.{RemoveSays, RemoveKnows}
 use Rattle.container_laws.proofs.Left.{left_of}
@@ -65,7 +67,7 @@ removed_done index owner Default states.TheVariants.Unlocked made acts h = h
 removed_done index owner LockIfLastIndex states.TheVariants.Locked made acts h = h
 removed_done index owner LockIfLastIndex states.TheVariants.Unlocked made acts h = h
 
-module _ {T : Type 0} (scene : Scene T) (inv : Inv scene) (index owner : ℕ) (mode : ReleaseMode) (fits : owner < empty) (alive : is_dead owner scene.events ≡ false) (below : index < scene.capacity) where
+module _ {T : Type 0} (scene : Scene T) (inv : Inv scene) (index owner : ℕ) (mode : ReleaseMode) (fits : owner < empty) (acts : ActsFor scene owner) (below : index < scene.capacity) where
   open scene use {coding as code, capacity as c, party as p, steps as steps, backs as backs, events as events, latest as latest}
 
   abbrev ws : List ℕ
@@ -106,10 +108,23 @@ module _ {T : Type 0} (scene : Scene T) (inv : Inv scene) (index owner : ℕ) (m
     abbrev next : RemoveStage
     next = removes.TheVariants.AddsChange state
 
+    -- the exchange leaves the counter
+    counter_stays : counter_of ws ≡ greatest → counter_of (words_after ws hide_it) ≡ greatest
+    counter_stays end = go (count_now == count) refl
+      where
+        go : (b : Bool) → (count_now == count) ≡ b → counter_of (words_after ws hide_it) ≡ greatest
+        go true t =
+            let is : count_now ≡ count = grind (arith, nat_tests) in
+            (leaves_behind (of_set scene) (inv_of_set scene inv) (words_after ws hide_it) (count_word c index) _ (omega arith) (hides_count scene inv index count below is)).stuck end
+        go false t =
+            let other : count_now ≢ count = grind (arith, nat_tests) in
+            ap counter_of (fails_same ws (count_word c index) count (one_more count) other) ∙ end
+
     says_then : (m : ReleaseMode) (t : ReleaseState) (es : List (Event T)) → BeginsNone p es → (y : Party T) → RemoveSays code c index owner m t (sees_now scene) → RemoveSays code c index owner m t (then_sees scene hide_it false scene.states y es)
     says_then m states.TheVariants.Locked es fresh y h = shut_later events es h
     says_then Default states.TheVariants.Unlocked es fresh y h = tt
-    says_then LockIfLastIndex states.TheVariants.Unlocked es fresh y h = (held_later p IsUnlocked events es fresh h.0, record { other = h.1.other; once = held_later p _ events es fresh h.1.once })
+    says_then LockIfLastIndex states.TheVariants.Unlocked es fresh y h =
+        (held_later p IsUnlocked events es fresh h.0, ⊎_elim (λ end. inl (worn_on scene.terms.by ws (words_after ws hide_it) counter_stays end)) (λ (found : FilledSinceFreed p owner index events). inr (record { other = found.other; once = held_later p _ events es fresh found.once })) h.1)
 
     pub hides_step : StepOf scene start (at_stage (removes.TheVariants.Hides count state))
     hides_step = go (count_now == count) refl
@@ -145,11 +160,14 @@ module _ {T : Type 0} (scene : Scene T) (inv : Inv scene) (index owner : ℕ) (m
     abbrev end_it : Option Ask
     end_it = Some (adds_one (change_word c))
 
-    answers_right : (m : ReleaseMode) (t : ReleaseState) → RemoveSays code c index owner m t (sees_now scene) → AnswersRight c events (Finished p (Container (Remove index owner m)) (answers.State t))
+    counter_stays_then : counter_of ws ≡ greatest → counter_of (words_after ws end_it) ≡ greatest
+    counter_stays_then end = (leaves_behind (of_set scene) (inv_of_set scene inv) (words_after ws end_it) (change_word c) _ (omega arith) (adds_to_change scene inv)).stuck end
+
+    answers_right : (m : ReleaseMode) (t : ReleaseState) → RemoveSays code c index owner m t (sees_now scene) → AnswersBy scene.terms.by (IsWorn scene.terms.by (words_after ws end_it)) c events (Finished p (Container (Remove index owner m)) (answers.State t))
     answers_right Default states.TheVariants.Locked h = h
     answers_right Default states.TheVariants.Unlocked h = tt
     answers_right LockIfLastIndex states.TheVariants.Locked h = h
-    answers_right LockIfLastIndex states.TheVariants.Unlocked h = h
+    answers_right LockIfLastIndex states.TheVariants.Unlocked h = (h.0, ⊎_elim (λ end. inl (worn_on scene.terms.by ws (words_after ws end_it) counter_stays_then end)) (λ found. inr found) h.1)
 
     pub end_step : StepOf scene start (at_stage (removes.TheVariants.AddsChange state))
     end_step =

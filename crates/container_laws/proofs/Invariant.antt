@@ -15,10 +15,10 @@ use Rattle.model.specs.declared.party.Party.{Party}
 use Rattle.model.specs.declared.turn.Kind as kinds
 use Rattle.model.specs.Coding.{Coding, IsCoding}
 use Rattle.model.specs.Families.Container.Looks.{is_looking}
-use Rattle.model.specs.Families.Container.Promises.{AsksRight, RecoversRight, AnswersRight, ContainsRight, promise}
+use Rattle.model.specs.Families.Container.Promises.{ContainsRight, promise}
 use Rattle.model.specs.Families.Container.Reading.{Act, acts, contents_of, announced_of, acts_of}
 use Rattle.model.specs.Families.Container.States.{state_of, fresh}
-use Rattle.model.specs.Families.Indices.Robust.Reading.{Deed, deeds, wrote_in, deeds_of}
+use Rattle.model.specs.Families.Indices.Robust.Reading.{Deed, is_dead, deeds, wrote_in, deeds_of}
 use Rattle.model.specs.Parties.{party_of, put, doing_of, flight_of}
 use Rattle.model.specs.Promises.Spans.{Stands}
 use Rattle.model.specs.Reading.{Each, Span, own_after, span_of}
@@ -26,15 +26,18 @@ use Rattle.model.proofs.Frame as frame
 use Rattle.model.proofs.Frame.{Family}
 use Rattle.model.proofs.Parties.{party_put_same, party_put_other}
 use Rattle.model.proofs.Readings.{AllFollow, AreRight, Each-append, span_of-other}
-use Rattle.robust_laws.specs.Gone.{Death}
+use Rattle.robust_laws.specs.Gone.{is_gone}
 use Rattle.robust_laws.proofs.Invariant as set
 use Rattle.robust_laws.proofs.Knows.{IsSeen}
+use Rattle.container_laws.specs.Gone.{AsksBy, RecoversBy, AnswersBy}
+use Rattle.container_laws.proofs.Answers.{answers_on}
 use Rattle.container_laws.proofs.Contents.{IsWhole}
 use Rattle.container_laws.proofs.Keeping.{still_knows}
 use Rattle.container_laws.proofs.HiddenKnows.{EndsRight}
 use Rattle.container_laws.proofs.Knows.{View, Knows}
 use Rattle.container_laws.proofs.Sights.{Rests, rests_later}
 use Rattle.container_laws.proofs.Standing.{number_of, At}
+use Rattle.container_laws.proofs.Terms.{Terms, dying, Keeps}
 use Rattle.container_laws.proofs.Turns.{Now, Proper, count_in, change_in, Passes, Leaves}
 
 -- the words, the dead and the states; and the latest calls and the events, by which those under way are read
@@ -47,6 +50,7 @@ pub record ContainerNow (T : Type 0) : Type 0 where
 
 -- a turn of a party, with the machine around it
 pub record Scene (T : Type 0) : Type 0 where
+  pub terms : Terms
   pub coding : Coding T
   pub capacity : ℕ
   pub words : List ℕ
@@ -71,7 +75,7 @@ module _ {T : Type 0} where
   abbrev pub of_set : Scene T → set.Scene T
   of_set scene =
       record {
-        by = Death;
+        by = scene.terms.by;
         coding = scene.coding;
         capacity = scene.capacity;
         set = record { words = scene.words; dead = scene.dead; events = scene.events };
@@ -88,32 +92,32 @@ module _ {T : Type 0} where
   abbrev pub is_idle : ℕ → List (ℕ × Party T) → Type 0
   is_idle q latest = is_looking (flight_of (doing_of (party_of q latest))) ≡ false
 
-  abbrev pub moment : List ℕ → List (ℕ × Party T) → List (Event T) → Now T
-  moment words latest events = record { words = words; latest = latest; events = events }
+  abbrev pub moment : Terms → List ℕ → List (ℕ × Party T) → List (Event T) → Now T
+  moment terms words latest events = record { terms = terms; words = words; latest = latest; events = events }
 
   -- what is so of the elements and of the states, after so many turns
   pub record Elements (code : Coding T) (c : ℕ) (m : Now T) (states : List (ℕ × ContainerState T)) (turns : ℕ) : Type 0 where
     pub coded : IsCoding code
     pub wide : length m.words ≡ total_words c code.size
-    pub counts : (i : ℕ) → i < c → count_in code c m i ≤ turns
-    pub change : change_in code c m ≤ turns
+    pub counts : Keeps m.terms → (i : ℕ) → i < c → count_in code c m i ≤ turns
+    pub change : Keeps m.terms → change_in code c m ≤ turns
     pub within : (i : ℕ) (value : T) → contents_of i m.events ≡ Some value → i < c
     pub announced : Proper m → (i : ℕ) → announced_of i m.events ≡ true → is_some (contents_of i m.events) ≡ true
     pub whole : Proper m → IsWhole code c m.words m.events
-    pub asks : Each AsksRight m.events
-    pub recovers : Each RecoversRight m.events
-    pub answers : Each (AnswersRight c) m.events
+    pub asks : Each (AsksBy m.terms.by) m.events
+    pub recovers : Each (RecoversBy m.terms.by) m.events
+    pub answers : Each (AnswersBy m.terms.by (set.IsWorn m.terms.by m.words) c) m.events
     pub contains : Proper m → Each ContainsRight m.events
     pub places : Proper m → Each EndsRight m.events
     pub rests : (q : ℕ) (s : ContainerState T) → is_idle q m.latest → state_of q states ≡ Some s → Rests code c m q s
     pub fresh : (q : ℕ) → Rests code c m q (fresh code c)
 
-  pub record Holds (code : Coding T) (c : ℕ) (s : ContainerNow T) (latest : List (ℕ × Party T)) (events : List (Event T)) (turns : ℕ) : Type 0 where
+  pub record Holds (terms : Terms) (code : Coding T) (c : ℕ) (s : ContainerNow T) (latest : List (ℕ × Party T)) (events : List (Event T)) (turns : ℕ) : Type 0 where
     pub same : s.events ≡ events
     pub same_latest : s.latest ≡ latest
     pub begun : (p : ℕ) (x : Party T) → party_of p latest ≡ Some x → 1 ≤ turns
-    pub good : set.Good Death c s.words s.dead events turns
-    pub elements : Elements code c (moment s.words latest events) s.states turns
+    pub good : set.Good terms.by c s.words s.dead events turns
+    pub elements : Elements code c (moment terms s.words latest events) s.states turns
 
   -- ---- the family of the container
 
@@ -133,9 +137,10 @@ module _ {T : Type 0} where
   Knowing code c (flights.TheVariants.Container flight) v = Knows code c flight v
   Knowing code c flight v = ⊥
 
-  abbrev pub view : List ℕ → List (ℕ × ContainerState T) → List (ℕ × Party T) → List (Event T) → ℕ → ℕ → ℕ → ℕ → View T
-  view words states latest events p since changes backs =
+  abbrev pub view : Terms → List ℕ → List (ℕ × ContainerState T) → List (ℕ × Party T) → List (Event T) → ℕ → ℕ → ℕ → ℕ → View T
+  view terms words states latest events p since changes backs =
       record {
+        terms = terms;
         words = words;
         states = states;
         latest = latest;
@@ -146,8 +151,8 @@ module _ {T : Type 0} where
         backs = backs;
       }
 
-  abbrev pub family : Coding T → ℕ → Family T
-  family code c =
+  abbrev pub family_by : Terms → Coding T → ℕ → Family T
+  family_by terms code c =
       record {
         coding = code;
         kind = kinds.TheVariants.Container;
@@ -155,22 +160,32 @@ module _ {T : Type 0} where
         capacity = c;
         State = ContainerNow T;
         Fit = Fit;
-        Holds = λ s latest events turns. Holds code c s latest events turns;
+        Holds = λ s latest events turns. Holds terms code c s latest events turns;
         written = λ s p flight. wrote_of p s.events;
         number = λ wrote. number c code.size;
         At = λ s p start flight. FlightAt c code.size (deeds_of p s.events) (acts_of p s.events) start flight;
-        Knows = λ s p events since changes backs flight. Knowing code c flight (view s.words s.states s.latest events p since changes backs);
+        Knows = λ s p events since changes backs flight. Knowing code c flight (view terms s.words s.states s.latest events p since changes backs);
       }
 
+  -- the family where owners die
+  abbrev pub family : Coding T → ℕ → Family T
+  family code c = family_by dying code c
+
   pub record Inv (scene : Scene T) : Type 0 where
-    pub good : set.Good Death scene.capacity scene.words scene.dead scene.events scene.turns
-    pub elements : Elements scene.coding scene.capacity (moment scene.words scene.latest scene.events) scene.states scene.turns
+    pub good : set.Good scene.terms.by scene.capacity scene.words scene.dead scene.events scene.turns
+    pub elements : Elements scene.coding scene.capacity (moment scene.terms scene.words scene.latest scene.events) scene.states scene.turns
     pub begun : 1 ≤ scene.turns
-    pub small : scene.turns < 2 ^ 64 - 2
+    pub room : set.HasRoom scene.terms.by scene.words
+    pub small : Keeps scene.terms → scene.turns < 2 ^ 64 - 2
 
   pub inv_of_set : (scene : Scene T) → Inv scene → set.Inv (of_set scene)
   inv_of_set scene inv =
-      record { good = inv.good; begun = inv.begun; room = set.ahead_of_few Death scene.capacity scene.words scene.dead scene.events scene.turns inv.good inv.begun inv.small }
+      record { good = inv.good; begun = inv.begun; room = inv.room }
+
+  -- the turn is of a call for this owner
+  pub record ActsFor (scene : Scene T) (owner : ℕ) : Type 0 where
+    pub alive : is_dead owner scene.events ≡ false
+    pub stays : Keeps scene.terms → is_gone scene.terms.by owner scene.events ≡ false
 
 -- ---- what a turn of a party does
 
@@ -178,27 +193,27 @@ module _ {T : Type 0} (scene : Scene T) where
   open scene use {coding as code, capacity as c, party as p, turns as turns, latest as latest, events as events}
 
   abbrev pub before : Now T
-  before = moment scene.words latest events
+  before = moment scene.terms scene.words latest events
 
   abbrev pub after : List ℕ → Party T → List (Event T) → Now T
-  after words' y es = moment words' (put p y latest) (events ++ es)
+  after words' y es = moment scene.terms words' (put p y latest) (events ++ es)
 
   -- what it does to the elements, that leaves these words, and the party so, and writes these events
   pub record Changes (words' : List ℕ) (y : Party T) (es : List (Event T)) : Type 0 where
     pub passes : Passes code c before (after words' y es)
     pub leaves : (q : ℕ) → q ≢ p → Leaves code c q before (after words' y es)
     pub wide : length words' ≡ length scene.words
-    pub counts : (i : ℕ) → i < c → count_in code c (after words' y es) i ≤ turns + 1
-    pub change : change_in code c (after words' y es) ≤ turns + 1
+    pub counts : Keeps scene.terms → (i : ℕ) → i < c → count_in code c (after words' y es) i ≤ turns + 1
+    pub change : Keeps scene.terms → change_in code c (after words' y es) ≤ turns + 1
     pub within : (i : ℕ) (value : T) → contents_of i (events ++ es) ≡ Some value → i < c
     pub announced : Proper (after words' y es) → (i : ℕ) → announced_of i (events ++ es) ≡ true → is_some (contents_of i (events ++ es)) ≡ true
     pub whole : Proper (after words' y es) → IsWhole code c words' (events ++ es)
 
   -- its events are right
   pub record AreAllRight (words' : List ℕ) (y : Party T) (es : List (Event T)) : Type 0 where
-    pub asks : AreRight AsksRight events es
-    pub recovers : AreRight RecoversRight events es
-    pub answers : AreRight (AnswersRight c) events es
+    pub asks : AreRight (AsksBy scene.terms.by) events es
+    pub recovers : AreRight (RecoversBy scene.terms.by) events es
+    pub answers : AreRight (AnswersBy scene.terms.by (set.IsWorn scene.terms.by words') c) events es
     pub contains : Proper (after words' y es) → AreRight ContainsRight events es
     pub places : Proper (after words' y es) → AreRight EndsRight events es
 
@@ -239,9 +254,9 @@ module _ {T : Type 0} (scene : Scene T) where
           within = does.changes.within;
           announced = does.changes.announced;
           whole = does.changes.whole;
-          asks = Each-append AsksRight events es h.asks does.right.asks;
-          recovers = Each-append RecoversRight events es h.recovers does.right.recovers;
-          answers = Each-append (AnswersRight c) events es h.answers does.right.answers;
+          asks = Each-append (AsksBy scene.terms.by) events es h.asks does.right.asks;
+          recovers = Each-append (RecoversBy scene.terms.by) events es h.recovers does.right.recovers;
+          answers = Each-append (AnswersBy scene.terms.by (set.IsWorn scene.terms.by words') c) events es (answers_on (set.IsWorn scene.terms.by scene.words) (set.IsWorn scene.terms.by words') (set.worn_on scene.terms.by scene.words words' does.set.goes.stuck) scene.terms.by c events h.answers) does.right.answers;
           contains = λ proper. Each-append ContainsRight events es (h.contains (does.changes.passes.proper proper)) (does.right.contains proper);
           places = λ proper. Each-append EndsRight events es (h.places (does.changes.passes.proper proper)) (does.right.places proper);
           rests = still_rests;
@@ -266,15 +281,15 @@ module _ {T : Type 0} (scene : Scene T) where
   pub record Shows (words' : List ℕ) (states' : List (ℕ × ContainerState T)) (from : Span T) (y : Party T) (es : List (Event T)) (changes' : ℕ) : Type 0 where
     pub does : Does scene words' states' y es
     pub stands : AllFollow (Stands promise c) from es
-    pub here : frame.Fits (family code c) (then_is words' states' y es) p (Some y) (fold own_after from es)
-    pub knows : frame.KnowsDoing (family code c) (then_is words' states' y es) p (events ++ es) changes' y.backs y.doing
+    pub here : frame.Fits (family_by scene.terms code c) (then_is words' states' y es) p (Some y) (fold own_after from es)
+    pub knows : frame.KnowsDoing (family_by scene.terms code c) (then_is words' states' y es) p (events ++ es) changes' y.backs y.doing
     pub seen : IsSeen scene.words words' scene.changes changes'
 
   -- a call of another party stands there and knows what it knew
   any_knows : (words' : List ℕ) (states' : List (ℕ × ContainerState T)) (y : Party T) (es : List (Event T)) (changes' : ℕ) → Does scene words' states' y es → IsSeen scene.words words' scene.changes changes' → (q : ℕ) → q ≢ p
-      → (since backs : ℕ) (flight : Flight T) → Knowing code c flight (view scene.words scene.states latest events q since scene.changes backs) → Knowing code c flight (view words' states' (put p y latest) (events ++ es) q since changes' backs)
+      → (since backs : ℕ) (flight : Flight T) → Knowing code c flight (view scene.terms scene.words scene.states latest events q since scene.changes backs) → Knowing code c flight (view scene.terms words' states' (put p y latest) (events ++ es) q since changes' backs)
   any_knows words' states' y es changes' does seen q ne since backs (flights.TheVariants.Container flight) h =
-      still_knows code c (view scene.words scene.states latest events q since scene.changes backs) words' states' (put p y latest) es changes' does.set.goes (does.set.spares q ne) seen does.changes.passes (does.changes.leaves q ne)
+      still_knows code c (view scene.terms scene.words scene.states latest events q since scene.changes backs) words' states' (put p y latest) es changes' does.set.goes (does.set.spares q ne) seen does.changes.passes (does.changes.leaves q ne)
       (span_of-other p q events es ne does.set.own) (party_put_other q p y latest ne) (does.others q ne) flight h
   any_knows words' states' y es changes' does seen q ne since backs flight h = absurd h
 
@@ -282,13 +297,13 @@ module _ {T : Type 0} (scene : Scene T) where
   at_written c z w w' start flight same h = subst (λ x. FlightAt c z (deeds x) (acts x) start flight) (sym same) h
 
   module _ (words' : List ℕ) (states' : List (ℕ × ContainerState T)) (from : Span T) (y : Party T) (es : List (Event T)) (changes' : ℕ) (s : Shows words' states' from y es changes') (old : ContainerNow T)
-      (here : old ≡ record { words = scene.words; dead = scene.dead; states = scene.states; latest = latest; events = events }) (h : Holds code c old latest events turns) (inv : frame.Inv (family code c) old latest events scene.changes) where
+      (here : old ≡ record { words = scene.words; dead = scene.dead; states = scene.states; latest = latest; events = events }) (h : Holds scene.terms code c old latest events turns) (inv : frame.Inv (family_by scene.terms code c) old latest events scene.changes) where
     still_wrote : (q : ℕ) → q ≢ p → wrote_of q (events ++ es) ≡ wrote_of q old.events
     still_wrote q ne = ap wrote_in (span_of-other p q events es ne s.does.set.own) ∙ ap (wrote_of q) (sym h.same)
 
-    pub owes : span_of p events ≡ from → frame.Owes (family code c) (then_is words' states' y es) p y latest events es changes'
+    pub owes : span_of p events ≡ from → frame.Owes (family_by scene.terms code c) (then_is words' states' y es) p y latest events es changes'
     owes is =
-        frame.owes (family code c) old (then_is words' states' y es) from p y latest events es scene.changes changes' is inv
+        frame.owes (family_by scene.terms code c) old (then_is words' states' y es) from p y latest events es scene.changes changes' is inv
         (record {
           own = s.does.set.own;
           stands = s.stands;
@@ -297,12 +312,12 @@ module _ {T : Type 0} (scene : Scene T) where
           others = λ q ne start flight at. (at_written c code.size (wrote_of q old.events) (wrote_of q (events ++ es)) start flight (still_wrote q ne) at, still_wrote q ne);
           others_know = λ q ne since backs flight known.
               any_knows words' states' y es changes' s.does s.seen q ne since backs flight
-              (subst (λ (o : ContainerNow T). Knowing code c flight (view o.words o.states o.latest events q since scene.changes backs)) here known);
+              (subst (λ (o : ContainerNow T). Knowing code c flight (view scene.terms o.words o.states o.latest events q since scene.changes backs)) here known);
         })
 
     elements : Elements code c (before scene) scene.states turns
-    elements = subst (λ (o : ContainerNow T). Elements code c (moment o.words latest events) o.states turns) here h.elements
+    elements = subst (λ (o : ContainerNow T). Elements code c (moment scene.terms o.words latest events) o.states turns) here h.elements
 
-    pub holds_more : Holds code c (then_is words' states' y es) (put p y latest) (events ++ es) (turns + 1)
+    pub holds_more : Holds scene.terms code c (then_is words' states' y es) (put p y latest) (events ++ es) (turns + 1)
     holds_more =
         record { same = refl; same_latest = refl; begun = λ q x found. omega arith; good = s.does.set.good; elements = elements_then scene words' states' y es s.does elements }

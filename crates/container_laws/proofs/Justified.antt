@@ -38,6 +38,7 @@ use Rattle.container_laws.proofs.KeptStates.{keeps_states}
 use Rattle.container_laws.proofs.KeptVisits.{visits_unlocked}
 use Rattle.container_laws.proofs.Sound.{Shown, kept_is, kept_now, reached_sound}
 use Rattle.container_laws.proofs.Stages.{any_call}
+use Rattle.container_laws.proofs.Terms.{dying}
 use Rattle.container_laws.proofs.Written.{all_effects}
 
 -- ---- every turn
@@ -47,7 +48,7 @@ module _ {T : Type 0} (shown : Shown T) (code : Coding T) (c : ℕ) (t : Trace T
   InOrderFrom y kept start flight =
       WritesInOrder promise t turn (t.events ++ events_of_step p start (step_of y t.world.words (beside_of t.world.words kept t.world.latest p) p start flight answer kept))
 
-  in_order : (start : Start T) (flight : Flight T) → (family code c).At s.state p start flight → InOrderFrom code (kept_now shown code c t s) start flight
+  in_order : (start : Start T) (flight : Flight T) → (family code c).At s.state p start flight → InOrderFrom code (kept_now shown dying code c t s) start flight
   in_order (Container start) (flights.TheVariants.Container flight) at =
       let outcome : Option (Answer T) = answer_in (any_call (after code (state_of p s.state.states) flight answer)) in
       let did : List (Event T) = effects code p (state_of p s.state.states) flight answer ++ questions p flight answer in

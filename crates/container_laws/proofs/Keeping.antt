@@ -1,5 +1,5 @@
 -- What a call of the container knows it knows still after any turn of another party.
-use Rattle.std.proofs.Common.{◌≡◌, ⊎_elim, inl, inr, ℕ, ◌+◌, ◌%◌, ◌<◌, ◌≤◌, Bool, false, true, is_some, None, List, [], ◌∷◌, ◌++◌, fold, refl, sym, ap, subst, ◌∙◌, arith}
+use Rattle.std.proofs.Common.{◌≡◌, ⊎_elim, inl, inr, ℕ, ◌+◌, ◌%◌, ◌<◌, Bool, false, true, Some, is_some, None, List, [], ◌∷◌, ◌++◌, fold, refl, sym, ap, subst, ◌∙◌, arith}
 use Rattle.std.proofs.lemmas.List.Sums.{fold-append}
 use Rattle.steps.specs.declared.container.add.AddStage.{AddStage}
 use Rattle.steps.specs.declared.container.add.AddStage as adds
@@ -27,31 +27,35 @@ use Rattle.model.specs.declared.families.container.calls.ContainerFlight.{Contai
 use Rattle.model.specs.declared.families.container.calls.ContainerFlight.TheVariants.{Add, Remove, Replace, Find, Recover, Look, Count, IsLocked}
 use Rattle.model.specs.declared.party.Party.{Party}
 use Rattle.model.specs.Coding.{Coding}
-use Rattle.model.specs.Families.Container.Promises.{StandsProper, WasShown, HasRecovered}
+use Rattle.model.specs.Families.Container.Promises.{StandsProper, WasShown}
 use Rattle.model.specs.Families.Container.Reading.{MayReplace, Copies, Sees, Has, HasLatest, acts, acts_of, places, contents_of}
 use Rattle.model.specs.Families.Container.States.{state_of}
 use Rattle.model.specs.Families.Indices.Reading.{locked_after, is_locked}
 use Rattle.model.specs.Families.Indices.Robust.Promises.{IsFilledWith, IsUnlocked, FilledSinceFreed, StillToFree}
-use Rattle.model.specs.Families.Indices.Robust.Reading.{Frees, Asks, Yes, deeds_of, wrote_in, IsOneOf}
+use Rattle.model.specs.Families.Indices.Robust.Reading.{filled_of, Frees, Asks, Yes, deeds_of, wrote_in, IsOneOf}
 use Rattle.model.specs.Families.Queues.Calls.{read_in}
 use Rattle.model.specs.Moments.{HeldOnce}
 use Rattle.model.specs.Parties.{party_of}
 use Rattle.model.specs.Reading.{span_of}
 use Rattle.model.proofs.Moments.{held_later}
-use Rattle.robust_laws.specs.Gone.{Death}
+use Rattle.robust_laws.specs.Gone.{IsHonestBy}
+use Rattle.robust_laws.proofs.Gone.{gone_more, gone_less, honest_less, stays_lost}
+use Rattle.robust_laws.proofs.Invariant.{worn_on}
 use Rattle.robust_laws.proofs.Counting.{count_later}
 use Rattle.robust_laws.proofs.Knows.{Goes, Spares, IsSeen, knows_later, held_paid, still_scanned}
 use Rattle.robust_laws.proofs.Knows as set
 use Rattle.robust_laws.proofs.Past.{through_less, through_now}
 use Rattle.robust_laws.proofs.Standing.{acquire_at, release_at, borrowed_at, looking}
+use Rattle.container_laws.specs.Gone.{HasRecoveredBy}
 use Rattle.container_laws.proofs.Contents.{writes_on}
 use Rattle.container_laws.proofs.HiddenKnows.{RecoverCovers, StillStands, HasHidden, no_index}
 use Rattle.container_laws.proofs.HiddenLater.{remove_covers, recover_covers, hidden_stands, hidden_later}
-use Rattle.container_laws.proofs.Knows.{View, of_set, now, IsPaid, Dead, Lives, WasFilled, AddOwns, HasFound, ReplaceKnows, Covers, Writes, HasPlaced, Stood, AddKnows, ReplacesKnow, RemoveSays, HasLeft, ReleaseHides, ReleaseLeft, RemoveKnows, Copying, HasCopied, CheckPaid, HasFoundBelow, Finds, Steady, FindKnows, AskedBelow, GoneBut, Recovers, RecoverSays, RecoverKnows, RecoverFills, Looks, LookCopies, LookRests, LookKnows, Knows}
+use Rattle.container_laws.proofs.Knows.{View, of_set, now, IsPaid, IsGone, Lives, Worn, WasFilled, AddOwns, HasFound, ReplaceKnows, Covers, Writes, HasPlaced, Stood, AddKnows, ReplacesKnow, RemoveSays, HasCome, HasLeft, ReleaseHides, ReleaseLeft, RemoveKnows, Copying, HasCopied, CheckPaid, HasFoundBelow, Finds, Steady, FindKnows, AskedBelow, GoneBut, Recovers, RecoverSays, RecoverKnows, RecoverFills, Looks, LookCopies, LookRests, LookKnows, Knows}
 use Rattle.container_laws.proofs.Replaces.{ReplaceOwns, replace_later, add_later}
 use Rattle.container_laws.proofs.KeptCopies.{CallsOn, own_later, calls_same}
 use Rattle.container_laws.proofs.KeptLocks.{NoIndex, FilledBut, filled_then, each_later, says_later, unlocked_later}
 use Rattle.container_laws.proofs.Sights.{StoodThere, rests_later, course_later}
+use Rattle.container_laws.proofs.Terms.{Keeps}
 use Rattle.container_laws.proofs.Turns.{Now, Proper, count_in, Passes, Leaves}
 use Rattle.container_laws.proofs.Writers.{Replacing, IsWriter}
 
@@ -71,15 +75,16 @@ module _ {T : Type 0} where
       subst (λ o. StandsProper v.party o v.events) h.found (proper.replaces v.party) index owner value h.wrote h.span h.steps filled
 
   pub replacing : (c index owner : ℕ) (value : T) (v : View T) → ReplaceKnows c index owner value v → Proper (now v) → Lives owner v → Replacing v.party index owner v.events
-  replacing c index owner value v h proper alive = h.owns proper.frees alive (may_replace index owner value v h.found h.filled proper)
+  replacing c index owner value v h proper alive = h.owns proper.calm alive (may_replace index owner value v h.found h.filled proper)
 
 module _ {T : Type 0} (code : Coding T) (c : ℕ) (v : View T) (words' : List ℕ) (states' : List (ℕ × ContainerState T)) (latest' : List (ℕ × Party T)) (es : List (Event T)) (changes' : ℕ)
-    (goes : Goes v.words words' v.events es) (spares : Spares Death v.party v.events es) (seen : IsSeen v.words words' v.changes changes')
-    (passes : Passes code c (now v) (record { words = words'; latest = latest'; events = v.events ++ es })) (leaves : Leaves code c v.party (now v) (record { words = words'; latest = latest'; events = v.events ++ es }))
+    (goes : Goes v.words words' v.events es) (spares : Spares v.terms.by v.party v.events es) (seen : IsSeen v.words words' v.changes changes')
+    (passes : Passes code c (now v) (record { terms = v.terms; words = words'; latest = latest'; events = v.events ++ es })) (leaves : Leaves code c v.party (now v) (record { terms = v.terms; words = words'; latest = latest'; events = v.events ++ es }))
     (span : span_of v.party (v.events ++ es) ≡ span_of v.party v.events) (same_party : party_of v.party latest' ≡ party_of v.party v.latest) (same_state : state_of v.party states' ≡ state_of v.party v.states) where
   abbrev pub later : View T
   later =
       record {
+        terms = v.terms;
         words = words';
         states = states';
         latest = latest';
@@ -105,13 +110,13 @@ module _ {T : Type 0} (code : Coding T) (c : ℕ) (v : View T) (words' : List �
       still : (words' ≡ v.words) × (changes' ≡ v.changes) → CheckPaid code c index count later
       still s =
           let same = s.1 in
-          ⊎_elim (λ k. let was = k.1 in inl (ap (λ ws. count_in code c (record { words = ws; latest = v.latest; events = events }) index) s.0 ∙ k.0, omega arith)) (λ k. inr (omega arith)) h
+          ⊎_elim (λ k. let was = k.1 in inl (ap (λ ws. count_in code c (record { terms = v.terms; words = ws; latest = v.latest; events = events }) index) s.0 ∙ k.0, omega arith)) (λ k. inr (omega arith)) h
 
   lives : (owner : ℕ) → Lives owner later → Lives owner v
-  lives owner alive = goes.lives owner alive
+  lives owner alive = gone_less v.terms.by owner events es alive
 
   set_knows : (flight : _) → set.Knows c flight (of_set v) → set.Knows c flight (of_set later)
-  set_knows flight h = knows_later Death v.words words' events es q v.since v.changes changes' v.backs goes spares seen c flight h
+  set_knows flight h = knows_later v.terms.by v.words words' events es q v.since v.changes changes' v.backs goes spares seen c flight h
 
   once : (P : List (Event T) → Type 0) → HeldOnce q P events → HeldOnce q P (events ++ es)
   once P h = held_later q P events es spares.none h
@@ -126,14 +131,14 @@ module _ {T : Type 0} (code : Coding T) (c : ℕ) (v : View T) (words' : List �
 
   add_owns : (owner index : ℕ) → AddOwns c owner index v → AddOwns c owner index later
   add_owns owner index h =
-      record { paid = paid h.paid; within = h.within; owns = add_later v.words words' events es q index owner goes spares h.owns }
+      record { paid = paid h.paid; within = h.within; owns = add_later v.terms.by events es q index owner spares h.owns }
 
   found : (index owner : ℕ) (value : T) → HasFound index owner value v → HasFound index owner value later
   found index owner value h =
       record { party = h.party; found = same_party ∙ h.found; steps = h.steps; wrote = h.wrote; span = span ∙ h.span }
 
-  replace_owns : (index owner : ℕ) → ReplaceOwns q index owner events → ReplaceOwns q index owner (events ++ es)
-  replace_owns index owner h = replace_later v.words words' events es q index owner goes spares h
+  replace_owns : (index owner : ℕ) → ReplaceOwns v.terms.by q index owner events → ReplaceOwns v.terms.by q index owner (events ++ es)
+  replace_owns index owner h = replace_later v.terms.by events es q index owner spares h
 
   replace_knows : (index owner : ℕ) (value : T) → ReplaceKnows c index owner value v → ReplaceKnows c index owner value later
   replace_knows index owner value h =
@@ -144,7 +149,7 @@ module _ {T : Type 0} (code : Coding T) (c : ℕ) (v : View T) (words' : List �
   IsTheWriter owner index = Proper (now v) → Lives owner v → IsWriter q index owner events
 
   adds_write : (owner index : ℕ) → AddOwns c owner index v → IsTheWriter owner index
-  adds_write owner index h proper alive = inl (h.owns proper.frees alive).by
+  adds_write owner index h proper alive = inl (h.owns proper.calm alive).by
 
   replaces_write : (owner index : ℕ) (value : T) → ReplaceKnows c index owner value v → IsTheWriter owner index
   replaces_write owner index value h proper alive = inr (replacing c index owner value v h proper alive)
@@ -200,25 +205,37 @@ module _ {T : Type 0} (code : Coding T) (c : ℕ) (v : View T) (words' : List �
   freed_later : (owner index : ℕ) → FilledSinceFreed q owner index events → FilledSinceFreed q owner index (events ++ es)
   freed_later owner index h = record { other = h.other; once = once _ h.once }
 
+  -- a counter at its end is there still
+  worn : Worn v → Worn later
+  worn end = worn_on v.terms.by v.words words' goes.stuck end
+
   remove_says : (index owner : ℕ) (mode : ReleaseMode) (state : ReleaseState) → RemoveSays code c index owner mode state v → RemoveSays code c index owner mode state later
   remove_says index owner mode states.TheVariants.Locked h = shut_later events es h
-  remove_says index owner LockIfLastIndex states.TheVariants.Unlocked h = (once IsUnlocked h.0, freed_later owner index h.1)
+  remove_says index owner LockIfLastIndex states.TheVariants.Unlocked h = (once IsUnlocked h.0, ⊎_elim (λ end. inl (worn end)) (λ found. inr (freed_later owner index found)) h.1)
   remove_says index owner Default states.TheVariants.Unlocked h = tt
+
+  count_below : (index count : ℕ) → index < c → HasCome code c index count v → HasCome code c index count later
+  count_below index count low h kept =
+      let was = h (passes.kept kept) in
+      let grows = passes.counts kept index low in
+      omega arith
+
+  -- a number that is there still was there before
+  was_there : (index count : ℕ) → index < c → HasCome code c index count v → Keeps v.terms → count_in code c (now later) index ≡ count → count_in code c (now v) index ≡ count
+  was_there index count low h kept is =
+      let was = h kept in
+      let grows = passes.counts kept index low in
+      omega arith
 
   has_left : (index count : ℕ) → HasLeft code c index count v → HasLeft code c index count later
   has_left index count h =
       record {
         within = h.within;
-        below = let low = h.below in let grows = passes.counts index h.within in omega arith;
+        below = count_below index count h.within h.below;
         left = λ proper is.
-            let low = h.below in
-            let grows = passes.counts index h.within in
-            let was : count_in code c (now v) index ≡ count = omega arith in
+            let was : count_in code c (now v) index ≡ count = was_there index count h.within h.below proper.kept is in
             passes.left proper index h.within (is ∙ sym was) (h.left (passes.proper proper) was);
       }
-
-  count_below : (index count : ℕ) → index < c → count ≤ count_in code c (now v) index → count ≤ count_in code c (now later) index
-  count_below index count low h = let grows = passes.counts index low in omega arith
 
   release_left : (index count : ℕ) (stage : ReleaseStage) → ReleaseLeft code c index count stage v → ReleaseLeft code c index count stage later
   release_left index count releases.TheVariants.EmptiesCell h = (h.0, count_below index count h.0 h.1)
@@ -246,11 +263,9 @@ module _ {T : Type 0} (code : Coding T) (c : ℕ) (v : View T) (words' : List �
         few = h.few;
         room = h.room;
         odd = h.odd;
-        below = let low = h.below in let grows = passes.counts index h.within in omega arith;
+        below = count_below index count h.within h.below;
         same = λ proper is j js.
-            let low = h.below in
-            let grows = passes.counts index h.within in
-            let was : count_in code c (now v) index ≡ count = omega arith in
+            let was : count_in code c (now v) index ≡ count = was_there index count h.within h.below proper.kept is in
             h.same (passes.proper proper) was j js ∙ sym (passes.words proper index h.within (is ∙ sym was) (ap (λ n. n % 2) was ∙ h.odd) j (let few = h.few in omega arith));
       }
 
@@ -302,28 +317,34 @@ module _ {T : Type 0} (code : Coding T) (c : ℕ) (v : View T) (words' : List �
       ⊎_elim (λ asked. inl (subst (IsOneOf (Asks i owner)) (sym deeds_same) asked)) (λ shown. inr (subst (Has (Sees i)) (sym acts_same) shown))
       (h i below (through_less q (StillToFree q owner i) events es spares.none through))
 
-  -- whoever fills an index is alive, so an index that the dead owner has lost stays lost to it
-  gone_but : (owner : ℕ) (Here : ℕ → Type 0) → Dead owner v → GoneBut code c owner Here v → GoneBut code c owner Here later
-  gone_but owner Here dead h i told =
-      ⊎_elim (λ gone. inl (λ e. gone (goes.fills i owner dead e))) (λ here. inr here)
-      (h i (⊎_elim (λ yes. inl (subst (IsOneOf (Yes i owner)) deeds_same yes)) (λ shown. inr (shown_same i shown)) told))
+  lost : (i owner : ℕ) → IsHonestBy v.terms.by (events ++ es) → IsGone owner v → filled_of i (events ++ es) ≡ Some owner → filled_of i events ≡ Some owner
+  lost i owner honest dead filled = stays_lost v.terms.by events es goes.fills i owner honest dead filled
+
+  still_gone : (owner : ℕ) → IsGone owner v → IsGone owner later
+  still_gone owner dead = gone_more v.terms.by owner events es dead
+
+  -- nobody who is gone fills an index, so one that he has lost stays lost to him
+  gone_but : (owner : ℕ) (Here : ℕ → Type 0) → IsGone owner v → GoneBut code c owner Here v → GoneBut code c owner Here later
+  gone_but owner Here dead h honest i told =
+      ⊎_elim (λ gone. inl (λ e. gone (lost i owner honest dead e))) (λ here. inr here)
+      (h (honest_less v.terms.by events es honest) i (⊎_elim (λ yes. inl (subst (IsOneOf (Yes i owner)) deeds_same yes)) (λ shown. inr (shown_same i shown)) told))
 
   recovers_then : (owner k : ℕ) (Here But But' : ℕ → Type 0) → (HasHidden code c q owner But (now v) → HasHidden code c q owner But' (now later)) → Recovers code c owner k Here But v → Recovers code c owner k Here But' later
   recovers_then owner k Here But But' stays h =
-      record { dead = goes.dead owner h.dead; was_open = once IsUnlocked h.was_open; asked = asked_below owner k h.asked; gone = gone_but owner Here h.dead h.gone; hidden = stays h.hidden }
+      record { dead = still_gone owner h.dead; was_open = once IsUnlocked h.was_open; asked = asked_below owner k h.asked; gone = gone_but owner Here h.dead h.gone; hidden = stays h.hidden }
 
   recovers_on : (owner k : ℕ) (Here : ℕ → Type 0) → Recovers code c owner k Here no_index v → Recovers code c owner k Here no_index later
   recovers_on owner k Here h =
       recovers_then owner k Here no_index no_index (λ g. hidden_later code c q owner no_index (now v) words' latest' es spares passes g) h
 
-  covers_on : (owner index count : ℕ) → index < c → Dead owner v → RecoverCovers code c owner index count (now v) → RecoverCovers code c owner index count (now later)
+  covers_on : (owner index count : ℕ) → index < c → IsGone owner v → RecoverCovers code c owner index count (now v) → RecoverCovers code c owner index count (now later)
   covers_on owner index count below dead h = recover_covers code c q owner index count (now v) words' latest' es goes spares passes leaves below dead h
 
-  recovered : (owner : ℕ) → Dead owner v → HasRecovered q owner events → HasRecovered q owner (events ++ es)
+  recovered : (owner : ℕ) → IsGone owner v → HasRecoveredBy v.terms.by q owner events → HasRecoveredBy v.terms.by q owner (events ++ es)
   recovered owner dead h =
       record {
-        gone = λ i told e.
-            h.gone i (⊎_elim (λ yes. inl (subst (IsOneOf (Yes i owner)) deeds_same yes)) (λ shown. inr (shown_same i shown)) told) (goes.fills i owner dead e);
+        gone = λ honest i told e.
+            h.gone (honest_less v.terms.by events es honest) i (⊎_elim (λ yes. inl (subst (IsOneOf (Yes i owner)) deeds_same yes)) (λ shown. inr (shown_same i shown)) told) (lost i owner honest dead e);
         asked = λ i through.
             ⊎_elim (λ asked. inl (subst (IsOneOf (Asks i owner)) (sym deeds_same) asked)) (λ shown. inr (subst (Has (Sees i)) (sym acts_same) shown))
             (h.asked i (through_less q (StillToFree q owner i) events es spares.none through));
@@ -331,10 +352,10 @@ module _ {T : Type 0} (code : Coding T) (c : ℕ) (v : View T) (words' : List �
 
   recover_says : (owner : ℕ) (mode : ReleaseMode) (state : ReleaseState) → RecoverSays code c owner mode state v → RecoverSays code c owner mode state later
   recover_says owner mode states.TheVariants.Locked h = shut_later events es h
-  recover_says owner mode states.TheVariants.Unlocked h = (goes.dead owner h.0, unlocked_later q owner events es spares.none deeds_same h.1, recovered owner h.0 h.2, each_later q owner mode events es spares.none deeds_same h.3)
+  recover_says owner mode states.TheVariants.Unlocked h = (still_gone owner h.0, unlocked_later q owner events es spares.none deeds_same h.1, recovered owner h.0 h.2, each_later q owner (Worn v) (Worn later) worn mode events es spares.none deeds_same h.3)
 
-  fills : (owner : ℕ) (mode : ReleaseMode) (But : ℕ → Type 0) → FilledBut mode q owner But events → FilledBut mode q owner But (events ++ es)
-  fills owner mode But h = filled_then q owner mode But But events es spares.none (λ i was. inl (subst (IsOneOf (Frees i owner)) deeds_same was)) (λ i e. e) (shut_later events es) h
+  fills : (owner : ℕ) (mode : ReleaseMode) (But : ℕ → Type 0) → FilledBut (Worn v) mode q owner But events → FilledBut (Worn later) mode q owner But (events ++ es)
+  fills owner mode But h = filled_then q owner (Worn v) (Worn later) worn mode But But events es spares.none (λ i was. inl (subst (IsOneOf (Frees i owner)) deeds_same was)) (λ i e. e) (shut_later events es) h
 
   recover_fills : (owner : ℕ) (mode : ReleaseMode) (stage : RecoverStage) → RecoverFills code c owner mode stage v → RecoverFills code c owner mode stage later
   recover_fills owner mode recovers.TheVariants.LoadsCounter h = tt
@@ -354,7 +375,7 @@ module _ {T : Type 0} (code : Coding T) (c : ℕ) (v : View T) (words' : List �
   none i = ⊥
 
   recover_knows : (owner : ℕ) (mode : ReleaseMode) (room : rooms.Kept 128) (stage : RecoverStage) → RecoverKnows code c owner mode room stage v → RecoverKnows code c owner mode room stage later
-  recover_knows owner mode room recovers.TheVariants.LoadsCounter h = (paid h.0, goes.dead owner h.1, gone_but owner none h.1 h.2)
+  recover_knows owner mode room recovers.TheVariants.LoadsCounter h = (paid h.0, still_gone owner h.1, gone_but owner none h.1 h.2)
   recover_knows owner mode room (recovers.TheVariants.LoadsCell index) h = (paid h.0, recovers_on owner index none h.1)
   recover_knows owner mode room (recovers.TheVariants.LoadsCount index) h = (paid h.0, recovers_on owner index none h.1, once (IsFilledWith owner index) h.2)
   recover_knows owner mode room (recovers.TheVariants.LoadsWord index count at) h =
@@ -369,11 +390,11 @@ module _ {T : Type 0} (code : Coding T) (c : ℕ) (v : View T) (words' : List �
     has_left index count h.2,
   )
   recover_knows owner mode room (recovers.TheVariants.Raises index raise) h =
-      (held_paid Death v.words words' events es q v.since v.changes changes' v.backs goes spares seen (set.raise_holds raise) h.0, recovers_on owner (index + 1) none h.1)
+      (held_paid v.terms.by v.words words' events es q v.since v.changes changes' v.backs goes spares seen (set.raise_holds raise) h.0, recovers_on owner (index + 1) none h.1)
   recover_knows owner mode room (recovers.TheVariants.Locks index lock) h = (
-    held_paid Death v.words words' events es q v.since v.changes changes' v.backs goes spares seen (set.lock_holds lock) h.0,
+    held_paid v.terms.by v.words words' events es q v.since v.changes changes' v.backs goes spares seen (set.lock_holds lock) h.0,
     recovers_on owner (index + 1) none h.1,
-    still_scanned Death v.words words' events es q v.since v.changes changes' v.backs goes spares seen (set.lock_scan c lock) h.2,
+    still_scanned v.terms.by v.words words' events es q v.since v.changes changes' v.backs goes spares seen (set.lock_scan c lock) h.2,
   )
   recover_knows owner mode room recovers.TheVariants.LoadsCounterAgain h = (paid h.0, recovers_on owner c none h.1)
   recover_knows owner mode room (recovers.TheVariants.AddsChange state) h = (paid h.0, recover_says owner mode state h.1, hidden_later code c q owner no_index (now v) words' latest' es spares passes h.2)
@@ -381,7 +402,7 @@ module _ {T : Type 0} (code : Coding T) (c : ℕ) (v : View T) (words' : List �
   -- ---- a look
 
   abbrev m' : Now T
-  m' = record { words = words'; latest = latest'; events = events ++ es }
+  m' = record { terms = v.terms; words = words'; latest = latest'; events = events ++ es }
 
   calls_on : CallsOn q None events (events ++ es)
   calls_on = calls_same q events (events ++ es) span

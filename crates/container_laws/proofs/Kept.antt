@@ -1,5 +1,5 @@
 -- What the invariant says of the events, in the promise's words.
-use Rattle.std.proofs.Common.{◌≡◌, ◌≢◌, ℕ, ◌%◌, ◌<◌, ◌≤◌, ⊎_elim, true, false, Option, Some, None, List, length, get_or, sym, ap, subst, ◌∙◌, arith}
+use Rattle.std.proofs.Common.{◌≡◌, ◌≢◌, ℕ, ◌%◌, ◌<◌, ◌≤◌, ◌==◌, ⊎_elim, true, false, Option, Some, None, List, length, get_or, slice_index, sym, ap, subst, ◌∙◌, arith}
 use Rattle.std.proofs.lemmas.Bool.{cases_lt}
 use Rattle.std.proofs.lemmas.Bool.Decides.{nat_tests}
 use Rattle.std.proofs.lemmas.Option.{slice_get_past}
@@ -12,6 +12,7 @@ use Rattle.steps.specs.declared.container.recover.RecoverStage as recovers
 use Rattle.steps.specs.declared.container.state.ContainerState.{ContainerState}
 use Rattle.steps.specs.declared.copied.Kept as rooms
 use Rattle.steps.specs.declared.indices.enums.ReleaseMode.{ReleaseMode}
+use Rattle.steps.specs.Indices.Robust.Parts.{cell_word, locked}
 use Rattle.model.specs.declared.event.Answer.TheVariants.{Done, Index, State}
 use Rattle.model.specs.declared.event.Event.{Event}
 use Rattle.model.specs.declared.event.Event.TheVariants.{Finished}
@@ -27,11 +28,14 @@ use Rattle.model.specs.declared.party.Party.{Party}
 use Rattle.model.specs.declared.turn.Kind as kinds
 use Rattle.model.specs.Coding.{Coding}
 use Rattle.model.specs.Families.Container.Looks.{state_in, shows, WasCopied, ShowsCopies}
-use Rattle.model.specs.Families.Container.Promises.{PlacesRight, HasElement, HasElements, IsProperRun, IsContainer, KeepsDead, promise}
+use Rattle.model.specs.Families.Container.Promises.{PlacesRight, HasElement, HasElements, IsContained, IsContainer, KeepsDead, promise}
 use Rattle.model.specs.Families.Container.Questions.{AsksCopies, question_in, find_question, recover_question}
 use Rattle.model.specs.Families.Container.Reading.{Copies, HasLatest, acts_of, contents_of}
 use Rattle.model.specs.Families.Container.Removals.{HidesRight}
 use Rattle.model.specs.Families.Container.States.{state_of}
+use Rattle.model.specs.Families.Indices.Reading.{is_locked}
+use Rattle.model.specs.Families.Indices.Robust.Promises.{cell_of}
+use Rattle.model.specs.Families.Indices.Robust.Reading.{filled_of}
 use Rattle.model.specs.Families.Queues.Calls.{read_in}
 use Rattle.model.specs.Parties.{party_of, doing_of, flight_of}
 use Rattle.model.specs.Promises.{IsKeptBy, IsKept}
@@ -42,14 +46,17 @@ use Rattle.model.specs.Turns.{IsReached}
 use Rattle.model.specs.World.{Trace, flight_in, progress_in}
 use Rattle.model.proofs.Frame as frame
 use Rattle.robust_laws.proofs.Core.{cell}
+use Rattle.robust_laws.specs.Gone.{Death}
+use Rattle.container_laws.proofs.Answers.{asks_right, recovers_right, answers_right}
 use Rattle.container_laws.proofs.Bounds.{bounds}
 use Rattle.container_laws.proofs.Contents.{Stands}
 use Rattle.container_laws.proofs.HiddenKnows.{EndsRight}
-use Rattle.container_laws.proofs.Invariant.{Knowing, moment, view, family}
+use Rattle.container_laws.proofs.Invariant.{Knowing, moment, view, family, family_by}
 use Rattle.container_laws.proofs.Knows.{View, FindKnows, RecoverKnows}
-use Rattle.container_laws.proofs.Proper.{proper_so_far}
+use Rattle.container_laws.proofs.Proper.{IsProperSoFar, proper_so_far}
 use Rattle.container_laws.proofs.Sights.{Rests}
 use Rattle.container_laws.proofs.Sound.{Shown, kept_is, reached_sound}
+use Rattle.container_laws.proofs.Terms.{Terms, dying}
 
 -- ---- the words of an element
 
@@ -130,7 +137,7 @@ module _ {T : Type 0} where
 
 -- ---- what is promised
 
-module _ {T : Type 0} (code : Coding T) (t : Trace T) (s : frame.Sound (family code t.world.capacity) t) where
+module _ {T : Type 0} (terms : Terms) (code : Coding T) (t : Trace T) (s : frame.Sound (family_by terms code t.world.capacity) t) where
   abbrev c : ℕ
   c = t.world.capacity
 
@@ -141,54 +148,69 @@ module _ {T : Type 0} (code : Coding T) (t : Trace T) (s : frame.Sound (family c
   kept_are = (kept_is t.world.kept t.world.words s.state s.fit).0
 
   -- what a party's call under way knows
-  asked_by : (p index : ℕ) (value : T) (o : Option (Party T)) → frame.KnowsParty (family code c) s.state p t.events t.world.changes o → question_in code (flight_of (doing_of o)) ≡ Some (index, value) → HasLatest (Copies index value) (acts_of p t.events)
+  asked_by : (p index : ℕ) (value : T) (o : Option (Party T)) → frame.KnowsParty (family_by terms code c) s.state p t.events t.world.changes o → question_in code (flight_of (doing_of o)) ≡ Some (index, value) → HasLatest (Copies index value) (acts_of p t.events)
   asked_by p index value None k e = absurd (cc)
   asked_by p index value (Some x) k e = go x.doing k e
     where
-      go : (doing : Doing T) → frame.KnowsDoing (family code c) s.state p t.events t.world.changes x.backs doing → question_in code (flight_of (Some doing)) ≡ Some (index, value) → HasLatest (Copies index value) (acts_of p t.events)
-      go (Going flight since) k e = flight_asked code c flight (view s.state.words s.state.states s.state.latest t.events p since t.world.changes x.backs) index value k e
+      go : (doing : Doing T) → frame.KnowsDoing (family_by terms code c) s.state p t.events t.world.changes x.backs doing → question_in code (flight_of (Some doing)) ≡ Some (index, value) → HasLatest (Copies index value) (acts_of p t.events)
+      go (Going flight since) k e = flight_asked code c flight (view terms s.state.words s.state.states s.state.latest t.events p since t.world.changes x.backs) index value k e
       go (Over others) k e = absurd (cc)
 
-  questions : AsksCopies t
+  pub questions : AsksCopies t
   questions p index value e =
       asked_by p index value (party_of p t.world.latest) (s.inv.knows p) (subst (λ y. question_in y (flight_in t.world p) ≡ Some (index, value)) s.coding e)
 
-  states : ShowsCopies t.world t.events
+  pub states : ShowsCopies t.world t.events
   states p i state value idle found shown =
       let here : state_of p s.state.states ≡ Some state = subst (λ kept. state_in kept p ≡ Some state) kept_are found in
-      at_rest code c (moment s.state.words t.world.latest t.events) p i state value (s.holds.elements.rests p state idle here) shown
+      at_rest code c (moment terms s.state.words t.world.latest t.events) p i state value (s.holds.elements.rests p state idle here) shown
 
-  elements : IsProperRun t → HasElements t
+  elements : IsProperSoFar terms t.world.latest t.events → HasElements t
   elements proper index below =
-      let whole = s.holds.elements.whole (proper_so_far t proper) in
+      let whole = s.holds.elements.whole proper in
       subst (λ y. HasElement y c t.world.words index (contents_of index t.events)) (sym s.coding)
       (subst (λ ws. HasElement code c ws index (contents_of index t.events)) (sym words_are)
       (element_is code c s.state.words index (contents_of index t.events) (whole index below)))
 
-  ends : IsProperRun t → Each EndsRight t.events
-  ends proper = s.holds.elements.places (proper_so_far t proper)
+  ends : IsProperSoFar terms t.world.latest t.events → Each EndsRight t.events
+  ends proper = s.holds.elements.places proper
 
+  pub cells : (index : ℕ) → index < t.world.capacity → slice_index t.world.words (cell_word index) ≡ cell_of (filled_of index t.events)
+  cells index below = ap (λ ws. cell ws index) words_are ∙ s.holds.good.cells index below
+
+  pub lock : (slice_index t.world.words 0 == locked) ≡ is_locked t.events
+  lock = rw words_are s.holds.good.lock
+
+  pub dead : KeepsDead t.world.kept t.events
+  dead = subst (λ kept. KeepsDead kept t.events) (sym kept_are) (λ owner. s.holds.good.died owner)
+
+  pub contained : IsProperSoFar terms t.world.latest t.events → IsContained t
+  contained proper =
+      record {
+        holders = s.holds.good.holds proper.calm;
+        contents = s.holds.elements.contains proper;
+        placed = λ before after e is. ends_placed before e (ends proper before after e is);
+        hidden = λ before after e is. ends_hidden before e (ends proper before after e is);
+        elements = elements proper;
+      }
+
+-- ---- where owners die
+
+module _ {T : Type 0} (code : Coding T) (t : Trace T) (s : frame.Sound (family code t.world.capacity) t) where
   container_kept : IsContainer t
   container_kept =
-      let g = s.holds.good in
       let e = s.holds.elements in
       record {
-        does = g.does;
-        asks = e.asks;
-        recovers = e.recovers;
-        answers = e.answers;
-        cells = λ index below. ap (λ ws. cell ws index) words_are ∙ g.cells index below;
-        lock = rw words_are g.lock;
-        dead = subst (λ kept. KeepsDead kept t.events) (sym kept_are) (λ owner. g.died owner);
-        questions = questions;
-        states = states;
-        proper = λ proper. record {
-          holders = g.holds (proper.frees, tt);
-          contents = e.contains (proper_so_far t proper);
-          placed = λ before after e is. ends_placed before e (ends proper before after e is);
-          hidden = λ before after e is. ends_hidden before e (ends proper before after e is);
-          elements = elements proper;
-        };
+        does = s.holds.good.does;
+        asks = asks_right t.events e.asks;
+        recovers = recovers_right t.events e.recovers;
+        answers = answers_right ⊥ (λ worn. worn) Death t.world.capacity t.events tt e.answers;
+        cells = cells dying code t s;
+        lock = lock dying code t s;
+        dead = dead dying code t s;
+        questions = questions dying code t s;
+        states = states dying code t s;
+        proper = λ proper. contained dying code t s (proper_so_far t proper);
       }
 
   kept_by : IsKeptBy promise t

@@ -1,4 +1,5 @@
--- In mode LockIfLastIndex a recovery finds some index filled after each that it frees, or the container locked.
+-- In mode LockIfLastIndex a recovery finds some index filled after each that it frees, or the container locked, or its counter
+-- at its end.
 use Rattle.std.proofs.Common.{◌≡◌, ◌⊎◌, ⊎_elim, inl, inr, ℕ, ◌<◌, true, false, List, [], ◌++◌, sym, subst, ◌∙◌, append-nil}
 use Rattle.steps.specs.declared.indices.enums.ReleaseMode.{ReleaseMode}
 use Rattle.steps.specs.declared.indices.enums.ReleaseMode.TheVariants.{LockIfLastIndex, Default}
@@ -6,7 +7,7 @@ use Rattle.steps.specs.declared.indices.robust.parts.Count as counts
 use Rattle.steps.specs.declared.indices.robust.parts.Lock.{Lock}
 use Rattle.steps.specs.declared.indices.robust.parts.Lock as locks
 use Rattle.model.specs.declared.event.Event.{Event}
-use Rattle.model.specs.Families.Container.Recoveries.{UnlockedAtLast, FilledSinceEach}
+use Rattle.model.specs.Families.Container.Recoveries.{UnlockedAtLast}
 use Rattle.model.specs.Families.Indices.Reading.{is_locked}
 use Rattle.model.specs.Families.Indices.Robust.Promises.{IsFilled, IsUnlocked, FilledSinceFreed}
 use Rattle.model.specs.Families.Indices.Robust.Reading.{Frees, deeds_of, IsOneOf}
@@ -14,6 +15,7 @@ use Rattle.model.specs.Moments.{BeginsNone, HeldOnce}
 use Rattle.model.proofs.Moments.{held_later, held_so}
 use Rattle.model.proofs.Readings.{no_more}
 use Rattle.robust_laws.proofs.Effects.{both_ways}
+use Rattle.container_laws.specs.Gone.{FilledSinceEachBy}
 use Rattle.robust_laws.proofs.Knows.{LockSays}
 
 abbrev pub NoIndex : ℕ → Type 0
@@ -25,12 +27,12 @@ module _ {T : Type 0} where
     pub other : ℕ
     pub once : HeldOnce p (λ part. IsFilled other part × (deeds_of p part ≡ deeds_of p events)) events
 
-  -- so it was after each index that it has freed, but these, or the container is locked
-  abbrev pub FilledBut : ReleaseMode → ℕ → ℕ → (ℕ → Type 0) → List (Event T) → Type 0
-  FilledBut LockIfLastIndex p owner But events =
+  -- so it was after each index that it has freed, but these, or the container is locked, or its counter worn
+  abbrev pub FilledBut : Type 0 → ReleaseMode → ℕ → ℕ → (ℕ → Type 0) → List (Event T) → Type 0
+  FilledBut worn LockIfLastIndex p owner But events =
       (i : ℕ) → IsOneOf (Frees i owner) (deeds_of p events)
-      → (FilledSinceFreed p owner i events ⊎ (is_locked events ≡ true)) ⊎ But i
-  FilledBut Default p owner But events = Unit {0}
+      → (FilledSinceFreed p owner i events ⊎ ((is_locked events ≡ true) ⊎ worn)) ⊎ But i
+  FilledBut worn Default p owner But events = Unit {0}
 
   -- a lock that has found some index filled
   abbrev pub FoundFilled : ℕ → List (Event T) → ℕ → ℕ → Type 0
@@ -38,30 +40,35 @@ module _ {T : Type 0} where
 
   module _ (p owner : ℕ) where
     -- once more events are there
-    pub filled_then : (mode : ReleaseMode) (Was But : ℕ → Type 0) (events es : List (Event T)) → BeginsNone p es → ((i : ℕ) → IsOneOf (Frees i owner) (deeds_of p (events ++ es)) → IsOneOf (Frees i owner) (deeds_of p events) ⊎ But i) → ((i : ℕ) → Was i → But i)
-        → (is_locked events ≡ true → is_locked (events ++ es) ≡ true) → FilledBut mode p owner Was events → FilledBut mode p owner But (events ++ es)
-    filled_then Default Was But events es none split more shut h = tt
-    filled_then LockIfLastIndex Was But events es none split more shut h =
-        λ i was. ⊎_elim (λ had. ⊎_elim (λ settled. inl (⊎_elim (λ f. inl (later i f)) (λ l. inr (shut l)) settled)) (λ exempt. inr (more i exempt)) (h i had)) (λ now. inr now) (split i was)
+    pub filled_then : (worn worn' : Type 0) → (worn → worn') → (mode : ReleaseMode) (Was But : ℕ → Type 0) (events es : List (Event T)) → BeginsNone p es → ((i : ℕ) → IsOneOf (Frees i owner) (deeds_of p (events ++ es)) → IsOneOf (Frees i owner) (deeds_of p events) ⊎ But i) → ((i : ℕ) → Was i → But i)
+        → (is_locked events ≡ true → is_locked (events ++ es) ≡ true) → FilledBut worn mode p owner Was events → FilledBut worn' mode p owner But (events ++ es)
+    filled_then worn worn' on Default Was But events es none split more shut h = tt
+    filled_then worn worn' on LockIfLastIndex Was But events es none split more shut h =
+        λ i was. ⊎_elim (λ had. ⊎_elim (λ settled. inl (⊎_elim (λ f. inl (later i f)) (λ l. inr (⊎_elim (λ s. inl (shut s)) (λ w. inr (on w)) l)) settled)) (λ exempt. inr (more i exempt)) (h i had)) (λ now. inr now) (split i was)
       where
         later : (i : ℕ) → FilledSinceFreed p owner i events → FilledSinceFreed p owner i (events ++ es)
         later i f = record { other = f.other; once = held_later p _ events es none f.once }
 
-    pub filled_calm : (mode : ReleaseMode) (But : ℕ → Type 0) (events : List (Event T)) → FilledBut mode p owner But events → FilledBut mode p owner But (events ++ [])
-    filled_calm mode But events h = subst (FilledBut mode p owner But) (sym (append-nil events)) h
+    pub filled_calm : (worn worn' : Type 0) → (worn → worn') → (mode : ReleaseMode) (But : ℕ → Type 0) (events : List (Event T)) → FilledBut worn mode p owner But events → FilledBut worn' mode p owner But (events ++ [])
+    filled_calm worn worn' on mode But events h =
+        filled_then worn worn' on mode But But events [] tt (λ i was. inl (subst (λ es. IsOneOf (Frees i owner) (deeds_of p es)) (append-nil events) was)) (λ i e. e) (λ shut. subst (λ es. is_locked es ≡ true) (sym (append-nil events)) shut) h
 
     -- it has freed nothing
-    pub filled_none : (mode : ReleaseMode) (But : ℕ → Type 0) (events : List (Event T)) → deeds_of p events ≡ [] → FilledBut mode p owner But events
-    filled_none Default But events none = tt
-    filled_none LockIfLastIndex But events none = λ i was. absurd (no_more was.before (Frees i owner) was.after (sym none ∙ was.is))
+    pub filled_none : (worn : Type 0) (mode : ReleaseMode) (But : ℕ → Type 0) (events : List (Event T)) → deeds_of p events ≡ [] → FilledBut worn mode p owner But events
+    filled_none worn Default But events none = tt
+    filled_none worn LockIfLastIndex But events none = λ i was. absurd (no_more was.before (Frees i owner) was.after (sym none ∙ was.is))
 
-    pub filled_locked : (mode : ReleaseMode) (But : ℕ → Type 0) (events : List (Event T)) → is_locked events ≡ true → FilledBut mode p owner But events
-    filled_locked Default But events shut = tt
-    filled_locked LockIfLastIndex But events shut = λ i was. inl (inr shut)
+    pub filled_locked : (worn : Type 0) (mode : ReleaseMode) (But : ℕ → Type 0) (events : List (Event T)) → is_locked events ≡ true → FilledBut worn mode p owner But events
+    filled_locked worn Default But events shut = tt
+    filled_locked worn LockIfLastIndex But events shut = λ i was. inl (inr (inl shut))
 
-    pub filled_last : (mode : ReleaseMode) (But : ℕ → Type 0) (events : List (Event T)) → FilledAtLast p events → FilledBut mode p owner But events
-    filled_last Default But events h = tt
-    filled_last LockIfLastIndex But events h = λ i was.
+    pub filled_worn : (worn : Type 0) (mode : ReleaseMode) (But : ℕ → Type 0) (events : List (Event T)) → worn → FilledBut worn mode p owner But events
+    filled_worn worn Default But events end = tt
+    filled_worn worn LockIfLastIndex But events end = λ i was. inl (inr (inr end))
+
+    pub filled_last : (worn : Type 0) (mode : ReleaseMode) (But : ℕ → Type 0) (events : List (Event T)) → FilledAtLast p events → FilledBut worn mode p owner But events
+    filled_last worn Default But events h = tt
+    filled_last worn LockIfLastIndex But events h = λ i was.
         inl
         (inl
         (record {
@@ -70,16 +77,16 @@ module _ {T : Type 0} where
         }))
 
     -- where the container is not locked
-    pub filled_each : (mode : ReleaseMode) (events : List (Event T)) → is_locked events ≡ false → FilledBut mode p owner NoIndex events → FilledSinceEach mode p owner events
-    filled_each Default events free h = tt
-    filled_each LockIfLastIndex events free h = λ i was.
-        ⊎_elim (λ settled. ⊎_elim (λ f. f) (λ shut. both_ways (is_locked events) free shut) settled) (λ never. absurd never) (h i was)
+    pub filled_each : (worn : Type 0) (mode : ReleaseMode) (events : List (Event T)) → is_locked events ≡ false → FilledBut worn mode p owner NoIndex events → FilledSinceEachBy worn mode p owner events
+    filled_each worn Default events free h = tt
+    filled_each worn LockIfLastIndex events free h = λ i was.
+        ⊎_elim (λ settled. ⊎_elim (λ f. inr f) (λ more. ⊎_elim (λ shut. both_ways (is_locked events) free shut) (λ end. inl end) more) settled) (λ never. absurd never) (h i was)
 
-    pub each_later : (mode : ReleaseMode) (events es : List (Event T)) → BeginsNone p es → deeds_of p (events ++ es) ≡ deeds_of p events → FilledSinceEach mode p owner events → FilledSinceEach mode p owner (events ++ es)
-    each_later Default events es none same h = tt
-    each_later LockIfLastIndex events es none same h = λ i was.
-        let f = h i (subst (IsOneOf (Frees i owner)) same was) in
-        record { other = f.other; once = held_later p _ events es none f.once }
+    pub each_later : (worn worn' : Type 0) → (worn → worn') → (mode : ReleaseMode) (events es : List (Event T)) → BeginsNone p es → deeds_of p (events ++ es) ≡ deeds_of p events → FilledSinceEachBy worn mode p owner events → FilledSinceEachBy worn' mode p owner (events ++ es)
+    each_later worn worn' on Default events es none same h = tt
+    each_later worn worn' on LockIfLastIndex events es none same h = λ i was.
+        ⊎_elim (λ end. inl (on end)) (λ (f : FilledSinceFreed p owner i events). inr (record { other = f.other; once = held_later p _ events es none f.once }))
+        (h i (subst (IsOneOf (Frees i owner)) same was))
 
     pub unlocked_later : (events es : List (Event T)) → BeginsNone p es → deeds_of p (events ++ es) ≡ deeds_of p events → UnlockedAtLast p events → UnlockedAtLast p (events ++ es)
     unlocked_later events es none same h =

@@ -55,6 +55,7 @@ use Rattle.container_laws.proofs.LooksTell.{look_asks_none, LookEnd, ended, smal
 use Rattle.container_laws.proofs.Sound.{Shown, kept_is, kept_now}
 use Rattle.container_laws.proofs.Stages.{any_call}
 use Rattle.container_laws.proofs.Standing.{look_at, look_number}
+use Rattle.container_laws.proofs.Terms.{dying}
 
 differ : (p q : ℕ) → (p == q) ≡ false → q ≢ p
 differ p q none = grind (arith, nat_tests)
@@ -126,7 +127,7 @@ module _ {T : Type 0} (shown : Shown T) (code : Coding T) (c : ℕ) (t : Trace T
   Stays n y kept a flight =
       (p : ℕ) → IsApart p q flight → state_in (step_of y t.world.words (beside_of t.world.words kept t.world.latest q) q a flight n kept).kept p ≡ state_in kept p
 
-  step_stays : (n : ℕ) (a : Start T) (flight : Flight T) → StandsThere (family code c) t s q x since a flight → Stays n code (kept_now shown code c t s) a flight
+  step_stays : (n : ℕ) (a : Start T) (flight : Flight T) → StandsThere (family code c) t s q x since a flight → Stays n code (kept_now shown dying code c t s) a flight
   step_stays n (Container a) (flights.TheVariants.Container flight) stands p apart = stays code q flight n s.state.states p apart
   step_stays n a flight stands p apart = absurd stands.at
 

@@ -46,6 +46,7 @@ use Rattle.container_laws.proofs.Invariant.{family}
 use Rattle.container_laws.proofs.Knows.{View, RecoverKnows}
 use Rattle.container_laws.proofs.Sound.{Shown as AllShown, kept_is, kept_now, scene_of, IsThere, is_there}
 use Rattle.container_laws.proofs.Stages.{sees_now, any_call}
+use Rattle.container_laws.proofs.Terms.{dying}
 use Rattle.container_laws.proofs.Written.{all_effects}
 
 -- ---- what a party writes
@@ -99,10 +100,10 @@ module _ {T : Type 0} (shown : AllShown T) (code : Coding T) (c : ℕ) (t : Trac
   wrote flight n = effects code q (state_of q s.state.states) flight n ++ questions q flight n
 
   -- it writes nothing, or began before the lock if it is a recovery
-  began_by : (start : ContainerStart T) (flight : ContainerFlight T) → IsThere shown code c t s q x since small found start flight → (n : ℕ) → (wrote flight n ≡ []) ⊎ BeganUnlocked q t.events
+  began_by : (start : ContainerStart T) (flight : ContainerFlight T) → IsThere shown dying code c t s q x since found start flight → (n : ℕ) → (wrote flight n ≡ []) ⊎ BeganUnlocked q t.events
   began_by (Recover owner mode) (calls.TheVariants.Recover run) there n =
       ⊎_elim (λ quiet. inl (quiet q run.given (read_in code run.room) n)) (λ held. inr (λ recovery. held))
-      (recover_began code c run.given.owner run.given.mode run.room (sees_now (scene_of shown code c t s q x since)) run.call.stage there.knows.1)
+      (recover_began code c run.given.owner run.given.mode run.room (sees_now (scene_of shown dying code c t s q x since)) run.call.stage there.knows.1)
   began_by (Recover owner mode) flight there n = absurd there.at
   began_by start flight there n = inr (λ recovery. absurd (subst IsRecovery there.here.span recovery))
 
@@ -110,11 +111,11 @@ module _ {T : Type 0} (shown : AllShown T) (code : Coding T) (c : ℕ) (t : Trac
   Visits n y kept a flight =
       All q t.events (events_of_step q a (step_of y t.world.words (beside_of t.world.words kept t.world.latest q) q a flight n kept))
 
-  step_visits : (n : ℕ) (a : Start T) (flight : Flight T) → StandsThere (family code c) t s q x since a flight → Visits n code (kept_now shown code c t s) a flight
+  step_visits : (n : ℕ) (a : Start T) (flight : Flight T) → StandsThere (family code c) t s q x since a flight → Visits n code (kept_now shown dying code c t s) a flight
   step_visits n (Container a) (flights.TheVariants.Container flight) stands =
       with_end q t.events (Container a) (answer_in (any_call (after code (state_of q s.state.states) flight n))) (wrote flight n)
       (⊎_elim (λ quiet. subst (All q t.events) (sym quiet) tt) (λ began. all_visit q t.events began (wrote flight n) (all_effects (Next q) q refl code (state_of q s.state.states) flight n))
-      (began_by a flight (is_there shown code c t s q x since small found a flight stands) n))
+      (began_by a flight (is_there shown dying code c t s q x since found a flight stands) n))
   step_visits n a flight stands = absurd stands.at
 
   any_visits : (n : ℕ) (flight : Flight T) → x.doing ≡ Going flight since → Visits n t.world.coding t.world.kept x.start flight

@@ -28,20 +28,22 @@ use Rattle.model.specs.declared.families.container.calls.ContainerFlight.{Contai
 use Rattle.model.specs.declared.families.container.calls.ContainerFlight.TheVariants.{Add, Remove, Replace, Find, Recover, Look, Count, IsLocked}
 use Rattle.model.specs.declared.party.Party.{Party}
 use Rattle.model.specs.Coding.{Coding}
-use Rattle.model.specs.Families.Container.Promises.{WasShown, HasRecovered}
+use Rattle.model.specs.Families.Container.Promises.{WasShown}
 use Rattle.model.specs.Families.Container.Reading.{Copies, Has, HasLatest, acts_of, places, contents_of}
-use Rattle.model.specs.Families.Container.Recoveries.{UnlockedAtLast, FilledSinceEach}
+use Rattle.model.specs.Families.Container.Recoveries.{UnlockedAtLast}
 use Rattle.model.specs.Families.Container.States.{state_of}
 use Rattle.model.specs.Families.Indices.Reading.{is_locked}
-use Rattle.model.specs.Families.Indices.Robust.Promises.{IsFilledWith, IsUnlocked, IsCount, HeldThrough, FilledSinceFreed, StillToFree, IsProper}
-use Rattle.model.specs.Families.Indices.Robust.Reading.{Asks, Yes, filled_of, is_dead, deeds_of, IsOneOf}
+use Rattle.model.specs.Families.Indices.Robust.Promises.{IsFilledWith, IsUnlocked, IsCount, HeldThrough, FilledSinceFreed, StillToFree}
+use Rattle.model.specs.Families.Indices.Robust.Reading.{Asks, Yes, filled_of, deeds_of, IsOneOf}
 use Rattle.model.specs.Families.Queues.Calls.{read_in}
 use Rattle.model.specs.Moments.{HeldOnce}
 use Rattle.model.specs.Parties.{party_of}
 use Rattle.model.specs.Reading.{Open, span_of}
-use Rattle.robust_laws.specs.Gone.{Death}
+use Rattle.robust_laws.specs.Gone.{is_gone, IsHonestBy, IsCalm}
+use Rattle.robust_laws.proofs.Invariant.{IsWorn}
 use Rattle.robust_laws.proofs.Knows as set
 use Rattle.robust_laws.proofs.Standing.{acquire_at, release_at, borrowed_at, looking}
+use Rattle.container_laws.specs.Gone.{HasRecoveredBy, FilledSinceEachBy}
 use Rattle.container_laws.proofs.Contents.{Writing}
 use Rattle.container_laws.proofs.HiddenKnows.{RemoveCovers, RecoverCovers, StillStands, HasHidden, no_index}
 use Rattle.container_laws.proofs.Left.{left_of}
@@ -49,6 +51,7 @@ use Rattle.container_laws.proofs.Replaces.{ReplaceOwns}
 use Rattle.container_laws.proofs.KeptCopies.{ShowsOwn}
 use Rattle.container_laws.proofs.KeptLocks.{NoIndex, FilledBut, FoundFilled}
 use Rattle.container_laws.proofs.Sights.{number_at, StoodThere, Rests, Course}
+use Rattle.container_laws.proofs.Terms.{Terms, Keeps}
 use Rattle.container_laws.proofs.Turns.{Now, Proper, count_in, datum_in}
 use Rattle.container_laws.proofs.Writers.{Adds}
 
@@ -59,6 +62,7 @@ IsLong room = length room.words ≡ 128
 -- ---- what they see of the machine
 
 pub record View (T : Type 0) : Type 0 where
+  pub terms : Terms
   pub words : List ℕ
   pub states : List (ℕ × ContainerState T)
   pub latest : List (ℕ × Party T)
@@ -73,7 +77,7 @@ module _ {T : Type 0} where
   abbrev pub of_set : View T → set.View T
   of_set v =
       record {
-        by = Death;
+        by = v.terms.by;
         words = v.words;
         events = v.events;
         party = v.party;
@@ -83,16 +87,20 @@ module _ {T : Type 0} where
       }
 
   abbrev pub now : View T → Now T
-  now v = record { words = v.words; latest = v.latest; events = v.events }
+  now v = record { terms = v.terms; words = v.words; latest = v.latest; events = v.events }
 
   abbrev pub IsPaid : View T → Type 0
   IsPaid v = set.IsPaid (of_set v)
 
-  abbrev pub Dead : ℕ → View T → Type 0
-  Dead owner v = is_dead owner v.events ≡ true
+  abbrev pub IsGone : ℕ → View T → Type 0
+  IsGone owner v = is_gone v.terms.by owner v.events ≡ true
 
   abbrev pub Lives : ℕ → View T → Type 0
-  Lives owner v = is_dead owner v.events ≡ false
+  Lives owner v = is_gone v.terms.by owner v.events ≡ false
+
+  -- the counter is at its end
+  abbrev pub Worn : View T → Type 0
+  Worn v = IsWorn v.terms.by v.words
 
   abbrev pub WasOpen : View T → Type 0
   WasOpen v = HeldOnce v.party IsUnlocked v.events
@@ -105,7 +113,7 @@ module _ {T : Type 0} where
   pub record AddOwns (c owner index : ℕ) (v : View T) : Type 0 where
     pub paid : IsPaid v
     pub within : index < c
-    pub owns : IsProper v.events → Lives owner v → Adds v.party index owner v.events
+    pub owns : IsCalm v.terms.by v.events → Lives owner v → Adds v.party index owner v.events
 
   -- the party's call is this replace, which has taken a step
   pub record HasFound (index owner : ℕ) (value : T) (v : View T) : Type 0 where
@@ -119,7 +127,7 @@ module _ {T : Type 0} where
   pub record ReplaceKnows (c index owner : ℕ) (value : T) (v : View T) : Type 0 where
     pub paid : IsPaid v
     pub within : index < c
-    pub owns : ReplaceOwns v.party index owner v.events
+    pub owns : ReplaceOwns v.terms.by v.party index owner v.events
     pub found : HasFound index owner value v
     pub filled : WasFilled owner index v
 
@@ -164,7 +172,7 @@ module _ {T : Type 0} (code : Coding T) (c : ℕ) where
   abbrev pub ReplacesKnow : ℕ → T → ℕ → ReplaceStage → View T → Type 0
   ReplacesKnow index value owner replaces.TheVariants.Refuses v = IsPaid v
   ReplacesKnow index value owner replaces.TheVariants.LoadsCell v =
-      IsPaid v × ReplaceOwns v.party index owner v.events
+      IsPaid v × ReplaceOwns v.terms.by v.party index owner v.events
   ReplacesKnow index value owner replaces.TheVariants.LoadsCount v =
       ReplaceKnows c index owner value v
   ReplacesKnow index value owner (replaces.TheVariants.Hides count) v =
@@ -182,19 +190,23 @@ module _ {T : Type 0} (code : Coding T) (c : ℕ) where
   abbrev pub RemoveSays : ℕ → ℕ → ReleaseMode → ReleaseState → View T → Type 0
   RemoveSays index owner mode states.TheVariants.Locked v = is_locked v.events ≡ true
   RemoveSays index owner LockIfLastIndex states.TheVariants.Unlocked v =
-      WasOpen v × FilledSinceFreed v.party owner index v.events
+      WasOpen v × (Worn v ⊎ FilledSinceFreed v.party owner index v.events)
   RemoveSays index owner Default states.TheVariants.Unlocked v = Unit {0}
+
+  -- the number has come this far
+  abbrev pub HasCome : ℕ → ℕ → View T → Type 0
+  HasCome index count v = Keeps v.terms → count ≤ count_in code c (now v) index
 
   -- it has freed its index, and under the number that it loaded stands what was left there
   pub record HasLeft (index count : ℕ) (v : View T) : Type 0 where
     pub within : index < c
-    pub below : count ≤ count_in code c (now v) index
+    pub below : HasCome index count v
     pub left : Proper (now v) → count_in code c (now v) index ≡ count → left_of index v.events ≡ true
 
   -- a remove that has freed
   abbrev pub ReleaseLeft : ℕ → ℕ → ReleaseStage → View T → Type 0
   ReleaseLeft index count releases.TheVariants.EmptiesCell v =
-      (index < c) × (count ≤ count_in code c (now v) index)
+      (index < c) × HasCome index count v
   ReleaseLeft index count stage v = HasLeft index count v
 
   -- and of what stood there
@@ -226,7 +238,7 @@ module _ {T : Type 0} (code : Coding T) (c : ℕ) where
     pub few : k ≤ code.size
     pub room : length copy ≡ 128
     pub odd : count % 2 ≡ 1
-    pub below : count ≤ count_in code c (now v) index
+    pub below : HasCome index count v
     pub same : Proper (now v) → count_in code c (now v) index ≡ count → (j : ℕ) → j < k → get_or copy j 0 ≡ datum_in code c (now v) index j
 
   -- the copy is made, as the last that it has done to an element
@@ -278,17 +290,18 @@ module _ {T : Type 0} (code : Coding T) (c : ℕ) where
       (i : ℕ) → i < k → HeldThrough v.party (StillToFree v.party owner i) v.events
       → IsOneOf (Asks i owner) (deeds_of v.party v.events) ⊎ WasShown v.party i v.events
 
-  -- no index that it was told to free, or was shown, has its owner, but the one that it frees now
+  -- in an honest run no index that it was told to free, or was shown, has its owner, but the one that it frees now
   abbrev pub GoneBut : ℕ → (ℕ → Type 0) → View T → Type 0
   GoneBut owner Now v =
-      (i : ℕ) → IsOneOf (Yes i owner) (deeds_of v.party v.events) ⊎ WasShown v.party i v.events
+      IsHonestBy v.terms.by v.events
+      → (i : ℕ) → IsOneOf (Yes i owner) (deeds_of v.party v.events) ⊎ WasShown v.party i v.events
       → (filled_of i v.events ≢ Some owner) ⊎ Now i
 
   abbrev pub Gone : ℕ → View T → Type 0
   Gone owner v = GoneBut owner (λ i. ⊥) v
 
   pub record Recovers (owner k : ℕ) (Now But : ℕ → Type 0) (v : View T) : Type 0 where
-    pub dead : Dead owner v
+    pub dead : IsGone owner v
     pub was_open : WasOpen v
     pub asked : AskedBelow owner k v
     pub gone : GoneBut owner Now v
@@ -297,12 +310,13 @@ module _ {T : Type 0} (code : Coding T) (c : ℕ) where
   abbrev pub RecoverSays : ℕ → ReleaseMode → ReleaseState → View T → Type 0
   RecoverSays owner mode states.TheVariants.Locked v = is_locked v.events ≡ true
   RecoverSays owner mode states.TheVariants.Unlocked v =
-      Dead owner v × UnlockedAtLast v.party v.events × HasRecovered v.party owner v.events
-      × FilledSinceEach mode v.party owner v.events
+      IsGone owner v × UnlockedAtLast v.party v.events
+      × HasRecoveredBy v.terms.by v.party owner v.events
+      × FilledSinceEachBy (Worn v) mode v.party owner v.events
 
   abbrev pub RecoverKnows : ℕ → ReleaseMode → rooms.Kept 128 → RecoverStage → View T → Type 0
   RecoverKnows owner mode room recovers.TheVariants.LoadsCounter v =
-      IsPaid v × Dead owner v × Gone owner v
+      IsPaid v × IsGone owner v × Gone owner v
   RecoverKnows owner mode room (recovers.TheVariants.LoadsCell index) v =
       IsPaid v × Recovers owner index no_index no_index v
   RecoverKnows owner mode room (recovers.TheVariants.LoadsCount index) v =
@@ -317,12 +331,12 @@ module _ {T : Type 0} (code : Coding T) (c : ℕ) where
       × RecoverCovers code c owner index count (now v)
   RecoverKnows owner mode room (recovers.TheVariants.Asks index count) v =
       IsPaid v × Recovers owner (index + 1) no_index no_index v
-      × (index < c) × (count ≤ count_in code c (now v) index)
+      × (index < c) × HasCome index count v
       × HasCopied index room v
       × RecoverCovers code c owner index count (now v)
   RecoverKnows owner mode room (recovers.TheVariants.EmptiesCell index count) v =
       IsPaid v × Recovers owner (index + 1) (λ i. i ≡ index) no_index v
-      × (index < c) × (count ≤ count_in code c (now v) index)
+      × (index < c) × HasCome index count v
       × RecoverCovers code c owner index count (now v)
   RecoverKnows owner mode room (recovers.TheVariants.Hides index count) v =
       IsPaid v × Recovers owner (index + 1) no_index (StillStands code c index count (now v)) v × HasLeft index count v
@@ -340,26 +354,26 @@ module _ {T : Type 0} (code : Coding T) (c : ℕ) where
   abbrev pub RecoverFills : ℕ → ReleaseMode → RecoverStage → View T → Type 0
   RecoverFills owner mode recovers.TheVariants.LoadsCounter v = Unit {0}
   RecoverFills owner mode (recovers.TheVariants.LoadsCell index) v =
-      FilledBut mode v.party owner NoIndex v.events
+      FilledBut (Worn v) mode v.party owner NoIndex v.events
   RecoverFills owner mode (recovers.TheVariants.LoadsCount index) v =
-      FilledBut mode v.party owner NoIndex v.events
+      FilledBut (Worn v) mode v.party owner NoIndex v.events
   RecoverFills owner mode (recovers.TheVariants.LoadsWord index count at) v =
-      FilledBut mode v.party owner NoIndex v.events
+      FilledBut (Worn v) mode v.party owner NoIndex v.events
   RecoverFills owner mode (recovers.TheVariants.ChecksCount index count) v =
-      FilledBut mode v.party owner NoIndex v.events
+      FilledBut (Worn v) mode v.party owner NoIndex v.events
   RecoverFills owner mode (recovers.TheVariants.Asks index count) v =
-      FilledBut mode v.party owner NoIndex v.events
+      FilledBut (Worn v) mode v.party owner NoIndex v.events
   RecoverFills owner mode (recovers.TheVariants.EmptiesCell index count) v =
-      FilledBut mode v.party owner NoIndex v.events
+      FilledBut (Worn v) mode v.party owner NoIndex v.events
   RecoverFills owner mode (recovers.TheVariants.Hides index count) v =
-      FilledBut mode v.party owner (λ i. i ≡ index) v.events
+      FilledBut (Worn v) mode v.party owner (λ i. i ≡ index) v.events
   RecoverFills owner mode (recovers.TheVariants.Raises index raise) v =
-      FilledBut mode v.party owner (λ i. i ≡ index) v.events
+      FilledBut (Worn v) mode v.party owner (λ i. i ≡ index) v.events
   RecoverFills owner mode (recovers.TheVariants.Locks index lock) v =
-      FilledBut mode v.party owner (λ i. i ≡ index) v.events
+      FilledBut (Worn v) mode v.party owner (λ i. i ≡ index) v.events
       × set.LockSays c (FoundFilled v.party v.events) lock
   RecoverFills owner mode recovers.TheVariants.LoadsCounterAgain v =
-      FilledBut mode v.party owner NoIndex v.events
+      FilledBut (Worn v) mode v.party owner NoIndex v.events
   RecoverFills owner mode (recovers.TheVariants.AddsChange state) v = Unit {0}
 
   -- ---- a look

@@ -2,6 +2,7 @@ pub mod AddWrites
 pub mod Adds
 pub mod Alone
 pub mod Announced
+pub mod Answers
 pub mod AskedAnswers
 pub mod AskedFinds
 pub mod AskedLeft
@@ -38,6 +39,7 @@ pub mod LooksEnd
 pub mod LooksTell
 pub mod Moves
 pub mod Opening
+pub mod OpenRuns
 pub mod Proper
 pub mod RecoverEnds
 pub mod RecoverParts
@@ -59,6 +61,7 @@ pub mod Stages
 pub mod Standing
 pub mod Steps
 pub mod Tells
+pub mod Terms
 pub mod Turns
 pub mod Writers
 pub mod Writing

@@ -106,8 +106,8 @@ module _ {T : Type 0} (scene : Scene T) (inv : Inv scene) where
     pub goes : (next : LookStage) (back : Bool) (what : Option (ℕ × T)) (s' : ContainerState T) → IsRight what → words_after ws ask ≡ ws
         → LookAt c code.size (all scene ++ deeds (copies_of p what)) (done scene ++ acts (copies_of p what)) next
         → steps + step_count ask ≤ look_number code.size next (backs_then scene back)
-        → ((words' : List ℕ) (states' : List (ℕ × ContainerState T)) (latest' : List (ℕ × Party T)) (es' : List (Event T)) → Comes (record { words = words'; latest = latest'; events = es' }) what → state_of p states' ≡ Some s'
-        → LookKnows code c next (view words' states' latest' es' p (since_then scene ask) (changes_then scene ask) (backs_then scene back)))
+        → ((words' : List ℕ) (states' : List (ℕ × ContainerState T)) (latest' : List (ℕ × Party T)) (es' : List (Event T)) → Comes (record { terms = scene.terms; words = words'; latest = latest'; events = es' }) what → state_of p states' ≡ Some s'
+        → LookKnows code c next (view scene.terms words' states' latest' es' p (since_then scene ask) (changes_then scene ask) (backs_then scene back)))
         → Lead back (copies_of p what) s' (GoOn (call_at next))
     -- it has gone over all of them
     pub ends : (back : Bool) (what : Option (ℕ × T)) (s' : ContainerState T) → IsRight what → words_after ws ask ≡ ws → all scene ≡ []
@@ -143,7 +143,7 @@ module _ {T : Type 0} (scene : Scene T) (inv : Inv scene) where
             (λ t.
             let more : index + 1 < c = grind (arith, nat_tests) in
             walker.goes (stages.TheVariants.LoadsCount (index + 1)) back what s' right same (none_more what, more, seen) few
-            (λ words' states' latest' es' comes found. (paid, record { state = s'; found = found; course = course (record { words = words'; latest = latest'; events = es' }) comes })))
+            (λ words' states' latest' es' comes found. (paid, record { state = s'; found = found; course = course (record { terms = scene.terms; words = words'; latest = latest'; events = es' }) comes })))
             (λ t.
             let last : index + 1 ≡ c = grind (arith, nat_tests) in
             let total : (index + 1) * (code.size + 2) ≡ c * (code.size + 2) = ap (λ n. n * (code.size + 2)) last in
@@ -187,7 +187,7 @@ module _ {T : Type 0} (scene : Scene T) (inv : Inv scene) where
                   let odd = odd_is n t in
                   walker.goes (stages.TheVariants.LoadsWord index n 0) back None s' tt same (none_more None, (below, seen_still index (done scene) seen, odd), omega arith) (omega arith)
                   (λ words' states' latest' es' comes found.
-                  let m' : Now T = record { words = words'; latest = latest'; events = es' } in
+                  let m' : Now T = record { terms = scene.terms; words = words'; latest = latest'; events = es' } in
                   let is = count_same m' None comes in (
                     inl (is, paid),
                     record {
@@ -198,7 +198,7 @@ module _ {T : Type 0} (scene : Scene T) (inv : Inv scene) where
                             course = course_copying code c m' p s s' index x below (comes.later s index x course) (count_put s index low n) (number_is m' None comes) (λ i less ne. apart i ne (λ e. absurd (omega arith)));
                           };
                       number = counted_number s index low n;
-                      copying = copying_first code c (view words' states' latest' es' p (since_then scene ask) (changes_then scene ask) (backs_then scene back)) index n s'.shown.copy below course.room odd (omega arith);
+                      copying = copying_first code c (view scene.terms words' states' latest' es' p (since_then scene ask) (changes_then scene ask) (backs_then scene back)) index n s'.shown.copy below course.room odd (λ kept. omega arith);
                     },
                   ))
 
@@ -234,7 +234,7 @@ module _ {T : Type 0} (scene : Scene T) (inv : Inv scene) where
             record {
               state = record s { shown = with_change s.shown (change_in code c m) };
               found = found;
-              course = course_first code c (record { words = words'; latest = latest'; events = es' }) p s (change_in code c m) (sym (ap (change_at c) comes.words)) (comes.rests s rests) (own_later p None events es' comes.on s c own);
+              course = course_first code c (record { terms = scene.terms; words = words'; latest = latest'; events = es' }) p s (change_in code c m) (sym (ap (change_at c) comes.words)) (comes.rests s rests) (own_later p None events es' comes.on s c own);
             },
           )))
           (λ t. let some = inv.good.some in let less : c ≤ 0 = grind (arith, nat_tests) in absurd (omega arith)))
@@ -267,8 +267,8 @@ module _ {T : Type 0} (scene : Scene T) (inv : Inv scene) where
         abbrev with_it : ContainerState T
         with_it = record s { shown = with_word s.shown at (datum_in code c m index at) }
 
-        paid_then : (words' : List ℕ) (states' : List (ℕ × ContainerState T)) (latest' : List (ℕ × Party T)) (es' : List (Event T)) → Comes (record { words = words'; latest = latest'; events = es' }) None
-            → CheckPaid code c index count (view words' states' latest' es' p (since_then scene word_ask) (changes_then scene word_ask) (backs_then scene false))
+        paid_then : (words' : List ℕ) (states' : List (ℕ × ContainerState T)) (latest' : List (ℕ × Party T)) (es' : List (Event T)) → Comes (record { terms = scene.terms; words = words'; latest = latest'; events = es' }) None
+            → CheckPaid code c index count (view scene.terms words' states' latest' es' p (since_then scene word_ask) (changes_then scene word_ask) (backs_then scene false))
         paid_then words' states' latest' es' comes =
             ⊎_elim (λ k. let was = k.1 in inl (ap (λ w. count_at c w index) comes.words ∙ k.0, omega arith)) (λ more. inr (omega arith)) paid
 
@@ -281,9 +281,9 @@ module _ {T : Type 0} (scene : Scene T) (inv : Inv scene) where
             (λ words' states' latest' es' comes found. (
               paid_then words' states' latest' es' comes,
               record {
-                looks = record { state = with_it; found = found; course = course_word code c (record { words = words'; latest = latest'; events = es' }) p s index index at (datum_in code c m index at) (comes.later s index index course) };
+                looks = record { state = with_it; found = found; course = course_word code c (record { terms = scene.terms; words = words'; latest = latest'; events = es' }) p s index index at (datum_in code c m index at) (comes.later s index index course) };
                 number = number;
-                copying = copying_more code c (sees_now scene) (view words' states' latest' es' p (since_then scene word_ask) (changes_then scene word_ask) (backs_then scene false)) index count s.shown.copy at ats inv.elements.coded.few comes.words comes.proper copying;
+                copying = copying_more code c (sees_now scene) (view scene.terms words' states' latest' es' p (since_then scene word_ask) (changes_then scene word_ask) (backs_then scene false)) index count s.shown.copy at ats inv.elements.coded.few comes.words (λ kept. kept) comes.proper copying;
               },
             )))
             (λ t.
@@ -293,11 +293,11 @@ module _ {T : Type 0} (scene : Scene T) (inv : Inv scene) where
             (λ words' states' latest' es' comes found. (
               paid_then words' states' latest' es' comes,
               record {
-                looks = record { state = with_it; found = found; course = course_word code c (record { words = words'; latest = latest'; events = es' }) p s index index at (datum_in code c m index at) (comes.later s index index course) };
+                looks = record { state = with_it; found = found; course = course_word code c (record { terms = scene.terms; words = words'; latest = latest'; events = es' }) p s index index at (datum_in code c m index at) (comes.later s index index course) };
                 number = number;
                 copying =
-                    subst (λ k. Copying code c index count with_it.shown.copy k (view words' states' latest' es' p (since_then scene word_ask) (changes_then scene word_ask) (backs_then scene false))) is
-                    (copying_more code c (sees_now scene) (view words' states' latest' es' p (since_then scene word_ask) (changes_then scene word_ask) (backs_then scene false)) index count s.shown.copy at ats inv.elements.coded.few comes.words comes.proper copying);
+                    subst (λ k. Copying code c index count with_it.shown.copy k (view scene.terms words' states' latest' es' p (since_then scene word_ask) (changes_then scene word_ask) (backs_then scene false))) is
+                    (copying_more code c (sees_now scene) (view scene.terms words' states' latest' es' p (since_then scene word_ask) (changes_then scene word_ask) (backs_then scene false)) index count s.shown.copy at ats inv.elements.coded.few comes.words (λ kept. kept) comes.proper copying);
               },
             )))
 

@@ -28,7 +28,6 @@ use Rattle.model.specs.Families.{ask_of}
 use Rattle.model.specs.Families.Container.Bounds.{most_steps}
 use Rattle.model.specs.Families.Container.Calls.{looked, look_came, look_goes, settled_if, writes_state}
 use Rattle.model.specs.Families.Container.Looks.{is_looking, WasCopied}
-use Rattle.model.specs.Families.Container.Promises.{AnswersRight}
 use Rattle.model.specs.Families.Container.Reading.{Act, acts, seen_in, contents_after, contents_of}
 use Rattle.model.specs.Families.Container.Spans.{may_stand, HasDone}
 use Rattle.model.specs.Families.Container.States.{state_of, set_state, settled}
@@ -40,6 +39,9 @@ use Rattle.model.specs.Reading.{Open}
 use Rattle.model.specs.Turns.{old_of, words_after, step_count, ending_of}
 use Rattle.model.proofs.Parties.{apart, itself}
 use Rattle.model.proofs.Readings.{AreOwn}
+use Rattle.robust_laws.specs.Gone.{GoneBy}
+use Rattle.robust_laws.proofs.Invariant.{IsWorn}
+use Rattle.container_laws.specs.Gone.{AnswersBy}
 use Rattle.container_laws.proofs.Core.{count_at}
 use Rattle.container_laws.proofs.Effects.{OwesStill}
 use Rattle.container_laws.proofs.Glances.{rests_settled}
@@ -109,9 +111,9 @@ module _ (T : Type 0) where
   few_look kinds.TheVariants.GetState c z n backs few = few
   few_look kinds.TheVariants.UpdateState c z n backs few = few
 
-  answers_look : (which : LookOf) (c p : ℕ) (s : ContainerState T) (changed : Bool) (events : List (Event T)) → AnswersRight c events (Finished p (Container (looks_as which)) (looked which s changed))
-  answers_look kinds.TheVariants.GetState c p s changed events = tt
-  answers_look kinds.TheVariants.UpdateState c p s changed events = tt
+  answers_look : (by : GoneBy) (worn : Type 0) (which : LookOf) (c p : ℕ) (s : ContainerState T) (changed : Bool) (events : List (Event T)) → AnswersBy by worn c events (Finished p (Container (looks_as which)) (looked which s changed))
+  answers_look by worn kinds.TheVariants.GetState c p s changed events = tt
+  answers_look by worn kinds.TheVariants.UpdateState c p s changed events = tt
 
   places_look : (which : LookOf) (p : ℕ) (s : ContainerState T) (changed : Bool) (events : List (Event T)) → EndsRight events (Finished p (Container (looks_as which)) (looked which s changed))
   places_look kinds.TheVariants.GetState p s changed events = tt
@@ -199,8 +201,8 @@ module _ {T : Type 0} (scene : Scene T) (inv : Inv scene) (which : LookOf) (stag
     goes_with : (next : LookStage) (back : Bool) (what : Option (ℕ × T)) (st : ContainerState T) → IsRight scene inv what → words_after ws ask ≡ ws
         → LookAt c code.size (all scene ++ deeds (copies_of p what)) (done scene ++ acts (copies_of p what)) next
         → steps + step_count ask ≤ look_number code.size next (backs_then scene back)
-        → ((words' : List ℕ) (states' : List (ℕ × ContainerState T)) (latest' : List (ℕ × Party T)) (es' : List (Event T)) → Comes scene inv (record { words = words'; latest = latest'; events = es' }) what → state_of p states' ≡ Some st
-        → LookKnows code c next (view words' states' latest' es' p (since_then scene ask) (changes_then scene ask) (backs_then scene back)))
+        → ((words' : List ℕ) (states' : List (ℕ × ContainerState T)) (latest' : List (ℕ × Party T)) (es' : List (Event T)) → Comes scene inv (record { terms = scene.terms; words = words'; latest = latest'; events = es' }) what → state_of p states' ≡ Some st
+        → LookKnows code c next (view scene.terms words' states' latest' es' p (since_then scene ask) (changes_then scene ask) (backs_then scene back)))
         → Lead ask back (copies_of p what) st (GoOn (call_at scene inv next))
     goes_with next back None st right same at few known =
         let y = party_then scene start ask back (GoOn (look_at which c next)) in
@@ -235,7 +237,7 @@ module _ {T : Type 0} (scene : Scene T) (inv : Inv scene) (which : LookOf) (stag
         let m' = after scene words' y es in
         ends scene start answer ask back (set_state p (settled st) scene.states) [] here.span none_lengthens
         (does words' same y None es (silent_end T which, tt) (refl, tt) tt contents (on_now None (Some answer)) (settled st)
-        (record { asks = (tt, tt); recovers = (tt, tt); answers = (answers_look T which c p st true events, tt); contains = λ holds. (tt, tt); places = λ holds. (places_look T which p st true events, tt) })
+        (record { asks = (tt, tt); recovers = (tt, tt); answers = (answers_look T scene.terms.by (IsWorn scene.terms.by words') which c p st true events, tt); contains = λ holds. (tt, tt); places = λ holds. (places_look T which p st true events, tt) })
         (λ idle. rests_settled code c m' p st (course m' (comes words' same y None es (silent_end T which, tt) (refl, tt) tt contents (on_now None (Some answer))))))
         ((refl, does_look T which st true (all scene) (done scene) none), tt) (few_look T which c code.size _ (backs_then scene back) few) (omega arith)
     ends_with back (Some copy) st right same none few paid course =
@@ -252,7 +254,7 @@ module _ {T : Type 0} (scene : Scene T) (inv : Inv scene) (which : LookOf) (stag
         (record {
           asks = (tt, (tt, tt));
           recovers = (tt, (tt, tt));
-          answers = (tt, (answers_look T which c p st true (events ++ did), tt));
+          answers = (tt, (answers_look T scene.terms.by (IsWorn scene.terms.by words') which c p st true (events ++ did), tt));
           contains = λ holds. (right.1 (proper_of words' y es (refl, (refl, tt)) holds), (tt, tt));
           places = λ holds. (tt, (places_look T which p st true (events ++ did), tt));
         })
@@ -272,7 +274,7 @@ module _ {T : Type 0} (scene : Scene T) (inv : Inv scene) (which : LookOf) (stag
         let contents : (i : ℕ) → contents_of i (events ++ es) ≡ contents_of i events = λ i. fold-append (contents_after i) None events es in
         ends scene start answer ask false (set_state p s scene.states) [] here.span none_lengthens
         (does words' same y None es (silent_end T which, tt) (refl, tt) tt contents (on_now None (Some answer)) s
-        (record { asks = (tt, tt); recovers = (tt, tt); answers = (answers_look T which c p s false events, tt); contains = λ holds. (tt, tt); places = λ holds. (places_look T which p s false events, tt) })
+        (record { asks = (tt, tt); recovers = (tt, tt); answers = (answers_look T scene.terms.by (IsWorn scene.terms.by words') which c p s false events, tt); contains = λ holds. (tt, tt); places = λ holds. (places_look T which p s false events, tt) })
         (λ idle. (comes words' same y None es (silent_end T which, tt) (refl, tt) tt contents (on_now None (Some answer))).rests s rests))
         ((refl, does_look T which s false (all scene) (done scene) none), tt) (few_look T which c code.size _ (backs_then scene false) (omega arith)) (omega arith)
 

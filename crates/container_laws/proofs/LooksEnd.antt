@@ -151,7 +151,7 @@ module _ {T : Type 0} (scene : Scene T) (inv : Inv scene) (which : LookOf) (stag
           comes scene inv which stage here h.state h.found (words_after ws ask_now) passed.same y (Some copy) (Finished p (Container start) answer ∷ []) (tt, (silent_end T which, tt)) (refl, (refl, tt)) tt (λ i. fold-append (contents_after i) None events es) (calls_on p events (Container start) (wrote_of p events) here.span (Some copy) (Some answer))
 
       abbrev Current : List (Event T) → Type 0
-      Current es = IsProperSoFar (put p y latest) (events ++ es) → IsCurrent p c (settled st) (events ++ es) × ShowsMoments p c (settled st) (events ++ es)
+      Current es = IsProperSoFar scene.terms (put p y latest) (events ++ es) → IsCurrent p c (settled st) (events ++ es) × ShowsMoments p c (settled st) (events ++ es)
 
       passed_current : Current (did ++ Finished p (Container start) answer ∷ [])
       passed_current =
@@ -179,9 +179,9 @@ module _ {T : Type 0} (scene : Scene T) (inv : Inv scene) (which : LookOf) (stag
         subst (λ d. ShowsCopied p st events (events ++ (d ++ Finished p (Container start) answer ∷ []))) (sym same.nothing)
         (own_then p c None events _ on st same.rests.sight.wide (own_later p None events _ on st c same.own))
 
-    module _ (answer : Answer T) (same : IsSame did st) (was : IsProperSoFar (put p y latest) (events ++ (did ++ Finished p (Container start) answer ∷ [])) → Proper m) where
+    module _ (answer : Answer T) (same : IsSame did st) (was : IsProperSoFar scene.terms (put p y latest) (events ++ (did ++ Finished p (Container start) answer ∷ [])) → Proper m) where
       abbrev Right : List (Event T) → Type 0
-      Right es = (IsProperSoFar (put p y latest) (events ++ es) → Proper m) → IsProperSoFar (put p y latest) (events ++ es) → IsCurrent p c st (events ++ es)
+      Right es = (IsProperSoFar scene.terms (put p y latest) (events ++ es) → Proper m) → IsProperSoFar scene.terms (put p y latest) (events ++ es) → IsCurrent p c st (events ++ es)
 
       module _ (holds : Proper m) where
         abbrev es : List (Event T)
@@ -210,10 +210,10 @@ module _ {T : Type 0} (scene : Scene T) (inv : Inv scene) (which : LookOf) (stag
                   same.rests.sight.same holds i low (λ e. absurd (omega arith)) (same.rests.sight.caught holds same.change i low low said) ∙ now;
               alone = λ was i low.
                   let less = alone_less p events es tt was in
-                  ⊎_elim (λ e. same.rests.sight.same holds i low (λ e. absurd (omega arith)) e ∙ sym (still i)) (λ o. nobody less o) (same.rests.sight.owed same.change i low low);
+                  ⊎_elim (λ e. same.rests.sight.same holds i low (λ e. absurd (omega arith)) e ∙ sym (still i)) (λ o. nobody less o) (same.rests.sight.owed holds.kept same.change i low low);
             }
 
-      unchanged_current : IsProperSoFar (put p y latest) (events ++ (did ++ Finished p (Container start) answer ∷ [])) → IsCurrent p c st (events ++ (did ++ Finished p (Container start) answer ∷ []))
+      unchanged_current : IsProperSoFar scene.terms (put p y latest) (events ++ (did ++ Finished p (Container start) answer ∷ [])) → IsCurrent p c st (events ++ (did ++ Finished p (Container start) answer ∷ []))
       unchanged_current = subst (λ d. Right (d ++ Finished p (Container start) answer ∷ [])) (sym same.nothing) (λ was holds. same_current (was holds)) was
 
   -- ---- the step in which it ends
@@ -221,7 +221,7 @@ module _ {T : Type 0} (scene : Scene T) (inv : Inv scene) (which : LookOf) (stag
   -- what it tells then, whose state was this
   pub record Tells (answer : Answer T) (did : List (Event T)) (left : ContainerState T) (o : Option (ContainerState T)) : Type 0 where
     pub answers : AnswersOfState (looks_as which) answer o left
-    pub current : (y : Party T) → IsProperSoFar (put p y latest) (events ++ (did ++ Finished p (Container (looks_as which)) answer ∷ []))
+    pub current : (y : Party T) → IsProperSoFar scene.terms (put p y latest) (events ++ (did ++ Finished p (Container (looks_as which)) answer ∷ []))
         → IsCurrent p c left (events ++ (did ++ Finished p (Container (looks_as which)) answer ∷ []))
         × MomentsOfState p c (looks_as which) answer left (events ++ (did ++ Finished p (Container (looks_as which)) answer ∷ []))
     pub own : ShowsCopied p left events (events ++ (did ++ Finished p (Container (looks_as which)) answer ∷ []))
@@ -257,9 +257,9 @@ module _ {T : Type 0} (scene : Scene T) (inv : Inv scene) (which : LookOf) (stag
           );
         }))
       where
-        was : (y : Party T) → IsProperSoFar (put p y latest) (events ++ (did ++ Finished p (Container start) (looked which st false) ∷ [])) → Proper m
+        was : (y : Party T) → IsProperSoFar scene.terms (put p y latest) (events ++ (did ++ Finished p (Container start) (looked which st false) ∷ [])) → Proper m
         was y =
-            subst (λ d. IsProperSoFar (put p y latest) (events ++ (d ++ Finished p (Container start) (looked which st false) ∷ [])) → Proper m) (sym so.nothing)
+            subst (λ d. IsProperSoFar scene.terms (put p y latest) (events ++ (d ++ Finished p (Container start) (looked which st false) ∷ [])) → Proper m) (sym so.nothing)
             (was_proper scene start (no_replace T which) here.span ws y (Finished p (Container start) (looked which st false) ∷ []) (refl, tt))
 
   abbrev From : Option (ContainerState T) → Type 0

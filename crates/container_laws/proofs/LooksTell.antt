@@ -57,6 +57,7 @@ use Rattle.container_laws.proofs.Proper.{IsProperSoFar, proper_so_far}
 use Rattle.container_laws.proofs.Sound.{Shown, kept_is, kept_now, scene_of, inv_of, IsThere, is_there}
 use Rattle.container_laws.proofs.Stages.{all, done, any_call}
 use Rattle.container_laws.proofs.Standing.{look_at, LookAt, At}
+use Rattle.container_laws.proofs.Terms.{dying}
 use Rattle.container_laws.proofs.Turns.{owes}
 use Rattle.container_laws.proofs.Written.{all_effects}
 
@@ -154,7 +155,7 @@ module _ {T : Type 0} (shown : Shown T) (code : Coding T) (c : ℕ) (t : Trace T
     pub which : LookOf
     pub stage : LookStage
     pub name : start ≡ looks_as which
-    pub there : IsThere shown code c t s q party since small found (looks_as which) (look_at which c stage)
+    pub there : IsThere shown dying code c t s q party since found (looks_as which) (look_at which c stage)
     pub next : Party T
     pub latest_is : latest ≡ put q next t.world.latest
     pub steps_then : next.steps ≡ party.steps + 1
@@ -173,10 +174,10 @@ module _ {T : Type 0} (shown : Shown T) (code : Coding T) (c : ℕ) (t : Trace T
     abbrev Case : ContainerStart T → ContainerFlight T → Type 0
     Case a flight =
         (n : ℕ) → StandsThere (family code c) t s q x since (Container a) (flights.TheVariants.Container flight) → (is_question (want_of code (flights.TheVariants.Container flight)) ≡ false → n ≡ old_of s.state.words (ask_of (want_of code (flights.TheVariants.Container flight))))
-        → StepFrom n code (kept_now shown code c t s) (Container a) (flights.TheVariants.Container flight)
+        → StepFrom n code (kept_now shown dying code c t s) (Container a) (flights.TheVariants.Container flight)
 
     -- what a step writes of which the last is this end
-    last_of : (n : ℕ) (a : ContainerStart T) (flight : ContainerFlight T) → Ended (events_of_step q (Container a) (stepping n code (kept_now shown code c t s) (Container a) (flights.TheVariants.Container flight)))
+    last_of : (n : ℕ) (a : ContainerStart T) (flight : ContainerFlight T) → Ended (events_of_step q (Container a) (stepping n code (kept_now shown dying code c t s) (Container a) (flights.TheVariants.Container flight)))
         → IsLast q p (Container a) (Container start) (answer_in (any_call (goes_after code (state_of q s.state.states) flight n))) answer
     last_of n a flight e =
         ends_last turn q p (effects code q (state_of q s.state.states) flight n ++ questions q flight n) (Container a) (Container start) (answer_in (any_call (goes_after code (state_of q s.state.states) flight n))) answer wrote
@@ -184,7 +185,7 @@ module _ {T : Type 0} (shown : Shown T) (code : Coding T) (c : ℕ) (t : Trace T
 
     look_case : (which : LookOf) (stage : LookStage) → Case (looks_as which) (look_at which c stage)
     look_case which stage n stands is =
-        subst (λ k. StepFrom k code (kept_now shown code c t s) (Container (looks_as which)) (flights.TheVariants.Container (look_at which c stage))) (sym (is (look_asks_none code.size c stage)))
+        subst (λ k. StepFrom k code (kept_now shown dying code c t s) (Container (looks_as which)) (flights.TheVariants.Container (look_at which c stage))) (sym (is (look_asks_none code.size c stage)))
         (λ next counts e.
         let end = last_of (old stage) (looks_as which) (look_at which c stage) e in
         record {
@@ -195,7 +196,7 @@ module _ {T : Type 0} (shown : Shown T) (code : Coding T) (c : ℕ) (t : Trace T
           which = which;
           stage = stage;
           name = sym (container_is (looks_as which) start end.name);
-          there = is_there shown code c t s q x since small found (looks_as which) (look_at which c stage) stands;
+          there = is_there shown dying code c t s q x since found (looks_as which) (look_at which c stage) stands;
           next = next;
           latest_is = refl;
           steps_then = counts (look_asks_none code.size c stage) ∙ ap (λ n. x.steps + n) (look_counts code.size c stage);
@@ -205,12 +206,12 @@ module _ {T : Type 0} (shown : Shown T) (code : Coding T) (c : ℕ) (t : Trace T
           done = end.done;
         })
 
-    step_look : (n : ℕ) (a : Start T) (flight : Flight T) → StandsThere (family code c) t s q x since a flight → (is_question (want_of code flight) ≡ false → n ≡ old_of s.state.words (ask_of (want_of code flight))) → StepFrom n code (kept_now shown code c t s) a flight
+    step_look : (n : ℕ) (a : Start T) (flight : Flight T) → StandsThere (family code c) t s q x since a flight → (is_question (want_of code flight) ≡ false → n ≡ old_of s.state.words (ask_of (want_of code flight))) → StepFrom n code (kept_now shown dying code c t s) a flight
     step_look n (Container a) (flights.TheVariants.Container flight) stands is next counts e =
         let end = last_of n a flight e in
         let name = container_is a start end.name in
-        let there = is_there shown code c t s q x since small found a flight stands in
-        let one = look_flight c code.size (all (scene_of shown code c t s q x since)) (done (scene_of shown code c t s q x since)) a flight (subst IsLook (sym name) look) there.at in
+        let there = is_there shown dying code c t s q x since found a flight stands in
+        let one = look_flight c code.size (all (scene_of shown dying code c t s q x since)) (done (scene_of shown dying code c t s q x since)) a flight (subst IsLook (sym name) look) there.at in
         subst (λ b. Case b flight) (sym one.name) (subst (λ f. Case (looks_as one.which) f) (sym one.is) (look_case one.which one.stage)) n stands is next counts e
     step_look n a flight stands is next counts e = absurd stands.at
 
@@ -290,10 +291,10 @@ module _ {T : Type 0} (shown : Shown T) (code : Coding T) (c : ℕ) (t : Trace T
     l = end.turn
 
     abbrev scene : Scene T
-    scene = scene_of shown code c t s end.party l.party l.since
+    scene = scene_of shown dying code c t s end.party l.party l.since
 
     inv : Inv scene
-    inv = inv_of shown code c t s end.party l.party l.since small l.found
+    inv = inv_of shown dying code c t s end.party l.party l.since l.found small
 
     stands : LookAt c code.size (all scene) (done scene) l.stage
     stands = look_stands l.which c code.size (all scene) (done scene) l.stage l.there.at
@@ -315,7 +316,7 @@ module _ {T : Type 0} (shown : Shown T) (code : Coding T) (c : ℕ) (t : Trace T
           subst (λ o. AnswersOfState (looks_as l.which) answer o state) (sym was) told.answers,
           λ proper.
               subst (λ es. IsCurrent end.party c state es × MomentsOfState end.party c (looks_as l.which) answer state es) (sym events_new)
-              (told.current l.next (subst (λ es. IsProperSoFar (put end.party l.next t.world.latest) es) events_new (subst (λ ps. IsProperSoFar ps new.events) l.latest_is (proper_so_far new proper)))),
+              (told.current l.next (subst (λ es. IsProperSoFar dying (put end.party l.next t.world.latest) es) events_new (subst (λ ps. IsProperSoFar dying ps new.events) l.latest_is (proper_so_far new proper)))),
         )
 
     -- what a get_state shows it has copied itself

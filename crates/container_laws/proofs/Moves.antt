@@ -42,11 +42,13 @@ use Rattle.robust_laws.proofs.Effects.{both_ways}
 use Rattle.robust_laws.proofs.Sound.{raise_asks_none, count_asks_none, lock_asks_none, acquire_asks_none, release_asks_none}
 use Rattle.robust_laws.proofs.Standing.{count_number, CountAt}
 use Rattle.container_laws.proofs.Counts.{counts_as}
-use Rattle.container_laws.proofs.Invariant.{Scene, Inv}
+use Rattle.container_laws.specs.Gone.{acts_for_gone}
+use Rattle.container_laws.proofs.Invariant.{Scene, Inv, ActsFor}
 use Rattle.container_laws.proofs.Knows.{AddKnows, RemoveKnows, ReplacesKnow, Knows}
 use Rattle.container_laws.proofs.Looks.{looks_as}
 use Rattle.container_laws.proofs.Stages.{IsHere, all, done, sees_now, StepOf, AnswerOf, DecisionOf}
 use Rattle.container_laws.proofs.Standing.{add_at, remove_at, replace_at, find_at, recover_at, look_at, count_at, lock_at, add_number, remove_number, replace_number, find_number, recover_number, look_number, number_of, AddAt, RemoveAt, ReplaceAt, FindAt, RecoverAt, LookAt, At}
+use Rattle.container_laws.proofs.Terms.{Keeps}
 
 -- ---- what is shown of each call
 
@@ -54,11 +56,11 @@ module _ {T : Type 0} (scene : Scene T) where
   open scene use {coding as code, capacity as c, steps as steps, backs as backs, events as events}
 
   pub record CallSteps : Type 0 where
-    pub add : (value : T) (owner : ℕ) → owner < empty → is_dead owner events ≡ false → (stage : AddStage) → IsHere scene (starts.TheVariants.Add value owner) (add_at c value owner stage) → AddAt c code.size (all scene) (done scene) owner stage → AddKnows code c value owner stage (sees_now scene)
+    pub add : (value : T) (owner : ℕ) → owner < empty → ActsFor scene owner → (stage : AddStage) → IsHere scene (starts.TheVariants.Add value owner) (add_at c value owner stage) → AddAt c code.size (all scene) (done scene) owner stage → AddKnows code c value owner stage (sees_now scene)
         → steps ≤ add_number c code.size stage backs → StepOf scene (starts.TheVariants.Add value owner) (add_at c value owner stage)
-    pub remove : (index owner : ℕ) (mode : ReleaseMode) → owner < empty → is_dead owner events ≡ false → (stage : RemoveStage) → RemoveAt c code.size (all scene) (done scene) index owner mode stage → IsHere scene (starts.TheVariants.Remove index owner mode) (remove_at c (place_of c index) owner mode stage)
+    pub remove : (index owner : ℕ) (mode : ReleaseMode) → owner < empty → ActsFor scene owner → (stage : RemoveStage) → RemoveAt c code.size (all scene) (done scene) index owner mode stage → IsHere scene (starts.TheVariants.Remove index owner mode) (remove_at c (place_of c index) owner mode stage)
         → RemoveKnows code c (place_of c index) owner mode stage (sees_now scene) → steps ≤ remove_number c (place_of c index) owner mode stage backs → StepOf scene (starts.TheVariants.Remove index owner mode) (remove_at c (place_of c index) owner mode stage)
-    pub replace : (index : ℕ) (value : T) (owner : ℕ) → owner < empty → is_dead owner events ≡ false → (stage : ReplaceStage) → ReplaceAt c code.size (all scene) (done scene) index stage → IsHere scene (starts.TheVariants.Replace index value owner) (replace_at c (place_of c index) value owner stage)
+    pub replace : (index : ℕ) (value : T) (owner : ℕ) → owner < empty → ActsFor scene owner → (stage : ReplaceStage) → ReplaceAt c code.size (all scene) (done scene) index stage → IsHere scene (starts.TheVariants.Replace index value owner) (replace_at c (place_of c index) value owner stage)
         → ReplacesKnow code c (place_of c index) value owner stage (sees_now scene) → steps ≤ replace_number code.size stage → StepOf scene (starts.TheVariants.Replace index value owner) (replace_at c (place_of c index) value owner stage)
     pub find : (owner : ℕ) → owner < empty → (room : rooms.Kept 128) (stage : FindStage) → FindAt c code.size (all scene) (done scene) stage → IsHere scene (starts.TheVariants.Find owner) (find_at c owner room stage) → Knows code c (find_at c owner room stage) (sees_now scene)
         → steps ≤ find_number code.size stage → StepOf scene (starts.TheVariants.Find owner) (find_at c owner room stage)
@@ -118,40 +120,40 @@ module _ {T : Type 0} (scene : Scene T) (inv : Inv scene) (shown : CallSteps sce
 
   abbrev Moves : ContainerStart T → ContainerFlight T → Type 0
   Moves start flight =
-      IsHere scene start flight → acts_for_dead scene.dead flight ≡ false → steps ≤ number_of c code.size flight backs → Knows code c flight (sees_now scene) → StepOf scene start flight
+      IsHere scene start flight → acts_for_dead scene.dead flight ≡ false → (Keeps scene.terms → acts_for_gone scene.terms.by events flight ≡ false) → steps ≤ number_of c code.size flight backs → Knows code c flight (sees_now scene) → StepOf scene start flight
 
   pub step_moves : (start : ContainerStart T) (flight : ContainerFlight T) → At c code.size (all scene) (done scene) start flight → Moves start flight
   step_moves (starts.TheVariants.Add value owner) (calls.TheVariants.Add run) at =
       subst (Moves (starts.TheVariants.Add value owner)) (sym (ap (λ n. add_at n run.given.value run.given.owner run.call.stage) at.0 ∙ ap (λ (o : Owned T). add_at c o.value o.owner run.call.stage) at.1))
-      (λ here alive s k. shown.add value owner at.2 (lives owner alive) run.call.stage here at.3 k s)
+      (λ here alive rightly s k. shown.add value owner at.2 (record { alive = lives owner alive; stays = rightly }) run.call.stage here at.3 k s)
   step_moves (starts.TheVariants.Remove index owner mode) (calls.TheVariants.Remove run) at =
       subst (Moves (starts.TheVariants.Remove index owner mode))
       (sym (ap (λ n. remove_at n run.given.index run.given.owner run.given.mode run.call.stage) at.0 ∙ ap (λ (o : GiveBack). remove_at c o.index o.owner o.mode run.call.stage) at.1))
-      (λ here alive s k. shown.remove index owner mode at.2 (lives owner alive) run.call.stage at.3 here k s)
+      (λ here alive rightly s k. shown.remove index owner mode at.2 (record { alive = lives owner alive; stays = rightly }) run.call.stage at.3 here k s)
   step_moves (starts.TheVariants.Replace index value owner) (calls.TheVariants.Replace run) at =
       subst (Moves (starts.TheVariants.Replace index value owner))
       (sym (ap (λ n. replace_at n run.given.index run.given.value run.given.owner run.call.stage) at.0 ∙ ap (λ (o : Replacement T). replace_at c o.index o.value o.owner run.call.stage) at.1))
-      (λ here alive s k. shown.replace index value owner at.2 (lives owner alive) run.call.stage at.3 here k s)
+      (λ here alive rightly s k. shown.replace index value owner at.2 (record { alive = lives owner alive; stays = rightly }) run.call.stage at.3 here k s)
   step_moves (starts.TheVariants.Find owner) (calls.TheVariants.Find run) at =
       subst (Moves (starts.TheVariants.Find owner)) (sym (ap (λ n. find_at n run.given run.room run.call.stage) at.0 ∙ ap (λ o. find_at c o run.room run.call.stage) at.1))
-      (λ here alive s k. shown.find owner at.2 run.room run.call.stage at.3 here k s)
+      (λ here alive rightly s k. shown.find owner at.2 run.room run.call.stage at.3 here k s)
   step_moves (starts.TheVariants.Recover owner mode) (calls.TheVariants.Recover run) at =
       subst (Moves (starts.TheVariants.Recover owner mode))
       (sym (ap (λ n. recover_at n run.given.owner run.given.mode run.room run.call.stage) at.0 ∙ ap (λ (o : DeadOwner). recover_at c o.owner o.mode run.room run.call.stage) at.1))
-      (λ here alive s k. shown.recover owner mode at.2 run.room run.call.stage at.3 here k s)
+      (λ here alive rightly s k. shown.recover owner mode at.2 run.room run.call.stage at.3 here k s)
   step_moves starts.TheVariants.GetState (calls.TheVariants.Look which call) at =
       subst (Moves starts.TheVariants.GetState) (sym (ap (λ n. look_at which n call.stage) at.0 ∙ ap (λ w. look_at w c call.stage) at.1))
-      (λ here alive s k. shown.look kinds.TheVariants.GetState call.stage at.2 here k s)
+      (λ here alive rightly s k. shown.look kinds.TheVariants.GetState call.stage at.2 here k s)
   step_moves starts.TheVariants.UpdateState (calls.TheVariants.Look which call) at =
       subst (Moves starts.TheVariants.UpdateState) (sym (ap (λ n. look_at which n call.stage) at.0 ∙ ap (λ w. look_at w c call.stage) at.1))
-      (λ here alive s k. shown.look kinds.TheVariants.UpdateState call.stage at.2 here k s)
+      (λ here alive rightly s k. shown.look kinds.TheVariants.UpdateState call.stage at.2 here k s)
   step_moves starts.TheVariants.Len (calls.TheVariants.Count which run) at =
       subst (Moves starts.TheVariants.Len) (sym (ap (λ n. count_at which n run.call.count) at.0 ∙ ap (λ w. count_at w c run.call.count) at.1))
-      (λ here alive s k. shown.count counts.TheVariants.Len run.call.count at.2 at.3 here k s)
+      (λ here alive rightly s k. shown.count counts.TheVariants.Len run.call.count at.2 at.3 here k s)
   step_moves starts.TheVariants.IsEmpty (calls.TheVariants.Count which run) at =
       subst (Moves starts.TheVariants.IsEmpty) (sym (ap (λ n. count_at which n run.call.count) at.0 ∙ ap (λ w. count_at w c run.call.count) at.1))
-      (λ here alive s k. shown.count counts.TheVariants.IsEmpty run.call.count at.2 at.3 here k s)
-  step_moves starts.TheVariants.IsLocked (calls.TheVariants.IsLocked run) at = λ here alive s k. shown.lock at here k s
+      (λ here alive rightly s k. shown.count counts.TheVariants.IsEmpty run.call.count at.2 at.3 here k s)
+  step_moves starts.TheVariants.IsLocked (calls.TheVariants.IsLocked run) at = λ here alive rightly s k. shown.lock at here k s
   step_moves start flight at = absurd at
 
   abbrev Decides : Bool → ContainerStart T → ContainerFlight T → Type 0

@@ -12,7 +12,7 @@ use Rattle.model.specs.Families.Container.Opening.{opening_words}
 use Rattle.model.specs.Families.Container.States.{fresh}
 use Rattle.model.specs.Families.Indices.Robust.Opening as set_opening
 use Rattle.model.proofs.Readings.{Each-nil}
-use Rattle.robust_laws.specs.Gone.{Death}
+use Rattle.robust_laws.specs.Gone.{GoneBy}
 use Rattle.robust_laws.proofs.Core.{cell}
 use Rattle.robust_laws.proofs.Invariant as set
 use Rattle.robust_laws.proofs.Opening.{opening_cell}
@@ -20,6 +20,7 @@ use Rattle.container_laws.proofs.Core.{count_at, change_at}
 use Rattle.container_laws.proofs.Invariant.{moment}
 use Rattle.container_laws.proofs.Sights.{Sight, Rests, number_in, number_at}
 use Rattle.container_laws.proofs.Sound.{Opens}
+use Rattle.container_laws.proofs.Terms.{Terms}
 use Rattle.container_laws.proofs.Turns.{Now}
 
 -- ---- the words
@@ -57,8 +58,8 @@ module _ (z c : ℕ) where
       let long = first_long in
       get_or-append first (replicate rest 0) 0 (1 + i) (omega arith) ∙ opening_cell c i below
 
-  words_good : {T : Type 0} → 1 ≤ c → c < 2 ^ 32 → set.Good {T = T} Death c (opening_words z c) [] [] 0
-  words_good some few =
+  words_good : {T : Type 0} (by : GoneBy) → 1 ≤ c → c < 2 ^ 32 → set.Good {T = T} by c (opening_words z c) [] [] 0
+  words_good by some few =
       let long = first_long in
       let all_long = rest_long in
       record {
@@ -91,9 +92,9 @@ module _ {T : Type 0} (value : T) where
   shows_same (suc n) zero = refl
   shows_same (suc n) (suc i) = shows_same n i
 
-module _ {T : Type 0} (code : Coding T) (c : ℕ) (coded : IsCoding code) (some : 1 ≤ c) (few : c < 2 ^ 32) where
+module _ {T : Type 0} (terms : Terms) (code : Coding T) (c : ℕ) (coded : IsCoding code) (some : 1 ≤ c) (few : c < 2 ^ 32) where
   abbrev m : Now T
-  m = moment (opening_words code.size c) [] []
+  m = moment terms (opening_words code.size c) [] []
 
   number_is : (i : ℕ) → number_at (fresh code c) i ≡ 0
   number_is i = number_same (no_element code.value_of code.size) refl c i
@@ -105,12 +106,12 @@ module _ {T : Type 0} (code : Coding T) (c : ℕ) (coded : IsCoding code) (some 
   sight q =
       record {
         wide = length-replicate c (no_element code.value_of code.size);
-        below = λ i below. let zero_is = number_is i in omega arith;
-        change = omega arith;
+        below = λ kept i below. let zero_is = number_is i in omega arith;
+        change = λ kept. omega arith;
         copied = λ i value ne e. let none : None ≡ Some value = sym (shows_is i) ∙ e in absurd (cc);
         same = λ proper i below ne e. shows_is i;
         caught = λ proper same i ks below e. absurd (cc);
-        owed = λ same i ks below. inl (number_is i ∙ sym (no_count code.size c i below));
+        owed = λ kept same i ks below. inl (number_is i ∙ sym (no_count code.size c i below));
       }
 
   rests : (q : ℕ) → Rests code c m q (fresh code c)
@@ -123,18 +124,18 @@ module _ {T : Type 0} (code : Coding T) (c : ℕ) (coded : IsCoding code) (some 
         room = length-replicate {A = ℕ} 128 0;
       }
 
-  pub opens : Opens code c
+  pub opens : Opens terms code c
   opens =
       let long = first_long code.size c in
       let all_long = rest_long code.size c in
       record {
-        good = words_good code.size c some few;
+        good = words_good code.size c terms.by some few;
         elements =
             record {
               coded = coded;
               wide = omega arith;
-              counts = λ i below. let none = no_count code.size c i below in omega arith;
-              change = let none = no_change code.size c in omega arith;
+              counts = λ kept i below. let none = no_count code.size c i below in omega arith;
+              change = λ kept. let none = no_change code.size c in omega arith;
               within = λ i value e. absurd (cc);
               announced = λ proper i e. absurd (cc);
               whole = λ proper i below. ap (λ n. n % 2) (no_count code.size c i below);

@@ -1,10 +1,10 @@
 -- A proper run, of its events and the parties' latest calls; and that a run was proper a turn ago.
-use Rattle.std.proofs.Common.{◌≡◌, ◌≢◌, ⊎_elim, ℕ, Option, Some, None, List, ◌∷◌, ◌++◌, sym, ap, subst, ◌∙◌, append_assoc}
+use Rattle.std.proofs.Common.{◌≡◌, ◌≢◌, ⊎_elim, ℕ, Option, Some, None, List, ◌∷◌, ◌++◌, refl, sym, ap, subst, ◌∙◌, append_assoc}
 use Rattle.std.proofs.lemmas.Bool.{cases_eq}
 use Rattle.model.specs.declared.event.Event.{Event}
 use Rattle.model.specs.declared.party.Party.{Party}
 use Rattle.model.specs.Families.Container.Promises.{ReplacesRight, StandsProper, IsProperRun}
-use Rattle.model.specs.Families.Indices.Robust.Promises.{IsFilledWith, FreesRight, IsProper}
+use Rattle.model.specs.Families.Indices.Robust.Promises.{IsFilledWith}
 use Rattle.model.specs.Moments.{BeginsNone}
 use Rattle.model.specs.Parties.{party_of, put}
 use Rattle.model.specs.Reading.{Each, span_of}
@@ -12,16 +12,24 @@ use Rattle.model.specs.World.{Trace}
 use Rattle.model.proofs.Moments.{others_begin_none, held_later}
 use Rattle.model.proofs.Parties.{party_put_other}
 use Rattle.model.proofs.Readings.{AreOwn, span_of-other}
+use Rattle.robust_laws.specs.Gone.{IsHonestBy, IsCalm}
+use Rattle.robust_laws.proofs.Gone.{calm_less}
 use Rattle.container_laws.proofs.Replaces.{earlier}
+use Rattle.container_laws.proofs.Terms.{Terms, dying, Keeps}
 
 module _ {T : Type 0} where
-  pub record IsProperSoFar (latest : List (ℕ × Party T)) (events : List (Event T)) : Type 0 where
-    pub frees : IsProper events
+  pub record IsProperSoFar (terms : Terms) (latest : List (ℕ × Party T)) (events : List (Event T)) : Type 0 where
+    pub kept : Keeps terms
+    pub calm : IsCalm terms.by events
     pub replaced : Each ReplacesRight events
     pub replaces : (p : ℕ) → StandsProper p (party_of p latest) events
 
-  pub proper_so_far : (t : Trace T) → IsProperRun t → IsProperSoFar t.world.latest t.events
-  proper_so_far t h = record { frees = h.frees; replaced = h.replaced; replaces = h.replaces }
+  pub proper_on : (terms : Terms) (t : Trace T) → Keeps terms → IsHonestBy terms.by t.events → IsProperRun t → IsProperSoFar terms t.world.latest t.events
+  proper_on terms t kept honest h = record { kept = kept; calm = (h.frees, honest); replaced = h.replaced; replaces = h.replaces }
+
+  -- where owners die
+  pub proper_so_far : (t : Trace T) → IsProperRun t → IsProperSoFar dying t.world.latest t.events
+  proper_so_far t h = proper_on dying t refl tt h
 
   pub each_less : (P : List (Event T) → Event T → Type 0) (events es : List (Event T)) → Each P (events ++ es) → Each P events
   each_less P events es all before after e is = all before (after ++ es) e (ap (λ xs. xs ++ es) is ∙ append_assoc before (e ∷ after) es)
@@ -32,9 +40,9 @@ module _ {T : Type 0} where
   stands_less q (Some x) events es none same h =
       λ index owner value wrote span steps found. (earlier q index owner events es none (h index owner value wrote (same ∙ span) steps (held_later q (IsFilledWith owner index) events es none found))).may
 
-  module _ (p : ℕ) (y : Party T) (latest : List (ℕ × Party T)) (events es : List (Event T)) (own : AreOwn p es) where
+  module _ (terms : Terms) (p : ℕ) (y : Party T) (latest : List (ℕ × Party T)) (events es : List (Event T)) (own : AreOwn p es) where
     abbrev pub IsProperThen : Type 0
-    IsProperThen = IsProperSoFar (put p y latest) (events ++ es)
+    IsProperThen = IsProperSoFar terms (put p y latest) (events ++ es)
 
     others_less : IsProperThen → (q : ℕ) → q ≢ p → StandsProper q (party_of q latest) events
     others_less h q ne =
@@ -42,10 +50,11 @@ module _ {T : Type 0} where
         (subst (λ o. StandsProper q o (events ++ es)) (party_put_other q p y latest ne) (h.replaces q))
 
     -- a turn of a party of which this is so
-    pub proper_before : (IsProperThen → StandsProper p (party_of p latest) events) → IsProperThen → IsProperSoFar latest events
+    pub proper_before : (IsProperThen → StandsProper p (party_of p latest) events) → IsProperThen → IsProperSoFar terms latest events
     proper_before mine h =
         record {
-          frees = each_less FreesRight events es h.frees;
+          kept = h.kept;
+          calm = calm_less terms.by events es h.calm;
           replaced = each_less ReplacesRight events es h.replaced;
           replaces = λ q. ⊎_elim (λ e. subst (λ n. StandsProper n (party_of n latest) events) (sym e) (mine h)) (λ ne. others_less h q ne) (cases_eq q p);
         }

@@ -16,14 +16,14 @@ use Rattle.model.specs.declared.event.Event.{Event}
 use Rattle.model.specs.declared.event.Event.TheVariants.{FreedOf, Hidden}
 use Rattle.model.specs.declared.families.container.ContainerStart.TheVariants.{Recover}
 use Rattle.model.specs.declared.party.Party.{Party}
-use Rattle.model.specs.Families.Container.Promises.{WasShown, FreedRight}
+use Rattle.model.specs.Families.Container.Promises.{WasShown}
 use Rattle.model.specs.Families.Container.Reading.{Sees, Hides as HidesOne, acts}
 use Rattle.model.specs.Families.Indices.Robust.Promises.{cell_of, LivesToRelease}
-use Rattle.model.specs.Families.Indices.Robust.Reading.{Frees, Yes, filled_after, filled_of, is_dead, IsOneOf}
+use Rattle.model.specs.Families.Indices.Robust.Reading.{Frees, Yes, filled_after, filled_of, IsOneOf}
 use Rattle.model.specs.Families.Indices.Robust.Spans.{HasJustFreed}
 use Rattle.model.specs.Parties.{flight_of}
 use Rattle.model.specs.Turns.{words_after, step_count}
-use Rattle.robust_laws.specs.Gone.{Death}
+use Rattle.robust_laws.specs.Gone.{is_gone}
 use Rattle.robust_laws.proofs.Core.{cell}
 use Rattle.robust_laws.proofs.Deeds.{was_one, by_latest}
 use Rattle.robust_laws.proofs.Effects.{at_same, some_none, one_owner, both_ways, filled_by}
@@ -31,15 +31,17 @@ use Rattle.robust_laws.proofs.Effects as set_effects
 use Rattle.robust_laws.proofs.Frees as set_frees
 use Rattle.robust_laws.proofs.Gone.{calm_less}
 use Rattle.robust_laws.proofs.Invariant as set_invariant
+use Rattle.robust_laws.proofs.Invariant.{IsWorn}
 use Rattle.robust_laws.proofs.Stages.{exchanges, exchange_sets, fails_same}
+use Rattle.container_laws.specs.Gone.{FreedBy}
 use Rattle.container_laws.proofs.Core.{count_at}
 use Rattle.container_laws.proofs.HiddenKnows.{StillStands}
 use Rattle.container_laws.proofs.HiddenOn.{hidden_even, hidden_other, hidden_freed, hides_it}
 use Rattle.container_laws.proofs.Invariant.{Scene, Inv, Does, before, after, of_set, inv_of_set}
-use Rattle.container_laws.proofs.KeptLocks.{NoIndex, FilledBut, filled_calm}
+use Rattle.container_laws.proofs.KeptLocks.{NoIndex, FilledBut}
 use Rattle.container_laws.proofs.Knows.{Recovers, RecoverKnows, IsLong, Knows}
 use Rattle.container_laws.proofs.Left.{left_after, left_of}
-use Rattle.container_laws.proofs.RecoverParts.{none, hidden_still, as_recover, first, Few, then_at, stays_does, go_on, recs, fills_on, asked_on, told_none, comes_to_next}
+use Rattle.container_laws.proofs.RecoverParts.{fill_same, none, hidden_still, as_recover, first, Few, then_at, stays_does, go_on, recs, fills_on, asked_on, told_none, comes_to_next}
 use Rattle.container_laws.proofs.RecoverReads.{Here, Becomes, Goes, Course, course_calm, calm_recs, calm_on, index_at_least}
 use Rattle.container_laws.proofs.Recoveries.{rehidden, one_of_none, has_of_none, has_latest, was_act, course_then}
 use Rattle.container_laws.proofs.SetSteps.{rest_set, wide_set, frees}
@@ -72,7 +74,7 @@ module _ {T : Type 0} (scene : Scene T) (inv : Inv scene) (owner : ℕ) (mode : 
     stays_on next few at known =
         go_on scene inv owner mode fits room stage here room next ask back [] none_lengthens (stays_does scene inv owner mode fits room stage here (words_after ws ask) stays (then_at scene inv owner mode fits room stage here room next ask back) refl) tt few at known
 
-    pub stays_next : Few scene inv owner mode fits ask back 1 (index + 1) → Course scene inv owner mode fits index (index + 1) → FilledBut mode p owner NoIndex (events ++ []) → Becomes scene inv owner mode fits ask back [] room (recover_comes_to (first scene inv owner mode fits) (index + 1))
+    pub stays_next : Few scene inv owner mode fits ask back 1 (index + 1) → Course scene inv owner mode fits index (index + 1) → FilledBut (IsWorn scene.terms.by (words_after ws ask)) mode p owner NoIndex (events ++ []) → Becomes scene inv owner mode fits ask back [] room (recover_comes_to (first scene inv owner mode fits) (index + 1))
     stays_next few course fill =
         comes_to_next scene inv owner mode fits room stage here long ask back [] none_lengthens tt (λ y owe. stays_does scene inv owner mode fits room stage here (words_after ws ask) stays y owe) index few course.within
         (λ i low. course_calm scene inv owner mode fits index (index + 1) i (index + 1) course low (omega arith)) paid stays_recs fill
@@ -83,7 +85,7 @@ module _ {T : Type 0} (scene : Scene T) (inv : Inv scene) (owner : ℕ) (mode : 
   -- ---- the exchange of a cell
 
   module _ (room : rooms.Kept 128) (index count : ℕ) (here : Here scene inv owner mode fits room (recovers.TheVariants.EmptiesCell index count)) (long : IsLong room) (stands : RecoverAt c z (all scene) (done scene) owner mode (recovers.TheVariants.EmptiesCell index count))
-      (k : RecoverKnows code c owner mode room (recovers.TheVariants.EmptiesCell index count) (sees_now scene)) (s : steps ≤ 4 + z + index * for_index c z mode + backs * for_back c z mode) (f : FilledBut mode p owner NoIndex events) where
+      (k : RecoverKnows code c owner mode room (recovers.TheVariants.EmptiesCell index count) (sees_now scene)) (s : steps ≤ 4 + z + index * for_index c z mode + backs * for_back c z mode) (f : FilledBut (IsWorn scene.terms.by ws) mode p owner NoIndex events) where
     abbrev empty_it : Option Ask
     empty_it = Some (exchanges (cell_word index) owner empty)
 
@@ -105,7 +107,7 @@ module _ {T : Type 0} (scene : Scene T) (inv : Inv scene) (owner : ℕ) (mode : 
         (λ i low. course_calm scene inv owner mode fits index (index + 1) i (index + 1) stands.0 low (omega arith)) paid_now
         (λ y. recs scene inv owner mode fits room stage here empty_it false y [] tt tt none_lengthens goes (index + 1) (index + 1) (λ i. i ≡ index) none none none none k.1
         (asked_on scene inv owner mode fits room stage here empty_it false y [] tt tt none_lengthens goes (index + 1) k.1.asked) (told_none scene inv owner mode fits room stage here)
-        (λ i e. inl (λ filled. other (inv.good.cells index stands.0.within ∙ ap cell_of (subst (λ n. filled_of n events ≡ Some owner) e (subst (λ es. filled_of i es ≡ Some owner) (append-nil events) filled))))) (λ i e. absurd e) (hidden_still scene inv owner mode fits room stage here empty_it y k.1.hidden)) (filled_calm p owner mode NoIndex events f)
+        (λ i e. inl (λ filled. other (inv.good.cells index stands.0.within ∙ ap cell_of (subst (λ n. filled_of n events ≡ Some owner) e (subst (λ es. filled_of i es ≡ Some owner) (append-nil events) filled))))) (λ i e. absurd e) (hidden_still scene inv owner mode fits room stage here empty_it y k.1.hidden)) (fill_same scene inv owner mode fits empty_it same NoIndex f)
 
     module _ (is : cell ws index ≡ owner) where
       new : words_after ws empty_it ≡ set ws (cell_word index) empty
@@ -120,11 +122,11 @@ module _ {T : Type 0} (scene : Scene T) (inv : Inv scene) (owner : ℕ) (mode : 
       set_does : set_invariant.Does (of_set scene) (words_after ws empty_it) freeing
       set_does =
           set_frees.frees (of_set scene) (inv_of_set scene inv) (words_after ws empty_it) index owner stands.0.within filled (subst (LivesToRelease owner events) (sym here.span) tt)
-          (λ calm q ne o alive h. let same : owner ≡ o = one_owner (filled_of index events) owner o filled h.filled in both_ways (is_dead o events) alive (subst (λ n. is_dead n events ≡ true) same k.1.dead))
+          (λ calm q ne o alive h. let same : owner ≡ o = one_owner (filled_of index events) owner o filled h.filled in both_ways (is_gone scene.terms.by o events) alive (subst (λ n. is_gone scene.terms.by n events ≡ true) same k.1.dead))
           (λ calm o alive h.
-          let theirs = ((inv.good.owned (calm_less Death events freeing calm)).settled index o h).0 in
+          let theirs = ((inv.good.owned (calm_less scene.terms.by events freeing calm)).settled index o h).0 in
           let same : owner ≡ o = one_owner (filled_of index events) owner o filled theirs in
-          both_ways (is_dead o events) alive (subst (λ n. is_dead n events ≡ true) same k.1.dead))
+          both_ways (is_gone scene.terms.by o events) alive (subst (λ n. is_gone scene.terms.by n events ≡ true) same k.1.dead))
           new
 
       was_known : IsOneOf (Yes index owner) (all scene) ⊎ WasShown p index events
@@ -136,7 +138,7 @@ module _ {T : Type 0} (scene : Scene T) (inv : Inv scene) (owner : ℕ) (mode : 
           (rest_set scene inv (Recover owner mode) (recover_at c owner mode room (recovers.TheVariants.EmptiesCell index count)) tt here y (words_after ws empty_it) (cell_word index) empty (let below = stands.0.within in omega arith) new)
           (wide_set scene inv (Recover owner mode) (recover_at c owner mode room (recovers.TheVariants.EmptiesCell index count)) tt here y (words_after ws empty_it) (cell_word index) empty new)
           index owner set_does (was_proper scene (Recover owner mode) tt here.span (words_after ws empty_it) y freeing (refl, tt)) (λ was. owe)
-          (subst (FreedRight p index owner events) (sym here.span) (refl, k.1.dead, was_known))
+          (subst (FreedBy scene.terms.by p index owner events) (sym here.span) (refl, k.1.dead, was_known))
 
       recs_freed : (y : Party T) → Recovers code c owner (index + 1) none (StillStands code c index count (after scene (words_after ws empty_it) y freeing)) (then_sees scene empty_it false scene.states y freeing)
       recs_freed y =
@@ -153,7 +155,7 @@ module _ {T : Type 0} (scene : Scene T) (inv : Inv scene) (owner : ℕ) (mode : 
           rehidden code c owner (index + 1) none (StillStands code c index count (after scene (words_after ws empty_it) y freeing)) none (then_sees scene empty_it false scene.states y freeing) (recs_freed y)
           (hidden_even code c p owner index count (after scene (words_after ws empty_it) y freeing) (does y owe).changes.whole stands.0.within (even_is count t) (recs_freed y).hidden)
 
-      fills_freed : (y : Party T) → FilledBut mode p owner (λ i. i ≡ index) (events ++ freeing)
+      fills_freed : (y : Party T) → FilledBut (IsWorn scene.terms.by (words_after ws empty_it)) mode p owner (λ i. i ≡ index) (events ++ freeing)
       fills_freed y =
           fills_on scene inv owner mode fits room (recovers.TheVariants.EmptiesCell index count) here empty_it false y freeing (refl, tt) tt (λ start w. refl) set_does.goes NoIndex (λ i. i ≡ index)
           (λ i was. ⊎_elim (λ had. inl had) (λ e. let same : index ≡ i = cc in inr (sym same)) (was_one (Frees i owner) (Frees index owner) (all scene) was)) (λ i e. absurd e) f
@@ -179,7 +181,7 @@ module _ {T : Type 0} (scene : Scene T) (inv : Inv scene) (owner : ℕ) (mode : 
               recs_freed y,
               record {
                 within = stands.0.within;
-                below = let low = k.3 in let same = stays_count in omega arith;
+                below = λ kept. let low = k.3 kept in let same = stays_count in omega arith;
                 left = λ proper eq. fold-append (left_after index) true events freeing ∙ at_same index index true (left_of index events) refl;
               },
             ),
@@ -197,7 +199,7 @@ module _ {T : Type 0} (scene : Scene T) (inv : Inv scene) (owner : ℕ) (mode : 
   -- ---- what stands there is hidden
 
   module _ (room : rooms.Kept 128) (index count : ℕ) (here : Here scene inv owner mode fits room (recovers.TheVariants.Hides index count)) (long : IsLong room) (stands : RecoverAt c z (all scene) (done scene) owner mode (recovers.TheVariants.Hides index count))
-      (k : RecoverKnows code c owner mode room (recovers.TheVariants.Hides index count) (sees_now scene)) (s : steps ≤ 5 + z + index * for_index c z mode + backs * for_back c z mode) (f : FilledBut mode p owner (λ i. i ≡ index) events) where
+      (k : RecoverKnows code c owner mode room (recovers.TheVariants.Hides index count) (sees_now scene)) (s : steps ≤ 5 + z + index * for_index c z mode + backs * for_back c z mode) (f : FilledBut (IsWorn scene.terms.by ws) mode p owner (λ i. i ≡ index) events) where
     abbrev hide_it : Option Ask
     hide_it = Some (exchanges (count_word c index) count (one_more count))
 
@@ -243,4 +245,4 @@ module _ {T : Type 0} (scene : Scene T) (inv : Inv scene) (owner : ℕ) (mode : 
             let same = fails_same ws (count_word c index) count (one_more count) other in
             calm_on scene inv owner mode fits room (recovers.TheVariants.Hides index count) here long hide_it same false paid_hide room next (omega arith)
             (course_calm scene inv owner mode fits index (index + 1) index (index + 1) stands.0 stands.0.within (omega arith), just_on just)
-            (long, (paid_hide, calm_recs scene inv owner mode fits room (recovers.TheVariants.Hides index count) here long hide_it same false paid_hide (then_at scene inv owner mode fits room (recovers.TheVariants.Hides index count) here room next hide_it false) (index + 1) (rehidden code c owner (index + 1) none (StillStands code c index count (before scene)) none (sees_now scene) k.1 (hidden_other code c p owner index count (before scene) other k.1.hidden))), filled_calm p owner mode (λ i. i ≡ index) events f)
+            (long, (paid_hide, calm_recs scene inv owner mode fits room (recovers.TheVariants.Hides index count) here long hide_it same false paid_hide (then_at scene inv owner mode fits room (recovers.TheVariants.Hides index count) here room next hide_it false) (index + 1) (rehidden code c owner (index + 1) none (StillStands code c index count (before scene)) none (sees_now scene) k.1 (hidden_other code c p owner index count (before scene) other k.1.hidden))), fill_same scene inv owner mode fits hide_it same (λ i. i ≡ index) f)

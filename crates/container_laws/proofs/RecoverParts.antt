@@ -1,5 +1,5 @@
 -- What the steps of a recovery have in common: how it goes on, and how it comes to the next index.
-use Rattle.std.proofs.Common.{◌≡◌, ◌≢◌, ◌⊎◌, ⊎_elim, inl, inr, ℕ, ◌+◌, ◌*◌, ◌<◌, ◌≤◌, if◌then◌else◌, nat_lt, Bool, false, true, Option, Some, List, [], ◌++◌, refl, ap, subst, arith}
+use Rattle.std.proofs.Common.{◌≡◌, ◌≢◌, ◌⊎◌, ⊎_elim, inl, inr, ℕ, ◌+◌, ◌*◌, ◌<◌, ◌≤◌, if◌then◌else◌, nat_lt, Bool, false, true, Option, Some, List, [], ◌++◌, refl, sym, ap, subst, arith}
 use Rattle.std.specs.List.{AllByRecursion}
 use Rattle.std.proofs.lemmas.Bool.Decides.{nat_tests}
 use Rattle.steps.specs.declared.ask.Ask.{Ask}
@@ -36,13 +36,14 @@ use Rattle.model.specs.Step.{as_call}
 use Rattle.model.specs.Turns.{words_after, step_count}
 use Rattle.model.proofs.Readings.{AreOwn, AllFollow}
 use Rattle.robust_laws.proofs.Effects as set_effects
+use Rattle.robust_laws.proofs.Invariant.{IsWorn, worn_on}
 use Rattle.robust_laws.proofs.Knows.{Goes}
 use Rattle.container_laws.proofs.Effects.{calmly}
 use Rattle.container_laws.proofs.HiddenKnows.{HasHidden}
 use Rattle.container_laws.proofs.HiddenOn.{hidden_on}
 use Rattle.container_laws.proofs.Invariant.{Scene, Inv, before, after, AreAllRight, Does, of_set, inv_of_set, wrote_of}
 use Rattle.container_laws.proofs.Keeping.{shut_later}
-use Rattle.container_laws.proofs.KeptLocks.{NoIndex, FilledBut, filled_then}
+use Rattle.container_laws.proofs.KeptLocks.{NoIndex, FilledBut, filled_then, filled_calm}
 use Rattle.container_laws.proofs.Knows.{AskedBelow, Recovers, IsLong, Knows}
 use Rattle.container_laws.proofs.Recoveries.{one_of_none, has_of_none}
 use Rattle.container_laws.proofs.Recoveries as knowing
@@ -81,6 +82,15 @@ module _ {T : Type 0} (scene : Scene T) (inv : Inv scene) (owner : ℕ) (mode : 
   abbrev pub Few : Option Ask → Bool → ℕ → ℕ → Type 0
   Few ask back n index =
       steps + step_count ask ≤ n + index * for_index c z mode + backs_then scene back * for_back c z mode
+
+  -- a step that writes nothing leaves what it knows of its locks
+  pub fill_same : (ask : Option Ask) → words_after ws ask ≡ ws → (But : ℕ → Type 0) → FilledBut (IsWorn scene.terms.by ws) mode p owner But events → FilledBut (IsWorn scene.terms.by (words_after ws ask)) mode p owner But (events ++ [])
+  fill_same ask same But f =
+      filled_calm p owner (IsWorn scene.terms.by ws) (IsWorn scene.terms.by (words_after ws ask)) (λ end. subst (IsWorn scene.terms.by) (sym same) end) mode But events f
+
+  pub fill_stays : (ask : Option Ask) → set_effects.Stays (of_set scene) (words_after ws ask) → (But : ℕ → Type 0) → FilledBut (IsWorn scene.terms.by ws) mode p owner But events → FilledBut (IsWorn scene.terms.by (words_after ws ask)) mode p owner But (events ++ [])
+  fill_stays ask stays But f =
+      filled_calm p owner (IsWorn scene.terms.by ws) (IsWorn scene.terms.by (words_after ws ask)) (worn_on scene.terms.by ws (words_after ws ask) stays.leaves.stuck) mode But events f
 
   module _ (room : rooms.Kept 128) (stage : RecoverStage) (here : IsHere scene (Recover owner mode) (recover_at c owner mode room stage)) where
     abbrev pub then_at : rooms.Kept 128 → RecoverStage → Option Ask → Bool → Party T
@@ -129,9 +139,9 @@ module _ {T : Type 0} (scene : Scene T) (inv : Inv scene) (owner : ℕ) (mode : 
           k k' Was Now New But But' h asked told was new hidden
 
       -- of its locks
-      pub fills_on : (Was But : ℕ → Type 0) → ((i : ℕ) → IsOneOf (Frees i owner) (deeds_of p events ++ deeds es) → IsOneOf (Frees i owner) (deeds_of p events) ⊎ But i) → ((i : ℕ) → Was i → But i) → FilledBut mode p owner Was events → FilledBut mode p owner But (events ++ es)
+      pub fills_on : (Was But : ℕ → Type 0) → ((i : ℕ) → IsOneOf (Frees i owner) (deeds_of p events ++ deeds es) → IsOneOf (Frees i owner) (deeds_of p events) ⊎ But i) → ((i : ℕ) → Was i → But i) → FilledBut (IsWorn scene.terms.by ws) mode p owner Was events → FilledBut (IsWorn scene.terms.by (words_after ws ask)) mode p owner But (events ++ es)
       fills_on Was But split more h =
-          filled_then p owner mode Was But events es fresh (λ i was. split i (subst (IsOneOf (Frees i owner)) (deeds_more scene start here.span es own longer) was)) more (shut_later events es) h
+          filled_then p owner (IsWorn scene.terms.by ws) (IsWorn scene.terms.by (words_after ws ask)) (worn_on scene.terms.by ws (words_after ws ask) goes.stuck) mode Was But events es fresh (λ i was. split i (subst (IsOneOf (Frees i owner)) (deeds_more scene start here.span es own longer) was)) more (shut_later events es) h
 
       pub asked_on : (k : ℕ) → AskedBelow code c owner k (sees_now scene) → AskedBelow code c owner k (then_sees scene ask back scene.states y es)
       asked_on k h =
@@ -158,7 +168,7 @@ module _ {T : Type 0} (scene : Scene T) (inv : Inv scene) (owner : ℕ) (mode : 
     module _ (long : IsLong room) (ask : Option Ask) (back : Bool) (es : List (Event T)) (longer : Lengthens es) (stands : AllFollow (Stands promise c) (Open (Container (Recover owner mode)) (wrote_of p events)) es)
         (does : (y : Party T) → owes (flight_of (Some y.doing)) ≡ true → Does scene (words_after ws ask) scene.states y es) (index : ℕ) (few : Few ask back 1 (index + 1)) (below : index < c)
         (course : (i : ℕ) → i < c → IsInCourse c z (all scene ++ deeds es) (done scene ++ acts es) owner i (index + 1)) (paid : backs_then scene back + since_then scene ask ≤ changes_then scene ask)
-        (rec : (y : Party T) → Recovers code c owner (index + 1) none none (then_sees scene ask back scene.states y es)) (fill : FilledBut mode p owner NoIndex (events ++ es)) where
+        (rec : (y : Party T) → Recovers code c owner (index + 1) none none (then_sees scene ask back scene.states y es)) (fill : FilledBut (IsWorn scene.terms.by (words_after ws ask)) mode p owner NoIndex (events ++ es)) where
       pub comes_to_next : ShowsThen scene start ask back scene.states es (as_recover room (recover_comes_to first (index + 1)))
       comes_to_next = go (nat_lt (index + 1) c) refl
         where

@@ -27,12 +27,14 @@ use Rattle.model.specs.declared.party.Party.{Party}
 use Rattle.model.specs.Families.Container.Promises.{WasShown}
 use Rattle.model.specs.Families.Container.Reading.{Act, Copies, Sees, Has, act, acts, acts_of, seen_in, contents_of}
 use Rattle.model.specs.Families.Indices.Robust.Promises.{cell_of, IsFilledWith, IsUnlocked, HeldThrough, StillToFree}
-use Rattle.model.specs.Families.Indices.Robust.Reading.{Deed, Frees, Asks, Yes, deed, deeds, deeds_of, dead_after, filled_after, IsOneOf, asked_in}
+use Rattle.model.specs.Families.Indices.Robust.Reading.{Deed, Frees, Asks, Yes, deed, deeds, deeds_of, filled_after, IsOneOf, asked_in}
 use Rattle.model.specs.Families.Queues.Calls.{read_in, kept_at}
 use Rattle.model.specs.Reading.{Open, own_after}
 use Rattle.model.specs.Turns.{words_after, step_count}
 use Rattle.model.proofs.Moments.{held_now, held_later}
 use Rattle.model.proofs.Readings.{no_more}
+use Rattle.robust_laws.proofs.Gone.{gone_more}
+use Rattle.robust_laws.proofs.Invariant.{IsWorn}
 use Rattle.robust_laws.proofs.Core.{counter_of, cell}
 use Rattle.robust_laws.proofs.Deeds.{was_one, last_one}
 use Rattle.robust_laws.proofs.Effects.{filled_by, is_shut, unlocked}
@@ -46,9 +48,9 @@ use Rattle.container_laws.proofs.HiddenKnows.{RecoverCovers, HasHidden}
 use Rattle.container_laws.proofs.HiddenOn.{hidden_on, covers_on}
 use Rattle.container_laws.proofs.Invariant.{Scene, Inv, AreAllRight, before, after, of_set, inv_of_set, wrote_of}
 use Rattle.container_laws.proofs.Keeping.{shut_later}
-use Rattle.container_laws.proofs.KeptLocks.{NoIndex, FilledBut, filled_calm, filled_none}
+use Rattle.container_laws.proofs.KeptLocks.{NoIndex, FilledBut, filled_none}
 use Rattle.container_laws.proofs.Knows.{WasFilled, Copying, CheckPaid, Recovers, RecoverKnows, IsLong, Knows}
-use Rattle.container_laws.proofs.RecoverParts.{none, hidden_still, as_recover, first, then_at, reads_does, go_on, recs, fills_on, asked_on, asked_more, told_none, comes_to_next}
+use Rattle.container_laws.proofs.RecoverParts.{fill_same, none, hidden_still, as_recover, first, then_at, reads_does, go_on, recs, fills_on, asked_on, asked_more, told_none, comes_to_next}
 use Rattle.container_laws.proofs.Recoveries.{one_more_of, one_of_none, has_of_none, was_act, course_then}
 use Rattle.container_laws.proofs.Silent.{silent_set}
 use Rattle.container_laws.proofs.Stages.{IsHere, all, done, sees_now, then_sees, ShowsThen, StepOf, AnswerOf, Leads, none_lengthens, backs_then, since_then, changes_then, deeds_more, acts_more, was_proper}
@@ -120,12 +122,12 @@ module _ {T : Type 0} (scene : Scene T) (inv : Inv scene) (owner : ℕ) (mode : 
         go_on scene inv owner mode fits room stage here room' next ask back [] none_lengthens (reads_does scene inv owner mode fits room stage here (words_after ws ask) same y [] tt tt (right_none (words_after ws ask) y) refl) tt few at known
 
     pub calm_next : (index : ℕ) → steps + step_count ask ≤ 1 + (index + 1) * for_index c z mode + backs_then scene back * for_back c z mode → Course index index ⊎ Course index (index + 1) → ((y : Party T) → Recovers code c owner (index + 1) none none (then_sees scene ask back scene.states y []))
-        → FilledBut mode p owner NoIndex events → Becomes ask back [] room (recover_comes_to (first scene inv owner mode fits) (index + 1))
+        → FilledBut (IsWorn scene.terms.by ws) mode p owner NoIndex events → Becomes ask back [] room (recover_comes_to (first scene inv owner mode fits) (index + 1))
     calm_next index few course rec f =
         comes_to_next scene inv owner mode fits room stage here long ask back [] none_lengthens tt
         (λ y owe. reads_does scene inv owner mode fits room stage here (words_after ws ask) same y [] tt tt (right_none (words_after ws ask) y) owe)
         index few (⊎_elim (λ h. h.within) (λ h. h.within) course)
-        (λ i low. ⊎_elim (λ h. course_calm index index i (index + 1) h low (omega arith)) (λ h. course_calm index (index + 1) i (index + 1) h low (omega arith)) course) paid rec (filled_calm p owner mode NoIndex events f)
+        (λ i low. ⊎_elim (λ h. course_calm index index i (index + 1) h low (omega arith)) (λ h. course_calm index (index + 1) i (index + 1) h low (omega arith)) course) paid rec (fill_same scene inv owner mode fits ask same NoIndex f)
 
   -- ---- the counter
 
@@ -158,7 +160,7 @@ module _ {T : Type 0} (scene : Scene T) (inv : Inv scene) (owner : ℕ) (mode : 
               asked = subst (λ (d : List Deed). AreBelow 0 (asked_in (d ++ []))) (sym at.0) tt;
               freed = λ i was. let h = one_of_none (Frees i owner) (all scene) was in absurd (no_more h.before (Frees i owner) h.after (sym at.0 ∙ h.is));
             })
-            (long, (paid_on, calm_recs room recovers.TheVariants.LoadsCounter here long load_counter (loads_same ws 0) false paid_on y 0 now), filled_calm p owner mode NoIndex events (filled_none p owner mode NoIndex events at.0))
+            (long, (paid_on, calm_recs room recovers.TheVariants.LoadsCounter here long load_counter (loads_same ws 0) false paid_on y 0 now), fill_same scene inv owner mode fits load_counter (loads_same ws 0) NoIndex (filled_none p owner (IsWorn scene.terms.by ws) mode NoIndex events at.0))
         next open_now false t = let some = inv.good.some in let nothing : c ≤ 0 = grind (arith, nat_tests) in absurd (omega arith)
 
         go : (b : Bool) → (counter_of ws == locked) ≡ b → Leads scene (Recover owner mode) (Some (set_stages.loads 0)) false scene.states [] (as_recover scene inv owner mode fits room (if b then recover_ends (first scene inv owner mode fits) states.TheVariants.Locked else recover_comes_to (first scene inv owner mode fits) 0))
@@ -180,7 +182,7 @@ module _ {T : Type 0} (scene : Scene T) (inv : Inv scene) (owner : ℕ) (mode : 
   -- ---- a cell
 
   module _ (room : rooms.Kept 128) (index : ℕ) (here : Here room (recovers.TheVariants.LoadsCell index)) (long : IsLong room) (course : Course index index) (k : RecoverKnows code c owner mode room (recovers.TheVariants.LoadsCell index) (sees_now scene))
-      (s : steps ≤ 1 + index * for_index c z mode + backs * for_back c z mode) (f : FilledBut mode p owner NoIndex events) where
+      (s : steps ≤ 1 + index * for_index c z mode + backs * for_back c z mode) (f : FilledBut (IsWorn scene.terms.by ws) mode p owner NoIndex events) where
     abbrev load_cell : Option Ask
     load_cell = Some (set_stages.loads (cell_word index))
 
@@ -209,7 +211,7 @@ module _ {T : Type 0} (scene : Scene T) (inv : Inv scene) (owner : ℕ) (mode : 
                 calm_recs room (recovers.TheVariants.LoadsCell index) here long load_cell (loads_same ws (cell_word index)) false paid_cell y index k.1,
                 held_later p (IsFilledWith owner index) events [] tt (held_now p (IsFilledWith owner index) events (filled_by (of_set scene) (inv_of_set scene inv) index course.within owner fits is)),
               ),
-              filled_calm p owner mode NoIndex events f,
+              fill_same scene inv owner mode fits load_cell (loads_same ws (cell_word index)) NoIndex f,
             )
         go false t =
             let other : cell ws index ≢ owner = grind (arith, nat_tests) in
@@ -220,7 +222,7 @@ module _ {T : Type 0} (scene : Scene T) (inv : Inv scene) (owner : ℕ) (mode : 
   -- ---- the number of an element, loaded or found at a check
 
   module _ (room : rooms.Kept 128) (stage : RecoverStage) (index : ℕ) (here : Here room stage) (long : IsLong room) (course : Course index index) (rec : Recovers code c owner index none none (sees_now scene)) (filled : WasFilled owner index (sees_now scene))
-      (ask : Option Ask) (same : words_after ws ask ≡ ws) (back : Bool) (paid : backs_then scene back + since_then scene ask ≤ changes_then scene ask) (few : steps + step_count ask ≤ 3 + index * for_index c z mode + backs_then scene back * for_back c z mode) (f : FilledBut mode p owner NoIndex events) where
+      (ask : Option Ask) (same : words_after ws ask ≡ ws) (back : Bool) (paid : backs_then scene back + since_then scene ask ≤ changes_then scene ask) (few : steps + step_count ask ≤ 3 + index * for_index c z mode + backs_then scene back * for_back c z mode) (f : FilledBut (IsWorn scene.terms.by ws) mode p owner NoIndex events) where
     abbrev number : ℕ
     number = count_in code c (before scene) index
 
@@ -258,7 +260,7 @@ module _ {T : Type 0} (scene : Scene T) (inv : Inv scene) (owner : ℕ) (mode : 
                 (λ i said. ⊎_elim (λ yes. inl (inl (one_of_none (Yes i owner) (all scene) yes))) (λ seen. ⊎_elim (λ had. inl (inr had)) (λ e. let is : index ≡ i = cc in inr (sym is)) (was_act (Sees i) (Sees index) (done scene) seen)) said)
                 (λ i e. absurd e) (λ i e. inr e) (hidden_on scene (Recover owner mode) tt here.span owner (words_after ws ask) y showing (refl, tt) tt (λ start w. refl) (λ i was. one_of_none (Frees i owner) (all scene) was) rec.hidden),
             course.within,
-            let eq = same_number in omega arith,
+            λ kept. let eq = same_number in omega arith,
             λ holds filled. inl same_number,
           ),
           fills_on scene inv owner mode fits room stage here ask back y showing (refl, tt) tt (λ start w. refl) goes NoIndex NoIndex (λ i was. inl (one_of_none (Frees i owner) (all scene) was)) (λ i e. e) f,
@@ -275,10 +277,10 @@ module _ {T : Type 0} (scene : Scene T) (inv : Inv scene) (owner : ℕ) (mode : 
             inl (same_number, paid),
             calm_recs room stage here long ask same back paid y index rec,
             held_later p (IsFilledWith owner index) events [] tt filled,
-            copying_first code c (then_sees scene ask back scene.states y []) index number room.words course.within long (odd_is number odd) (let eq = same_number in omega arith),
+            copying_first code c (then_sees scene ask back scene.states y []) index number room.words course.within long (odd_is number odd) (λ kept. let eq = same_number in omega arith),
             λ holds filled. inl same_number,
           ),
-          filled_calm p owner mode NoIndex events f,
+          fill_same scene inv owner mode fits ask same NoIndex f,
         )
 
     -- its step, by the number
@@ -291,14 +293,14 @@ module _ {T : Type 0} (scene : Scene T) (inv : Inv scene) (owner : ℕ) (mode : 
         go false t = is_copied t
 
   pub count_step : (room : rooms.Kept 128) (index : ℕ) (here : Here room (recovers.TheVariants.LoadsCount index)) (long : IsLong room) (course : Course index index) (k : RecoverKnows code c owner mode room (recovers.TheVariants.LoadsCount index) (sees_now scene))
-      (s : steps ≤ 2 + index * for_index c z mode + backs * for_back c z mode) → FilledBut mode p owner NoIndex events → StepOf scene (Recover owner mode) (recover_at c owner mode room (recovers.TheVariants.LoadsCount index))
+      (s : steps ≤ 2 + index * for_index c z mode + backs * for_back c z mode) → FilledBut (IsWorn scene.terms.by ws) mode p owner NoIndex events → StepOf scene (Recover owner mode) (recover_at c owner mode room (recovers.TheVariants.LoadsCount index))
   count_step room index here long course k s f =
       sees_number room (recovers.TheVariants.LoadsCount index) index here long course k.1 k.2 (Some (set_stages.loads (count_word c index))) (loads_same ws (count_word c index)) false (let paid = k.0 in omega arith) (omega arith) f
 
   -- ---- a word of the element
 
   module _ (room : rooms.Kept 128) (index count at : ℕ) (here : Here room (recovers.TheVariants.LoadsWord index count at)) (long : IsLong room) (stands : RecoverAt c z (all scene) (done scene) owner mode (recovers.TheVariants.LoadsWord index count at))
-      (k : RecoverKnows code c owner mode room (recovers.TheVariants.LoadsWord index count at) (sees_now scene)) (s : steps ≤ 3 + at + index * for_index c z mode + backs * for_back c z mode) (f : FilledBut mode p owner NoIndex events) where
+      (k : RecoverKnows code c owner mode room (recovers.TheVariants.LoadsWord index count at) (sees_now scene)) (s : steps ≤ 3 + at + index * for_index c z mode + backs * for_back c z mode) (f : FilledBut (IsWorn scene.terms.by ws) mode p owner NoIndex events) where
     abbrev word : ℕ
     word = datum_in code c (before scene) index at
 
@@ -329,7 +331,7 @@ module _ {T : Type 0} (scene : Scene T) (inv : Inv scene) (owner : ℕ) (mode : 
           ⊎_elim (λ h. let paid = h.1 in inl (ap (λ w. count_at c w index) same_words ∙ h.0, omega arith)) (λ h. inr (omega arith)) k.0,
           calm_recs room (recovers.TheVariants.LoadsWord index count at) here long load_word same_words false paid_word y index k.1,
           held_later p (IsFilledWith owner index) events [] tt k.2,
-          subst (λ m. Copying code c index count room'.words m v') (sym is) (copying_more code c (sees_now scene) v' index count room.words at stands.2 inv.elements.coded.few same_words (was_proper scene (Recover owner mode) tt here.span (words_after ws load_word) y [] tt) k.3),
+          subst (λ m. Copying code c index count room'.words m v') (sym is) (copying_more code c (sees_now scene) v' index count room.words at stands.2 inv.elements.coded.few same_words (λ kept. kept) (was_proper scene (Recover owner mode) tt here.span (words_after ws load_word) y [] tt) k.3),
           covers_on scene (Recover owner mode) tt here.span owner (words_after ws load_word) y [] tt index count (ap (λ w. count_at c w index) same_words) (fold-append (filled_after index) None events []) k.4,
         )
 
@@ -342,18 +344,18 @@ module _ {T : Type 0} (scene : Scene T) (inv : Inv scene) (owner : ℕ) (mode : 
             let more : at + 1 < z = grind (arith, nat_tests) in
             calm_on room (recovers.TheVariants.LoadsWord index count at) here long load_word same_words false paid_word room' (recovers.TheVariants.LoadsWord index count (at + 1)) (omega arith)
             (course_calm index index index index stands.0 stands.0.within (omega arith), stands.1, more)
-            (long_word, knows_word (recovers.TheVariants.LoadsWord index count (at + 1)) (at + 1) refl, filled_calm p owner mode NoIndex events f)
+            (long_word, knows_word (recovers.TheVariants.LoadsWord index count (at + 1)) (at + 1) refl, fill_same scene inv owner mode fits load_word same_words NoIndex f)
         go false t =
             let last : z ≤ at + 1 = grind (arith, nat_tests) in
             let ats = stands.2 in
             calm_on room (recovers.TheVariants.LoadsWord index count at) here long load_word same_words false paid_word room' (recovers.TheVariants.ChecksCount index count) (omega arith)
             (course_calm index index index index stands.0 stands.0.within (omega arith), stands.1)
-            (long_word, knows_word (recovers.TheVariants.ChecksCount index count) z (omega arith), filled_calm p owner mode NoIndex events f)
+            (long_word, knows_word (recovers.TheVariants.ChecksCount index count) z (omega arith), fill_same scene inv owner mode fits load_word same_words NoIndex f)
 
   -- ---- its number is checked
 
   module _ (room : rooms.Kept 128) (index count : ℕ) (here : Here room (recovers.TheVariants.ChecksCount index count)) (long : IsLong room) (stands : RecoverAt c z (all scene) (done scene) owner mode (recovers.TheVariants.ChecksCount index count))
-      (k : RecoverKnows code c owner mode room (recovers.TheVariants.ChecksCount index count) (sees_now scene)) (s : steps ≤ 3 + z + index * for_index c z mode + backs * for_back c z mode) (f : FilledBut mode p owner NoIndex events) where
+      (k : RecoverKnows code c owner mode room (recovers.TheVariants.ChecksCount index count) (sees_now scene)) (s : steps ≤ 3 + z + index * for_index c z mode + backs * for_back c z mode) (f : FilledBut (IsWorn scene.terms.by ws) mode p owner NoIndex events) where
     abbrev check_it : Option Ask
     check_it = Some (exchanges (count_word c index) count count)
 
@@ -388,7 +390,7 @@ module _ {T : Type 0} (scene : Scene T) (inv : Inv scene) (owner : ℕ) (mode : 
               (
                 held_later p (IsFilledWith owner index) events (Copied p index value ∷ []) tt k.2,
                 held_later p IsUnlocked events (Copied p index value ∷ []) tt k.1.was_open,
-                fold-append (dead_after owner) false events (Copied p index value ∷ []) ∙ k.1.dead,
+                gone_more scene.terms.by owner events (Copied p index value ∷ []) k.1.dead,
               ),
               tt,
             ),
@@ -414,7 +416,7 @@ module _ {T : Type 0} (scene : Scene T) (inv : Inv scene) (owner : ℕ) (mode : 
                 (λ i e. absurd e) (λ i e. absurd e)
                 (hidden_on scene (Recover owner mode) tt here.span owner (words_after ws check_it) y asking (refl, (refl, tt)) tt asking_longer (λ i was. ⊎_elim (λ had. had) (λ e. absurd (cc)) (was_one (Frees i owner) (Asks index owner) (all scene) was)) k.1.hidden),
             stands.0.within,
-            let eq = ap (λ w. count_at c w index) same in let low = k.3.below in omega arith,
+            λ kept. let eq = ap (λ w. count_at c w index) same in let low = k.3.below kept in omega arith,
             record { before = done scene; is = acts_then },
             covers_on scene (Recover owner mode) tt here.span owner (words_after ws check_it) y asking (refl, (refl, tt)) index count (ap (λ w. count_at c w index) same) (fold-append (filled_after index) None events asking) k.4,
           ),
@@ -437,7 +439,7 @@ module _ {T : Type 0} (scene : Scene T) (inv : Inv scene) (owner : ℕ) (mode : 
   -- ---- it is told whether to free it
 
   module _ (room : rooms.Kept 128) (index count : ℕ) (stands : RecoverAt c z (all scene) (done scene) owner mode (recovers.TheVariants.Asks index count)) (here : Here room (recovers.TheVariants.Asks index count)) (long : IsLong room)
-      (k : RecoverKnows code c owner mode room (recovers.TheVariants.Asks index count) (sees_now scene)) (s : steps ≤ 4 + z + index * for_index c z mode + backs * for_back c z mode) (f : FilledBut mode p owner NoIndex events) where
+      (k : RecoverKnows code c owner mode room (recovers.TheVariants.Asks index count) (sees_now scene)) (s : steps ≤ 4 + z + index * for_index c z mode + backs * for_back c z mode) (f : FilledBut (IsWorn scene.terms.by ws) mode p owner NoIndex events) where
     abbrev telling : List (Event T)
     telling = Told p index owner ∷ []
 

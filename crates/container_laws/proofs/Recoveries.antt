@@ -13,11 +13,12 @@ use Rattle.model.specs.Families.Indices.Robust.Reading.{Deed, Frees, Asks, Yes, 
 use Rattle.model.specs.Moments.{BeginsNone}
 use Rattle.model.proofs.Moments.{held_later}
 use Rattle.model.proofs.Readings.{SplitAt, Last, Earlier, split_last}
+use Rattle.robust_laws.proofs.Gone.{gone_more, honest_less, stays_lost}
 use Rattle.robust_laws.proofs.Knows.{Goes}
 use Rattle.robust_laws.proofs.Past.{through_less}
 use Rattle.container_laws.proofs.Finds.{all_both, below_more, has_more}
 use Rattle.container_laws.proofs.HiddenKnows.{HasHidden}
-use Rattle.container_laws.proofs.Knows.{View, now, Dead, AskedBelow, GoneBut, Recovers}
+use Rattle.container_laws.proofs.Knows.{View, now, IsGone, AskedBelow, GoneBut, Recovers}
 use Rattle.container_laws.proofs.Standing.{AreBelow, AskedOrShown, IsInCourse}
 
 -- ---- what it has done
@@ -73,6 +74,7 @@ module _ {T : Type 0} (code : Coding T) (c owner : ℕ) (v : View T) (words' : L
   abbrev pub then_view : View T
   then_view =
       record {
+        terms = v.terms;
         words = words';
         states = states';
         latest = latest';
@@ -100,17 +102,17 @@ module _ {T : Type 0} (code : Coding T) (c owner : ℕ) (v : View T) (words' : L
       ⊎_elim (λ e. subst (λ n. IsOneOf (Asks n owner) (deeds_of p (events ++ es)) ⊎ WasShown p n (events ++ es)) (sym e) (here (subst (λ n. HeldThrough p (StillToFree p owner n) (events ++ es)) e through)))
       (λ ne. asked_then k h i (omega arith) through) (cases_eq i k)
 
-  pub gone_then : (Was Now New : ℕ → Type 0) → Dead owner v → GoneBut code c owner Was v → SplitsTold New → ((i : ℕ) → Was i → (filled_of i (v.events ++ es) ≢ Some owner) ⊎ Now i) → ((i : ℕ) → New i → (filled_of i (v.events ++ es) ≢ Some owner) ⊎ Now i) → GoneBut code c owner Now then_view
-  gone_then Was Now New dead h told was new i said =
+  pub gone_then : (Was Now New : ℕ → Type 0) → IsGone owner v → GoneBut code c owner Was v → SplitsTold New → ((i : ℕ) → Was i → (filled_of i (v.events ++ es) ≢ Some owner) ⊎ Now i) → ((i : ℕ) → New i → (filled_of i (v.events ++ es) ≢ Some owner) ⊎ Now i) → GoneBut code c owner Now then_view
+  gone_then Was Now New dead h told was new honest i said =
       ⊎_elim
-      (λ earlier. ⊎_elim (λ lost. inl (λ e. lost (goes.fills i owner dead e))) (λ exempt. was i exempt) (h i earlier))
+      (λ earlier. ⊎_elim (λ lost. inl (λ e. lost (stays_lost v.terms.by events es goes.fills i owner honest dead e))) (λ exempt. was i exempt) (h (honest_less v.terms.by events es honest) i earlier))
       (λ fresh. new i fresh)
       (told i (⊎_elim (λ yes. inl (subst (IsOneOf (Yes i owner)) deeds_more yes)) (λ shown. inr (subst (Has (Sees i)) acts_more shown)) said))
 
   pub recovers_then : (k k' : ℕ) (Was Now New But But' : ℕ → Type 0) → Recovers code c owner k Was But v → AskedBelow code c owner k' then_view → SplitsTold New → ((i : ℕ) → Was i → (filled_of i (v.events ++ es) ≢ Some owner) ⊎ Now i) → ((i : ℕ) → New i → (filled_of i (v.events ++ es) ≢ Some owner) ⊎ Now i) → HasHidden code c v.party owner But' (now then_view) → Recovers code c owner k' Now But' then_view
   recovers_then k k' Was Now New But But' h asked told was new hidden =
       record {
-        dead = goes.dead owner h.dead;
+        dead = gone_more v.terms.by owner events es h.dead;
         was_open = held_later p IsUnlocked events es none h.was_open;
         asked = asked;
         gone = gone_then Was Now New h.dead h.gone told was new;

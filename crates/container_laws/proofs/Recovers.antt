@@ -27,12 +27,12 @@ use Rattle.model.specs.declared.event.Event.TheVariants.{Locked, Finished}
 use Rattle.model.specs.declared.event.Start.TheVariants.{Container}
 use Rattle.model.specs.declared.families.container.ContainerStart.TheVariants.{Recover}
 use Rattle.model.specs.Families.Container.Bounds.{most_steps}
-use Rattle.model.specs.Families.Container.Promises.{HasRecovered, AnswersRight, promise}
+use Rattle.model.specs.Families.Container.Promises.{promise}
 use Rattle.model.specs.Families.Container.Reading.{Sees}
-use Rattle.model.specs.Families.Container.Recoveries.{UnlockedAtLast, FilledSinceEach}
+use Rattle.model.specs.Families.Container.Recoveries.{UnlockedAtLast}
 use Rattle.model.specs.Families.Indices.Reading.{locked_after, is_locked}
 use Rattle.model.specs.Families.Indices.Robust.Promises.{IsFilled, IsUnlocked, StillToFree}
-use Rattle.model.specs.Families.Indices.Robust.Reading.{Frees, Yes, Locks, filled_of, holder_of, is_dead, deeds_of}
+use Rattle.model.specs.Families.Indices.Robust.Reading.{Frees, Yes, Locks, filled_of, holder_of, deeds_of}
 use Rattle.model.specs.Families.Indices.Robust.Spans.{HasJustFreed}
 use Rattle.model.specs.Families.Indices.Robust.Steps.{locked_by}
 use Rattle.model.specs.Promises.Spans.{Stands}
@@ -40,12 +40,13 @@ use Rattle.model.specs.Reading.{Open}
 use Rattle.model.specs.Turns.{old_of, words_after}
 use Rattle.model.proofs.Moments.{held_now}
 use Rattle.model.proofs.Readings.{AllFollow}
-use Rattle.robust_laws.specs.Gone.{Death, IsCalm}
+use Rattle.robust_laws.specs.Gone.{is_gone, IsCalm}
 use Rattle.robust_laws.proofs.Core.{counter_of}
 use Rattle.robust_laws.proofs.Counting.{times_below}
 use Rattle.robust_laws.proofs.Deeds.{was_one}
 use Rattle.robust_laws.proofs.Effects.{some_none, is_shut, unlocked}
 use Rattle.robust_laws.proofs.Effects as set_effects
+use Rattle.robust_laws.proofs.Invariant.{IsWorn, worn_on}
 use Rattle.robust_laws.proofs.Knows as set_knows
 use Rattle.robust_laws.proofs.Locks as set_locks
 use Rattle.robust_laws.proofs.Parts.{raise_ask, lock_ask, raise_step, lock_step, IsSaid, none_beyond}
@@ -53,13 +54,15 @@ use Rattle.robust_laws.proofs.Past.{through_now}
 use Rattle.robust_laws.proofs.Stages.{loads_same}
 use Rattle.robust_laws.proofs.Stages as set_stages
 use Rattle.robust_laws.proofs.Standing.{raise_number, lock_number, LockAt}
+use Rattle.container_laws.specs.Gone.{HasRecoveredBy, FilledSinceEachBy, AnswersBy}
+use Rattle.container_laws.proofs.Answers.{each_on}
 use Rattle.container_laws.proofs.HiddenKnows.{HasHidden}
 use Rattle.container_laws.proofs.HiddenOn.{hidden_on}
 use Rattle.container_laws.proofs.Invariant.{Scene, Inv, after, of_set, inv_of_set, wrote_of}
 use Rattle.container_laws.proofs.Keeping.{shut_later}
-use Rattle.container_laws.proofs.KeptLocks.{NoIndex, FilledBut, FoundFilled, filled_calm, filled_locked, filled_last, filled_each}
+use Rattle.container_laws.proofs.KeptLocks.{NoIndex, FilledBut, FoundFilled, filled_locked, filled_worn, filled_last, filled_each}
 use Rattle.container_laws.proofs.Knows.{RecoverSays, RecoverKnows, IsLong, Knows}
-use Rattle.container_laws.proofs.RecoverParts.{none, hidden_still, as_recover, first, Few, then_at, recs, asked_on, comes_to_next}
+use Rattle.container_laws.proofs.RecoverParts.{fill_same, fill_stays, none, hidden_still, as_recover, first, Few, then_at, recs, asked_on, comes_to_next}
 use Rattle.container_laws.proofs.RecoverEnds.{stays_recs, stays_on, stays_next, just_on, empties_step, hides_step}
 use Rattle.container_laws.proofs.RecoverReads.{Here, Becomes, Course, course_calm, calm_on, back_at_least, index_at_least, counter_step, cell_step, count_step, word_step, check_step, decided}
 use Rattle.container_laws.proofs.Recoveries.{has_of_none, course_then}
@@ -86,7 +89,7 @@ module _ {T : Type 0} (scene : Scene T) (inv : Inv scene) (owner : ℕ) (mode : 
   -- ---- the raise of the counter
 
   module _ (room : rooms.Kept 128) (index : ℕ) (raise : Raise) (here : Here scene inv owner mode fits room (recovers.TheVariants.Raises index raise)) (long : IsLong room) (course : Course scene inv owner mode fits index (index + 1)) (just : HasJustFreed (all scene))
-      (k : RecoverKnows code c owner mode room (recovers.TheVariants.Raises index raise) (sees_now scene)) (s : steps ≤ 6 + z + raise_number raise + index * for_index c z mode + backs * for_back c z mode) (f : FilledBut mode p owner (λ i. i ≡ index) events) where
+      (k : RecoverKnows code c owner mode room (recovers.TheVariants.Raises index raise) (sees_now scene)) (s : steps ≤ 6 + z + raise_number raise + index * for_index c z mode + backs * for_back c z mode) (f : FilledBut (IsWorn scene.terms.by ws) mode p owner (λ i. i ≡ index) events) where
     abbrev raises_to : Option Ask → Bool → After Raise ReleaseState → Type 0
     raises_to ask back r =
         Leads scene (Recover owner mode) ask back scene.states [] (as_recover scene inv owner mode fits room (recover_raised (first scene inv owner mode fits) index mode r))
@@ -95,16 +98,16 @@ module _ {T : Type 0} (scene : Scene T) (inv : Inv scene) (owner : ℕ) (mode : 
     this = recovers.TheVariants.Raises index raise
 
     -- it locks in the mode for that alone
-    by_mode : (m : ReleaseMode) → mode ≡ m → (ask : Option Ask) → set_effects.Stays (of_set scene) (words_after ws ask) → backs_then scene false + since_then scene ask ≤ changes_then scene ask → Few scene inv owner mode fits ask false (8 + z) index
-        → Leads scene (Recover owner mode) ask false scene.states [] (as_recover scene inv owner mode fits room (recover_raised (first scene inv owner mode fits) index m (Done states.TheVariants.Unlocked)))
-    by_mode Default is ask stays paid few =
+    by_mode : (m : ReleaseMode) → mode ≡ m → (ask : Option Ask) (back : Bool) → set_effects.Stays (of_set scene) (words_after ws ask) → backs_then scene back + since_then scene ask ≤ changes_then scene ask → Few scene inv owner mode fits ask back (8 + z) index
+        → Leads scene (Recover owner mode) ask back scene.states [] (as_recover scene inv owner mode fits room (recover_raised (first scene inv owner mode fits) index m (Done states.TheVariants.Unlocked)))
+    by_mode Default is ask back stays paid few =
         let wide = index_at_least c z mode in
-        stays_next scene inv owner mode fits room this here long ask false stays paid index k.1 (omega arith) course (subst (λ m. FilledBut m p owner NoIndex (events ++ [])) (sym is) tt)
-    by_mode LockIfLastIndex is ask stays paid few =
-        let y = then_at scene inv owner mode fits room this here room (recovers.TheVariants.Locks index first_lock) ask false in
-        stays_on scene inv owner mode fits room this here long ask false stays paid index k.1 (recovers.TheVariants.Locks index first_lock) (omega arith)
+        stays_next scene inv owner mode fits room this here long ask back stays paid index k.1 (omega arith) course (subst (λ m. FilledBut (IsWorn scene.terms.by (words_after ws ask)) m p owner NoIndex (events ++ [])) (sym is) tt)
+    by_mode LockIfLastIndex is ask back stays paid few =
+        let y = then_at scene inv owner mode fits room this here room (recovers.TheVariants.Locks index first_lock) ask back in
+        stays_on scene inv owner mode fits room this here long ask back stays paid index k.1 (recovers.TheVariants.Locks index first_lock) (omega arith)
         (course_calm scene inv owner mode fits index (index + 1) index (index + 1) course course.within (omega arith), just_on scene inv owner mode fits just, is, tt)
-        (long, (paid, stays_recs scene inv owner mode fits room this here long ask false stays paid index k.1 y, tt), (filled_calm p owner mode (λ i. i ≡ index) events f, tt))
+        (long, (paid, stays_recs scene inv owner mode fits room this here long ask back stays paid index k.1 y, tt), (fill_stays scene inv owner mode fits ask stays (λ i. i ≡ index) f, tt))
 
     raises_step : raises_to (Some (raise_ask raise)) (raise_goes_back raise (counter_of ws)) (raise_after raise (counter_of ws))
     raises_step =
@@ -117,7 +120,7 @@ module _ {T : Type 0} (scene : Scene T) (inv : Inv scene) (owner : ℕ) (mode : 
         let y = then_at scene inv owner mode fits room this here room (recovers.TheVariants.Raises index (raises.TheVariants.ExchangesCounter number)) ask back in
         stays_on scene inv owner mode fits room this here long ask back stays paid index k.1 (recovers.TheVariants.Raises index (raises.TheVariants.ExchangesCounter number)) (omega arith)
         (course_calm scene inv owner mode fits index (index + 1) index (index + 1) course course.within (omega arith), just_on scene inv owner mode fits just)
-        (long, (subst (λ es. set_knows.Holding number (set_stages.seen (of_set scene) ask back es)) (sym (append-nil events)) held, stays_recs scene inv owner mode fits room this here long ask back stays paid index k.1 y), filled_calm p owner mode (λ i. i ≡ index) events f))
+        (long, (subst (λ es. set_knows.Holding number (set_stages.seen (of_set scene) ask back es)) (sym (append-nil events)) held, stays_recs scene inv owner mode fits room this here long ask back stays paid index k.1 y), fill_stays scene inv owner mode fits ask stays (λ i. i ≡ index) f))
         (λ ask back same shut paid few.
         let low = few (6 + z + index * for_index c z mode) (for_back c z mode) (omega arith) (omega arith) in
         let wide = index_at_least c z mode in
@@ -132,10 +135,12 @@ module _ {T : Type 0} (scene : Scene T) (inv : Inv scene) (owner : ℕ) (mode : 
           ),
           tt,
         ))
-        (λ ask back same worn end paid few. absurd worn)
+        (λ ask back same worn end paid few.
+        let low = few (6 + z + index * for_index c z mode) (for_back c z mode) (omega arith) (omega arith) in
+        by_mode mode refl ask back (set_effects.stays_same (of_set scene) (inv_of_set scene inv) (words_after ws ask) same) paid (omega arith))
         (λ ask less new paid few.
         let low = few (6 + z + index * for_index c z mode) (for_back c z mode) (omega arith) (omega arith) in
-        by_mode mode refl ask (set_effects.stays_raised (of_set scene) (inv_of_set scene inv) (words_after ws ask) less new) paid (omega arith))
+        by_mode mode refl ask false (set_effects.stays_raised (of_set scene) (inv_of_set scene inv) (words_after ws ask) less new) paid (omega arith))
       where
         held_is : (ask : Option Ask) (back : Bool) (number : ℕ) → set_knows.Holding number (set_stages.sees (of_set scene) ask back) → backs_then scene back + since_then scene ask ≤ changes_then scene ask
         held_is ask back number held = ⊎_elim (λ h. let paid = h.1 in omega arith) (λ h. omega arith) held.paid
@@ -143,7 +148,7 @@ module _ {T : Type 0} (scene : Scene T) (inv : Inv scene) (owner : ℕ) (mode : 
   -- ---- the lock
 
   module _ (room : rooms.Kept 128) (index : ℕ) (lock : Lock) (here : Here scene inv owner mode fits room (recovers.TheVariants.Locks index lock)) (long : IsLong room) (course : Course scene inv owner mode fits index (index + 1)) (just : HasJustFreed (all scene)) (may_lock : mode ≡ LockIfLastIndex) (at : LockAt c lock)
-      (k : RecoverKnows code c owner mode room (recovers.TheVariants.Locks index lock) (sees_now scene)) (s : steps ≤ 8 + z + lock_number c lock + index * for_index c z mode + backs * for_back c z mode) (f : FilledBut mode p owner (λ i. i ≡ index) events × set_knows.LockSays c (FoundFilled p events) lock) where
+      (k : RecoverKnows code c owner mode room (recovers.TheVariants.Locks index lock) (sees_now scene)) (s : steps ≤ 8 + z + lock_number c lock + index * for_index c z mode + backs * for_back c z mode) (f : FilledBut (IsWorn scene.terms.by ws) mode p owner (λ i. i ≡ index) events × set_knows.LockSays c (FoundFilled p events) lock) where
     abbrev locks_to : Option Ask → Bool → List (Event T) → After Lock ReleaseState → Type 0
     locks_to ask back did r =
         Leads scene (Recover owner mode) ask back scene.states (did ++ []) (as_recover scene inv owner mode fits room (recover_locked (first scene inv owner mode fits) index r))
@@ -171,7 +176,7 @@ module _ {T : Type 0} (scene : Scene T) (inv : Inv scene) (owner : ℕ) (mode : 
     abbrev locking : List (Event T)
     locking = Locked p ∷ []
 
-    locks_set : (ask : Option Ask) → (IsCalm Death events → (i : ℕ) → holder_of i events ≡ None) → counter_of ws < greatest → words_after ws ask ≡ set ws 0 locked → backs_then scene false + since_then scene ask ≤ changes_then scene ask → Few scene inv owner mode fits ask false 1 (index + 1)
+    locks_set : (ask : Option Ask) → (IsCalm scene.terms.by events → (i : ℕ) → holder_of i events ≡ None) → counter_of ws < greatest → words_after ws ask ≡ set ws 0 locked → backs_then scene false + since_then scene ask ≤ changes_then scene ask → Few scene inv owner mode fits ask false 1 (index + 1)
         → locks_to ask false locking (Done states.TheVariants.Locked)
     locks_set ask nobody less new paid few =
         let set_does = set_locks.locks (of_set scene) (inv_of_set scene inv) (words_after ws ask) [] set_effects.quiet_none tt tt tt nobody less new in
@@ -188,7 +193,7 @@ module _ {T : Type 0} (scene : Scene T) (inv : Inv scene) (owner : ℕ) (mode : 
         (λ i said. inl (⊎_elim (λ yes. ⊎_elim (λ had. inl had) (λ e. absurd (cc)) (was_one (Yes i owner) Locks (all scene) yes)) (λ seen. inr (has_of_none (Sees i) (done scene) seen)) said))
         (λ i e. absurd e) (λ i e. absurd e)
         (hidden_on scene (Recover owner mode) tt here.span owner (words_after ws ask) y locking (refl, tt) tt (λ start w. refl) (λ i was. ⊎_elim (λ had. had) (λ e. absurd (cc)) (was_one (Frees i owner) Locks (all scene) was)) k.1.hidden))
-        (filled_locked p owner mode NoIndex (events ++ locking) (fold-append locked_after false events locking))
+        (filled_locked p owner (IsWorn scene.terms.by (words_after ws ask)) mode NoIndex (events ++ locking) (fold-append locked_after false events locking))
 
     locks_step : locks_to (Some (lock_ask lock)) (lock_goes_back lock (old_of ws (Some (lock_ask lock)))) (locked_by p lock (old_of ws (Some (lock_ask lock)))) (lock_after c lock (old_of ws (Some (lock_ask lock))))
     locks_step =
@@ -201,14 +206,17 @@ module _ {T : Type 0} (scene : Scene T) (inv : Inv scene) (owner : ℕ) (mode : 
         let y = then_at scene inv owner mode fits room locks_at here room (recovers.TheVariants.Locks index next) ask back in
         stays_on scene inv owner mode fits room locks_at here long ask back stays paid index k.1 (recovers.TheVariants.Locks index next) (omega arith)
         (course_calm scene inv owner mode fits index (index + 1) index (index + 1) course course.within (omega arith), just_on scene inv owner mode fits just, may_lock, next_at)
-        (long, (paid_calm next ask back held, stays_recs scene inv owner mode fits room locks_at here long ask back stays paid index k.1 y, scanned_calm next ask back scanned), (filled_calm p owner mode (λ i. i ≡ index) events f.0, subst (λ es. set_knows.LockSays c (FoundFilled p es) next) (sym (append-nil events)) says)))
+        (long, (paid_calm next ask back held, stays_recs scene inv owner mode fits room locks_at here long ask back stays paid index k.1 y, scanned_calm next ask back scanned), (fill_stays scene inv owner mode fits ask stays (λ i. i ≡ index) f.0, subst (λ es. set_knows.LockSays c (FoundFilled p es) next) (sym (append-nil events)) says)))
         (λ ask same shut paid few.
         let low = few (8 + z + index * for_index c z mode) (for_back c z mode) (omega arith) (omega arith) in
-        stays_next scene inv owner mode fits room locks_at here long ask false (set_effects.stays_same (of_set scene) (inv_of_set scene inv) (words_after ws ask) same) paid index k.1 (omega arith) course (filled_calm p owner mode NoIndex events (filled_locked p owner mode NoIndex events (is_shut (of_set scene) (inv_of_set scene inv) shut))))
+        stays_next scene inv owner mode fits room locks_at here long ask false (set_effects.stays_same (of_set scene) (inv_of_set scene inv) (words_after ws ask) same) paid index k.1 (omega arith) course (fill_same scene inv owner mode fits ask same NoIndex (filled_locked p owner (IsWorn scene.terms.by ws) mode NoIndex events (is_shut (of_set scene) (inv_of_set scene inv) shut))))
         (λ filled ask stays open_now more says paid few.
         let low = few (8 + z + index * for_index c z mode) (for_back c z mode) (omega arith) (omega arith) in
-        stays_next scene inv owner mode fits room locks_at here long ask false stays paid index k.1 (omega arith) course (filled_calm p owner mode NoIndex events (filled_last p owner mode NoIndex events (says more))))
-        (λ ask stays open_now worn paid few. absurd worn)
+        stays_next scene inv owner mode fits room locks_at here long ask false stays paid index k.1 (omega arith) course (fill_stays scene inv owner mode fits ask stays NoIndex (filled_last p owner (IsWorn scene.terms.by ws) mode NoIndex events (says more))))
+        (λ ask stays open_now worn paid few.
+        let low = few (8 + z + index * for_index c z mode) (for_back c z mode) (omega arith) (omega arith) in
+        stays_next scene inv owner mode fits room locks_at here long ask false stays paid index k.1 (omega arith) course
+        (filled_worn p owner (IsWorn scene.terms.by (words_after ws ask)) mode NoIndex (events ++ []) worn))
         (λ ask nobody less new paid few.
         let low = few (8 + z + index * for_index c z mode) (for_back c z mode) (omega arith) (omega arith) in
         locks_set ask nobody less new paid (omega arith))
@@ -230,22 +238,26 @@ module _ {T : Type 0} (scene : Scene T) (inv : Inv scene) (owner : ℕ) (mode : 
   -- ---- the second look at the counter
 
   module _ (room : rooms.Kept 128) (here : Here scene inv owner mode fits room recovers.TheVariants.LoadsCounterAgain) (long : IsLong room) (freed : RecoverAt c z (all scene) (done scene) owner mode recovers.TheVariants.LoadsCounterAgain)
-      (k : RecoverKnows code c owner mode room recovers.TheVariants.LoadsCounterAgain (sees_now scene)) (s : steps ≤ 1 + c * for_index c z mode + backs * for_back c z mode) (f : FilledBut mode p owner NoIndex events) where
+      (k : RecoverKnows code c owner mode room recovers.TheVariants.LoadsCounterAgain (sees_now scene)) (s : steps ≤ 1 + c * for_index c z mode + backs * for_back c z mode) (f : FilledBut (IsWorn scene.terms.by ws) mode p owner NoIndex events) where
     abbrev load_again : Option Ask
     load_again = Some (set_stages.loads 0)
 
     paid_again : backs_then scene false + since_then scene load_again ≤ changes_then scene load_again
     paid_again = let paid = k.0 in omega arith
 
-    recovered : HasRecovered p owner events
+    recovered : HasRecoveredBy scene.terms.by p owner events
     recovered =
         record {
-          gone = λ i told. ⊎_elim (λ gone. gone) (λ never. absurd never) (k.1.gone i told);
+          gone = λ honest i told. ⊎_elim (λ gone. gone) (λ never. absurd never) (k.1.gone honest i told);
           asked = λ i through.
               ⊎_elim (λ below. k.1.asked i below through)
               (λ beyond. ⊎_elim (λ filled. some_none (filled_of i events) owner (none_beyond (of_set scene) (inv_of_set scene inv) i beyond) filled) (λ was_freed. freed i was_freed) (through_now p (StillToFree p owner i) events through))
               (cases_lt i c);
         }
+
+    -- the load leaves the counter
+    each_again : FilledSinceEachBy (IsWorn scene.terms.by ws) mode p owner events → FilledSinceEachBy (IsWorn scene.terms.by (words_after ws load_again)) mode p owner events
+    each_again h = each_on (IsWorn scene.terms.by ws) (IsWorn scene.terms.by (words_after ws load_again)) (λ end. subst (IsWorn scene.terms.by) (sym (loads_same ws 0)) end) mode p owner events h
 
     hidden_again : (state : ReleaseState) → HasHidden code c p owner none (after scene (words_after ws load_again) (then_at scene inv owner mode fits room recovers.TheVariants.LoadsCounterAgain here room (recovers.TheVariants.AddsChange state) load_again false) [])
     hidden_again state = hidden_still scene inv owner mode fits room recovers.TheVariants.LoadsCounterAgain here load_again (then_at scene inv owner mode fits room recovers.TheVariants.LoadsCounterAgain here room (recovers.TheVariants.AddsChange state) load_again false) k.1.hidden
@@ -263,7 +275,7 @@ module _ {T : Type 0} (scene : Scene T) (inv : Inv scene) (owner : ℕ) (mode : 
             let free : is_locked events ≡ false = unlocked (of_set scene) (inv_of_set scene inv) open_now in
             let now : UnlockedAtLast p events = held_now p (λ part. IsUnlocked part × (deeds_of p part ≡ deeds_of p events)) events (free, refl) in
             calm_on scene inv owner mode fits room recovers.TheVariants.LoadsCounterAgain here long load_again (loads_same ws 0) false paid_again room (recovers.TheVariants.AddsChange states.TheVariants.Unlocked) (omega arith) tt
-            (long, (paid_again, subst (λ es. (is_dead owner es ≡ true) × UnlockedAtLast p es × HasRecovered p owner es × FilledSinceEach mode p owner es) (sym (append-nil events)) (k.1.dead, now, recovered, filled_each p owner mode events free f), hidden_again states.TheVariants.Unlocked), tt)
+            (long, (paid_again, subst (λ es. (is_gone scene.terms.by owner es ≡ true) × UnlockedAtLast p es × HasRecoveredBy scene.terms.by p owner es × FilledSinceEachBy (IsWorn scene.terms.by (words_after ws load_again)) mode p owner es) (sym (append-nil events)) (k.1.dead, now, recovered, each_again (filled_each p owner (IsWorn scene.terms.by ws) mode events free f)), hidden_again states.TheVariants.Unlocked), tt)
 
   -- ---- the change is counted, and the call ends
 
@@ -272,9 +284,12 @@ module _ {T : Type 0} (scene : Scene T) (inv : Inv scene) (owner : ℕ) (mode : 
     abbrev end_it : Option Ask
     end_it = Some (adds_one (change_word c))
 
-    answers_right : (state : ReleaseState) → RecoverSays code c owner mode state (sees_now scene) → AnswersRight c events (Finished p (Container (Recover owner mode)) (answers.State state))
+    counter_stays : counter_of ws ≡ greatest → counter_of (words_after ws end_it) ≡ greatest
+    counter_stays end = (leaves_behind (of_set scene) (inv_of_set scene inv) (words_after ws end_it) (change_word c) _ (omega arith) (adds_to_change scene inv)).stuck end
+
+    answers_right : (state : ReleaseState) → RecoverSays code c owner mode state (sees_now scene) → AnswersBy scene.terms.by (IsWorn scene.terms.by (words_after ws end_it)) c events (Finished p (Container (Recover owner mode)) (answers.State state))
     answers_right states.TheVariants.Locked h = h
-    answers_right states.TheVariants.Unlocked h = (h.1, h.2, h.3)
+    answers_right states.TheVariants.Unlocked h = (h.1, h.2, each_on (IsWorn scene.terms.by ws) (IsWorn scene.terms.by (words_after ws end_it)) (worn_on scene.terms.by ws (words_after ws end_it) counter_stays) mode p owner events h.3)
 
     end_step : StepOf scene (Recover owner mode) (recover_at c owner mode room (recovers.TheVariants.AddsChange state))
     end_step =

@@ -35,12 +35,12 @@ use Rattle.model.specs.declared.families.container.calls.ContainerFlight.{Contai
 use Rattle.model.specs.declared.families.container.calls.ContainerFlight as calls
 use Rattle.model.specs.declared.party.Party.{Party}
 use Rattle.model.specs.Families.Container.Calls.{place_of, removed}
-use Rattle.model.specs.Families.Container.Promises.{FreedRight, AnswersRight, promise}
+use Rattle.model.specs.Families.Container.Promises.{promise}
 use Rattle.model.specs.Families.Container.Reading.{Act, contents_after}
 use Rattle.model.specs.Families.Container.Spans.{HasDone}
 use Rattle.model.specs.Families.Indices.Reading.{locked_after, is_locked}
 use Rattle.model.specs.Families.Indices.Robust.Promises.{IsUnlocked, LivesToRelease, MayGiveBack}
-use Rattle.model.specs.Families.Indices.Robust.Reading.{Deed, Frees, Locks, deeds, filled_of, holder_of, settled_of, is_dead, IsOneOf}
+use Rattle.model.specs.Families.Indices.Robust.Reading.{Deed, Frees, Locks, deeds, filled_of, holder_of, settled_of, IsOneOf}
 use Rattle.model.specs.Families.Queues.Calls.{as_it_is}
 use Rattle.model.specs.Moments.{SinceBegin}
 use Rattle.model.specs.Parties.{put}
@@ -50,7 +50,8 @@ use Rattle.model.specs.Step.{as_call}
 use Rattle.model.specs.Turns.{words_after, step_count}
 use Rattle.model.proofs.Moments.{held_now}
 use Rattle.model.proofs.Readings.{AllFollow, no_more}
-use Rattle.robust_laws.specs.Gone.{Death, is_gone, IsCalm}
+use Rattle.robust_laws.specs.Gone.{GoneBy, Word, is_gone, GivesBackRight, IsHonest, IsCalm}
+use Rattle.robust_laws.proofs.Gone.{lives_freed}
 use Rattle.robust_laws.proofs.Core.{counter_of}
 use Rattle.robust_laws.proofs.Deeds.{was_one}
 use Rattle.robust_laws.proofs.Effects as set_effects
@@ -61,12 +62,13 @@ use Rattle.robust_laws.proofs.Locks as set_locks
 use Rattle.robust_laws.proofs.Stages.{loads_same}
 use Rattle.robust_laws.proofs.Stages as set_stages
 use Rattle.robust_laws.proofs.Standing.{release_at, release_number, ReleaseAt}
+use Rattle.container_laws.specs.Gone.{FreedBy, AnswersBy}
 use Rattle.container_laws.proofs.Core.{count_at}
 use Rattle.container_laws.proofs.Effects.{calmly}
 use Rattle.container_laws.proofs.HiddenKnows.{RemoveCovers, StillStands, HasHidden, no_index}
 use Rattle.container_laws.proofs.HiddenRemoves.{total_is, hides_step, end_step}
 use Rattle.container_laws.proofs.HiddenOn.{hidden_even, hidden_calm, stands_calm, hidden_on, stands_on, hidden_freed}
-use Rattle.container_laws.proofs.Invariant.{Scene, Inv, Does, before, after, of_set, inv_of_set, wrote_of, view}
+use Rattle.container_laws.proofs.Invariant.{Scene, Inv, ActsFor, Does, before, after, of_set, inv_of_set, wrote_of, view}
 use Rattle.container_laws.proofs.Knows.{View, HasLeft, ReleaseHides, ReleaseLeft, RemoveSays, RemoveKnows, IsPaid, Knows}
 use Rattle.container_laws.proofs.Left.{left_after, left_of}
 use Rattle.container_laws.proofs.SetSteps.{rest_set, wide_set, frees, locks}
@@ -74,6 +76,7 @@ use Rattle.container_laws.proofs.Silent.{silently}
 use Rattle.container_laws.proofs.Stages.{IsHere, all, done, sees_now, then_sees, StepOf, Leads, none_lengthens, party_then, since_then, changes_then, backs_then, goes_on, goes_calmly, ends, owes_none, was_proper, was_proper_calmly, does_with}
 use Rattle.container_laws.proofs.Standing.{remove_at, remove_number, release_total, RemoveAt, place_is}
 use Rattle.container_laws.proofs.Steps.{calm_none, right_none}
+use Rattle.container_laws.proofs.Terms.{Keeps}
 use Rattle.container_laws.proofs.Turns.{remove_owes, count_in}
 use Rattle.container_laws.proofs.Writing.{even_is, odd_is}
 
@@ -83,11 +86,11 @@ refused_done : (T : Type 0) (index owner : ℕ) (mode : ReleaseMode) (deeds : Li
 refused_done T index owner Default deeds acts h = h
 refused_done T index owner LockIfLastIndex deeds acts h = h
 
-refused_right : {T : Type 0} (c p index owner : ℕ) (mode : ReleaseMode) (events : List (Event T)) → (c ≤ index) ⊎ (filled_of index events ≢ Some owner) → AnswersRight c events (Finished p (Container (Remove index owner mode)) (answers.NotRemoved ContainerHandleNotOwnedByContainer))
-refused_right c p index owner Default events h = h
-refused_right c p index owner LockIfLastIndex events h = h
+refused_right : {T : Type 0} (by : GoneBy) (worn : Type 0) (c p index owner : ℕ) (mode : ReleaseMode) (events : List (Event T)) → (c ≤ index) ⊎ (filled_of index events ≢ Some owner) → AnswersBy by worn c events (Finished p (Container (Remove index owner mode)) (answers.NotRemoved ContainerHandleNotOwnedByContainer))
+refused_right by worn c p index owner Default events h = h
+refused_right by worn c p index owner LockIfLastIndex events h = h
 
-module _ {T : Type 0} (scene : Scene T) (inv : Inv scene) (index owner : ℕ) (mode : ReleaseMode) (fits : owner < empty) (alive : is_dead owner scene.events ≡ false) (below : index < scene.capacity) where
+module _ {T : Type 0} (scene : Scene T) (inv : Inv scene) (index owner : ℕ) (mode : ReleaseMode) (fits : owner < empty) (acts : ActsFor scene owner) (below : index < scene.capacity) where
   open scene use {coding as code, capacity as c, party as p, steps as steps, backs as backs, events as events, latest as latest}
 
   abbrev ws : List ℕ
@@ -118,7 +121,7 @@ module _ {T : Type 0} (scene : Scene T) (inv : Inv scene) (index owner : ℕ) (m
 
   abbrev SeesCalmly : RemoveStage → Option Ask → Bool → View T
   SeesCalmly next ask back =
-      view (words_after ws ask) scene.states (put p (then_at next ask back) latest) events p (since_then scene ask) (changes_then scene ask) (backs_then scene back)
+      view scene.terms (words_after ws ask) scene.states (put p (then_at next ask back) latest) events p (since_then scene ask) (changes_then scene ask) (backs_then scene back)
 
   given_is : ◌≡◌ {A = GiveBack} (record { index = index; owner = owner; mode = mode }) (record { index = place_of c index; owner = owner; mode = mode })
   given_is = ap (λ n. record { index = n; owner = owner; mode = mode }) (sym (place_is c index below))
@@ -147,17 +150,20 @@ module _ {T : Type 0} (scene : Scene T) (inv : Inv scene) (index owner : ℕ) (m
       let most = total_is c z index owner mode (backs_then scene false) T in
       ends scene start (answers.NotRemoved ContainerHandleNotOwnedByContainer) ask false scene.states [] here.span none_lengthens
       (silently scene inv (words_after ws ask) same y es (tt, tt) (refl, tt) start (at_stage stage) tt here (was_proper scene start tt here.span (words_after ws ask) y es (refl, tt)) (owes_none scene start (at_stage stage) y here owes)
-      (record { asks = (tt, tt); recovers = (tt, tt); answers = (refused_right c p index owner mode events (inr other), tt); contains = λ h. (tt, tt); places = λ h. (tt, tt) }))
+      (record { asks = (tt, tt); recovers = (tt, tt); answers = (refused_right scene.terms.by (set_invariant.IsWorn scene.terms.by (words_after ws ask)) c p index owner mode events (inr other), tt); contains = λ h. (tt, tt); places = λ h. (tt, tt) }))
       ((refl, refused_done T index owner mode (all scene) (done scene) none), tt) (omega arith) (omega arith)
 
   -- ---- the release
 
   module _ (count : ℕ) (stage : ReleaseStage) (here : Here (removes.TheVariants.Releases count stage)) (now_at : ReleaseAt c index owner mode (all scene) stage) (nothing : done scene ≡ []) (left : ReleaseLeft code c index count stage (sees_now scene)) (hiding : ReleaseHides code c index owner count stage (sees_now scene)) where
     lives : LivesToRelease owner events (span_of p events)
-    lives = subst (LivesToRelease owner events) (sym here.span) alive
+    lives = subst (LivesToRelease owner events) (sym here.span) acts.alive
 
-    began : IsCalm Death (events ++ FreedOf p index owner ∷ []) → (is_gone Death owner events ≡ false) × SinceBegin p (λ part since. settled_of index part ≡ Some owner) events
-    began calm = (alive, subst (MayGiveBack p index events) here.span (calm.0 events [] (FreedOf p index owner) refl))
+    gives_back : IsHonest (events ++ FreedOf p index owner ∷ []) → is_gone Word owner events ≡ false
+    gives_back honest = subst (GivesBackRight owner events) here.span (honest events [] (FreedOf p index owner) refl)
+
+    began : IsCalm scene.terms.by (events ++ FreedOf p index owner ∷ []) → (is_gone scene.terms.by owner events ≡ false) × SinceBegin p (λ part since. settled_of index part ≡ Some owner) events
+    began calm = (lives_freed scene.terms.by p index owner events acts.alive gives_back calm.1, subst (MayGiveBack p index events) here.span (calm.0 events [] (FreedOf p index owner) refl))
 
     abbrev Lead : Option Ask → Bool → List (Event T) → After set_calls.Release Released → Type 0
     Lead ask back did a =
@@ -172,7 +178,7 @@ module _ {T : Type 0} (scene : Scene T) (inv : Inv scene) (index owner : ℕ) (m
         let same : count_at c (words_after ws ask) index ≡ count_in code c (before scene) index = stays.others (count_word c index) (omega arith) in
         record {
           within = h.within;
-          below = let low = h.below in omega arith;
+          below = λ kept. let low = h.below kept in omega arith;
           left = λ holds is. h.left (was_proper_calmly scene start tt here.span (then_at next ask back) holds) (sym same ∙ is);
         }
 
@@ -191,10 +197,10 @@ module _ {T : Type 0} (scene : Scene T) (inv : Inv scene) (index owner : ℕ) (m
         same : count_at c (words_after ws ask) index ≡ count_in code c (before scene) index
         same = stays.others (count_word c index) (omega arith)
 
-        low : (s : ReleaseStage) → ReleaseAt c index owner mode (all scene) s → ReleaseLeft code c index count s (sees_now scene) → count ≤ count_at c (words_after ws ask) index
-        low releases.TheVariants.EmptiesCell at h = let was = h.1 in let eq = same in omega arith
-        low (releases.TheVariants.Raises raise) at h = let was = h.below in let eq = same in omega arith
-        low (releases.TheVariants.Locks lock) at h = let was = h.below in let eq = same in omega arith
+        low : (s : ReleaseStage) → ReleaseAt c index owner mode (all scene) s → ReleaseLeft code c index count s (sees_now scene) → Keeps scene.terms → count ≤ count_at c (words_after ws ask) index
+        low releases.TheVariants.EmptiesCell at h kept = let was = h.1 kept in let eq = same in omega arith
+        low (releases.TheVariants.Raises raise) at h kept = let was = h.below kept in let eq = same in omega arith
+        low (releases.TheVariants.Locks lock) at h kept = let was = h.below kept in let eq = same in omega arith
     left_next (releases.TheVariants.Raises raise) ask back stays at = left_calm (removes.TheVariants.Releases count (releases.TheVariants.Raises raise)) ask back stays (has_left at)
     left_next (releases.TheVariants.Locks lock) ask back stays at = left_calm (removes.TheVariants.Releases count (releases.TheVariants.Locks lock)) ask back stays (has_left at.2)
 
@@ -230,22 +236,17 @@ module _ {T : Type 0} (scene : Scene T) (inv : Inv scene) (index owner : ℕ) (m
     none_stands freed t = hidden_even code c p owner index count (before scene) inv.elements.whole below (even_is count t) (stands_still freed)
 
     -- what the end of the release says
-    says_now : (words' : List ℕ) (m : ReleaseMode) → mode ≡ m → (state : ReleaseState) → Ends (of_set scene) (inv_of_set scene inv) index owner mode fits below lives began 1 words' m state → RemoveSays code c index owner m state (sees_now scene)
-    says_now words' Default is states.TheVariants.Locked why = absurd why
-    says_now words' Default is states.TheVariants.Unlocked why = tt
-    says_now words' LockIfLastIndex is states.TheVariants.Locked why = why
-    says_now words' LockIfLastIndex is states.TheVariants.Unlocked why = (held_now p IsUnlocked events why.0, ⊎_elim (λ worn. absurd worn) (λ filled. filled) why.1)
+    says_now : (next : RemoveStage) (ask : Option Ask) (back : Bool) (m : ReleaseMode) (state : ReleaseState) → Ends (of_set scene) (inv_of_set scene inv) index owner mode fits below lives began 1 (words_after ws ask) m state → RemoveSays code c index owner m state (SeesCalmly next ask back)
+    says_now next ask back Default states.TheVariants.Locked why = absurd why
+    says_now next ask back Default states.TheVariants.Unlocked why = tt
+    says_now next ask back LockIfLastIndex states.TheVariants.Locked why = why
+    says_now next ask back LockIfLastIndex states.TheVariants.Unlocked why = (held_now p IsUnlocked events why.0, why.1)
 
     done_now : (words' : List ℕ) (m : ReleaseMode) (state : ReleaseState) → Ends (of_set scene) (inv_of_set scene inv) index owner mode fits below lives began 1 words' m state → all scene ≡ Frees index owner ∷ [] → HasDone {T = T} (Remove index owner m) (answers.State state) (all scene) []
     done_now words' Default states.TheVariants.Locked why freed = absurd why
     done_now words' Default states.TheVariants.Unlocked why freed = freed
     done_now words' LockIfLastIndex states.TheVariants.Locked why freed = inl freed
     done_now words' LockIfLastIndex states.TheVariants.Unlocked why freed = freed
-
-    says_calm : (m : ReleaseMode) (state : ReleaseState) (v' : View T) → v'.events ≡ events → v'.party ≡ p → RemoveSays code c index owner m state (sees_now scene) → RemoveSays code c index owner m state v'
-    says_calm m states.TheVariants.Locked v' same party h = rw same h
-    says_calm Default states.TheVariants.Unlocked v' same party h = tt
-    says_calm LockIfLastIndex states.TheVariants.Unlocked v' same party h = rw (same, party) h
 
     -- the release has ended with this state
     released : (state : ReleaseState) (ask : Option Ask) (back : Bool) → set_effects.Stays (of_set scene) (words_after ws ask) → Ends (of_set scene) (inv_of_set scene inv) index owner mode fits below lives began 1 (words_after ws ask) mode state → all scene ≡ Frees index owner ∷ []
@@ -255,13 +256,13 @@ module _ {T : Type 0} (scene : Scene T) (inv : Inv scene) (index owner : ℕ) (m
         go : (b : Bool) → is_even count ≡ b → Leads scene start ask back scene.states [] (as_remove (if b then GoOn (at_remove first (removes.TheVariants.AddsChange state)) else GoOn (at_remove first (removes.TheVariants.Hides count state))))
         go true t =
             stays_on this (removes.TheVariants.AddsChange state) here refl ask back stays (omega arith) (below, done_now (words_after ws ask) mode state why freed)
-            (paid, says_calm mode state (SeesCalmly (removes.TheVariants.AddsChange state) ask back) refl refl (says_now (words_after ws ask) mode refl state why), hidden_calm scene start tt here.span owner (words_after ws ask) (then_at (removes.TheVariants.AddsChange state) ask back) (none_stands freed t))
+            (paid, says_now (removes.TheVariants.AddsChange state) ask back mode state why, hidden_calm scene start tt here.span owner (words_after ws ask) (then_at (removes.TheVariants.AddsChange state) ask back) (none_stands freed t))
         go false t =
             stays_on this (removes.TheVariants.Hides count state) here refl ask back stays (omega arith) (below, done_now (words_after ws ask) mode state why freed, subst (IsOneOf (Frees index owner)) (sym freed) (record { before = []; after = []; is = refl }), nothing, odd_is count t)
-            (paid, says_calm mode state (SeesCalmly (removes.TheVariants.Hides count state) ask back) refl refl (says_now (words_after ws ask) mode refl state why), left_calm (removes.TheVariants.Hides count state) ask back stays (has_left freed), stands_calm scene start tt here.span owner (words_after ws ask) (then_at (removes.TheVariants.Hides count state) ask back) index count (stays.others (count_word c index) (omega arith)) (stands_still freed))
+            (paid, says_now (removes.TheVariants.Hides count state) ask back mode state why, left_calm (removes.TheVariants.Hides count state) ask back stays (has_left freed), stands_calm scene start tt here.span owner (words_after ws ask) (then_at (removes.TheVariants.Hides count state) ask back) index count (stays.others (count_word c index) (omega arith)) (stands_still freed))
 
     -- and with the lock
-    locked_by : (ask : Option Ask) → mode ≡ LockIfLastIndex → (IsCalm Death events → (i : ℕ) → holder_of i events ≡ None) → counter_of ws < greatest → words_after ws ask ≡ set ws 0 locked → all scene ≡ Frees index owner ∷ [] → backs_then scene false + since_then scene ask ≤ changes_then scene ask
+    locked_by : (ask : Option Ask) → mode ≡ LockIfLastIndex → (IsCalm scene.terms.by events → (i : ℕ) → holder_of i events ≡ None) → counter_of ws < greatest → words_after ws ask ≡ set ws 0 locked → all scene ≡ Frees index owner ∷ [] → backs_then scene false + since_then scene ask ≤ changes_then scene ask
         → steps + step_count ask ≤ 1 + release_total c index owner mode (backs_then scene false) → Lead ask false (Locked p ∷ []) (Done (Ok states.TheVariants.Locked))
     locked_by ask may_lock nobody less new freed paid few = go (is_even count) refl
       where
@@ -288,7 +289,7 @@ module _ {T : Type 0} (scene : Scene T) (inv : Inv scene) (index owner : ℕ) (m
             let same : count_at c (words_after ws ask) index ≡ count_in code c (before scene) index = rest_set scene inv start (at_stage this) tt here y (words_after ws ask) 0 locked (omega arith) new (count_word c index) (omega arith) in
             record {
               within = h.within;
-              below = let low = h.below in omega arith;
+              below = λ kept. let low = h.below kept in omega arith;
               left = λ holds is. fold-append (left_after index) true events (Locked p ∷ []) ∙ h.left (was_proper scene start tt here.span (words_after ws ask) y (Locked p ∷ []) (refl, tt) holds) (sym same ∙ is);
             }
 
@@ -324,7 +325,7 @@ module _ {T : Type 0} (scene : Scene T) (inv : Inv scene) (index owner : ℕ) (m
               let same : count_at c (words_after ws ask) index ≡ count_in code c (before scene) index = rest (count_word c index) (omega arith) in
               goes_on scene start (at_stage next) ask false scene.states es here.span (λ start w. refl)
               (frees scene inv start (at_stage this) tt here y (words_after ws ask) rest (wide_set scene inv start (at_stage this) tt here y (words_after ws ask) (cell_word index) empty new) index owner does
-              (was_proper scene start tt here.span (words_after ws ask) y es (refl, tt)) (owes_none scene start (at_stage this) y here refl) (subst (FreedRight p index owner events) (sym here.span) tt))
+              (was_proper scene start tt here.span (words_after ws ask) y es (refl, tt)) (owes_none scene start (at_stage this) y here refl) (subst (FreedBy scene.terms.by p index owner events) (sym here.span) tt))
               ((refl, refl, none), tt) (omega arith) (refl, given_is, fits, (below, ap (λ d. d ++ Frees index owner ∷ []) none, ap (λ (d : List (Act T)). d ++ []) nothing)) (
                 known,
                 record {
@@ -332,20 +333,20 @@ module _ {T : Type 0} (scene : Scene T) (inv : Inv scene) (index owner : ℕ) (m
                   below = low same;
                   left = λ holds is. fold-append (left_after index) true events es ∙ set_effects.at_same index index true (left_of index events) refl;
                 },
-                hidden_freed scene start tt here.span owner inv index count below (words_after ws ask) y same (λ holds i was. absurd (no_more was.before (Frees i owner) was.after (sym none ∙ was.is))) (λ earlier holds. covers none earlier alive (began (holds.frees, tt)).1),
+                hidden_freed scene start tt here.span owner inv index count below (words_after ws ask) y same (λ holds i was. absurd (no_more was.before (Frees i owner) was.after (sym none ∙ was.is))) (λ earlier holds. covers none earlier (acts.stays earlier.kept) (began holds.calm).1),
               );
           refused = λ ask same other none paid few. refuses this here refl ask same other none (omega arith) few;
           ended = λ state ask back stays why freed paid few. released state ask back stays why freed paid few;
           locks = λ ask may_lock nobody less new freed paid few. locked_by ask may_lock nobody less new freed paid few;
         }
       where
-        low : {n : ℕ} → n ≡ count_in code c (before scene) index → count ≤ n
-        low {n} same = go stage now_at left
+        low : {n : ℕ} → n ≡ count_in code c (before scene) index → Keeps scene.terms → count ≤ n
+        low {n} same kept = go stage now_at left
           where
             go : (s : ReleaseStage) → ReleaseAt c index owner mode (all scene) s → ReleaseLeft code c index count s (sees_now scene) → count ≤ n
-            go releases.TheVariants.EmptiesCell at h = let was = h.1 in omega arith
-            go (releases.TheVariants.Raises raise) at h = let was = h.below in omega arith
-            go (releases.TheVariants.Locks lock) at h = let was = h.below in omega arith
+            go releases.TheVariants.EmptiesCell at h = let was = h.1 kept in omega arith
+            go (releases.TheVariants.Raises raise) at h = let was = h.below kept in omega arith
+            go (releases.TheVariants.Locks lock) at h = let was = h.below kept in omega arith
 
     release_step : set_knows.Knows c (release_at c index owner mode stage) (set_stages.now (of_set scene)) → steps ≤ 1 + release_number c mode stage backs → StepOf scene start (at_stage (removes.TheVariants.Releases count stage))
     release_step k s = held_step (of_set scene) (inv_of_set scene inv) index owner mode fits below lives began 1 Lead caller stage now_at k s
@@ -364,11 +365,11 @@ module _ {T : Type 0} (scene : Scene T) (inv : Inv scene) (index owner : ℕ) (m
         let next = removes.TheVariants.Releases number releases.TheVariants.EmptiesCell in
         let same = loads_same ws (count_word c index) in
         stays_on removes.TheVariants.LoadsCount next here refl load_it false (set_effects.stays_same (of_set scene) (inv_of_set scene inv) (words_after ws load_it) same) (omega arith) (below, none, nothing)
-        (record { paid = let paid = k.paid in omega arith; scanned = tt; owns = k.owns; says = tt; gone = tt }, (below, let eq : count_at c (words_after ws load_it) index ≡ number = ap (λ w. count_at c w index) same in omega arith), λ holds lives since. inl (ap (λ w. count_at c w index) same))
+        (record { paid = let paid = k.paid in omega arith; scanned = tt; owns = k.owns; says = tt; gone = tt }, (below, λ kept. let eq : count_at c (words_after ws load_it) index ≡ number = ap (λ w. count_at c w index) same in omega arith), λ holds lives since. inl (ap (λ w. count_at c w index) same))
 
 -- ---- any step of a remove
 
-module _ {T : Type 0} (scene : Scene T) (inv : Inv scene) (index owner : ℕ) (mode : ReleaseMode) (fits : owner < empty) (alive : is_dead owner scene.events ≡ false) where
+module _ {T : Type 0} (scene : Scene T) (inv : Inv scene) (index owner : ℕ) (mode : ReleaseMode) (fits : owner < empty) (acts : ActsFor scene owner) where
   open scene use {coding as code, capacity as c, party as p, steps as steps, backs as backs, events as events}
 
   abbrev Moves : RemoveStage → ℕ → Type 0
@@ -383,16 +384,16 @@ module _ {T : Type 0} (scene : Scene T) (inv : Inv scene) (index owner : ℕ) (m
       let es = Finished p (Container start) (answers.NotRemoved ContainerHandleNotOwnedByContainer) ∷ [] in
       ends scene start (answers.NotRemoved ContainerHandleNotOwnedByContainer) None false scene.states [] here.span none_lengthens
       (silently scene inv scene.words refl y es (tt, tt) (refl, tt) start (remove_at c at owner mode removes.TheVariants.Refuses) tt here (was_proper scene start tt here.span scene.words y es (refl, tt)) (owes_none scene start (remove_at c at owner mode removes.TheVariants.Refuses) y here refl)
-      (record { asks = (tt, tt); recovers = (tt, tt); answers = (refused_right c p index owner mode events (inl beyond), tt); contains = λ h. (tt, tt); places = λ h. (tt, tt) }))
+      (record { asks = (tt, tt); recovers = (tt, tt); answers = (refused_right scene.terms.by (set_invariant.IsWorn scene.terms.by scene.words) c p index owner mode events (inl beyond), tt); contains = λ h. (tt, tt); places = λ h. (tt, tt) }))
       ((refl, refused_done T index owner mode (all scene) (done scene) none), tt) (let most = total_is c code.size index owner mode (backs + 0) T in omega arith) (omega arith)
 
   pub remove_step : (stage : RemoveStage) → RemoveAt c code.size (all scene) (done scene) index owner mode stage → Moves stage (place_of c index)
   remove_step removes.TheVariants.Refuses at = past (place_of c index) at.0 at.1
   remove_step removes.TheVariants.LoadsCount at =
-      subst (Moves removes.TheVariants.LoadsCount) (sym (place_is c index at.0)) (λ here k s. loads_step scene inv index owner mode fits alive at.0 here at.1 at.2 k s)
+      subst (Moves removes.TheVariants.LoadsCount) (sym (place_is c index at.0)) (λ here k s. loads_step scene inv index owner mode fits acts at.0 here at.1 at.2 k s)
   remove_step (removes.TheVariants.Releases count stage) at =
-      subst (Moves (removes.TheVariants.Releases count stage)) (sym (place_is c index at.0)) (λ here k s. release_step scene inv index owner mode fits alive at.0 count stage here at.1 at.2 k.1 k.2 k.0 s)
+      subst (Moves (removes.TheVariants.Releases count stage)) (sym (place_is c index at.0)) (λ here k s. release_step scene inv index owner mode fits acts at.0 count stage here at.1 at.2 k.1 k.2 k.0 s)
   remove_step (removes.TheVariants.Hides count state) at =
-      subst (Moves (removes.TheVariants.Hides count state)) (sym (place_is c index at.0)) (λ here k s. hides_step scene inv index owner mode fits alive at.0 count state here at k s)
+      subst (Moves (removes.TheVariants.Hides count state)) (sym (place_is c index at.0)) (λ here k s. hides_step scene inv index owner mode fits acts at.0 count state here at k s)
   remove_step (removes.TheVariants.AddsChange state) at =
-      subst (Moves (removes.TheVariants.AddsChange state)) (sym (place_is c index at.0)) (λ here k s. end_step scene inv index owner mode fits alive at.0 state here at.1 k s)
+      subst (Moves (removes.TheVariants.AddsChange state)) (sym (place_is c index at.0)) (λ here k s. end_step scene inv index owner mode fits acts at.0 state here at.1 k s)

@@ -30,7 +30,7 @@ use Rattle.model.specs.Families.Container.Calls.{place_of, replaced}
 use Rattle.model.specs.Families.Container.Promises.{StandsProper}
 use Rattle.model.specs.Families.Container.Reading.{Hides, places, contents_after, contents_of, announced_after, announced_of, MayReplace}
 use Rattle.model.specs.Families.Indices.Robust.Promises.{cell_of, IsFilledWith}
-use Rattle.model.specs.Families.Indices.Robust.Reading.{Deed, settled_after, is_dead}
+use Rattle.model.specs.Families.Indices.Robust.Reading.{Deed, settled_after}
 use Rattle.model.specs.Families.Queues.Calls.{as_it_is}
 use Rattle.model.specs.Moments.{BeginsNone, HeldOnce}
 use Rattle.model.specs.Parties.{party_of, put}
@@ -41,14 +41,15 @@ use Rattle.model.proofs.Moments.{held_now, held_later}
 use Rattle.model.proofs.Parties.{party_put_same}
 use Rattle.model.proofs.Readings.{AreOwn, span_of-own}
 use Rattle.robust_laws.proofs.Core.{cell}
-use Rattle.robust_laws.proofs.Effects.{at_same, at_other, proper_less, filled_by}
+use Rattle.robust_laws.proofs.Effects.{at_same, at_other, filled_by}
+use Rattle.robust_laws.proofs.Gone.{calm_less, gone_less}
 use Rattle.robust_laws.proofs.Effects as set_effects
 use Rattle.robust_laws.proofs.Stages.{loads_same, exchanges, fails_same}
 use Rattle.robust_laws.proofs.Stages as set_stages
 use Rattle.container_laws.proofs.AddWrites.{placed_once}
 use Rattle.container_laws.proofs.Contents.{store_writes}
 use Rattle.container_laws.proofs.Core.{count_at, count_set}
-use Rattle.container_laws.proofs.Invariant.{Scene, Inv, before, after, of_set, inv_of_set, view, wrote_of}
+use Rattle.container_laws.proofs.Invariant.{Scene, Inv, ActsFor, before, after, of_set, inv_of_set, view, wrote_of}
 use Rattle.container_laws.proofs.Keeping.{replacing}
 use Rattle.container_laws.proofs.Knows.{View, HasFound, ReplaceKnows, Covers, Writes, HasPlaced, Stood, ReplacesKnow, IsPaid, Knows}
 use Rattle.container_laws.proofs.Left.{left_after, left_of}
@@ -63,7 +64,7 @@ use Rattle.container_laws.proofs.Turns.{Proper, replace_owes, count_in}
 use Rattle.container_laws.proofs.Writers.{IsWriter, one_writer}
 use Rattle.container_laws.proofs.Writing.{even_is, odd_is, adds_one, stores_to, adds_to_count, adds_to_change, hides_count}
 
-module _ {T : Type 0} (scene : Scene T) (inv : Inv scene) (index : ℕ) (value : T) (owner : ℕ) (fits : owner < empty) (alive : is_dead owner scene.events ≡ false) (below : index < scene.capacity) (none_done : all scene ≡ []) where
+module _ {T : Type 0} (scene : Scene T) (inv : Inv scene) (index : ℕ) (value : T) (owner : ℕ) (fits : owner < empty) (acts : ActsFor scene owner) (below : index < scene.capacity) (none_done : all scene ≡ []) where
   open scene use {coding as code, capacity as c, party as p, steps as steps, backs as backs, events as events, latest as latest}
 
   abbrev ws : List ℕ
@@ -111,7 +112,7 @@ module _ {T : Type 0} (scene : Scene T) (inv : Inv scene) (index : ℕ) (value :
           subst (λ n. MayReplace p n owner' events) a (subst (λ n. MayReplace p index n events) b (may (omega arith)))
 
   -- a turn that goes on, in a proper run, was of a replace that had been begun rightly
-  may_before : (stage : ReplaceStage) → Here stage → HeldOnce p (IsFilledWith owner index) events → (y : Party T) (es : List (Event T)) → AreOwn p es → BeginsNone p es → Lengthens es → 1 ≤ y.steps → IsProperSoFar (put p y latest) (events ++ es) → MayReplace p index owner events
+  may_before : (stage : ReplaceStage) → Here stage → HeldOnce p (IsFilledWith owner index) events → (y : Party T) (es : List (Event T)) → AreOwn p es → BeginsNone p es → Lengthens es → 1 ≤ y.steps → IsProperSoFar scene.terms (put p y latest) (events ++ es) → MayReplace p index owner events
   may_before stage here filled y es own none longer few h =
       let span : span_of p (events ++ es) ≡ Open (Container (Replace index value owner)) (wrote_of p events ++ es) = span_of-own p events es own ∙ (ap (λ s. fold own_after s es) here.span ∙ longer start (wrote_of p events)) in
       let stands : StandsProper p (Some y) (events ++ es) = subst (λ o. StandsProper p o (events ++ es)) (party_put_same p y latest) (h.replaces p) in
@@ -119,11 +120,11 @@ module _ {T : Type 0} (scene : Scene T) (inv : Inv scene) (index : ℕ) (value :
 
   was_going : (stage : ReplaceStage) → Here stage → HeldOnce p (IsFilledWith owner index) events → (words' : List ℕ) (y : Party T) (es : List (Event T)) → AreOwn p es → BeginsNone p es → Lengthens es → 1 ≤ y.steps → Proper (after scene words' y es) → Proper (before scene)
   was_going stage here filled words' y es own none longer few =
-      proper_before p y latest events es own (λ h. stands_if stage here (λ s. may_before stage here filled y es own none longer few h))
+      proper_before scene.terms p y latest events es own (λ h. stands_if stage here (λ s. may_before stage here filled y es own none longer few h))
 
-  was_calm : (stage : ReplaceStage) → Here stage → HeldOnce p (IsFilledWith owner index) events → (y : Party T) → 1 ≤ y.steps → IsProperSoFar (put p y latest) events → Proper (before scene)
+  was_calm : (stage : ReplaceStage) → Here stage → HeldOnce p (IsFilledWith owner index) events → (y : Party T) → 1 ≤ y.steps → IsProperSoFar scene.terms (put p y latest) events → Proper (before scene)
   was_calm stage here filled y few h =
-      was_going stage here filled ws y [] tt tt none_lengthens few (subst (λ es. IsProperSoFar (put p y latest) es) (sym (append-nil events)) h)
+      was_going stage here filled ws y [] tt tt none_lengthens few (subst (λ es. IsProperSoFar scene.terms (put p y latest) es) (sym (append-nil events)) h)
 
   -- it is there still, one step further
   found_then : (stage next : ReplaceStage) → Here stage → (ask : Ask) (es : List (Event T)) → AreOwn p es → Lengthens es → HasFound index owner value (then_sees scene (Some ask) false scene.states (then_at next (Some ask)) es)
@@ -136,7 +137,7 @@ module _ {T : Type 0} (scene : Scene T) (inv : Inv scene) (index : ℕ) (value :
         span = span_of-own p events es own ∙ (ap (λ s. fold own_after s es) here.span ∙ longer start (wrote_of p events));
       }
 
-  found_calm : (stage next : ReplaceStage) → Here stage → (ask : Ask) → HasFound index owner value (view (words_after ws (Some ask)) scene.states (put p (then_at next (Some ask)) latest) events p (since_then scene (Some ask)) (changes_then scene (Some ask)) (backs_then scene false))
+  found_calm : (stage next : ReplaceStage) → Here stage → (ask : Ask) → HasFound index owner value (view scene.terms (words_after ws (Some ask)) scene.states (put p (then_at next (Some ask)) latest) events p (since_then scene (Some ask)) (changes_then scene (Some ask)) (backs_then scene false))
   found_calm stage next here ask =
       record {
         party = then_at next (Some ask);
@@ -150,7 +151,7 @@ module _ {T : Type 0} (scene : Scene T) (inv : Inv scene) (index : ℕ) (value :
 
   abbrev SeesCalmly : ReplaceStage → Ask → View T
   SeesCalmly next ask =
-      view (words_after ws (Some ask)) scene.states (put p (then_at next (Some ask)) latest) events p (since_then scene (Some ask)) (changes_then scene (Some ask)) (backs_then scene false)
+      view scene.terms (words_after ws (Some ask)) scene.states (put p (then_at next (Some ask)) latest) events p (since_then scene (Some ask)) (changes_then scene (Some ask)) (backs_then scene false)
 
   calm_step : (stage next : ReplaceStage) (ask : Ask) → words_after ws (Some ask) ≡ ws → Here stage → HeldOnce p (IsFilledWith owner index) events → replace_owes next ≡ true → steps + 1 ≤ replace_number code.size next → ReplaceAt c code.size (all scene) (done scene) index next → Knows code c (at_stage next) (SeesCalmly next ask)
       → Leads scene start (Some ask) false scene.states [] (GoOn (at_stage next))
@@ -161,7 +162,7 @@ module _ {T : Type 0} (scene : Scene T) (inv : Inv scene) (index : ℕ) (value :
 
   -- ---- its owner is looked for
 
-  module _ (here : Here replaces.TheVariants.LoadsCell) (nothing : done scene ≡ []) (paid : IsPaid (sees_now scene)) (owns : ReplaceOwns p index owner events) (s : steps ≤ 0) where
+  module _ (here : Here replaces.TheVariants.LoadsCell) (nothing : done scene ≡ []) (paid : IsPaid (sees_now scene)) (owns : ReplaceOwns scene.terms.by p index owner events) (s : steps ≤ 0) where
     abbrev load_cell : Ask
     load_cell = set_stages.loads (cell_word index)
 
@@ -170,7 +171,7 @@ module _ {T : Type 0} (scene : Scene T) (inv : Inv scene) (index : ℕ) (value :
         let y = party_then scene start (Some load_cell) false (Done (answers.NotRemoved ContainerHandleNotOwnedByContainer)) in
         let es = Finished p (Container start) (answers.NotRemoved ContainerHandleNotOwnedByContainer) ∷ [] in
         let same = loads_same ws (cell_word index) in
-        let proper = proper_before p y latest events es (refl, tt) (λ h. stands_if replaces.TheVariants.LoadsCell here (λ few. absurd (omega arith))) in
+        let proper = proper_before scene.terms p y latest events es (refl, tt) (λ h. stands_if replaces.TheVariants.LoadsCell here (λ few. absurd (omega arith))) in
         ends scene start (answers.NotRemoved ContainerHandleNotOwnedByContainer) (Some load_cell) false scene.states [] here.span none_lengthens
         (ends_calmly scene inv start (at_stage replaces.TheVariants.LoadsCell) tt here y (words_after ws (Some load_cell)) (answers.NotRemoved ContainerHandleNotOwnedByContainer)
         (set_effects.quietly (of_set scene) (inv_of_set scene inv) (words_after ws (Some load_cell)) es (set_effects.stays_same (of_set scene) (inv_of_set scene inv) (words_after ws (Some load_cell)) same).leaves (quiet_end (of_set scene) (inv_of_set scene inv) start (answers.NotRemoved ContainerHandleNotOwnedByContainer) (λ i o. refl) (λ i r. refl)) (refl, tt) (tt, tt) (tt, tt))
@@ -203,10 +204,10 @@ module _ {T : Type 0} (scene : Scene T) (inv : Inv scene) (index : ℕ) (value :
 
   module _ (k : ReplaceKnows c index owner value (sees_now scene)) where
     mine : Proper (before scene) → IsWriter p i owner events
-    mine proper = inr (replacing c index owner value (sees_now scene) k proper alive)
+    mine proper = inr (replacing c index owner value (sees_now scene) k proper (acts.stays proper.kept))
 
     nobody_else : {A : Type 0} → Proper (before scene) → (q : ℕ) → q ≢ p → (o : ℕ) → IsWriter q i o events → A
-    nobody_else holds q ne o theirs = absurd (ne (one_writer q p i o owner events (inv.good.owned (holds.frees, tt)) theirs (mine holds)))
+    nobody_else holds q ne o theirs = absurd (ne (one_writer q p i o owner events (inv.good.owned holds.calm) theirs (mine holds)))
 
     knows_calm : (stage next : ReplaceStage) → Here stage → (ask : Ask) → ReplaceKnows c index owner value (SeesCalmly next ask)
     knows_calm stage next here ask =
@@ -214,9 +215,9 @@ module _ {T : Type 0} (scene : Scene T) (inv : Inv scene) (index : ℕ) (value :
 
     -- events that leave the set, and take no replace
     module _ (es : List (Event T)) (own : AreOwn p es) (none : BeginsNone p es) (longer : Lengthens es) (settled : (o : Option ℕ) → fold (settled_after i) o es ≡ o) (replacer : (o : Option ℕ) → fold (replacer_after i owner) o es ≡ o) where
-      owns_then : ReplaceOwns p index owner (events ++ es)
-      owns_then proper lives may =
-          let h = k.owns (proper_less events es proper) alive (earlier p index owner events es none may).may in
+      owns_then : ReplaceOwns scene.terms.by p index owner (events ++ es)
+      owns_then calm lives may =
+          let h = k.owns (calm_less scene.terms.by events es calm) (gone_less scene.terms.by owner events es lives) (earlier p index owner events es none may).may in
           record {
             settled = fold-append (settled_after i) None events es ∙ (settled _ ∙ h.settled);
             latest = fold-append (replacer_after i owner) None events es ∙ (replacer _ ∙ h.latest);
@@ -277,7 +278,7 @@ module _ {T : Type 0} (scene : Scene T) (inv : Inv scene) (index : ℕ) (value :
               let new = hides_count scene inv i count below is in
               let now_odd : now_at % 2 ≡ 1 = ap (λ n. n % 2) is ∙ odd in
               let proper = was_going (replaces.TheVariants.Hides count) here k.filled (words_after ws (Some hide_it)) y es (refl, tt) tt (λ start w. refl) (omega arith) in
-              let after : count_at c (words_after ws (Some hide_it)) i ≡ now_at + 1 = ap (λ w. count_at c w i) new ∙ count_set c code.size ws i (now_at + 1) (omega arith) in
+              let after : count_at c (words_after ws (Some hide_it)) i ≡ one_more now_at = ap (λ w. count_at c w i) new ∙ count_set c code.size ws i (one_more now_at) (omega arith) in
               goes_on scene start (at_stage (replaces.TheVariants.Stores 0)) (Some hide_it) false scene.states es here.span (λ start w. refl)
               (hides scene inv start (at_stage (replaces.TheVariants.Hides count)) tt here y (words_after ws (Some hide_it)) i below new refl now_odd (λ holds q ne o theirs fresh. nobody_else holds q ne o theirs) proper)
               ((refl, nothing), tt) (omega arith)
@@ -288,7 +289,7 @@ module _ {T : Type 0} (scene : Scene T) (inv : Inv scene) (index : ℕ) (value :
               let some = inv.elements.coded.some in
               let same = fails_same ws (count_word c i) count (one_more count) other in
               calm_step (replaces.TheVariants.Hides count) (replaces.TheVariants.Stores 0) hide_it same here k.filled refl (omega arith) (below, none_done, inl nothing, omega arith)
-              (knows_calm (replaces.TheVariants.Hides count) (replaces.TheVariants.Stores 0) here hide_it, first_word (replaces.TheVariants.Hides count) (replaces.TheVariants.Stores 0) here hide_it same (λ holds. ⊎_elim (λ e. absurd (other e)) (λ even. even) (covers holds alive)))
+              (knows_calm (replaces.TheVariants.Hides count) (replaces.TheVariants.Stores 0) here hide_it, first_word (replaces.TheVariants.Hides count) (replaces.TheVariants.Stores 0) here hide_it same (λ holds. ⊎_elim (λ e. absurd (other e)) (λ even. even) (covers holds (acts.stays holds.kept))))
 
     -- ---- a word is stored
 
@@ -299,7 +300,7 @@ module _ {T : Type 0} (scene : Scene T) (inv : Inv scene) (index : ℕ) (value :
       store_to : (next : ReplaceStage) → replace_owes next ≡ true → steps + 1 ≤ replace_number code.size next → ReplaceAt c code.size (all scene) (done scene) index next → Knows code c (at_stage next) (SeesCalmly next store_it) → Leads scene start (Some store_it) false scene.states [] (GoOn (at_stage next))
       store_to next owe few stands known =
           goes_calmly scene start (at_stage next) (Some store_it) false scene.states here.span
-          (stores_word scene inv start (at_stage (replaces.TheVariants.Stores at)) tt here (then_at next (Some store_it)) (words_after ws (Some store_it)) i below at ats value owner alive mine (λ holds. w.has holds alive) refl
+          (stores_word scene inv start (at_stage (replaces.TheVariants.Stores at)) tt here (then_at next (Some store_it)) (words_after ws (Some store_it)) i below at ats value owner mine (λ holds. w.has holds (acts.stays holds.kept)) refl
           (was_going (replaces.TheVariants.Stores at) here k.filled (words_after ws (Some store_it)) (then_at next (Some store_it)) [] tt tt none_lengthens (omega arith)) (λ was. owe))
           few (refl, given_is, fits, stands) known
 
@@ -309,7 +310,7 @@ module _ {T : Type 0} (scene : Scene T) (inv : Inv scene) (index : ℕ) (value :
             few = omega arith;
             has = λ holds lives.
                 let before_it = was_calm (replaces.TheVariants.Stores at) here k.filled (then_at next (Some store_it)) (omega arith) holds in
-                store_writes code c ws events (inv.elements.whole before_it) inv.elements.wide i below value at ats (w.has before_it alive);
+                store_writes code c ws events (inv.elements.whole before_it) inv.elements.wide i below value at ats (w.has before_it (acts.stays before_it.kept));
           }
 
       store_step : StepOf scene start (at_stage (replaces.TheVariants.Stores at))
@@ -338,7 +339,7 @@ module _ {T : Type 0} (scene : Scene T) (inv : Inv scene) (index : ℕ) (value :
       abbrev y : Party T
       y = then_at replaces.TheVariants.AddsChange (Some add_it)
 
-      new : words_after ws (Some add_it) ≡ set ws (count_word c i) (count_now + 1)
+      new : words_after ws (Some add_it) ≡ set ws (count_word c i) (one_more count_now)
       new = adds_to_count scene inv i below
 
       place_step : StepOf scene start (at_stage replaces.TheVariants.AddsCount)
@@ -349,7 +350,7 @@ module _ {T : Type 0} (scene : Scene T) (inv : Inv scene) (index : ℕ) (value :
               let es = Placed p i value ∷ [] in
               let proper = was_going replaces.TheVariants.AddsCount here k.filled (words_after ws (Some add_it)) y es (refl, tt) tt (λ start w. refl) (omega arith) in
               goes_on scene start (at_stage replaces.TheVariants.AddsChange) (Some add_it) false scene.states es here.span (λ start w. refl)
-              (places_it scene inv start (at_stage replaces.TheVariants.AddsCount) tt here y (words_after ws (Some add_it)) i below new refl value owner alive mine (λ holds. w.has holds alive) proper)
+              (places_it scene inv start (at_stage replaces.TheVariants.AddsCount) tt here y (words_after ws (Some add_it)) i below new refl value owner acts mine (λ holds. w.has holds (acts.stays holds.kept)) proper)
               ((refl, refl, hidden), tt) (omega arith)
               (refl, given_is, fits, (below, ap (λ (d : List Deed). d ++ []) none_done)) (
                 knows_then es (refl, tt) tt (λ start w. refl) (λ o. refl) (λ o. refl) replaces.TheVariants.AddsCount replaces.TheVariants.AddsChange here add_it,
@@ -361,11 +362,11 @@ module _ {T : Type 0} (scene : Scene T) (inv : Inv scene) (index : ℕ) (value :
               )
           go false t =
               let proper = was_going replaces.TheVariants.AddsCount here k.filled (words_after ws (Some add_it)) y [] tt tt none_lengthens (omega arith) in
-              let improper = λ (holds : Proper (after scene (words_after ws (Some add_it)) y [])). let even = (w.has (proper holds) alive).even in let odd = odd_is count_now t in absurd {A = ⊥} (omega arith) in
+              let improper = λ (holds : Proper (after scene (words_after ws (Some add_it)) y [])). let even = (w.has (proper holds) (acts.stays holds.kept)).even in let odd = odd_is count_now t in absurd {A = ⊥} (omega arith) in
               goes_calmly scene start (at_stage replaces.TheVariants.AddsChange) (Some add_it) false scene.states here.span
               (misplaces scene inv start (at_stage replaces.TheVariants.AddsCount) tt here y (words_after ws (Some add_it)) i below new refl proper improper)
               (omega arith) (refl, given_is, fits, (below, none_done))
-              (knows_calm replaces.TheVariants.AddsCount replaces.TheVariants.AddsChange here add_it, (λ holds. absurd (improper (subst (λ es. IsProperSoFar (put p y latest) es) (sym (append-nil events)) holds))), (λ holds lives. absurd (improper (subst (λ es. IsProperSoFar (put p y latest) es) (sym (append-nil events)) holds))))
+              (knows_calm replaces.TheVariants.AddsCount replaces.TheVariants.AddsChange here add_it, (λ holds. absurd (improper (subst (λ es. IsProperSoFar scene.terms (put p y latest) es) (sym (append-nil events)) holds))), (λ holds lives. absurd (improper (subst (λ es. IsProperSoFar scene.terms (put p y latest) es) (sym (append-nil events)) holds))))
 
     -- ---- the change is counted, and the call ends
 
@@ -377,7 +378,7 @@ module _ {T : Type 0} (scene : Scene T) (inv : Inv scene) (index : ℕ) (value :
       end_step =
           let y = party_then scene start (Some end_it) false (Done answers.Done) in
           let es = Finished p (Container start) answers.Done ∷ [] in
-          let proper = proper_before p y latest events es (refl, tt) (λ h. stands_if replaces.TheVariants.AddsChange here (λ few. h.replaced events [] (Finished p (Container start) answers.Done) refl)) in
+          let proper = proper_before scene.terms p y latest events es (refl, tt) (λ h. stands_if replaces.TheVariants.AddsChange here (λ few. h.replaced events [] (Finished p (Container start) answers.Done) refl)) in
           let new = adds_to_change scene inv in
           ends scene start answers.Done (Some end_it) false scene.states [] here.span none_lengthens
           (ends_counted scene inv start (at_stage replaces.TheVariants.AddsChange) tt here y (words_after ws (Some end_it)) answers.Done
@@ -386,11 +387,11 @@ module _ {T : Type 0} (scene : Scene T) (inv : Inv scene) (index : ℕ) (value :
           ((refl, none_done), tt) (omega arith) (let paid = k.paid in omega arith)
         where
           says : Proper (before scene) → (a : ℕ) → announced_after a (announced_of a events) (Finished p (Container (Replace index value owner)) answers.Done) ≡ true → is_some (contents_of a events) ≡ true
-          says holds a said = ⊎_elim (λ e. subst (λ b. is_some (contents_of b events) ≡ true) (sym e) (stood holds alive).1) (λ ne. inv.elements.announced holds a (sym (at_other i a true (announced_of a events) ne) ∙ said)) (cases_eq a i)
+          says holds a said = ⊎_elim (λ e. subst (λ b. is_some (contents_of b events) ≡ true) (sym e) (stood holds (acts.stays holds.kept)).1) (λ ne. inv.elements.announced holds a (sym (at_other i a true (announced_of a events) ne) ∙ said)) (cases_eq a i)
 
 -- ---- any step of a replace
 
-module _ {T : Type 0} (scene : Scene T) (inv : Inv scene) (index : ℕ) (value : T) (owner : ℕ) (fits : owner < empty) (alive : is_dead owner scene.events ≡ false) where
+module _ {T : Type 0} (scene : Scene T) (inv : Inv scene) (index : ℕ) (value : T) (owner : ℕ) (fits : owner < empty) (acts : ActsFor scene owner) where
   open scene use {coding as code, capacity as c, party as p, steps as steps, backs as backs, events as events, latest as latest}
 
   abbrev Moves : ReplaceStage → ℕ → Type 0
@@ -404,7 +405,7 @@ module _ {T : Type 0} (scene : Scene T) (inv : Inv scene) (index : ℕ) (value :
       let start = Replace index value owner in
       let y = party_then scene start None false (Done (answers.NotRemoved ContainerHandleNotOwnedByContainer)) in
       let es = Finished p (Container start) (answers.NotRemoved ContainerHandleNotOwnedByContainer) ∷ [] in
-      let proper = proper_before p y latest events es (refl, tt) (λ h. subst (λ o. StandsProper p o events) (sym here.found) (λ index' owner' value' wrote' span few found. let taken = here.taken in absurd (omega arith))) in
+      let proper = proper_before scene.terms p y latest events es (refl, tt) (λ h. subst (λ o. StandsProper p o events) (sym here.found) (λ index' owner' value' wrote' span few found. let taken = here.taken in absurd (omega arith))) in
       ends scene start (answers.NotRemoved ContainerHandleNotOwnedByContainer) None false scene.states [] here.span none_lengthens
       (ends_calmly scene inv start (replace_at c at value owner replaces.TheVariants.Refuses) tt here y scene.words (answers.NotRemoved ContainerHandleNotOwnedByContainer)
       (set_effects.quietly (of_set scene) (inv_of_set scene inv) scene.words es (set_effects.stays_same (of_set scene) (inv_of_set scene inv) scene.words refl).leaves (quiet_end (of_set scene) (inv_of_set scene inv) start (answers.NotRemoved ContainerHandleNotOwnedByContainer) (λ i o. refl) (λ i r. refl)) (refl, tt) (tt, tt) (tt, tt))
@@ -414,14 +415,14 @@ module _ {T : Type 0} (scene : Scene T) (inv : Inv scene) (index : ℕ) (value :
   pub replace_step : (stage : ReplaceStage) → ReplaceAt c code.size (all scene) (done scene) index stage → Moves stage (place_of c index)
   replace_step replaces.TheVariants.Refuses at = refuses (place_of c index) at.0 at.1 at.2
   replace_step replaces.TheVariants.LoadsCell at =
-      subst (Moves replaces.TheVariants.LoadsCell) (sym (place_is c index at.0)) (λ here k s. cell_step scene inv index value owner fits alive at.0 at.1 here at.2 k.0 k.1 s)
+      subst (Moves replaces.TheVariants.LoadsCell) (sym (place_is c index at.0)) (λ here k s. cell_step scene inv index value owner fits acts at.0 at.1 here at.2 k.0 k.1 s)
   replace_step replaces.TheVariants.LoadsCount at =
-      subst (Moves replaces.TheVariants.LoadsCount) (sym (place_is c index at.0)) (λ here k s. count_step scene inv index value owner fits alive at.0 at.1 k here at.2 s)
+      subst (Moves replaces.TheVariants.LoadsCount) (sym (place_is c index at.0)) (λ here k s. count_step scene inv index value owner fits acts at.0 at.1 k here at.2 s)
   replace_step (replaces.TheVariants.Hides count) at =
-      subst (Moves (replaces.TheVariants.Hides count)) (sym (place_is c index at.0)) (λ here k s. hide_step scene inv index value owner fits alive at.0 at.1 k.0 count here at.2 at.3 k.1 s)
+      subst (Moves (replaces.TheVariants.Hides count)) (sym (place_is c index at.0)) (λ here k s. hide_step scene inv index value owner fits acts at.0 at.1 k.0 count here at.2 at.3 k.1 s)
   replace_step (replaces.TheVariants.Stores word) at =
-      subst (Moves (replaces.TheVariants.Stores word)) (sym (place_is c index at.0)) (λ here k s. store_step scene inv index value owner fits alive at.0 at.1 k.0 word here at.2 at.3 k.1 s)
+      subst (Moves (replaces.TheVariants.Stores word)) (sym (place_is c index at.0)) (λ here k s. store_step scene inv index value owner fits acts at.0 at.1 k.0 word here at.2 at.3 k.1 s)
   replace_step replaces.TheVariants.AddsCount at =
-      subst (Moves replaces.TheVariants.AddsCount) (sym (place_is c index at.0)) (λ here k s. place_step scene inv index value owner fits alive at.0 at.1 k.0 here at.2 k.1 s)
+      subst (Moves replaces.TheVariants.AddsCount) (sym (place_is c index at.0)) (λ here k s. place_step scene inv index value owner fits acts at.0 at.1 k.0 here at.2 k.1 s)
   replace_step replaces.TheVariants.AddsChange at =
-      subst (Moves replaces.TheVariants.AddsChange) (sym (place_is c index at.0)) (λ here k s. end_step scene inv index value owner fits alive at.0 at.1 k.0 here k.1 k.2 s)
+      subst (Moves replaces.TheVariants.AddsChange) (sym (place_is c index at.0)) (λ here k s. end_step scene inv index value owner fits acts at.0 at.1 k.0 here k.1 k.2 s)

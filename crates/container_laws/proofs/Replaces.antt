@@ -9,24 +9,24 @@ use Rattle.model.specs.declared.event.Event.TheVariants.{Begun}
 use Rattle.model.specs.declared.event.Start.TheVariants.{Container}
 use Rattle.model.specs.declared.families.container.ContainerStart.TheVariants.{Replace}
 use Rattle.model.specs.Families.Container.Reading.{TakesNot, NoneTakes, MayReplace}
-use Rattle.model.specs.Families.Indices.Robust.Promises.{IsProper}
-use Rattle.model.specs.Families.Indices.Robust.Reading.{settled_after, settled_of, is_dead}
+use Rattle.model.specs.Families.Indices.Robust.Reading.{settled_after, settled_of}
 use Rattle.model.specs.Moments.{BeginsNone}
-use Rattle.robust_laws.specs.Gone.{Death}
-use Rattle.robust_laws.proofs.Knows.{Goes, Spares}
+use Rattle.robust_laws.specs.Gone.{GoneBy, is_gone, IsCalm}
+use Rattle.robust_laws.proofs.Gone.{gone_less, calm_less}
+use Rattle.robust_laws.proofs.Knows.{Spares}
 use Rattle.robust_laws.proofs.Past.{began_earlier, since_begun}
 use Rattle.container_laws.proofs.Replacers.{replacer_after, replacer_of}
 use Rattle.container_laws.proofs.Writers.{Adds, Replacing}
 
 module _ {T : Type 0} where
-  abbrev pub ReplaceOwns : ℕ → ℕ → ℕ → List (Event T) → Type 0
-  ReplaceOwns p i o events =
-      IsProper events → is_dead o events ≡ false → MayReplace p i o events → Replacing p i o events
+  abbrev pub ReplaceOwns : GoneBy → ℕ → ℕ → ℕ → List (Event T) → Type 0
+  ReplaceOwns by p i o events =
+      IsCalm by events → is_gone by o events ≡ false → MayReplace p i o events → Replacing p i o events
 
   -- ---- it begins
 
-  pub replace_begun : (p i o : ℕ) (value : T) (events : List (Event T)) → ReplaceOwns p i o (events ++ Begun p (Container (Replace i value o)) ∷ [])
-  replace_begun p i o value events proper alive may =
+  pub replace_begun : (by : GoneBy) (p i o : ℕ) (value : T) (events : List (Event T)) → ReplaceOwns by p i o (events ++ Begun p (Container (Replace i value o)) ∷ [])
+  replace_begun by p i o value events calm alive may =
       let was : settled_of i events ≡ Some o =
       since_begun p (λ part. settled_of i part ≡ Some o) events (Container (Replace i value o))
       (record { before = may.before; start = may.start; since = may.since; is = may.is; within = may.within; holds = may.holds.0 }) in
@@ -80,20 +80,20 @@ module _ {T : Type 0} where
   replacers_stay i o party (e ∷ es) h = ap (λ r. fold (replacer_after i o) r es) (replacer_stays i o party e h.0) ∙ replacers_stay i o party es h.1
 
   -- any turn of another party leaves a replace its right
-  pub replace_later : (words words' : List ℕ) (events es : List (Event T)) (q i o : ℕ) → Goes words words' events es → Spares Death q events es → ReplaceOwns q i o events → ReplaceOwns q i o (events ++ es)
-  replace_later words words' events es q i o goes spares h proper alive may =
+  pub replace_later : (by : GoneBy) (events es : List (Event T)) (q i o : ℕ) → Spares by q events es → ReplaceOwns by q i o events → ReplaceOwns by q i o (events ++ es)
+  replace_later by events es q i o spares h calm alive may =
       let before = earlier q i o events es spares.none may in
-      let lives = goes.lives o alive in
-      let own = h (goes.proper proper) lives before.may in
+      let lives = gone_less by o events es alive in
+      let own = h (calm_less by events es calm) lives before.may in
       record {
-        settled = spares.settled (proper, tt) i o lives own.settled before.none;
+        settled = spares.settled calm i o lives own.settled before.none;
         latest = fold-append (replacer_after i o) None events es ∙ (replacers_stay i o (replacer_of i o events) es before.none ∙ own.latest);
       }
 
   -- and any turn of another party an add its own
-  pub add_later : (words words' : List ℕ) (events es : List (Event T)) (q i o : ℕ) → Goes words words' events es → Spares Death q events es
-      → (IsProper events → is_dead o events ≡ false → Adds q i o events) → IsProper (events ++ es) → is_dead o (events ++ es) ≡ false → Adds q i o (events ++ es)
-  add_later words words' events es q i o goes spares h proper alive =
-      let lives = goes.lives o alive in
-      let own = h (goes.proper proper) lives in
-      record { by = spares.owned (proper, tt) i o lives own.by; held = spares.held (proper, tt) i o lives own.by own.held }
+  pub add_later : (by : GoneBy) (events es : List (Event T)) (q i o : ℕ) → Spares by q events es
+      → (IsCalm by events → is_gone by o events ≡ false → Adds q i o events) → IsCalm by (events ++ es) → is_gone by o (events ++ es) ≡ false → Adds q i o (events ++ es)
+  add_later by events es q i o spares h calm alive =
+      let lives = gone_less by o events es alive in
+      let own = h (calm_less by events es calm) lives in
+      record { by = spares.owned calm i o lives own.by; held = spares.held calm i o lives own.by own.held }

@@ -8,10 +8,11 @@ use Rattle.model.specs.declared.event.Start.TheVariants.{Container}
 use Rattle.model.specs.declared.families.container.ContainerStart.{ContainerStart}
 use Rattle.model.specs.declared.families.container.calls.ContainerFlight.{ContainerFlight}
 use Rattle.model.specs.declared.party.Party.{Party}
-use Rattle.model.specs.Families.Container.Promises.{AnswersRight}
 use Rattle.model.specs.Families.Container.Reading.{contents_after, announced_after, announced_of}
 use Rattle.robust_laws.proofs.Effects.{Stays, quiet_none, quietly}
 use Rattle.robust_laws.proofs.Effects as set_effects
+use Rattle.robust_laws.proofs.Invariant.{IsWorn}
+use Rattle.container_laws.specs.Gone.{AnswersBy}
 use Rattle.container_laws.proofs.Effects.{OwesStill, calmly}
 use Rattle.container_laws.proofs.HiddenKnows.{EndsRight}
 use Rattle.container_laws.proofs.Invariant.{Scene, Inv, Does, before, after, of_set, inv_of_set}
@@ -42,7 +43,7 @@ module _ {T : Type 0} (scene : Scene T) (inv : Inv scene) (start : ContainerStar
     abbrev finish : List (Event T)
     finish = Finished p (Container start) answer ∷ []
 
-    pub ends_there : set_effects.Quiet (Finished p (Container start) answer ∷ []) → ((i : ℕ) (b : Bool) → announced_after i b (Finished p (Container start) answer) ≡ b) → AnswersRight c events (Finished p (Container start) answer)
+    pub ends_there : set_effects.Quiet (Finished p (Container start) answer ∷ []) → ((i : ℕ) (b : Bool) → announced_after i b (Finished p (Container start) answer) ≡ b) → AnswersBy scene.terms.by (IsWorn scene.terms.by words') c events (Finished p (Container start) answer)
         → (proper : Proper (after scene words' y (Finished p (Container start) answer ∷ [])) → Proper (before scene)) → (Proper (after scene words' y (Finished p (Container start) answer ∷ [])) → EndsRight events (Finished p (Container start) answer))
         → OwesStill scene inv words' y (Finished p (Container start) answer ∷ []) proper → Does scene words' scene.states y (Finished p (Container start) answer ∷ [])
     ends_there quiet says right proper placed still =

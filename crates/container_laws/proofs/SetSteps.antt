@@ -9,9 +9,10 @@ use Rattle.model.specs.declared.event.Event.TheVariants.{Filled, Granted, FreedO
 use Rattle.model.specs.declared.families.container.ContainerStart.{ContainerStart}
 use Rattle.model.specs.declared.families.container.calls.ContainerFlight.{ContainerFlight}
 use Rattle.model.specs.declared.party.Party.{Party}
-use Rattle.model.specs.Families.Container.Promises.{RecoversRight}
 use Rattle.model.specs.Families.Container.Reading.{contents_after, announced_after}
-use Rattle.model.specs.Families.Indices.Robust.Reading.{filled_after, filled_of, settled_after, settled_of, is_dead}
+use Rattle.model.specs.Families.Indices.Robust.Reading.{filled_after, filled_of, settled_after, settled_of}
+use Rattle.robust_laws.specs.Gone.{is_gone}
+use Rattle.container_laws.specs.Gone.{RecoversBy}
 use Rattle.robust_laws.proofs.Effects.{at_same, at_other, some_none}
 use Rattle.robust_laws.proofs.Invariant as set_invariant
 use Rattle.robust_laws.proofs.Rights.{IsBy}
@@ -95,14 +96,14 @@ module _ {T : Type 0} (scene : Scene T) (inv : Inv scene) (start : ContainerStar
       free = FreedOf p i owner ∷ []
 
       -- nobody else may write there
-      not_here : {A : Type 0} → Proper (after scene words' y free) → (q : ℕ) → q ≢ p → (o : ℕ) → is_dead o events ≡ false → IsWriter q i o events → A
+      not_here : {A : Type 0} → Proper (after scene words' y free) → (q : ℕ) → q ≢ p → (o : ℕ) → is_gone scene.terms.by o events ≡ false → IsWriter q i o events → A
       not_here holds q ne o lives theirs =
           ⊎_elim
           (λ (h : IsBy q i o events).
-          let k = (does.spares q ne).owned (holds.frees, tt) i o lives h in
+          let k = (does.spares q ne).owned holds.calm i o lives h in
           some_none (filled_of i (events ++ free)) o (fold-append (filled_after i) None events free ∙ at_same i i None (filled_of i events) refl) k.filled)
           (λ (h : Replacing q i o events).
-          let k = (does.spares q ne).settled (holds.frees, tt) i o lives h.settled (tt, tt) in
+          let k = (does.spares q ne).settled holds.calm i o lives h.settled (tt, tt) in
           some_none (settled_of i (events ++ free)) o (fold-append (settled_after i) None events free ∙ at_same i i None (settled_of i events) refl) k)
           theirs
 
@@ -113,11 +114,11 @@ module _ {T : Type 0} (scene : Scene T) (inv : Inv scene) (start : ContainerStar
       left_on : (j : ℕ) → left_of j events ≡ true → left_of j (events ++ free) ≡ true
       left_on j was = fold-append (left_after j) true events free ∙ ⊎_elim (λ same. at_same i j true (left_of j events) same) (λ ne. at_other i j true (left_of j events) ne ∙ was) (cases_eq j i)
 
-      spared : Proper (after scene words' y free) → (q : ℕ) → q ≢ p → (j o : ℕ) → is_dead o events ≡ false → IsWriter q j o events → left_of j events ≡ false → left_of j (events ++ free) ≡ false
+      spared : Proper (after scene words' y free) → (q : ℕ) → q ≢ p → (j o : ℕ) → is_gone scene.terms.by o events ≡ false → IsWriter q j o events → left_of j events ≡ false → left_of j (events ++ free) ≡ false
       spared holds q ne j o lives theirs was =
           ⊎_elim (λ same. not_here holds q ne o lives (subst (λ k. IsWriter q k o events) same theirs)) (λ other. fold-append (left_after j) true events free ∙ (at_other i j true (left_of j events) other ∙ was)) (cases_eq j i)
 
-      pub frees : OwesStill scene inv words' y free proper → RecoversRight events (FreedOf p i owner) → Does scene words' scene.states y (FreedOf p i owner ∷ [])
+      pub frees : OwesStill scene inv words' y free proper → RecoversBy scene.terms.by events (FreedOf p i owner) → Does scene words' scene.states y (FreedOf p i owner ∷ [])
       frees still right =
           does_with scene inv start flight none here words' y free
           (calmly scene inv words' y free proper rest wide

@@ -73,7 +73,7 @@ module _ {T : Type 0} (scene : Scene T) (inv : Inv scene) where
 
   -- ---- an add that was granted an index is done
 
-  module _ (words' : List ℕ) (stays : Leaves scene words') (i owner : ℕ) (value : T) (alive : is_dead owner events ≡ false) (mine : IsCalm by events → Adds p i owner events) where
+  module _ (words' : List ℕ) (stays : Leaves scene words') (i owner : ℕ) (value : T) (mine : IsCalm by (events ++ Finished p (Container (Add value owner)) (Index i) ∷ []) → Adds p i owner events) where
     abbrev es : List (Event T)
     es = Finished p (Container (Add value owner)) (Index i) ∷ []
 
@@ -101,7 +101,7 @@ module _ {T : Type 0} (scene : Scene T) (inv : Inv scene) where
     same_dead : (o : ℕ) → is_dead o (events ++ es) ≡ is_dead o events
     same_dead o = fold-append (dead_after o) false events es
 
-    still_settled : (calm : IsCalm by events) (j o : ℕ) → settled_of j (events ++ es) ≡ Some o → (filled_of j (events ++ es) ≡ Some o) × (right_of j (events ++ es) ≡ Settled o)
+    still_settled : (calm : IsCalm by (events ++ es)) (j o : ℕ) → settled_of j (events ++ es) ≡ Some o → (filled_of j (events ++ es) ≡ Some o) × (right_of j (events ++ es) ≡ Settled o)
     still_settled calm j o e = ⊎_elim here there (cases_eq j i)
       where
         here : j ≡ i → (filled_of j (events ++ es) ≡ Some o) × (right_of j (events ++ es) ≡ Settled o)
@@ -110,15 +110,15 @@ module _ {T : Type 0} (scene : Scene T) (inv : Inv scene) where
             (same_filled j ∙ (ap (λ k. filled_of k events) same ∙ ((mine calm).by.filled ∙ ap Some is)), right_here j same ∙ ap Settled is)
 
         there : j ≢ i → (filled_of j (events ++ es) ≡ Some o) × (right_of j (events ++ es) ≡ Settled o)
-        there ne = let was = (g.owned calm).settled j o (sym (settled_there j ne) ∙ e) in (same_filled j ∙ was.0, right_there j ne ∙ was.1)
+        there ne = let was = (g.owned (calm_less by events es calm)).settled j o (sym (settled_there j ne) ∙ e) in (same_filled j ∙ was.0, right_there j ne ∙ was.1)
 
-    other_index : IsCalm by events → (q : ℕ) → q ≢ p → (j o : ℕ) → IsBy q j o events → j ≢ i
+    other_index : IsCalm by (events ++ es) → (q : ℕ) → q ≢ p → (j o : ℕ) → IsBy q j o events → j ≢ i
     other_index calm q ne j o h same =
         ne (one_party (right_of i events) p q (mine calm).by.right (subst (λ k. IsBy q k o events) same h).right)
 
-    unsettled : IsCalm by events → (j o : ℕ) → settled_of j events ≡ Some o → j ≢ i
+    unsettled : IsCalm by (events ++ es) → (j o : ℕ) → settled_of j events ≡ Some o → j ≢ i
     unsettled calm j o h same =
-        let theirs : right_of j events ≡ Settled o = ((g.owned calm).settled j o h).1 in
+        let theirs : right_of j events ≡ Settled o = ((g.owned (calm_less by events es calm)).settled j o h).1 in
         let ours : right_of j events ≡ By p = ap (λ k. right_of k events) same ∙ (mine calm).by.right in
         let both : Settled o ≡ By p = sym theirs ∙ ours in
         absurd (cc)
@@ -142,7 +142,7 @@ module _ {T : Type 0} (scene : Scene T) (inv : Inv scene) where
                 answers = Each-append (AnswersBy by (IsWorn by words') c) events es (answers_on (IsWorn by ws) (IsWorn by words') (worn_on by ws words' stays.stuck) by c events g.answers) (tt, tt);
                 owned = λ calm.
                     let less = calm_less by events es calm in
-                    record { held = λ j o e. same_filled j ∙ (g.owned less).held j o (sym (same_holder j) ∙ e); settled = still_settled less };
+                    record { held = λ j o e. same_filled j ∙ (g.owned less).held j o (sym (same_holder j) ∙ e); settled = still_settled calm };
                 holds = λ calm. Each-append HoldsRight events es (g.holds (calm_less by events es calm)) (tt, tt);
               };
           goes =
@@ -160,9 +160,9 @@ module _ {T : Type 0} (scene : Scene T) (inv : Inv scene) where
                 none = tt;
                 deeds = ap (λ s. deeds (wrote_in s)) (span_of-other p q events es ne (refl, tt));
                 owned = λ calm j o lives h.
-                    record { right = right_there j (other_index (calm_less by events es calm) q ne j o h) ∙ h.right; filled = same_filled j ∙ h.filled };
+                    record { right = right_there j (other_index calm q ne j o h) ∙ h.right; filled = same_filled j ∙ h.filled };
                 unheld = λ calm j o lives h none. same_holder j ∙ none;
                 held = λ calm j o lives h here. same_holder j ∙ here;
-                settled = λ calm j o lives h none. settled_there j (unsettled (calm_less by events es calm) j o h) ∙ h;
+                settled = λ calm j o lives h none. settled_there j (unsettled calm j o h) ∙ h;
               };
         }

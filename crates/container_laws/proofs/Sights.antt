@@ -12,6 +12,7 @@ use Rattle.model.proofs.Moments.{held_later}
 use Rattle.robust_laws.proofs.Past.{through_less, through_now}
 use Rattle.container_laws.proofs.Alone.{alone_less}
 use Rattle.container_laws.proofs.KeptCopies.{ShowsOwn, CallsOn, own_later}
+use Rattle.container_laws.proofs.Terms.{Keeps}
 use Rattle.container_laws.proofs.Turns.{Owing, Now, Proper, count_in, change_in, Passes}
 
 module _ {T : Type 0} where
@@ -36,14 +37,14 @@ module _ {T : Type 0} (code : Coding T) (c : ℕ) where
   -- to the indices below k.
   pub record Sight (m : Now T) (q : ℕ) (s : ContainerState T) (k copying : ℕ) : Type 0 where
     pub wide : length s.shown.elements ≡ c
-    pub below : (i : ℕ) → i < c → number_at s i ≤ count_in code c m i
-    pub change : s.shown.change ≤ change_in code c m
+    pub below : Keeps m.terms → (i : ℕ) → i < c → number_at s i ≤ count_in code c m i
+    pub change : Keeps m.terms → s.shown.change ≤ change_in code c m
     pub copied : (i : ℕ) (value : T) → i ≢ copying → shows s i ≡ Some value → WasCopied q i value m.events
     -- a number that still is there shows what stands
     pub same : Proper m → (i : ℕ) → i < c → i ≢ copying → number_at s i ≡ count_in code c m i → shows s i ≡ contents_of i m.events
     -- where nothing has changed since, what was announced is shown
     pub caught : Proper m → s.shown.change ≡ change_in code c m → (i : ℕ) → i < k → i < c → announced_of i m.events ≡ true → number_at s i ≡ count_in code c m i
-    pub owed : s.shown.change ≡ change_in code c m → (i : ℕ) → i < k → i < c → (number_at s i ≡ count_in code c m i) ⊎ Owing m.latest
+    pub owed : Keeps m.terms → s.shown.change ≡ change_in code c m → (i : ℕ) → i < k → i < c → (number_at s i ≡ count_in code c m i) ⊎ Owing m.latest
 
   -- a state between its party's looks has seen what it shows
   pub record Rests (m : Now T) (q : ℕ) (s : ContainerState T) : Type 0 where
@@ -69,29 +70,29 @@ module _ {T : Type 0} (code : Coding T) (c : ℕ) where
 
   module _ (m m' : Now T) (es : List (Event T)) (more : m'.events ≡ m.events ++ es) (passes : Passes code c m m') (q : ℕ) (s : ContainerState T) where
     -- a number that a state has found is there still, if it is there then
-    still : (i : ℕ) → i < c → number_at s i ≤ count_in code c m i → number_at s i ≡ count_in code c m' i → (number_at s i ≡ count_in code c m i) × (count_in code c m' i ≡ count_in code c m i)
-    still i below low e = let grows = passes.counts i below in (omega arith, omega arith)
+    still : Keeps m'.terms → (i : ℕ) → i < c → number_at s i ≤ count_in code c m i → number_at s i ≡ count_in code c m' i → (number_at s i ≡ count_in code c m i) × (count_in code c m' i ≡ count_in code c m i)
+    still kept i below low e = let grows = passes.counts kept i below in (omega arith, omega arith)
 
-    change_still : s.shown.change ≤ change_in code c m → s.shown.change ≡ change_in code c m' → (s.shown.change ≡ change_in code c m) × (change_in code c m' ≡ change_in code c m)
-    change_still low e = let grows = passes.change in (omega arith, omega arith)
+    change_still : Keeps m'.terms → s.shown.change ≤ change_in code c m → s.shown.change ≡ change_in code c m' → (s.shown.change ≡ change_in code c m) × (change_in code c m' ≡ change_in code c m)
+    change_still kept low e = let grows = passes.change kept in (omega arith, omega arith)
 
     pub sight_later : (k x : ℕ) → Sight m q s k x → Sight m' q s k x
     sight_later k x h =
         record {
           wide = h.wide;
-          below = λ i low. let was = h.below i low in let grows = passes.counts i low in omega arith;
-          change = let was = h.change in let grows = passes.change in omega arith;
+          below = λ kept i low. let was = h.below (passes.kept kept) i low in let grows = passes.counts kept i low in omega arith;
+          change = λ kept. let was = h.change (passes.kept kept) in let grows = passes.change kept in omega arith;
           copied = λ i value ne e. subst (WasCopied q i value) (sym more) (copied_later q i value m.events es (h.copied i value ne e));
           same = λ proper i low ne e.
-              let k = still i low (h.below i low) e in
+              let k = still proper.kept i low (h.below (passes.kept proper.kept) i low) e in
               h.same (passes.proper proper) i low ne k.0 ∙ sym (passes.stands proper i low k.1);
           caught = λ proper is i ks low said.
-              let k = change_still h.change is in
+              let k = change_still proper.kept (h.change (passes.kept proper.kept)) is in
               let a = passes.announces proper k.1 i low said in
               h.caught (passes.proper proper) k.0 i ks low a.0 ∙ sym a.1;
-          owed = λ is i ks low.
-              let k = change_still h.change is in
-              ⊎_elim (λ e. ⊎_elim (λ same. inl (e ∙ sym same)) (λ o. inr o) (passes.owed k.1 i low)) (λ o. inr (passes.owing k.1 o)) (h.owed k.0 i ks low);
+          owed = λ kept is i ks low.
+              let k = change_still kept (h.change (passes.kept kept)) is in
+              ⊎_elim (λ e. ⊎_elim (λ same. inl (e ∙ sym same)) (λ o. inr o) (passes.owed k.1 i low)) (λ o. inr (passes.owing k.1 o)) (h.owed (passes.kept kept) k.0 i ks low);
         }
 
     pub rests_later : Rests m q s → Rests m' q s

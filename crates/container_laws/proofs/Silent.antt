@@ -15,7 +15,8 @@ use Rattle.model.specs.Families.Indices.Reading.{locked_after}
 use Rattle.model.specs.Families.Indices.Robust.Promises.{SetDoes, HoldsRight}
 use Rattle.model.specs.Families.Indices.Robust.Reading.{filled_after, holder_after, settled_after, dead_after}
 use Rattle.model.proofs.Readings.{AreOwn, AreRight}
-use Rattle.robust_laws.specs.Gone.{Death, AnswersBy}
+use Rattle.robust_laws.specs.Gone.{GoneBy, AnswersBy}
+use Rattle.robust_laws.proofs.Invariant.{IsWorn}
 use Rattle.robust_laws.proofs.Effects.{Quiet, stays_same, quietly}
 use Rattle.robust_laws.proofs.Invariant as set_invariant
 use Rattle.robust_laws.proofs.Rights.{Right, right_after}
@@ -154,13 +155,13 @@ module _ {T : Type 0} where
   holds_right earlier (Finished p start answer) h = tt
   holds_right earlier e h = absurd h
 
-  answers_right : (c : ℕ) (earlier : List (Event T)) (e : Event T) → Silent e → AnswersBy Death ⊥ c earlier e
-  answers_right c earlier (Asked p index owner) h = tt
-  answers_right c earlier (Told p index owner) h = tt
-  answers_right c earlier (Copied p index value) h = tt
-  answers_right c earlier (Shown p index) h = tt
-  answers_right c earlier (Finished p (Container start) answer) h = tt
-  answers_right c earlier e h = absurd h
+  answers_right : (by : GoneBy) (worn : Type 0) (c : ℕ) (earlier : List (Event T)) (e : Event T) → Silent e → AnswersBy by worn c earlier e
+  answers_right by worn c earlier (Asked p index owner) h = tt
+  answers_right by worn c earlier (Told p index owner) h = tt
+  answers_right by worn c earlier (Copied p index value) h = tt
+  answers_right by worn c earlier (Shown p index) h = tt
+  answers_right by worn c earlier (Finished p (Container start) answer) h = tt
+  answers_right by worn c earlier e h = absurd h
 
   all_right : (P : List (Event T) → Event T → Type 0) → ((earlier : List (Event T)) (e : Event T) → Silent e → P earlier e) → (earlier es : List (Event T)) → AllByRecursion Silent es → AreRight P earlier es
   all_right P right earlier [] h = tt
@@ -184,7 +185,7 @@ module _ {T : Type 0} (scene : Scene T) (inv : Inv scene) (words' : List ℕ) (s
   -- of the set
   pub silent_set : set_invariant.Does (of_set scene) words' es
   silent_set =
-      quietly (of_set scene) (inv_of_set scene inv) words' es (stays_same (of_set scene) (inv_of_set scene inv) words' same).leaves (silent_quiet es silent) own (all_right (SetDoes c) (does_right c) events es silent) (all_right (AnswersBy Death ⊥ c) (answers_right c) events es silent)
+      quietly (of_set scene) (inv_of_set scene inv) words' es (stays_same (of_set scene) (inv_of_set scene inv) words' same).leaves (silent_quiet es silent) own (all_right (SetDoes c) (does_right c) events es silent) (all_right (AnswersBy scene.terms.by (IsWorn scene.terms.by words') c) (answers_right scene.terms.by (IsWorn scene.terms.by words') c) events es silent)
 
   -- of the elements
   pub silent_changes : (proper : Proper (after scene words' y es) → Proper (before scene)) → OwesStill scene inv words' y es proper → Changes scene words' y es

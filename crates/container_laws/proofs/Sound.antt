@@ -1,7 +1,8 @@
 -- Every turn keeps what holds of the machine of a container: the laws of the family, from what is shown of each call, of a
 -- begin, of a death and of the opening.
-use Rattle.std.proofs.Common.{◌≡◌, ℕ, ◌+◌, ◌-◌, ◌^◌, ◌<◌, ◌≤◌, inl, if◌then◌else◌, Bool, true, false, Option, Some, None, option_map, List, [], ◌∷◌, ◌++◌, refl, sym, ap, subst, ◌∙◌, arith}
+use Rattle.std.proofs.Common.{◌≡◌, ℕ, ◌+◌, ◌-◌, ◌^◌, ◌<◌, ◌≤◌, ◌==◌, ne_eqb, not, inl, if◌then◌else◌, Bool, true, false, Option, Some, None, option_map, List, [], ◌∷◌, ◌++◌, refl, sym, ap, subst, ◌∙◌, arith}
 use Rattle.steps.specs.declared.container.state.ContainerState.{ContainerState}
+use Rattle.steps.specs.Indices.Robust.Parts.{locked}
 use Rattle.model.specs.declared.event.Event.{Event}
 use Rattle.model.specs.declared.event.Event.TheVariants.{Begun, Died}
 use Rattle.model.specs.declared.event.Start.{Start}
@@ -11,11 +12,13 @@ use Rattle.model.specs.declared.families.Flight as flights
 use Rattle.model.specs.declared.families.Kept.{Kept}
 use Rattle.model.specs.declared.families.Kept as kepts
 use Rattle.model.specs.declared.families.container.ContainerStart.{ContainerStart}
+use Rattle.model.specs.declared.families.container.ContainerStart as starts
 use Rattle.model.specs.declared.families.container.calls.ContainerFlight.{ContainerFlight}
+use Rattle.model.specs.declared.families.container.calls.ContainerFlight as calls
 use Rattle.model.specs.declared.party.Doing.TheVariants.{Going}
 use Rattle.model.specs.declared.party.Party.{Party}
 use Rattle.model.specs.declared.turn.Kind as kinds
-use Rattle.model.specs.declared.turn.Refusal.TheVariants.{OwnerIsDead}
+use Rattle.model.specs.declared.turn.Refusal.TheVariants.{OwnerIsDead, OwnerLives}
 use Rattle.model.specs.Coding.{Coding, IsCoding}
 use Rattle.model.specs.Families.{first_of, want_of, is_question, going_rows, beside_of, step_of, kept_after_death, kept_after_begin}
 use Rattle.model.specs.Families as families
@@ -36,19 +39,27 @@ use Rattle.model.proofs.Frame as frame
 use Rattle.model.proofs.Readings.{Each-nil, span_of-own, span_of-death}
 use Rattle.model.proofs.Rows.{row_passed, MayBegin, MayDie}
 use Rattle.model.proofs.Scenes.{asked, StandsThere, stands_there, ComesFrom, comes_from}
-use Rattle.robust_laws.specs.Gone.{Death}
+use Rattle.robust_laws.specs.Gone.{GoneBy, Death, Word}
+use Rattle.robust_laws.proofs.Core.{counter_of}
 use Rattle.robust_laws.proofs.Invariant as set
 use Rattle.robust_laws.proofs.Opening.{admitted_is}
-use Rattle.container_laws.proofs.Invariant.{ContainerNow, Scene, Fit, Inv, Elements, Does, Shows, Knowing, moment, before, view, family, wrote_of, at_written, owes, holds_more, then_is}
+use Rattle.container_laws.proofs.Invariant.{ContainerNow, Scene, Fit, Inv, Elements, Does, Shows, Knowing, moment, before, view, family, family_by, wrote_of, at_written, owes, holds_more, then_is}
+use Rattle.container_laws.specs.Gone.{acts_for_gone}
 use Rattle.container_laws.proofs.Knows.{Knows}
 use Rattle.container_laws.proofs.Moves.{CallSteps, step_moves, decision_moves}
 use Rattle.container_laws.proofs.Stages.{IsHere, all, done, sees_now}
 use Rattle.container_laws.proofs.Standing.{At}
 use Rattle.container_laws.proofs.Standing as standing
+use Rattle.container_laws.proofs.Terms.{Terms, dying, Keeps}
 
 -- ---- what is shown of a begin, of a death and of the opening
 
 module _ {T : Type 0} where
+  -- where owners die a recovery is of a dead one
+  abbrev pub MayRecover : GoneBy → List (Event T) → ContainerStart T → Type 0
+  MayRecover Death events (starts.TheVariants.Recover owner mode) = is_dead owner events ≡ true
+  MayRecover by events start = Unit {0}
+
   -- the party's call as it begins
   abbrev pub first_party : ℕ → ℕ → ContainerStart T → Party T
   first_party c changes start = party_at_begin (Container start) (flights.TheVariants.Container (first c start)) changes
@@ -57,25 +68,25 @@ module _ {T : Type 0} where
     pub does : Does scene scene.words (states_at_begin scene.coding scene.capacity start scene.party scene.states) (first_party scene.capacity scene.changes start) (Begun scene.party (Container start) ∷ [])
     pub at : At scene.capacity scene.coding.size [] [] start (first scene.capacity start)
     pub knows : Knows scene.coding scene.capacity (first scene.capacity start)
-        (view scene.words (states_at_begin scene.coding scene.capacity start scene.party scene.states) (put scene.party (first_party scene.capacity scene.changes start) scene.latest) (scene.events ++ Begun scene.party (Container start) ∷ []) scene.party scene.changes scene.changes 0)
+        (view scene.terms scene.words (states_at_begin scene.coding scene.capacity start scene.party scene.states) (put scene.party (first_party scene.capacity scene.changes start) scene.latest) (scene.events ++ Begun scene.party (Container start) ∷ []) scene.party scene.changes scene.changes 0)
 
-  pub record Dies (code : Coding T) (c : ℕ) (words dead : List ℕ) (states : List (ℕ × ContainerState T)) (latest : List (ℕ × Party T)) (events : List (Event T)) (turns o : ℕ) : Type 0 where
-    pub good : set.Good Death c words (dead_with o dead) (events ++ Died o ∷ []) (turns + 1)
-    pub elements : Elements code c (moment words latest (events ++ Died o ∷ [])) states (turns + 1)
-    pub knows : (q since changes backs : ℕ) (flight : ContainerFlight T) → Knows code c flight (view words states latest events q since changes backs) → Knows code c flight (view words states latest (events ++ Died o ∷ []) q since changes backs)
+  pub record Dies (terms : Terms) (code : Coding T) (c : ℕ) (words dead : List ℕ) (states : List (ℕ × ContainerState T)) (latest : List (ℕ × Party T)) (events : List (Event T)) (turns o : ℕ) : Type 0 where
+    pub good : set.Good terms.by c words (dead_with o dead) (events ++ Died o ∷ []) (turns + 1)
+    pub elements : Elements code c (moment terms words latest (events ++ Died o ∷ [])) states (turns + 1)
+    pub knows : (q since changes backs : ℕ) (flight : ContainerFlight T) → Knows code c flight (view terms words states latest events q since changes backs) → Knows code c flight (view terms words states latest (events ++ Died o ∷ []) q since changes backs)
 
-  pub record Opens (code : Coding T) (c : ℕ) : Type 0 where
-    pub good : set.Good {T = T} Death c (opening_words code.size c) [] [] 0
-    pub elements : Elements code c (moment (opening_words code.size c) [] []) [] 0
+  pub record Opens (terms : Terms) (code : Coding T) (c : ℕ) : Type 0 where
+    pub good : set.Good {T = T} terms.by c (opening_words code.size c) [] [] 0
+    pub elements : Elements code c (moment terms (opening_words code.size c) [] []) [] 0
 
 -- all that is shown of the family's turns
 pub record Shown (T : Type 0) : Type 0 where
   pub calls : (scene : Scene T) → Inv scene → CallSteps scene
-  pub begins : (scene : Scene T) → set.Good Death scene.capacity scene.words scene.dead scene.events scene.turns → Elements scene.coding scene.capacity (before scene) scene.states scene.turns → scene.turns < 2 ^ 64 - 2
-      → flight_of (doing_of (party_of scene.party scene.latest)) ≡ None → IsShut (span_of scene.party scene.events) → (start : ContainerStart T) → names_owner start ≡ true → first_row (call_rows scene.dead start) ≡ None → Begins scene start
-  pub dies : (code : Coding T) (c : ℕ) (words dead : List ℕ) (states : List (ℕ × ContainerState T)) (latest : List (ℕ × Party T)) (events : List (Event T)) (turns o : ℕ) → set.Good Death c words dead events turns → Elements code c (moment words latest events) states turns → is_dead o events ≡ false
-      → Dies code c words dead states latest events turns o
-  pub opens : (code : Coding T) (c : ℕ) → IsCoding code → 1 ≤ c → c < 2 ^ 32 → Opens code c
+  pub begins : (scene : Scene T) → set.Good scene.terms.by scene.capacity scene.words scene.dead scene.events scene.turns → Elements scene.coding scene.capacity (before scene) scene.states scene.turns
+      → flight_of (doing_of (party_of scene.party scene.latest)) ≡ None → IsShut (span_of scene.party scene.events) → (start : ContainerStart T) → names_owner start ≡ true → MayRecover scene.terms.by scene.events start → Begins scene start
+  pub dies : (terms : Terms) (code : Coding T) (c : ℕ) (words dead : List ℕ) (states : List (ℕ × ContainerState T)) (latest : List (ℕ × Party T)) (events : List (Event T)) (turns o : ℕ) → set.Good terms.by c words dead events turns → Elements code c (moment terms words latest events) states turns → is_dead o events ≡ false
+      → Dies terms code c words dead states latest events turns o
+  pub opens : (terms : Terms) (code : Coding T) (c : ℕ) → IsCoding code → 1 ≤ c → c < 2 ^ 32 → Opens terms code c
 
 module _ {T : Type 0} where
   pub kept_is : (kept : Kept T) (words : List ℕ) (s : ContainerNow T) → Fit kept words s → (kept ≡ kepts.TheVariants.Container s.dead s.states) × (words ≡ s.words)
@@ -98,13 +109,42 @@ module _ {T : Type 0} where
 
 -- ---- the laws of the family
 
-module _ {T : Type 0} (shown : Shown T) (code : Coding T) (c : ℕ) (t : Trace T) (s : frame.Sound (family code c) t) where
+module _ {T : Type 0} where
+  -- whom the rows refuse as dead is dead by the events
+  lives_by_rows : (dead : List ℕ) (events : List (Event T)) → ((owner : ℕ) → has_died owner dead ≡ is_dead owner events) → (flight : ContainerFlight T) → acts_for_dead dead flight ≡ false → acts_for_gone Death events flight ≡ false
+  lives_by_rows dead events died (calls.TheVariants.Add run) alive = sym (died run.given.owner) ∙ alive
+  lives_by_rows dead events died (calls.TheVariants.Remove run) alive = sym (died run.given.owner) ∙ alive
+  lives_by_rows dead events died (calls.TheVariants.Replace run) alive = sym (died run.given.owner) ∙ alive
+  lives_by_rows dead events died flight alive = refl
+
+-- a machine whose counter has room, and which has taken few turns where its run keeps to that
+pub record MayGoOn {T : Type 0} (terms : Terms) (t : Trace T) : Type 0 where
+  pub room : set.HasRoom terms.by t.world.words
+  pub few : Keeps terms → t.world.turns < 2 ^ 64 - 2
+
+module _ {T : Type 0} where
+  few_room : (by : GoneBy) (c : ℕ) (words dead : List ℕ) (events : List (Event T)) (turns : ℕ) → set.Good by c words dead events turns → turns < 2 ^ 64 - 2 → set.HasRoom by words
+  few_room Death c words dead events turns g small = λ open_now.
+      let t : (counter_of words == locked) ≡ false = ne_eqb (counter_of words) locked open_now in
+      let low = g.low (sym g.lock ∙ t) in
+      omega arith
+  few_room Word c words dead events turns g small = tt
+
+  pub may_go_on : (terms : Terms) (code : Coding T) (c : ℕ) (t : Trace T) → frame.Sound (family_by terms code c) t → t.world.turns < 2 ^ 64 - 2 → MayGoOn terms t
+  may_go_on terms code c t s small =
+      record {
+        room = subst (set.HasRoom terms.by) (sym (kept_is t.world.kept t.world.words s.state s.fit).1) (few_room terms.by c s.state.words s.state.dead t.events t.world.turns s.holds.good small);
+        few = λ kept. small;
+      }
+
+module _ {T : Type 0} (shown : Shown T) (terms : Terms) (code : Coding T) (c : ℕ) (t : Trace T) (s : frame.Sound (family_by terms code c) t) where
   abbrev pub kept_now : Kept T
   kept_now = kepts.TheVariants.Container s.state.dead s.state.states
 
   abbrev pub scene_of : ℕ → Party T → ℕ → Scene T
   scene_of p x since =
       record {
+        terms = terms;
         coding = code;
         capacity = c;
         words = s.state.words;
@@ -125,12 +165,22 @@ module _ {T : Type 0} (shown : Shown T) (code : Coding T) (c : ℕ) (t : Trace T
       ap (λ l. record { words = s.state.words; dead = s.state.dead; states = s.state.states; latest = l; events = s.state.events }) s.holds.same_latest
       ∙ ap (λ es. record { words = s.state.words; dead = s.state.dead; states = s.state.states; latest = t.world.latest; events = es }) s.holds.same
 
-  pub elements_now : Elements code c (moment s.state.words t.world.latest t.events) s.state.states t.world.turns
+  pub elements_now : Elements code c (moment terms s.state.words t.world.latest t.events) s.state.states t.world.turns
   elements_now = s.holds.elements
 
-  module _ (p : ℕ) (x : Party T) (since : ℕ) (small : t.world.turns < 2 ^ 64 - 2) (found : party_of p t.world.latest ≡ Some x) where
-    pub inv_of : Inv (scene_of p x since)
-    inv_of = record { good = s.holds.good; elements = s.holds.elements; begun = s.holds.begun p x found; small = small }
+  module _ (p : ℕ) (x : Party T) (since : ℕ) (found : party_of p t.world.latest ≡ Some x) where
+    pub inv_with : MayGoOn terms t → Inv (scene_of p x since)
+    inv_with may =
+        record {
+          good = s.holds.good;
+          elements = s.holds.elements;
+          begun = s.holds.begun p x found;
+          room = subst (set.HasRoom terms.by) (kept_is t.world.kept t.world.words s.state s.fit).1 may.room;
+          small = may.few;
+        }
+
+    pub inv_of : t.world.turns < 2 ^ 64 - 2 → Inv (scene_of p x since)
+    inv_of small = inv_with (may_go_on terms code c t s small)
 
     -- its call stands there by the events
     pub record IsThere (start : ContainerStart T) (flight : ContainerFlight T) : Type 0 where
@@ -139,7 +189,7 @@ module _ {T : Type 0} (shown : Shown T) (code : Coding T) (c : ℕ) (t : Trace T
       pub steps : x.steps ≤ standing.number_of c code.size flight x.backs
       pub knows : Knows code c flight (sees_now (scene_of p x since))
 
-    pub is_there : (start : ContainerStart T) (flight : ContainerFlight T) → StandsThere (family code c) t s p x since (Container start) (flights.TheVariants.Container flight) → IsThere start flight
+    pub is_there : (start : ContainerStart T) (flight : ContainerFlight T) → StandsThere (family_by terms code c) t s p x since (Container start) (flights.TheVariants.Container flight) → IsThere start flight
     is_there start flight h =
         record {
           here =
@@ -152,7 +202,7 @@ module _ {T : Type 0} (shown : Shown T) (code : Coding T) (c : ℕ) (t : Trace T
               };
           at = at_written (scene_of p x since) c code.size (wrote_of p s.state.events) (wrote_of p t.events) (Container start) (flights.TheVariants.Container flight) (sym (ap (wrote_of p) s.holds.same)) h.at;
           steps = h.steps;
-          knows = subst (λ (o : ContainerNow T). Knowing code c (flights.TheVariants.Container flight) (view o.words o.states o.latest t.events p since t.world.changes x.backs)) state_is h.knows;
+          knows = subst (λ (o : ContainerNow T). Knowing code c (flights.TheVariants.Container flight) (view terms o.words o.states o.latest t.events p since t.world.changes x.backs)) state_is h.knows;
         }
 
     -- the rows that it has passed
@@ -164,23 +214,29 @@ module _ {T : Type 0} (shown : Shown T) (code : Coding T) (c : ℕ) (t : Trace T
 
     -- ---- a step
 
-    comes : (start : Start T) (flight : Flight T) → first_row (going_rows t.world.coding t.world.kept (Some flight) None) ≡ None → StandsThere (family code c) t s p x since start flight → ComesFrom (family code c) t s p x since code s.state.words kept_now start flight
-    comes (Container start) (flights.TheVariants.Container flight) r h =
+    -- where its run keeps to that, the call acts for nobody who is gone
+    abbrev pub IsRightly : Flight T → Type 0
+    IsRightly (flights.TheVariants.Container flight) = Keeps terms → acts_for_gone terms.by t.events flight ≡ false
+    IsRightly flight = Unit {0}
+
+    comes : MayGoOn terms t → (start : Start T) (flight : Flight T) → IsRightly flight → first_row (going_rows t.world.coding t.world.kept (Some flight) None) ≡ None → StandsThere (family_by terms code c) t s p x since start flight → ComesFrom (family_by terms code c) t s p x since code s.state.words kept_now start flight
+    comes may (Container start) (flights.TheVariants.Container flight) rightly r h =
         let there = is_there start flight h in
-        let moves = step_moves (scene_of p x since) inv_of (shown.calls (scene_of p x since) inv_of) start flight there.at there.here (passes flight None r) there.steps there.knows in
+        let inv = inv_with may in
+        let moves = step_moves (scene_of p x since) inv (shown.calls (scene_of p x since) inv) start flight there.at there.here (passes flight None r) rightly there.steps there.knows in
         record {
           state = _;
           fit = (refl, refl, refl);
           holds = holds_more (scene_of p x since) _ _ (Open (Container start) (wrote_of p t.events)) _ _ _ moves s.state state_is s.holds s.inv;
           owes = owes (scene_of p x since) _ _ (Open (Container start) (wrote_of p t.events)) _ _ _ moves s.state state_is s.holds s.inv there.here.span;
         }
-    comes start flight r h = absurd h.at
+    comes may start flight rightly r h = absurd h.at
 
-    pub step_comes : (flight : Flight T) → first_row (going_rows t.world.coding t.world.kept (Some flight) None) ≡ None → x.doing ≡ Going flight since
-        → frame.ComesByStep (family code c) t p x flight since (asked t.world.coding flight) (old_of t.world.words (asked t.world.coding flight))
-    step_comes flight r doing =
+    pub step_comes : MayGoOn terms t → (flight : Flight T) → IsRightly flight → first_row (going_rows t.world.coding t.world.kept (Some flight) None) ≡ None → x.doing ≡ Going flight since
+        → frame.ComesByStep (family_by terms code c) t p x flight since (asked t.world.coding flight) (old_of t.world.words (asked t.world.coding flight))
+    step_comes may flight rightly r doing =
         let is = kept_is t.world.kept t.world.words s.state s.fit in
-        comes_from (family code c) t s p x since s.state.words kept_now flight is.1 is.0 (comes x.start flight r (stands_there (family code c) t s p x since flight found doing))
+        comes_from (family_by terms code c) t s p x since s.state.words kept_now flight is.1 is.0 (comes may x.start flight rightly r (stands_there (family_by terms code c) t s p x since flight found doing))
 
     -- ---- a decision
 
@@ -189,48 +245,49 @@ module _ {T : Type 0} (shown : Shown T) (code : Coding T) (c : ℕ) (t : Trace T
 
     abbrev DecidesFrom : Coding T → ℕ → List ℕ → Kept T → Start T → Flight T → Type 0
     DecidesFrom y answer words kept start flight =
-        frame.Comes (family code c) t p (decided y answer words kept start flight).kept (words_after words None)
+        frame.Comes (family_by terms code c) t p (decided y answer words kept start flight).kept (words_after words None)
         (party_after (record x { start = start }) since t.world.changes 0 (change_of words None) (decided y answer words kept start flight))
         (events_of_step p start (decided y answer words kept start flight))
         (t.world.changes + change_of words None)
 
-    decides : (said : Bool) (start : Start T) (flight : Flight T) → is_question (want_of code flight) ≡ true → StandsThere (family code c) t s p x since start flight → DecidesFrom code (number_of said) s.state.words kept_now start flight
-    decides said (Container start) (flights.TheVariants.Container flight) asks h =
+    decides : MayGoOn terms t → (said : Bool) (start : Start T) (flight : Flight T) → is_question (want_of code flight) ≡ true → StandsThere (family_by terms code c) t s p x since start flight → DecidesFrom code (number_of said) s.state.words kept_now start flight
+    decides may said (Container start) (flights.TheVariants.Container flight) asks h =
         let there = is_there start flight h in
-        let moves = decision_moves (scene_of p x since) inv_of (shown.calls (scene_of p x since) inv_of) said start flight there.at there.here asks there.steps there.knows in
+        let inv = inv_with may in
+        let moves = decision_moves (scene_of p x since) inv (shown.calls (scene_of p x since) inv) said start flight there.at there.here asks there.steps there.knows in
         record {
           state = _;
           fit = (refl, refl, refl);
           holds = holds_more (scene_of p x since) _ _ (Open (Container start) (wrote_of p t.events)) _ _ _ moves s.state state_is s.holds s.inv;
           owes = owes (scene_of p x since) _ _ (Open (Container start) (wrote_of p t.events)) _ _ _ moves s.state state_is s.holds s.inv there.here.span;
         }
-    decides said start flight asks h = absurd h.at
+    decides may said start flight asks h = absurd h.at
 
-    pub decision_comes : (flight : Flight T) (said : Bool) → is_question (want_of t.world.coding flight) ≡ true → x.doing ≡ Going flight since → frame.ComesByStep (family code c) t p x flight since None (number_of said)
-    decision_comes flight said asks doing =
+    pub decision_comes : MayGoOn terms t → (flight : Flight T) (said : Bool) → is_question (want_of t.world.coding flight) ≡ true → x.doing ≡ Going flight since → frame.ComesByStep (family_by terms code c) t p x flight since None (number_of said)
+    decision_comes may flight said asks doing =
         let is = kept_is t.world.kept t.world.words s.state s.fit in
         let due : is_question (want_of code flight) ≡ true = subst (λ y. is_question (want_of y flight) ≡ true) s.coding asks in
         subst (λ y. DecidesFrom y (number_of said) t.world.words t.world.kept x.start flight) (sym s.coding)
         (subst (λ ws. DecidesFrom code (number_of said) ws t.world.kept x.start flight) (sym is.1)
         (subst (λ k. DecidesFrom code (number_of said) s.state.words k x.start flight) (sym is.0)
-        (decides said x.start flight due (stands_there (family code c) t s p x since flight found doing))))
+        (decides may said x.start flight due (stands_there (family_by terms code c) t s p x since flight found doing))))
 
   -- ---- a call begins
 
   module _ (p : ℕ) where
     abbrev BeginsFrom : Coding T → ℕ → List ℕ → Kept T → ContainerStart T → ContainerFlight T → Type 0
     BeginsFrom y n words kept start flight =
-        frame.Comes (family code c) t p (kept_after_begin y n (Container start) p kept) words (party_at_begin (Container start) (flights.TheVariants.Container flight) t.world.changes) (Begun p (Container start) ∷ []) t.world.changes
+        frame.Comes (family_by terms code c) t p (kept_after_begin y n (Container start) p kept) words (party_at_begin (Container start) (flights.TheVariants.Container flight) t.world.changes) (Begun p (Container start) ∷ []) t.world.changes
 
     span_begun : (start : ContainerStart T) → span_of p (t.events ++ Begun p (Container start) ∷ []) ≡ Open (Container start) []
     span_begun start = span_of-own p t.events (Begun p (Container start) ∷ []) (refl, tt)
 
-    begins_now : (start : ContainerStart T) → t.world.turns < 2 ^ 64 - 2 → names_owner start ≡ true → first_row (call_rows s.state.dead start) ≡ None → flight_of (doing_of (party_of p t.world.latest)) ≡ None → BeginsFrom code c s.state.words kept_now start (first c start)
-    begins_now start small named passed free =
+    begins_now : (start : ContainerStart T) → names_owner start ≡ true → MayRecover terms.by t.events start → flight_of (doing_of (party_of p t.world.latest)) ≡ None → BeginsFrom code c s.state.words kept_now start (first c start)
+    begins_now start named may free =
         let y : Party T = first_party c t.world.changes start in
         let scene : Scene T = scene_of p y t.world.changes in
-        let shut : IsShut (span_of p t.events) = frame.shut (family code c) s.state p (party_of p t.world.latest) (span_of p t.events) free (s.inv.calls p) in
-        let b = shown.begins scene s.holds.good s.holds.elements small free shut start named passed in
+        let shut : IsShut (span_of p t.events) = frame.shut (family_by terms code c) s.state p (party_of p t.world.latest) (span_of p t.events) free (s.inv.calls p) in
+        let b = shown.begins scene s.holds.good s.holds.elements free shut start named may in
         let states' : List (ℕ × ContainerState T) = states_at_begin code c start p s.state.states in
         let shows : Shows scene s.state.words states' (span_of p t.events) y (Begun p (Container start) ∷ []) t.world.changes =
         record {
@@ -253,21 +310,35 @@ module _ {T : Type 0} (shown : Shown T) (code : Coding T) (c : ℕ) (t : Trace T
           owes = owes scene s.state.words states' (span_of p t.events) y (Begun p (Container start) ∷ []) t.world.changes shows s.state state_is s.holds s.inv refl;
         }
 
-    pub begin_comes : (start : Start T) (flight : Flight T) → t.world.turns < 2 ^ 64 - 2 → MayBegin t.world p start → first_of t.world.kind t.world.capacity start t.world.kept ≡ Some flight
-        → frame.Comes (family code c) t p (kept_after_begin t.world.coding t.world.capacity start p t.world.kept) t.world.words (party_at_begin start flight t.world.changes) (Begun p start ∷ []) t.world.changes
-    begin_comes (Container start) (flights.TheVariants.Container flight) small may e =
+    abbrev pub MayRecoverIn : Start T → Type 0
+    MayRecoverIn (Container start) = MayRecover terms.by t.events start
+    MayRecoverIn start = Unit {0}
+
+    by_rows : (by : GoneBy) (start : ContainerStart T) → first_row (call_rows s.state.dead start) ≡ None → MayRecover by t.events start
+    by_rows Death (starts.TheVariants.Recover owner mode) r =
+        sym (s.holds.good.died owner) ∙ frame.is_true (has_died owner s.state.dead) (row_passed (not (has_died owner s.state.dead)) OwnerLives None r).0
+    by_rows by start r = tt
+
+    -- one that passes the machine's rows may
+    pub recovers_by : (start : Start T) → MayBegin t.world p start → MayRecoverIn start
+    recovers_by (Container start) may =
+        by_rows terms.by start (subst (λ kept. first_row (kept_rows {T = T} start kept p) ≡ None) (kept_is t.world.kept t.world.words s.state s.fit).0 may.rows)
+    recovers_by start may = tt
+
+    pub begin_comes : (start : Start T) (flight : Flight T) → MayRecoverIn start → flight_of (doing_of (party_of p t.world.latest)) ≡ None → first_of t.world.kind t.world.capacity start t.world.kept ≡ Some flight
+        → frame.Comes (family_by terms code c) t p (kept_after_begin t.world.coding t.world.capacity start p t.world.kept) t.world.words (party_at_begin start flight t.world.changes) (Begun p start ∷ []) t.world.changes
+    begin_comes (Container start) (flights.TheVariants.Container flight) may free e =
         let is = kept_is t.world.kept t.world.words s.state s.fit in
-        let passed : first_row (call_rows s.state.dead start) ≡ None = subst (λ kept. first_row (kept_rows {T = T} start kept p) ≡ None) is.0 may.rows in
         let named : first_of {T = T} kinds.TheVariants.Container t.world.capacity (Container start) t.world.kept ≡ Some (flights.TheVariants.Container flight) = subst
         (λ kind. first_of {T = T} kind t.world.capacity (Container start) t.world.kept ≡ Some (flights.TheVariants.Container flight)) s.kind e in
         let own : IsOwn c (Container start) (flights.TheVariants.Container flight) = subst (λ n. IsOwn n (Container start) (flights.TheVariants.Container flight)) s.capacity
         (begins_own t.world.capacity t.world.kept (Container start) (flights.TheVariants.Container flight) named) in
-        let now : BeginsFrom code c s.state.words kept_now start flight = subst (λ f. BeginsFrom code c s.state.words kept_now start f) own.0 (begins_now start small own.1 passed may.free) in
+        let now : BeginsFrom code c s.state.words kept_now start flight = subst (λ f. BeginsFrom code c s.state.words kept_now start f) own.0 (begins_now start own.1 may free) in
         subst (λ y. BeginsFrom y t.world.capacity t.world.words t.world.kept start flight) (sym s.coding)
         (subst (λ n. BeginsFrom code n t.world.words t.world.kept start flight) (sym s.capacity)
         (subst (λ ws. BeginsFrom code c ws t.world.kept start flight) (sym is.1)
         (subst (λ k. BeginsFrom code c s.state.words k start flight) (sym is.0) now)))
-    begin_comes start flight small may e =
+    begin_comes start flight may free e =
         let named : first_of kinds.TheVariants.Container t.world.capacity start t.world.kept ≡ Some flight = subst (λ kind. first_of kind t.world.capacity start t.world.kept ≡ Some flight) s.kind e in
         absurd (begins_own t.world.capacity t.world.kept start flight named)
 
@@ -291,11 +362,11 @@ module _ {T : Type 0} (shown : Shown T) (code : Coding T) (c : ℕ) (t : Trace T
   lives_by (kepts.TheVariants.Container dead states) words o fit alive = subst (λ d. has_died o d ≡ false) fit.1 alive
   lives_by kept words o fit alive = absurd fit
 
-  pub death_comes : (o : ℕ) → MayDie t.world o → frame.ComesByDeath (family code c) t s o
+  pub death_comes : (o : ℕ) → MayDie t.world o → frame.ComesByDeath (family_by terms code c) t s o
   death_comes o may =
       let g = s.holds.good in
       let alive : is_dead o t.events ≡ false = sym (g.died o) ∙ lives_by t.world.kept t.world.words o s.fit may.lives in
-      let d = shown.dies code c s.state.words s.state.dead s.state.states t.world.latest t.events t.world.turns o g s.holds.elements alive in
+      let d = shown.dies terms code c s.state.words s.state.dead s.state.states t.world.latest t.events t.world.turns o g s.holds.elements alive in
       record {
         state = died_now o;
         fit = fit_death t.world.kept t.world.words o s.fit;
@@ -304,27 +375,33 @@ module _ {T : Type 0} (shown : Shown T) (code : Coding T) (c : ℕ) (t : Trace T
             let wrote : wrote_of q (t.events ++ Died o ∷ []) ≡ wrote_of q s.state.events = ap wrote_in (span_of-death q t.events o) ∙ sym (ap (wrote_of q) s.holds.same) in
             (at_written (scene_of q (record { start = start; steps = 0; backs = 0; doing = Going flight 0 }) 0) c code.size (wrote_of q s.state.events) (wrote_of q (t.events ++ Died o ∷ [])) start flight wrote at, wrote);
         calls_know = λ q since backs flight h. knows_then o d q since backs flight
-            (subst (λ (n : ContainerNow T). Knowing code c flight (view n.words n.states n.latest t.events q since t.world.changes backs)) state_is h);
+            (subst (λ (n : ContainerNow T). Knowing code c flight (view terms n.words n.states n.latest t.events q since t.world.changes backs)) state_is h);
       }
     where
-      knows_then : (o : ℕ) → Dies code c s.state.words s.state.dead s.state.states t.world.latest t.events t.world.turns o → (q since backs : ℕ) (flight : Flight T) → Knowing code c flight (view s.state.words s.state.states t.world.latest t.events q since t.world.changes backs)
-          → Knowing code c flight (view s.state.words s.state.states t.world.latest (t.events ++ Died o ∷ []) q since t.world.changes backs)
+      knows_then : (o : ℕ) → Dies terms code c s.state.words s.state.dead s.state.states t.world.latest t.events t.world.turns o → (q since backs : ℕ) (flight : Flight T) → Knowing code c flight (view terms s.state.words s.state.states t.world.latest t.events q since t.world.changes backs)
+          → Knowing code c flight (view terms s.state.words s.state.states t.world.latest (t.events ++ Died o ∷ []) q since t.world.changes backs)
       knows_then o d q since backs (flights.TheVariants.Container flight) h = d.knows q since t.world.changes backs flight h
       knows_then o d q since backs flight h = absurd h
 
 module _ {T : Type 0} (shown : Shown T) where
+  -- where owners die a call that passes its rows acts for none who is dead
+  dying_rightly : (code : Coding T) (c : ℕ) (t : Trace T) (s : frame.Sound (family code c) t) (p : ℕ) (x : Party T) (since : ℕ) (found : party_of p t.world.latest ≡ Some x) (flight : Flight T)
+      → first_row (going_rows t.world.coding t.world.kept (Some flight) None) ≡ None → IsRightly shown dying code c t s p x since found flight
+  dying_rightly code c t s p x since found (flights.TheVariants.Container flight) r = λ kept. lives_by_rows s.state.dead t.events s.holds.good.died flight (passes shown dying code c t s p x since found flight None r)
+  dying_rightly code c t s p x since found flight r = tt
+
   laws : (code : Coding T) (c : ℕ) → frame.Laws (family code c)
   laws code c =
       record {
-        step = λ t p x flight since s small r found doing. step_comes shown code c t s p x since small found flight r doing;
-        decision = λ t p x flight since said s small r found doing asks. decision_comes shown code c t s p x since small found flight said asks doing;
-        begin = λ t p start flight s small may e. begin_comes shown code c t s p start flight small may e;
-        death = λ t o s may. death_comes shown code c t s o may;
+        step = λ t p x flight since s small r found doing. step_comes shown dying code c t s p x since found (may_go_on dying code c t s small) flight (dying_rightly code c t s p x since found flight r) r doing;
+        decision = λ t p x flight since said s small r found doing asks. decision_comes shown dying code c t s p x since found (may_go_on dying code c t s small) flight said asks doing;
+        begin = λ t p start flight s small may e. begin_comes shown dying code c t s p start flight (recovers_by shown dying code c t s p start may) may.free e;
+        death = λ t o s may. death_comes shown dying code c t s o may;
       }
 
-  opening_sound : (code : Coding T) (c parties : ℕ) → IsCoding code → 1 ≤ c → c < 2 ^ 32 → frame.Sound (family code c) (opening code kinds.TheVariants.Container c parties)
-  opening_sound code c parties coded some few =
-      let o = shown.opens code c coded some few in
+  pub opening_sound : (terms : Terms) (code : Coding T) (c parties : ℕ) → IsCoding code → 1 ≤ c → c < 2 ^ 32 → frame.Sound (family_by terms code c) (opening code kinds.TheVariants.Container c parties)
+  opening_sound terms code c parties coded some few =
+      let o = shown.opens terms code c coded some few in
       record {
         coding = refl;
         kind = refl;
@@ -339,7 +416,7 @@ module _ {T : Type 0} (shown : Shown T) where
   reached_sound t is r =
       let w = t.world in
       let may = admitted_is w.capacity (subst (λ kind. capacity_error kind w.capacity ≡ None) is r.admitted) in
-      let first = opening_sound w.coding w.capacity w.parties r.coded may.0 may.1 in
+      let first = opening_sound dying w.coding w.capacity w.parties r.coded may.0 may.1 in
       frame.reached_sound (family w.coding w.capacity) (laws w.coding w.capacity) t (ap is_loan is)
       (subst (λ kind. frame.Sound (family w.coding w.capacity) (opening w.coding kind w.capacity w.parties)) (sym is) first)
       r

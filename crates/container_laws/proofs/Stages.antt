@@ -112,11 +112,11 @@ module _ {T : Type 0} (scene : Scene T) where
 
   -- what the call sees now, and after a step that leaves these states and writes these events
   abbrev pub sees_now : View T
-  sees_now = view ws scene.states latest events p since changes backs
+  sees_now = view scene.terms ws scene.states latest events p since changes backs
 
   abbrev pub then_sees : Option Ask → Bool → List (ℕ × ContainerState T) → Party T → List (Event T) → View T
   then_sees ask back states' y es =
-      view (words_after ws ask) states' (put p y latest) (events ++ es) p (since_then ask) (changes_then ask) (backs_then back)
+      view scene.terms (words_after ws ask) states' (put p y latest) (events ++ es) p (since_then ask) (changes_then ask) (backs_then back)
 
   -- a step with this operation after which the call goes on or is done, that leaves these states and writes these events
   abbrev pub ShowsThen : ContainerStart T → Option Ask → Bool → List (ℕ × ContainerState T) → List (Event T) → After (ContainerFlight T) (Answer T) → Type 0
@@ -207,13 +207,13 @@ module _ {T : Type 0} (scene : Scene T) where
       → Does scene (words_after ws ask) states' (party_then start ask back (GoOn flight)) []
       → steps + step_count ask ≤ standing.number_of c code.size flight (backs_then back)
       → At c code.size (deeds_of p events) (acts_of p events) start flight
-      → Knows code c flight (view (words_after ws ask) states' (put p (party_then start ask back (GoOn flight)) latest) events p (since_then ask) (changes_then ask) (backs_then back))
+      → Knows code c flight (view scene.terms (words_after ws ask) states' (put p (party_then start ask back (GoOn flight)) latest) events p (since_then ask) (changes_then ask) (backs_then back))
       → ShowsThen start ask back states' [] (GoOn flight)
   goes_calmly start flight ask back states' span does few at known =
       goes_on start flight ask back states' [] span none_lengthens does tt few
       (subst (λ d. At c code.size d (acts_of p events ++ []) start flight) (sym (append-nil (deeds_of p events)))
       (subst (λ a. At c code.size (deeds_of p events) a start flight) (sym (append-nil (acts_of p events))) at))
-      (subst (λ es. Knows code c flight (view (words_after ws ask) states' (put p (party_then start ask back (GoOn flight)) latest) es p (since_then ask) (changes_then ask) (backs_then back))) (sym (append-nil events)) known)
+      (subst (λ es. Knows code c flight (view scene.terms (words_after ws ask) states' (put p (party_then start ask back (GoOn flight)) latest) es p (since_then ask) (changes_then ask) (backs_then back))) (sym (append-nil events)) known)
 
   -- ---- what it owes the changes
 
@@ -245,12 +245,12 @@ module _ {T : Type 0} (scene : Scene T) where
 
   pub was_proper : (start : ContainerStart T) → NoReplace start → span_of p events ≡ Open (Container start) (wrote_of p events) → (words' : List ℕ) (y : Party T) (es : List (Event T)) → AreOwn p es → Proper (invariant.after scene words' y es) → Proper (before scene)
   was_proper start none span words' y es own =
-      proper_before p y latest events es own (λ h. no_replace start none span (party_of p latest))
+      proper_before scene.terms p y latest events es own (λ h. no_replace start none span (party_of p latest))
 
   -- the same of a turn that writes nothing
-  pub was_proper_calmly : (start : ContainerStart T) → NoReplace start → span_of p events ≡ Open (Container start) (wrote_of p events) → (y : Party T) → IsProperSoFar (put p y latest) events → Proper (before scene)
+  pub was_proper_calmly : (start : ContainerStart T) → NoReplace start → span_of p events ≡ Open (Container start) (wrote_of p events) → (y : Party T) → IsProperSoFar scene.terms (put p y latest) events → Proper (before scene)
   was_proper_calmly start none span y h =
-      was_proper start none span ws y [] tt (subst (λ es. IsProperSoFar (put p y latest) es) (sym (append-nil events)) h)
+      was_proper start none span ws y [] tt (subst (λ es. IsProperSoFar scene.terms (put p y latest) es) (sym (append-nil events)) h)
 
   -- ---- the states of the parties, where the call is no look
 

@@ -3,6 +3,7 @@ use Rattle.std.proofs.Common.{◌≡◌, ◌≢◌, ⊎_elim, ℕ, ◌+◌, ◌%
 use Rattle.std.proofs.lemmas.Bool.{cases_eq}
 use Rattle.std.proofs.lemmas.List.Sums.{fold-append}
 use Rattle.steps.specs.Container.Layout.{change_word, count_word, element_word}
+use Rattle.steps.specs.Indices.Robust.Parts.{one_more}
 use Rattle.model.specs.declared.event.Answer.{Answer}
 use Rattle.model.specs.declared.event.Event.{Event}
 use Rattle.model.specs.declared.event.Event.TheVariants.{Placed, Hidden, Finished}
@@ -10,17 +11,18 @@ use Rattle.model.specs.declared.event.Start.TheVariants.{Container}
 use Rattle.model.specs.declared.families.container.ContainerStart.{ContainerStart}
 use Rattle.model.specs.declared.families.container.calls.ContainerFlight.{ContainerFlight}
 use Rattle.model.specs.declared.party.Party.{Party}
-use Rattle.model.specs.Families.Container.Promises.{AnswersRight}
 use Rattle.model.specs.Families.Container.Reading.{contents_after, contents_of, announced_after, announced_of}
-use Rattle.model.specs.Families.Indices.Robust.Reading.{is_dead, filled_of}
+use Rattle.model.specs.Families.Indices.Robust.Reading.{filled_of}
 use Rattle.model.specs.Parties.{flight_of}
+use Rattle.robust_laws.specs.Gone.{is_gone}
 use Rattle.robust_laws.proofs.Effects as set_effects
 use Rattle.robust_laws.proofs.Effects.{at_same, at_other, both_ways, one_owner}
 use Rattle.robust_laws.proofs.Invariant as set_invariant
+use Rattle.container_laws.specs.Gone.{AnswersBy}
 use Rattle.container_laws.proofs.Contents.{IsWhole, Writing, place_none, place_whole, hide_some, hide_whole}
 use Rattle.container_laws.proofs.Effects.{OwesStill, IsCalm, calmly, counts_change, stores, IsCounted, counts_one}
 use Rattle.container_laws.proofs.HiddenKnows.{EndsRight}
-use Rattle.container_laws.proofs.Invariant.{Scene, Inv, Elements, AreAllRight, Does, before, after, of_set, inv_of_set, wrote_of}
+use Rattle.container_laws.proofs.Invariant.{Scene, Inv, ActsFor, Elements, AreAllRight, Does, before, after, of_set, inv_of_set, wrote_of}
 use Rattle.container_laws.proofs.Left.{left_after, left_of}
 use Rattle.container_laws.proofs.Sets.{leaves_behind, quiet_placed, quiet_hidden}
 use Rattle.container_laws.proofs.Stages.{NoLook, IsHere, does_with}
@@ -64,23 +66,23 @@ module _ {T : Type 0} (scene : Scene T) (inv : Inv scene) (start : ContainerStar
   -- ---- a writer stores a word
 
   pub stores_word :
-      (words' : List ℕ) (i : ℕ) (below : i < c) (k : ℕ) (ks : k < code.size) (value : T) (owner : ℕ) (alive : is_dead owner events ≡ false) → (Proper (before scene) → IsWriter p i owner events) → (Proper (before scene) → Writing code c ws i value k)
+      (words' : List ℕ) (i : ℕ) (below : i < c) (k : ℕ) (ks : k < code.size) (value : T) (owner : ℕ) → (Proper (before scene) → IsWriter p i owner events) → (Proper (before scene) → Writing code c ws i value k)
       → words' ≡ set ws (element_word c code.size i k) (get_or (code.words_of value) k 0)
       → (proper : ProperBefore words' []) → OwesStill scene inv words' y [] proper → Does scene words' scene.states y []
-  stores_word words' i below k ks value owner alive mine writing new proper still =
+  stores_word words' i below k ks value owner mine writing new proper still =
       does_with scene inv start flight none here words' y []
-      (stores scene inv words' y [] proper i below k ks value owner alive mine writing new (calm_none words' proper) still)
+      (stores scene inv words' y [] proper i below k ks value owner mine writing new (calm_none words' proper) still)
       (set_effects.quietly (of_set scene) (inv_of_set scene inv) words' [] (leaves_behind (of_set scene) (inv_of_set scene inv) words' (element_word c code.size i k) _ (omega arith) new) set_effects.quiet_none tt tt tt)
       (right_none words')
 
   -- ---- the number of an element changes
 
-  module _ (words' : List ℕ) (i : ℕ) (below : i < c) (new : words' ≡ set ws (count_word c i) (count_in code c (before scene) i + 1)) (owed : owes (flight_of (Some y.doing)) ≡ true) where
+  module _ (words' : List ℕ) (i : ℕ) (below : i < c) (new : words' ≡ set ws (count_word c i) (one_more (count_in code c (before scene) i))) (owed : owes (flight_of (Some y.doing)) ≡ true) where
     abbrev n : ℕ
     n = count_in code c (before scene) i
 
     leaves : set_effects.Leaves (of_set scene) words'
-    leaves = leaves_behind (of_set scene) (inv_of_set scene inv) words' (count_word c i) (n + 1) (omega arith) new
+    leaves = leaves_behind (of_set scene) (inv_of_set scene inv) words' (count_word c i) (one_more n) (omega arith) new
 
     -- what stood there is hidden
     module _ (odd : n % 2 ≡ 1) (stale : Proper (before scene) → (q : ℕ) → q ≢ p → (o : ℕ) → IsWriter q i o events → left_of i events ≡ false → ⊥) (proper : ProperBefore words' (Hidden p i ∷ [])) where
@@ -98,7 +100,7 @@ module _ {T : Type 0} (scene : Scene T) (inv : Inv scene) (start : ContainerStar
             under = λ holds q ne a o theirs even same. let is : count_in code c (before scene) a ≡ n = ap (count_in code c (before scene)) same in absurd (omega arith);
             over = λ holds q ne o theirs. omega arith;
             lost = λ holds o dead filled. odd;
-            whole = λ holds. subst (λ w. IsWhole code c w (events ++ Hidden p i ∷ [])) (sym new) (hide_whole code c ws events (e.whole (proper holds)) e.wide i below p (n + 1) (omega arith));
+            whole = λ holds. subst (λ w. IsWhole code c w (events ++ Hidden p i ∷ [])) (sym new) (hide_whole code c ws events (e.whole (proper holds)) e.wide i below p (one_more n) (omega arith));
           }
         where
           gone : {A : Type 0} → (a : ℕ) → a ≡ i → announced_of a (events ++ Hidden p i ∷ []) ≡ true → A
@@ -119,19 +121,19 @@ module _ {T : Type 0} (scene : Scene T) (inv : Inv scene) (start : ContainerStar
           })
 
     -- a writer places its value
-    module _ (value : T) (owner : ℕ) (alive : is_dead owner events ≡ false) (mine : Proper (before scene) → IsWriter p i owner events) (writing : Proper (before scene) → Writing code c ws i value code.size) (proper : ProperBefore words' (Placed p i value ∷ [])) where
+    module _ (value : T) (owner : ℕ) (acts : ActsFor scene owner) (mine : Proper (before scene) → IsWriter p i owner events) (writing : Proper (before scene) → Writing code c ws i value code.size) (proper : ProperBefore words' (Placed p i value ∷ [])) where
       nothing : Proper (before scene) → contents_of i events ≡ None
       nothing holds = place_none code c ws events (e.whole holds) e.wide i below value (writing holds)
 
       no_other : {A : Type 0} → Proper (before scene) → (q : ℕ) → q ≢ p → (o : ℕ) → IsWriter q i o events → A
-      no_other holds q ne o theirs = absurd (ne (one_writer q p i o owner events (inv.good.owned (holds.frees, tt)) theirs (mine holds)))
+      no_other holds q ne o theirs = absurd (ne (one_writer q p i o owner events (inv.good.owned holds.calm) theirs (mine holds)))
 
-      -- its owner, who lives, fills the index
-      fills_it : {A : Type 0} → Proper (before scene) → (o : ℕ) → is_dead o events ≡ true → filled_of i events ≡ Some o → A
+      -- its owner, who is not gone, fills the index
+      fills_it : {A : Type 0} → Proper (before scene) → (o : ℕ) → is_gone scene.terms.by o events ≡ true → filled_of i events ≡ Some o → A
       fills_it holds o dead filled =
-          let its : filled_of i events ≡ Some owner = ⊎_elim (λ by. by.filled) (λ replacing. ((inv.good.owned (holds.frees, tt)).settled i owner replacing.settled).0) (mine holds) in
+          let its : filled_of i events ≡ Some owner = ⊎_elim (λ by. by.filled) (λ replacing. ((inv.good.owned holds.calm).settled i owner replacing.settled).0) (mine holds) in
           let same : owner ≡ o = one_owner (filled_of i events) owner o its filled in
-          both_ways (is_dead owner events) alive (subst (λ n. is_dead n events ≡ true) (sym same) dead)
+          both_ways (is_gone scene.terms.by owner events) (acts.stays holds.kept) (subst (λ n. is_gone scene.terms.by n events ≡ true) (sym same) dead)
 
       placed_one : IsCounted scene inv words' y (Placed p i value ∷ []) proper i below new (refl, tt) (Container start) (wrote_of p events) here.span owed
       placed_one =
@@ -147,7 +149,7 @@ module _ {T : Type 0} (scene : Scene T) (inv : Inv scene) (start : ContainerStar
             whole = λ holds.
                 let w = writing (proper holds) in
                 let even = w.even in
-                subst (λ w. IsWhole code c w (events ++ Placed p i value ∷ [])) (sym new) (place_whole code c ws events (e.whole (proper holds)) e.wide i below p (n + 1) value w (omega arith));
+                subst (λ w. IsWhole code c w (events ++ Placed p i value ∷ [])) (sym new) (place_whole code c ws events (e.whole (proper holds)) e.wide i below p (one_more n) value w (omega arith));
           }
         where
           unannounced : Proper (before scene) → (a : ℕ) → a ≡ i → announced_of a events ≡ true → ⊥
@@ -194,9 +196,9 @@ module _ {T : Type 0} (scene : Scene T) (inv : Inv scene) (start : ContainerStar
 
   -- the words, once a change is counted
   abbrev pub changed_words : List ℕ
-  changed_words = set ws (change_word c) (change_in code c (before scene) + 1)
+  changed_words = set ws (change_word c) (one_more (change_in code c (before scene)))
 
-  module _ (words' : List ℕ) (answer : Answer T) (set_does : set_invariant.Does (of_set scene) words' (Finished p (Container start) answer ∷ [])) (answers : AnswersRight c events (Finished p (Container start) answer))
+  module _ (words' : List ℕ) (answer : Answer T) (set_does : set_invariant.Does (of_set scene) words' (Finished p (Container start) answer ∷ [])) (answers : AnswersBy scene.terms.by (set_invariant.IsWorn scene.terms.by words') c events (Finished p (Container start) answer))
       (proper : ProperBefore words' (Finished p (Container start) answer ∷ [])) (placed : Proper (after scene words' y (Finished p (Container start) answer ∷ [])) → EndsRight events (Finished p (Container start) answer)) where
     abbrev finish : List (Event T)
     finish = Finished p (Container start) answer ∷ []

@@ -62,6 +62,7 @@ use Rattle.container_laws.proofs.Proper.{IsProperSoFar, proper_so_far}
 use Rattle.container_laws.proofs.Sound.{Shown, kept_is, kept_now, scene_of, inv_of, is_there}
 use Rattle.container_laws.proofs.Stages.{IsHere, all, done, sees_now, any_call, was_proper}
 use Rattle.container_laws.proofs.Standing.{find_at, At, FindAt}
+use Rattle.container_laws.proofs.Terms.{dying}
 use Rattle.container_laws.proofs.Turns.{Proper, count_in}
 use Rattle.container_laws.proofs.Writing.{even_is}
 use Rattle.container_laws.proofs.Written.{all_effects}
@@ -214,7 +215,7 @@ module _ {T : Type 0} (shown : Shown T) (code : Coding T) (c : ℕ) (t : Trace T
   abbrev end_of : ContainerFlight T → Option (Answer T)
   end_of flight = answer_in (any_call (after code (state_of q s.state.states) flight answer))
 
-  wrote_end : (start : ContainerStart T) (flight : ContainerFlight T) → Wrote code (kept_now shown code c t s) (Container start) (flights.TheVariants.Container flight) → IsEnd q p (Container start) (Container (Find owner)) (end_of flight) (Number number)
+  wrote_end : (start : ContainerStart T) (flight : ContainerFlight T) → Wrote code (kept_now shown dying code c t s) (Container start) (flights.TheVariants.Container flight) → IsEnd q p (Container start) (Container (Find owner)) (end_of flight) (Number number)
   wrote_end start flight e =
       ends_alone turn q p (effects code q (state_of q s.state.states) flight answer ++ questions q flight answer) (Container start) (Container (Find owner)) (end_of flight) (Number number) (all_effects turn q mine code (state_of q s.state.states) flight answer) e
 
@@ -222,9 +223,9 @@ module _ {T : Type 0} (shown : Shown T) (code : Coding T) (c : ℕ) (t : Trace T
   pub record Ends (bound : ℕ) : Type 0 where
     pub party : q ≡ p
     pub count : IsCount p (IsFilledWith owner) bound number t.events
-    pub whole : (y : Party T) → IsProperSoFar (put q y t.world.latest) (t.events ++ Finished p (Container (Find owner)) (Number number) ∷ []) → IsFoundWhole p owner bound number t.events
+    pub whole : (y : Party T) → IsProperSoFar dying (put q y t.world.latest) (t.events ++ Finished p (Container (Find owner)) (Number number) ∷ []) → IsFoundWhole p owner bound number t.events
 
-  ends_with : (bound : ℕ) (flight : ContainerFlight T) → q ≡ p → IsHere (scene_of shown code c t s q x since) (Find owner) flight → (fits : owner < empty) → Has (scene_of shown code c t s q x since) (inv_of shown code c t s q x since small found) owner fits bound number → Ends bound
+  ends_with : (bound : ℕ) (flight : ContainerFlight T) → q ≡ p → IsHere (scene_of shown dying code c t s q x since) (Find owner) flight → (fits : owner < empty) → Has (scene_of shown dying code c t s q x since) (inv_of shown dying code c t s q x since found small) owner fits bound number → Ends bound
   ends_with bound flight is here fits h =
       record {
         party = is;
@@ -232,34 +233,34 @@ module _ {T : Type 0} (shown : Shown T) (code : Coding T) (c : ℕ) (t : Trace T
         whole = λ y proper.
             subst (λ n. IsFoundWhole n owner bound number t.events) is
             (h.whole
-            (was_proper (scene_of shown code c t s q x since) (Find owner) tt here.span s.state.words y (Finished p (Container (Find owner)) (Number number) ∷ []) (ap Some (sym is), tt) proper));
+            (was_proper (scene_of shown dying code c t s q x since) (Find owner) tt here.span s.state.words y (Finished p (Container (Find owner)) (Number number) ∷ []) (ap Some (sym is), tt) proper));
       }
 
   counted : (due : Bool) → (due ≡ true → answer ≢ 0) → (start : Start T) (flight : Flight T) → StandsThere (family code c) t s q x since start flight → is_question (want_of code flight) ≡ due → (due ≡ false → answer ≡ old_of s.state.words (ask_of (want_of code flight)))
-      → Wrote code (kept_now shown code c t s) start flight → Ends c
+      → Wrote code (kept_now shown dying code c t s) start flight → Ends c
   counted due told (Container start) (flights.TheVariants.Container flight) h asks loads e =
       let end = wrote_end start flight e in
       let name = find_name start owner end.name in
       let stands = subst (λ a. StandsThere (family code c) t s q x since (Container a) (flights.TheVariants.Container flight)) name h in
-      let there = is_there shown code c t s q x since small found (Find owner) flight stands in
-      let scene = scene_of shown code c t s q x since in
-      let fits = owner_fits scene (inv_of shown code c t s q x since small found) owner flight there.at in
-      ends_with c flight end.party there.here fits (find_tells scene (inv_of shown code c t s q x since small found) owner number due flight there.at fits there.here there.knows asks answer loads told end.done)
+      let there = is_there shown dying code c t s q x since found (Find owner) flight stands in
+      let scene = scene_of shown dying code c t s q x since in
+      let fits = owner_fits scene (inv_of shown dying code c t s q x since found small) owner flight there.at in
+      ends_with c flight end.party there.here fits (find_tells scene (inv_of shown dying code c t s q x since found small) owner number due flight there.at fits there.here there.knows asks answer loads told end.done)
   counted due told start flight h asks loads e = absurd h.at
 
-  stopped : (index : ℕ) (value : T) → answer ≡ 0 → (start : Start T) (flight : Flight T) → StandsThere (family code c) t s q x since start flight → question_in code (Some flight) ≡ Some (index, value) → Wrote code (kept_now shown code c t s) start flight → Ends (index + 1)
+  stopped : (index : ℕ) (value : T) → answer ≡ 0 → (start : Start T) (flight : Flight T) → StandsThere (family code c) t s q x since start flight → question_in code (Some flight) ≡ Some (index, value) → Wrote code (kept_now shown dying code c t s) start flight → Ends (index + 1)
   stopped index value zero (Container start) (flights.TheVariants.Container flight) h asks e =
       let end = wrote_end start flight e in
       let name = find_name start owner end.name in
       let stands = subst (λ a. StandsThere (family code c) t s q x since (Container a) (flights.TheVariants.Container flight)) name h in
-      let there = is_there shown code c t s q x since small found (Find owner) flight stands in
-      let scene = scene_of shown code c t s q x since in
-      let fits = owner_fits scene (inv_of shown code c t s q x since small found) owner flight there.at in
+      let there = is_there shown dying code c t s q x since found (Find owner) flight stands in
+      let scene = scene_of shown dying code c t s q x since in
+      let fits = owner_fits scene (inv_of shown dying code c t s q x since found small) owner flight there.at in
       ends_with (index + 1) flight end.party there.here fits
-      (find_stops scene (inv_of shown code c t s q x since small found) owner number index value flight there.at fits there.knows asks (subst (λ n. answer_in (any_call (after code (state_of q s.state.states) flight n)) ≡ Some (Number number)) zero end.done))
+      (find_stops scene (inv_of shown dying code c t s q x since found small) owner number index value flight there.at fits there.knows asks (subst (λ n. answer_in (any_call (after code (state_of q s.state.states) flight n)) ≡ Some (Number number)) zero end.done))
   stopped index value zero start flight h asks e = absurd h.at
 
-  own_end : (start : Start T) (flight : Flight T) → StandsThere (family code c) t s q x since start flight → Wrote code (kept_now shown code c t s) start flight → q ≡ p
+  own_end : (start : Start T) (flight : Flight T) → StandsThere (family code c) t s q x since start flight → Wrote code (kept_now shown dying code c t s) start flight → q ≡ p
   own_end (Container start) (flights.TheVariants.Container flight) h e = (wrote_end start flight e).party
   own_end start flight h e = absurd h.at
 
@@ -268,8 +269,8 @@ module _ {T : Type 0} (shown : Shown T) (code : Coding T) (c : ℕ) (t : Trace T
     there_is : StandsThere (family code c) t s q x since x.start flight
     there_is = stands_there (family code c) t s q x since flight found doing
 
-    by_now : Wrote code (kept_now shown code c t s) x.start flight
-    by_now = subst (λ y. Wrote y (kept_now shown code c t s) x.start flight) s.coding (subst (λ kept. Wrote t.world.coding kept x.start flight) (kept_is t.world.kept t.world.words s.state s.fit).0 e)
+    by_now : Wrote code (kept_now shown dying code c t s) x.start flight
+    by_now = subst (λ y. Wrote y (kept_now shown dying code c t s) x.start flight) s.coding (subst (λ kept. Wrote t.world.coding kept x.start flight) (kept_is t.world.kept t.world.words s.state s.fit).0 e)
 
     pub own_party : q ≡ p
     own_party = own_end x.start flight there_is by_now
@@ -291,7 +292,7 @@ module _ {T : Type 0} (shown : Shown T) (code : Coding T) (c : ℕ) (t : Trace T
   -- what the turn tells that leaves this machine
   abbrev Told : ℕ → List (ℕ × Party T) → Type 0
   Told bound latest =
-      IsCount p (IsFilledWith owner) bound number t.events × (IsProperSoFar latest (t.events ++ Finished p (Container (Find owner)) (Number number) ∷ []) → IsFoundWhole p owner bound number t.events)
+      IsCount p (IsFilledWith owner) bound number t.events × (IsProperSoFar dying latest (t.events ++ Finished p (Container (Find owner)) (Number number) ∷ []) → IsFoundWhole p owner bound number t.events)
 
   next_tells : (q : ℕ) → t.world.turns < 2 ^ 64 - 2 → is_due t.world.coding (flight_in t.world q) ≡ false → (o : Option (Party T)) → party_of q t.world.latest ≡ o → Ended (events_of_next t.world q o) → Told c (after_next t.world q o).latest
   next_tells q small free None found e = absurd (cc)
@@ -351,7 +352,7 @@ module _ {T : Type 0} (shown : Shown T) (code : Coding T) (t : Trace T) (s : fra
   -- as the promise says it of the machine after the turn
   right : (p owner number bound : ℕ) → (after_turn t turn).events ≡ t.events ++ Finished p (Container (Find owner)) (Number number) ∷ [] → Told shown code t.world.capacity t s p owner number bound (after_turn t turn).world.latest → CountsRight p owner bound number t.events (after_turn t turn)
   right p owner number bound is told =
-      (told.0, λ proper. told.1 (subst (IsProperSoFar (after_turn t turn).world.latest) is (proper_so_far (after_turn t turn) proper)))
+      (told.0, λ proper. told.1 (subst (IsProperSoFar dying (after_turn t turn).world.latest) is (proper_so_far (after_turn t turn) proper)))
 
   pub counts_all : (p owner number : ℕ) → (after_turn t turn).events ≡ t.events ++ Finished p (Container (Find owner)) (Number number) ∷ [] → turn ≢ Decide p false → CountsRight p owner t.world.capacity number t.events (after_turn t turn)
   counts_all p owner number is ne =

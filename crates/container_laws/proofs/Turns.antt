@@ -15,11 +15,13 @@ use Rattle.steps.specs.declared.container.replace.ReplaceStage as replaces
 use Rattle.model.specs.Coding.{Coding}
 use Rattle.model.specs.Families.Container.Looks.{WasAlone}
 use Rattle.model.specs.Families.Container.Reading.{contents_of, announced_of}
-use Rattle.model.specs.Families.Indices.Robust.Reading.{is_dead, filled_of}
+use Rattle.model.specs.Families.Indices.Robust.Reading.{filled_of}
 use Rattle.model.specs.Parties.{party_of, doing_of, flight_of}
+use Rattle.robust_laws.specs.Gone.{is_gone}
 use Rattle.container_laws.proofs.Core.{change_at, count_at, datum_at}
 use Rattle.container_laws.proofs.Left.{left_of}
 use Rattle.container_laws.proofs.Proper.{IsProperSoFar}
+use Rattle.container_laws.proofs.Terms.{Terms, Keeps}
 use Rattle.container_laws.proofs.Writers.{IsWriter}
 
 -- ---- a call that has changed an element, and ends no more before it has counted the change
@@ -57,13 +59,14 @@ module _ {T : Type 0} where
 -- ---- the machine between two turns
 
 pub record Now (T : Type 0) : Type 0 where
+  pub terms : Terms
   pub words : List ℕ
   pub latest : List (ℕ × Party T)
   pub events : List (Event T)
 
 module _ {T : Type 0} where
   abbrev pub Proper : Now T → Type 0
-  Proper m = IsProperSoFar m.latest m.events
+  Proper m = IsProperSoFar m.terms m.latest m.events
 
 module _ {T : Type 0} (code : Coding T) (c : ℕ) where
   abbrev pub count_in : Now T → ℕ → ℕ
@@ -78,8 +81,10 @@ module _ {T : Type 0} (code : Coding T) (c : ℕ) where
   -- what a turn does to any party
   pub record Passes (m m' : Now T) : Type 0 where
     pub proper : Proper m' → Proper m
-    pub counts : (i : ℕ) → i < c → count_in m i ≤ count_in m' i
-    pub change : change_in m ≤ change_in m'
+    pub kept : Keeps m'.terms → Keeps m.terms
+    -- where few turns are taken numbers go up
+    pub counts : Keeps m'.terms → (i : ℕ) → i < c → count_in m i ≤ count_in m' i
+    pub change : Keeps m'.terms → change_in m ≤ change_in m'
     -- where a number stays, so does what stands, and under an odd one its words
     pub stands : Proper m' → (i : ℕ) → i < c → count_in m' i ≡ count_in m i → contents_of i m'.events ≡ contents_of i m.events
     pub words : Proper m' → (i : ℕ) → i < c → count_in m' i ≡ count_in m i → count_in m i % 2 ≡ 1 → (j : ℕ) → j < code.size → datum_in m' i j ≡ datum_in m i j
@@ -92,18 +97,18 @@ module _ {T : Type 0} (code : Coding T) (c : ℕ) where
     -- who changes an element owes the changes a raise, until he has made it
     pub owing : change_in m' ≡ change_in m → Owing m.latest → Owing m'.latest
     pub owed : change_in m' ≡ change_in m → (i : ℕ) → i < c → (count_in m' i ≡ count_in m i) ⊎ Owing m'.latest
-    -- where a dead owner fills an index nothing is placed
-    pub lost : Proper m' → (i o : ℕ) → i < c → is_dead o m.events ≡ true → filled_of i m.events ≡ Some o
+    -- where an owner who is gone fills an index nothing is placed
+    pub lost : Proper m' → (i o : ℕ) → i < c → is_gone m.terms.by o m.events ≡ true → filled_of i m.events ≡ Some o
         → (count_in m' i ≡ count_in m i) ⊎ ((count_in m i % 2 ≡ 1) × (count_in m' i % 2 ≡ 0))
 
   -- and to another party
   pub record Leaves (q : ℕ) (m m' : Now T) : Type 0 where
     -- where it writes under an even number
-    pub under : Proper m' → (i o : ℕ) → i < c → is_dead o m.events ≡ false → IsWriter q i o m.events → count_in m i % 2 ≡ 0
+    pub under : Proper m' → (i o : ℕ) → i < c → is_gone m.terms.by o m.events ≡ false → IsWriter q i o m.events → count_in m i % 2 ≡ 0
         → (count_in m' i ≡ count_in m i) × ((j : ℕ) → j < code.size → datum_in m' i j ≡ datum_in m i j)
     -- and where it is about to
-    pub over : Proper m' → (i o : ℕ) → i < c → is_dead o m.events ≡ false → IsWriter q i o m.events → (count_in m' i ≡ count_in m i) ⊎ (count_in m' i % 2 ≡ 0)
+    pub over : Proper m' → (i o : ℕ) → i < c → is_gone m.terms.by o m.events ≡ false → IsWriter q i o m.events → (count_in m' i ≡ count_in m i) ⊎ (count_in m' i % 2 ≡ 0)
     -- and where it has placed a value, that stands
-    pub placed : Proper m' → (i o : ℕ) → i < c → is_dead o m.events ≡ false → IsWriter q i o m.events → left_of i m.events ≡ false → is_some (contents_of i m.events) ≡ true
+    pub placed : Proper m' → (i o : ℕ) → i < c → is_gone m.terms.by o m.events ≡ false → IsWriter q i o m.events → left_of i m.events ≡ false → is_some (contents_of i m.events) ≡ true
         → (left_of i m'.events ≡ false) × (is_some (contents_of i m'.events) ≡ true)
     pub alone : WasAlone q m'.events → (i : ℕ) → i < c → count_in m' i ≡ count_in m i

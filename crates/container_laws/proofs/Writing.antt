@@ -1,6 +1,6 @@
 -- The steps of a call that may write at an index, an add or a replace: it loads the number there, hides what an earlier owner
 -- left, stores the words of its value, and places it. What each step leads to is what the caller makes of it.
-use Rattle.std.proofs.Common.{◌≡◌, ◌≢◌, ℕ, ◌+◌, ◌%◌, ◌^◌, ◌<◌, false, true, Some, List, set, ap, ◌∙◌, arith}
+use Rattle.std.proofs.Common.{◌≡◌, ◌≢◌, ℕ, ◌%◌, ◌<◌, false, true, Some, List, set, refl, sym, ap, ◌∙◌, arith}
 use Rattle.std.proofs.lemmas.Bool.Decides.{nat_tests}
 use Rattle.steps.specs.declared.ask.Ask.{Ask}
 use Rattle.steps.specs.declared.ask.Op.TheVariants.{Add, Store}
@@ -31,28 +31,14 @@ module _ {T : Type 0} (scene : Scene T) (inv : Inv scene) where
   abbrev ws : List ℕ
   ws = scene.words
 
-  -- a number that is one of the words is far from its end
-  small_count : (i : ℕ) → i < c → (count_in code c (before scene) i + 1) % 2 ^ 64 ≡ count_in code c (before scene) i + 1
-  small_count i below =
-      let few = inv.elements.counts i below in
-      let small = inv.small in
-      omega arith
-
   -- 1 is added to the number of an element, or to the changes
-  pub adds_to_count : (i : ℕ) → i < c → words_after ws (Some (adds_one (count_word c i))) ≡ set ws (count_word c i) (count_in code c (before scene) i + 1)
-  adds_to_count i below = ap (set ws (count_word c i)) (small_count i below)
+  pub adds_to_count : (i : ℕ) → i < c → words_after ws (Some (adds_one (count_word c i))) ≡ set ws (count_word c i) (one_more (count_in code c (before scene) i))
+  adds_to_count i below = refl
 
-  pub adds_to_change : words_after ws (Some (adds_one (change_word c))) ≡ set ws (change_word c) (change_in code c (before scene) + 1)
-  adds_to_change =
-      let few = inv.elements.change in
-      let small = inv.small in
-      let fits : (change_in code c (before scene) + 1) % 2 ^ 64 ≡ change_in code c (before scene) + 1 = omega arith in
-      ap (set ws (change_word c)) fits
+  pub adds_to_change : words_after ws (Some (adds_one (change_word c))) ≡ set ws (change_word c) (one_more (change_in code c (before scene)))
+  adds_to_change = refl
 
   -- a hide that finds the number that it loaded
-  pub hides_count : (i count : ℕ) → i < c → count_in code c (before scene) i ≡ count → words_after ws (Some (exchanges (count_word c i) count (one_more count))) ≡ set ws (count_word c i) (count_in code c (before scene) i + 1)
+  pub hides_count : (i count : ℕ) → i < c → count_in code c (before scene) i ≡ count → words_after ws (Some (exchanges (count_word c i) count (one_more count))) ≡ set ws (count_word c i) (one_more (count_in code c (before scene) i))
   hides_count i count below is =
-      let few = inv.elements.counts i below in
-      let small = inv.small in
-      let next : one_more count ≡ count_in code c (before scene) i + 1 = omega arith in
-      exchange_sets ws (count_word c i) count (one_more count) is ∙ ap (set ws (count_word c i)) next
+      exchange_sets ws (count_word c i) count (one_more count) is ∙ ap (λ n. set ws (count_word c i) (one_more n)) (sym is)

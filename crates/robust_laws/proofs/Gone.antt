@@ -3,14 +3,15 @@
 use Rattle.std.proofs.Common.{⊎_elim, inl, inr, ◌≡◌, ◌≢◌, ℕ, ◌==◌, ◌||◌, if◌then◌else◌, Bool, true, false, Option, Some, None, List, [], ◌∷◌, ◌++◌, fold, refl, sym, ap, subst, ◌∙◌, append_assoc, append-nil, eq-eqb, arith}
 use Rattle.std.proofs.lemmas.Bool.Decides.{nat_tests}
 use Rattle.std.proofs.lemmas.List.Sums.{fold-append}
+use Rattle.steps.specs.declared.indices.enums.ReleaseMode.{ReleaseMode}
 use Rattle.steps.specs.declared.indices.enums.ReleaseMode.TheVariants.{LockIfLastIndex}
 use Rattle.steps.specs.declared.indices.enums.ReleaseState.TheVariants.{Unlocked}
 use Rattle.steps.specs.declared.indices.enums.UniqueIndexSetAcquireFailure.TheVariants.{OutOfIndices}
-use Rattle.model.specs.declared.event.Answer.TheVariants.{NoIndex, State}
+use Rattle.model.specs.declared.event.Answer.TheVariants.{Index, NoIndex, State}
 use Rattle.model.specs.declared.event.Event.{Event}
-use Rattle.model.specs.declared.event.Event.TheVariants.{Filled, Granted, FreedOf, Told, Died, Finished}
+use Rattle.model.specs.declared.event.Event.TheVariants.{Begun, Filled, Granted, FreedOf, Told, Died, Finished}
 use Rattle.model.specs.declared.event.Start.TheVariants.{Robust, Container}
-use Rattle.model.specs.declared.families.container.ContainerStart.TheVariants.{Remove}
+use Rattle.model.specs.declared.families.container.ContainerStart as containers
 use Rattle.model.specs.declared.families.indices.robust.RobustStart.TheVariants.{Acquire, Release, Recover}
 use Rattle.model.specs.Families.Indices.Robust.Promises.{LivesToRelease, SetDoes, AsksRight, FreesRight, AnswersRight}
 use Rattle.model.specs.Families.Indices.Robust.Reading.{filled_after, filled_of, dead_after, is_dead}
@@ -52,6 +53,7 @@ module _ {T : Type 0} where
   gone_stays owner [] = refl
   gone_stays owner (Died o ∷ es) = ap (λ b. fold (gone_after owner) b es) (or_true (o == owner)) ∙ gone_stays owner es
   gone_stays owner (Told p i o ∷ es) = ap (λ b. fold (gone_after owner) b es) (or_true (o == owner)) ∙ gone_stays owner es
+  gone_stays owner (Begun p (Container (containers.TheVariants.Recover o mode)) ∷ es) = ap (λ b. fold (gone_after owner) b es) (or_true (o == owner)) ∙ gone_stays owner es
   gone_stays owner (e ∷ es) = gone_stays owner es
 
   pub gone_more : (by : GoneBy) (owner : ℕ) (events es : List (Event T)) → is_gone by owner events ≡ true → is_gone by owner (events ++ es) ≡ true
@@ -66,6 +68,12 @@ module _ {T : Type 0} where
   gone_told Death p index owner events dead = gone_more Death owner events (Told p index owner ∷ []) dead
   gone_told Word p index owner events may =
       fold-append (gone_after owner) false events (Told p index owner ∷ [])
+      ∙ ap (λ b. b || is_gone Word owner events) (eq-eqb owner owner refl)
+
+  -- and so is he for whom a container's recovery begins
+  pub gone_begun : (p owner : ℕ) (mode : ReleaseMode) (events : List (Event T)) → is_gone Word owner (events ++ Begun p (Container (containers.TheVariants.Recover owner mode)) ∷ []) ≡ true
+  gone_begun p owner mode events =
+      fold-append (gone_after owner) false events (Begun p (Container (containers.TheVariants.Recover owner mode)) ∷ [])
       ∙ ap (λ b. b || is_gone Word owner events) (eq-eqb owner owner refl)
 
   -- ---- honest runs
@@ -91,6 +99,12 @@ module _ {T : Type 0} where
   lives_freed Death p index owner events lives acts h = lives
   lives_freed Word p index owner events lives acts h = acts h
 
+  -- an add ends with an index for an owner who lives
+  pub lives_settled : (by : GoneBy) (p index owner : ℕ) (value : T) (events : List (Event T)) → is_dead owner events ≡ false
+      → IsHonestBy by (events ++ Finished p (Container (containers.TheVariants.Add value owner)) (Index index) ∷ []) → is_gone by owner events ≡ false
+  lives_settled Death p index owner value events lives h = lives
+  lives_settled Word p index owner value events lives h = h events [] (Finished p (Container (containers.TheVariants.Add value owner)) (Index index)) refl
+
   -- ---- nothing is filled with an owner who is gone
 
   module _ (i owner : ℕ) (events : List (Event T)) (gone : is_gone Word owner events ≡ true) where
@@ -115,41 +129,52 @@ module _ {T : Type 0} where
 
   -- ---- where owners die
 
-  same_after : (owner : ℕ) (before : List (Event T)) (e : Event T) → AsksRight before e → is_gone Word owner before ≡ is_dead owner before → gone_after owner (is_gone Word owner before) e ≡ dead_after owner (is_dead owner before) e
+  -- the dead alone are recovered, and no add ends for them
+  abbrev pub MindsDeath : List (Event T) → Event T → Type 0
+  MindsDeath before (Told p index owner) = is_dead owner before ≡ true
+  MindsDeath before (Begun p (Container (containers.TheVariants.Recover owner mode))) = is_dead owner before ≡ true
+  MindsDeath before (Finished p (Container (containers.TheVariants.Add value owner)) (Index index)) = is_dead owner before ≡ false
+  MindsDeath before e = Unit {0}
+
+  same_after : (owner : ℕ) (before : List (Event T)) (e : Event T) → MindsDeath before e → is_gone Word owner before ≡ is_dead owner before → gone_after owner (is_gone Word owner before) e ≡ dead_after owner (is_dead owner before) e
   same_after owner before (Died o) right same = ap (λ b. (o == owner) || b) same
   same_after owner before (Told p i o) right same =
       dead_too owner o (is_gone Word owner before) (is_dead owner before) (o == owner) refl same
       (λ t. let is : o ≡ owner = grind (arith, nat_tests) in subst (λ n. is_dead n before ≡ true) is right)
+  same_after owner before (Begun p (Container (containers.TheVariants.Recover o mode))) right same =
+      dead_too owner o (is_gone Word owner before) (is_dead owner before) (o == owner) refl same
+      (λ t. let is : o ≡ owner = grind (arith, nat_tests) in subst (λ n. is_dead n before ≡ true) is right)
   same_after owner before e right same = same
 
-  same_so_far : (owner : ℕ) (before es : List (Event T)) → Each AsksRight (before ++ es) → is_gone Word owner before ≡ is_dead owner before → is_gone Word owner (before ++ es) ≡ is_dead owner (before ++ es)
+  same_so_far : (owner : ℕ) (before es : List (Event T)) → Each MindsDeath (before ++ es) → is_gone Word owner before ≡ is_dead owner before → is_gone Word owner (before ++ es) ≡ is_dead owner (before ++ es)
   same_so_far owner before [] asks same = rw (append-nil before) same
   same_so_far owner before (e ∷ es) asks same =
       let is : before ++ e ∷ es ≡ (before ++ e ∷ []) ++ es = sym (append_assoc before (e ∷ []) es) in
       let one : is_gone Word owner (before ++ e ∷ []) ≡ is_dead owner (before ++ e ∷ []) =
       fold-append (gone_after owner) false before (e ∷ []) ∙ (same_after owner before e (asks before es e refl) same ∙ sym (fold-append (dead_after owner) false before (e ∷ [])))
       in
-      subst (λ xs. is_gone Word owner xs ≡ is_dead owner xs) (sym is) (same_so_far owner (before ++ e ∷ []) es (subst (Each AsksRight) is asks) one)
+      subst (λ xs. is_gone Word owner xs ≡ is_dead owner xs) (sym is) (same_so_far owner (before ++ e ∷ []) es (subst (Each MindsDeath) is asks) one)
 
-  -- gone are just the dead, where a recovery is told of none who lives
-  pub gone_is_dead : (events : List (Event T)) → Each AsksRight events → (owner : ℕ) → is_gone Word owner events ≡ is_dead owner events
+  -- gone are just the dead, where none who lives is recovered
+  pub gone_is_dead : (events : List (Event T)) → Each MindsDeath events → (owner : ℕ) → is_gone Word owner events ≡ is_dead owner events
   gone_is_dead events asks owner = same_so_far owner [] events asks refl
 
   gives_back : (owner : ℕ) (before : List (Event T)) (span : Span T) → is_gone Word owner before ≡ is_dead owner before → LivesToRelease owner before span → GivesBackRight owner before span
   gives_back owner before (Open (Robust (Release i o mode)) wrote) same lives = same ∙ lives
-  gives_back owner before (Open (Container (Remove i o mode)) wrote) same lives = same ∙ lives
+  gives_back owner before (Open (Container (containers.TheVariants.Remove i o mode)) wrote) same lives = same ∙ lives
   gives_back owner before span same lives = tt
 
-  acts_right : (c : ℕ) (before : List (Event T)) (e : Event T) → ((owner : ℕ) → is_gone Word owner before ≡ is_dead owner before) → SetDoes c before e → ActsForRight before e
-  acts_right c before (Filled p i o) same does = same o ∙ does.2
-  acts_right c before (Granted p i o) same does = same o ∙ does.1
-  acts_right c before (FreedOf p i o) same does = gives_back o before (span_of p before) (same o) does.1
-  acts_right c before e same does = tt
+  acts_right : (c : ℕ) (before : List (Event T)) (e : Event T) → ((owner : ℕ) → is_gone Word owner before ≡ is_dead owner before) → SetDoes c before e → MindsDeath before e → ActsForRight before e
+  acts_right c before (Filled p i o) same does minds = same o ∙ does.2
+  acts_right c before (Granted p i o) same does minds = same o ∙ does.1
+  acts_right c before (FreedOf p i o) same does minds = gives_back o before (span_of p before) (same o) does.1
+  acts_right c before (Finished p (Container (containers.TheVariants.Add value o)) (Index i)) same does minds = same o ∙ minds
+  acts_right c before e same does minds = tt
 
   -- and every run is honest
-  pub honest_if_dead : (c : ℕ) (events : List (Event T)) → Each (SetDoes c) events → Each AsksRight events → IsHonest events
+  pub honest_if_dead : (c : ℕ) (events : List (Event T)) → Each (SetDoes c) events → Each MindsDeath events → IsHonest events
   honest_if_dead c events does asks before after e is =
-      acts_right c before e (gone_is_dead before (each_less AsksRight before (e ∷ after) (subst (Each AsksRight) is asks))) (does before after e is)
+      acts_right c before e (gone_is_dead before (each_less MindsDeath before (e ∷ after) (subst (Each MindsDeath) is asks))) (does before after e is) (asks before after e is)
 
   -- ---- answers, in the words of a machine whose owners die
 

@@ -1,6 +1,9 @@
 -- What holds of the machine of a robust set keeps to every turn of an open run, so it holds wherever such a run leads.
-use Rattle.std.proofs.Common.{◌≡◌, ◌≢◌, slice_index, ℕ, ◌+◌, Bool, true, not, Option, Some, None, is_none, List, [], ◌∷◌, ◌++◌, refl, sym, ap, subst, ◌∙◌, append-nil}
+use Rattle.std.proofs.Common.{◌≡◌, ◌≢◌, slice_index, ℕ, ◌+◌, Bool, true, false, not, Option, Some, None, is_some, is_none, List, [], ◌∷◌, ◌++◌, refl, sym, ap, subst, ◌∙◌, append-nil}
 use Rattle.steps.specs.Indices.Robust.Parts.{greatest}
+use Rattle.steps.specs.declared.indices.enums.ReleaseMode.{ReleaseMode}
+use Rattle.model.specs.declared.event.Start.TheVariants.{Container}
+use Rattle.model.specs.declared.families.container.ContainerStart.TheVariants.{Recover}
 use Rattle.model.specs.declared.families.Flight.{Flight}
 use Rattle.model.specs.declared.families.Flight as flights
 use Rattle.model.specs.declared.party.Doing.{Doing}
@@ -9,11 +12,11 @@ use Rattle.model.specs.declared.party.Party.{Party}
 use Rattle.model.specs.declared.turn.Kind.{Kind}
 use Rattle.model.specs.declared.turn.Kind as kinds
 use Rattle.model.specs.declared.turn.Refusal.{Refusal}
-use Rattle.model.specs.declared.turn.Refusal.TheVariants.{Idle, Undecided}
+use Rattle.model.specs.declared.turn.Refusal.TheVariants.{WrongCall, Busy, Idle, Undecided}
 use Rattle.model.specs.declared.turn.Turn.{Turn}
 use Rattle.model.specs.declared.turn.Turn.TheVariants.{Begin, Next, Decide, Die}
 use Rattle.model.specs.Coding.{Coding, IsCoding}
-use Rattle.model.specs.Families.{want_of, is_question}
+use Rattle.model.specs.Families.{first_of, want_of, is_question}
 use Rattle.model.specs.Families.Indices.Robust.Promises.{AnswersRight, KeepsDead}
 use Rattle.model.specs.Parties.{party_of, doing_of, flight_of}
 use Rattle.model.specs.Reading.{Each}
@@ -77,7 +80,17 @@ module _ {T : Type 0} (code : Coding T) (c : ℕ) where
   goes_by_rows : (t : Trace T) (turn : Turn T) → call_refusal t.world turn ≡ None → Sound t → Sound (after_turn t turn)
   goes_by_rows t turn r s = frame.turn_sound (family_by Word code c) (λ u. Unit {0}) (laws_by Word code c) t turn r tt s
 
+  -- no call of a container begins on it
+  no_container : {A : Type 0} (t : Trace T) → Sound t → (p owner : ℕ) (mode : ReleaseMode) → open_refusal t.world (Begin p (Container (Recover owner mode))) ≡ None → A
+  no_container t s p owner mode e =
+      let b = row_passed (is_some (flight_in t.world p)) Busy _ e in
+      let d = row_passed (is_none (first_of t.world.kind t.world.capacity (Container (Recover owner mode)) t.world.kept)) WrongCall None b.1 in
+      let none : is_none (first_of {T = T} kinds.TheVariants.Robust t.world.capacity (Container (Recover owner mode)) t.world.kept) ≡ false =
+      subst (λ kind. is_none (first_of kind t.world.capacity (Container (Recover owner mode)) t.world.kept) ≡ false) s.kind d.0 in
+      absurd (cc)
+
   pub open_turn_sound : (t : Trace T) (turn : Turn T) → open_refusal t.world turn ≡ None → Sound t → Sound (after_turn t turn)
+  open_turn_sound t (Begin p (Container (Recover owner mode))) e s = no_container t s p owner mode e
   open_turn_sound t (Begin p start) e s = goes_by_rows t (Begin p start) e s
   open_turn_sound t (Next p) e s = goes_by_rows t (Next p) e s
   open_turn_sound t (Die owner) e s = absurd (cc)

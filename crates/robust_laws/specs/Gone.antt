@@ -1,14 +1,15 @@
 -- Who is gone, and what nobody does for him. Where owners die, gone are the dead. Where nobody sees a death, as between
--- threads, gone are also those of whom a recovery was told to free an index: its yes is the word that they are.
+-- threads, gone are also those of whom a recovery was told to free an index, and those for whom a container's recovery was
+-- begun: its yes, or its begin, is the word that they are.
 use Rattle.std.specs.Prelude.{◌≡◌, ◌≢◌, ◌⊎◌, ℕ, ◌<◌, ◌==◌, ◌||◌, Bool, true, false, Some, List, fold}
 use Rattle.steps.specs.declared.indices.enums.ReleaseMode.TheVariants.{LockIfLastIndex}
 use Rattle.steps.specs.declared.indices.enums.ReleaseState.TheVariants.{Unlocked}
 use Rattle.steps.specs.declared.indices.enums.UniqueIndexSetAcquireFailure.TheVariants.{OutOfIndices}
-use Rattle.model.specs.declared.event.Answer.TheVariants.{NoIndex, State}
+use Rattle.model.specs.declared.event.Answer.TheVariants.{Index, NoIndex, State}
 use Rattle.model.specs.declared.event.Event.{Event}
-use Rattle.model.specs.declared.event.Event.TheVariants.{Filled, Granted, FreedOf, Told, Died, Finished}
+use Rattle.model.specs.declared.event.Event.TheVariants.{Begun, Filled, Granted, FreedOf, Told, Died, Finished}
 use Rattle.model.specs.declared.event.Start.TheVariants.{Robust, Container}
-use Rattle.model.specs.declared.families.container.ContainerStart.TheVariants.{Remove}
+use Rattle.model.specs.declared.families.container.ContainerStart as containers
 use Rattle.model.specs.declared.families.indices.robust.RobustStart.TheVariants.{Acquire, Release, Recover}
 use Rattle.model.specs.Families.Indices.Robust.Promises.{AsksRight, IsFilled, IsUnlocked, HeldThrough, FilledSinceFreed, StillToFree, AnswersRight, IsProper}
 use Rattle.model.specs.Families.Indices.Robust.Reading.{Asks, Yes, filled_of, is_dead, deeds_of, IsOneOf}
@@ -21,10 +22,12 @@ pub data GoneBy : Type 0 where
   Word : GoneBy
 
 module _ {T : Type 0} where
-  -- he has died, or a recovery was told to free an index of his
+  -- he has died, a recovery was told to free an index of his, or a container's recovery was begun for him
   abbrev pub gone_after : ℕ → Bool → Event T → Bool
   gone_after owner gone (Died o) = (o == owner) || gone
   gone_after owner gone (Told p index o) = (o == owner) || gone
+  gone_after owner gone (Begun p (Container (containers.TheVariants.Recover o mode))) =
+      (o == owner) || gone
   gone_after owner gone e = gone
 
   abbrev pub is_gone : GoneBy → ℕ → List (Event T) → Bool
@@ -36,15 +39,17 @@ module _ {T : Type 0} where
   abbrev pub GivesBackRight : ℕ → List (Event T) → Span T → Type 0
   GivesBackRight owner before (Open (Robust (Release i o mode)) wrote) =
       is_gone Word owner before ≡ false
-  GivesBackRight owner before (Open (Container (Remove i o mode)) wrote) =
+  GivesBackRight owner before (Open (Container (containers.TheVariants.Remove i o mode)) wrote) =
       is_gone Word owner before ≡ false
   GivesBackRight owner before span = Unit {0}
 
-  -- no index is filled or granted for him, or given back
+  -- no index is filled or granted for him, or given back, and no add for him ends with one
   abbrev pub ActsForRight : List (Event T) → Event T → Type 0
   ActsForRight before (Filled p index owner) = is_gone Word owner before ≡ false
   ActsForRight before (Granted p index owner) = is_gone Word owner before ≡ false
   ActsForRight before (FreedOf p index owner) = GivesBackRight owner before (span_of p before)
+  ActsForRight before (Finished p (Container (containers.TheVariants.Add value owner)) (Index index)) =
+      is_gone Word owner before ≡ false
   ActsForRight before e = Unit {0}
 
   abbrev pub IsHonest : List (Event T) → Type 0

@@ -1,12 +1,16 @@
--- Runs of a robust index set where nobody sees an owner die, as between threads: no owner dies, and no yes of a recovery is
--- refused; and neither turns nor parties have a bound. And what holds of a machine that such a run leads to.
-use Rattle.std.specs.Prelude.{◌≡◌, ℕ, ◌<◌, ◌==◌, Bool, true, false, not, Option, None, is_none, List, [], ◌∷◌, slice_index}
+-- Runs of a robust index set, or of a container, where nobody sees an owner die, as between threads: no owner dies, and
+-- neither a yes of a recovery nor the begin of a container's is refused; and neither turns nor parties have a bound. And
+-- what holds of a robust index set that such a run leads to.
+use Rattle.std.specs.Prelude.{◌≡◌, ℕ, ◌<◌, ◌==◌, Bool, true, false, not, Option, None, is_some, is_none, List, [], ◌∷◌, slice_index}
 use Rattle.steps.specs.Indices.Robust.Parts.{cell_word, locked, greatest}
+use Rattle.model.specs.declared.event.Start.TheVariants.{Container}
+use Rattle.model.specs.declared.families.container.ContainerStart.TheVariants.{Recover}
 use Rattle.model.specs.declared.turn.Turn.{Turn}
-use Rattle.model.specs.declared.turn.Turn.TheVariants.{Decide, Die}
+use Rattle.model.specs.declared.turn.Turn.TheVariants.{Begin, Decide, Die}
 use Rattle.model.specs.declared.turn.Refusal.{Refusal}
-use Rattle.model.specs.declared.turn.Refusal.TheVariants.{WrongCall, Idle, Undecided}
+use Rattle.model.specs.declared.turn.Refusal.TheVariants.{WrongCall, Busy, Idle, Undecided}
 use Rattle.model.specs.Coding.{IsCoding}
+use Rattle.model.specs.Families.{first_of}
 use Rattle.model.specs.Families.Indices.Reading.{is_locked}
 use Rattle.model.specs.Families.Indices.Robust.Promises.{cell_of, SetDoes, IsProper, HoldsRight, KeepsDead}
 use Rattle.model.specs.Families.Indices.Robust.Reading.{filled_of, is_dead}
@@ -25,6 +29,10 @@ module _ {T : Type 0} where
       ∷ (not (is_due w.coding (flight_in w p)), Undecided)
       ∷ []
   open_rows w (Die owner) = (true, WrongCall) ∷ []
+  open_rows w (Begin p (Container (Recover owner mode))) =
+      (is_some (flight_in w p), Busy)
+      ∷ (is_none (first_of w.kind w.capacity (Container (Recover owner mode)) w.kept), WrongCall)
+      ∷ []
   open_rows w turn = call_rows w turn
 
   abbrev pub open_refusal : World T → Turn T → Option Refusal

@@ -6,6 +6,7 @@ use Rattle.steps.specs.Container.Layout.{change_word}
 use Rattle.steps.specs.declared.ask.After.{After}
 use Rattle.steps.specs.declared.ask.After.TheVariants.{GoOn, Done}
 use Rattle.steps.specs.declared.ask.Ask.{Ask}
+use Rattle.steps.specs.Indices.Robust.Parts.{one_more}
 use Rattle.model.specs.declared.event.Answer.{Answer}
 use Rattle.model.specs.declared.event.Event.{Event}
 use Rattle.model.specs.declared.event.Event.TheVariants.{Begun, Died, Finished}
@@ -37,16 +38,16 @@ use Rattle.model.proofs.Rows.{passes, may_next, may_decide, must_be_due}
 use Rattle.model.proofs.Scenes.{StandsThere}
 use Rattle.robust_laws.proofs.Opening.{admitted_is}
 use Rattle.container_laws.proofs.Core.{change_at, change_set}
-use Rattle.container_laws.proofs.Everything.{container_keeps}
+use Rattle.container_laws.proofs.Everything.{shown, container_keeps}
 use Rattle.container_laws.proofs.Invariant.{family}
 use Rattle.container_laws.proofs.Opening.{opens}
 use Rattle.container_laws.proofs.Sound.{kept_is, reached_sound, scene_of, inv_of, is_there}
 use Rattle.container_laws.proofs.Stages.{any_call}
 use Rattle.container_laws.proofs.Writing.{adds_one, adds_to_change}
 use Rattle.container_laws.proofs.Written.{all_effects}
+use Rattle.container_laws.proofs.Terms.{dying}
 use Rattle.turn_laws.specs.Changes.{change_in, changes_of, CountsChanges}
 use Rattle.turn_laws.proofs.CountSteps.{ends_count, step_counts, decision_counts}
-use Rattle.turn_laws.proofs.Shown.{shown}
 use Rattle.turn_laws.proofs.Standing.{under_way}
 
 -- ---- what events count
@@ -103,8 +104,10 @@ module _ {T : Type 0} (t : Trace T) (is : t.world.kind ≡ kinds.TheVariants.Con
   raised : (p : ℕ) (x : Party T) (since : ℕ) → t.world.turns < 2 ^ 64 - 2 → party_of p t.world.latest ≡ Some x → change_at c (words_after s.state.words (Some (adds_one (change_word c)))) ≡ change_at c s.state.words + 1
   raised p x since small found =
       let wide = s.holds.elements.wide in
-      ap (change_at c) (adds_to_change (scene_of shown t.world.coding c t s p x since) (inv_of shown t.world.coding c t s p x since small found))
-      ∙ change_set c t.world.coding.size s.state.words (change_at c s.state.words + 1) (omega arith)
+      let few = s.holds.elements.change refl in
+      let in_words : one_more (change_at c s.state.words) ≡ change_at c s.state.words + 1 = omega arith in
+      ap (change_at c) (adds_to_change (scene_of shown dying t.world.coding c t s p x since) (inv_of shown dying t.world.coding c t s p x since found small))
+      ∙ (change_set c t.world.coding.size s.state.words (one_more (change_at c s.state.words)) (omega arith) ∙ in_words)
 
   -- what a turn of p writes, by its name and call
   abbrev Wrote : ℕ → Turn T → ℕ → Kept T → Start T → Flight T → Type 0
@@ -135,7 +138,7 @@ module _ {T : Type 0} (t : Trace T) (is : t.world.kind ≡ kinds.TheVariants.Con
     by_step : (x : Party T) (since : ℕ) → party_of p t.world.latest ≡ Some x → (start : Start T) (flight : Flight T) → StandsThere fam t s p x since start flight → ask_in t.world (Next p) ≡ ask_of (want_of t.world.coding flight)
         → Wrote p (Next p) (old_of s.state.words (ask_of (want_of t.world.coding flight))) now_kept start flight → CountsChanges (after_turn t (Next p))
     by_step x since found (Container start) (flights.TheVariants.Container flight) stands asks wrote =
-        let there = is_there shown t.world.coding c t s p x since (passes t.world (Next p) free).turns found start flight stands in
+        let there = is_there shown dying t.world.coding c t s p x since found start flight stands in
         counted p (Next p) refl free (old_of s.state.words (ask_of (want t.world.coding flight))) (ask_of (want t.world.coding flight)) asks start flight wrote
         (step_counts t.world.coding c s.state.words (state_of p s.state.states) p _ _ start flight there.at (raised p x since (passes t.world (Next p) free).turns found) (old_of s.state.words (ask_of (want t.world.coding flight))))
     by_step x since found start flight stands asks wrote = absurd stands.at
@@ -156,7 +159,7 @@ module _ {T : Type 0} (t : Trace T) (is : t.world.kind ≡ kinds.TheVariants.Con
     by_decision : (x : Party T) (since : ℕ) → party_of p t.world.latest ≡ Some x → (start : Start T) (flight : Flight T) → StandsThere fam t s p x since start flight → is_question (want_of t.world.coding flight) ≡ true
         → Wrote p (Decide p said) (number_of said) now_kept start flight → CountsChanges (after_turn t (Decide p said))
     by_decision x since found (Container start) (flights.TheVariants.Container flight) stands due wrote =
-        let there = is_there shown t.world.coding c t s p x since (passes t.world (Decide p said) free).turns found start flight stands in
+        let there = is_there shown dying t.world.coding c t s p x since found start flight stands in
         let none = decision_counts t.world.coding (state_of p s.state.states) p (number_of said) start flight c t.world.coding.size _ _ there.at due in
         counted p (Decide p said) refl free (number_of said) None refl start flight wrote (omega arith)
     by_decision x since found start flight stands due wrote = absurd stands.at
@@ -196,5 +199,5 @@ module _ {T : Type 0} where
       first : (queue : ℕ) → t.world.kind ≡ kinds.TheVariants.Container → CountsChanges (opened t.world.coding t.world.kind t.world.capacity queue t.world.parties)
       first queue same =
           let may = admitted_is t.world.capacity (subst (λ kind. capacity_error kind t.world.capacity ≡ None) is r.admitted) in
-          let few = (opens t.world.coding t.world.capacity r.coded may.0 may.1).elements.change in
+          let few = (opens dying t.world.coding t.world.capacity r.coded may.0 may.1).elements.change refl in
           subst (λ kind. CountsChanges (opened t.world.coding kind t.world.capacity queue t.world.parties)) (sym same) (omega arith)

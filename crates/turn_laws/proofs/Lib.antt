@@ -17,7 +17,6 @@ pub mod SeenKnows
 pub mod SeenLooks
 pub mod SeenTurns
 pub mod Showing
-pub mod Shown
 pub mod Standing
 pub mod Waiting
 pub mod Worked

@@ -18,7 +18,7 @@ use Rattle.container_laws.proofs.KeptLocks.{NoIndex, FilledBut, FoundFilled, fil
 module _ {T : Type 0} where
   -- some index was filled after each that it has freed, or the set is locked
   abbrev pub Settled : ReleaseMode → ℕ → List (Event T) → Type 0
-  Settled mode p events = (owner : ℕ) → FilledBut mode p owner NoIndex events
+  Settled mode p events = (owner : ℕ) → FilledBut ⊥ mode p owner NoIndex events
 
   abbrev pub StageKnows : ℕ → ReleaseMode → ℕ → RecoverStage → List (Event T) → Type 0
   StageKnows c mode p recovers.TheVariants.LoadsCounter events = Settled mode p events
@@ -43,7 +43,7 @@ module _ {T : Type 0} where
   module _ (p : ℕ) (events es : List (Event T)) (none : BeginsNone p es) (frees : (i owner : ℕ) → IsOneOf (Frees i owner) (deeds_of p (events ++ es)) → IsOneOf (Frees i owner) (deeds_of p events)) where
     pub settled_then : (mode : ReleaseMode) → Settled mode p events → Settled mode p (events ++ es)
     settled_then mode h owner =
-        filled_then p owner mode NoIndex NoIndex events es none (λ i was. inl (frees i owner was)) (λ i never. never) (shut_later events es) (h owner)
+        filled_then p owner ⊥ ⊥ (λ worn. worn) mode NoIndex NoIndex events es none (λ i was. inl (frees i owner was)) (λ i never. never) (shut_later events es) (h owner)
 
   -- ---- once another party has moved
 

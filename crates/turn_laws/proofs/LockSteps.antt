@@ -104,10 +104,10 @@ module _ {T : Type 0} (scene : Scene T) (inv : Inv scene) (mode : ReleaseMode) (
     locks_step =
         lock_step scene inv (FoundFilled p events) said locks_to lock at k.paid k.scanned f
         (λ next ask back stays next_at paid scanned says few. subst (λ es. LockSays c (FoundFilled p es) next) (sym (append-nil events)) says)
-        (λ ask same shut paid few. comes_to (recovers.TheVariants.Locks index lock) [] (index + 1) (calm (λ owner. filled_locked p owner mode NoIndex events (is_shut scene inv shut))))
-        (λ filled ask stays open_now more says paid few. comes_to (recovers.TheVariants.Locks index lock) [] (index + 1) (calm (λ owner. filled_last p owner mode NoIndex events (says more))))
+        (λ ask same shut paid few. comes_to (recovers.TheVariants.Locks index lock) [] (index + 1) (calm (λ owner. filled_locked p owner ⊥ mode NoIndex events (is_shut scene inv shut))))
+        (λ filled ask stays open_now more says paid few. comes_to (recovers.TheVariants.Locks index lock) [] (index + 1) (calm (λ owner. filled_last p owner ⊥ mode NoIndex events (says more))))
         (λ ask stays open_now worn paid few. absurd (subst (λ b. IsWorn b (words_after ws ask)) dies worn))
-        (λ ask none less new paid few. comes_to (recovers.TheVariants.Locks index lock) (Locked p ∷ []) (index + 1) (λ owner. filled_locked p owner mode NoIndex (events ++ Locked p ∷ []) (fold-append locked_after false events (Locked p ∷ []))))
+        (λ ask none less new paid few. comes_to (recovers.TheVariants.Locks index lock) (Locked p ∷ []) (index + 1) (λ owner. filled_locked p owner ⊥ mode NoIndex (events ++ Locked p ∷ []) (fold-append locked_after false events (Locked p ∷ []))))
 
   -- ---- the raise
 
@@ -129,7 +129,7 @@ module _ {T : Type 0} (scene : Scene T) (inv : Inv scene) (mode : ReleaseMode) (
       go Default is false t = tt
       go LockIfLastIndex is false t =
           let open_now : counter_of ws ≢ locked = grind (arith, nat_tests) in
-          λ index owner. filled_each p owner LockIfLastIndex events (unlocked scene inv open_now) (subst (λ n. Settled n p events) is h owner) index
+          λ index owner freed. ⊎_elim (λ worn. absurd worn) (λ filled. filled) (filled_each p owner ⊥ LockIfLastIndex events (unlocked scene inv open_now) (subst (λ n. Settled n p events) is h owner) index freed)
 
   -- ---- any step
 

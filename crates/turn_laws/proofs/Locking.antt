@@ -181,13 +181,13 @@ module _ {T : Type 0} (t : Trace T) (is : t.world.kind ≡ kinds.TheVariants.Rob
     none_yet = ap (λ a. deeds (wrote_in a)) (span_of-own p t.events (Begun p start ∷ []) (refl, tt))
 
     first_stage : (mode : ReleaseMode) (stage : RecoverStage) (k : ℕ) → RecoverAt k mode [] stage → StageKnows c mode p stage new.events
-    first_stage mode recovers.TheVariants.LoadsCounter k at = λ owner. filled_none p owner mode NoIndex new.events none_yet
-    first_stage mode (recovers.TheVariants.LoadsCell index) k at = λ owner. filled_none p owner mode NoIndex new.events none_yet
-    first_stage mode (recovers.TheVariants.Asks index owner) k at = λ o. filled_none p o mode NoIndex new.events none_yet
-    first_stage mode (recovers.TheVariants.EmptiesCell index owner) k at = λ o. filled_none p o mode NoIndex new.events none_yet
+    first_stage mode recovers.TheVariants.LoadsCounter k at = λ owner. filled_none p owner ⊥ mode NoIndex new.events none_yet
+    first_stage mode (recovers.TheVariants.LoadsCell index) k at = λ owner. filled_none p owner ⊥ mode NoIndex new.events none_yet
+    first_stage mode (recovers.TheVariants.Asks index owner) k at = λ o. filled_none p o ⊥ mode NoIndex new.events none_yet
+    first_stage mode (recovers.TheVariants.EmptiesCell index owner) k at = λ o. filled_none p o ⊥ mode NoIndex new.events none_yet
     first_stage mode (recovers.TheVariants.Raises index raise) k at = tt
     first_stage mode (recovers.TheVariants.Locks index lock) k at = absurd (no_more at.1.latest.before (Frees at.1.index at.1.owner) [] at.1.latest.is)
-    first_stage mode recovers.TheVariants.LoadsCounterAgain k at = λ owner. filled_none p owner mode NoIndex new.events none_yet
+    first_stage mode recovers.TheVariants.LoadsCounterAgain k at = λ owner. filled_none p owner ⊥ mode NoIndex new.events none_yet
 
     first_call : (k : ℕ) (a : RobustStart) (call : RobustFlight) → At k [] a call → CallKnows c p call new.events
     first_call k (starts.TheVariants.Recover mode) (calls.TheVariants.Recover run) at =

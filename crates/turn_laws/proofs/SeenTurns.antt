@@ -47,18 +47,18 @@ use Rattle.model.proofs.Readings.{AreOwn, AreRight, Each-append}
 use Rattle.model.proofs.Rows.{passes, may_next, may_decide, must_be_due}
 use Rattle.model.proofs.Scenes.{StandsThere}
 use Rattle.robust_laws.proofs.Effects.{both_ways}
-use Rattle.container_laws.proofs.Everything.{container_keeps}
+use Rattle.container_laws.proofs.Everything.{shown, container_keeps}
 use Rattle.container_laws.proofs.Invariant.{family}
 use Rattle.container_laws.proofs.Looks.{looks_as, written_same}
 use Rattle.container_laws.proofs.Sound.{kept_is, reached_sound, is_there}
 use Rattle.container_laws.proofs.Standing.{At}
 use Rattle.container_laws.proofs.Written.{all_effects}
+use Rattle.container_laws.proofs.Terms.{dying}
 use Rattle.turn_laws.specs.Changes.{Seen, seen_by, MeetsChanges}
 use Rattle.turn_laws.proofs.Counting.{counts_changes}
 use Rattle.turn_laws.proofs.Others.{others_stay}
 use Rattle.turn_laws.proofs.SeenCalls.{Leaves, wrote_by, others_leave, look_leaves, look_stays}
 use Rattle.turn_laws.proofs.SeenKnows.{Within, Grows, LookSees, CallSees, FlightSees, seen_number, changes_are, others_grow, sees_later, IsNoLook}
-use Rattle.turn_laws.proofs.Shown.{shown}
 use Rattle.turn_laws.proofs.Standing.{left_by, next_left, decision_left, under_way}
 use Rattle.turn_laws.proofs.Waiting.{look_asks_none}
 
@@ -238,7 +238,7 @@ module _ {T : Type 0} (t : Trace T) (is : t.world.kind ≡ kinds.TheVariants.Con
     by_step : (x : Party T) (since : ℕ) → party_of p t.world.latest ≡ Some x → (start : Start T) (flight : Flight T) → StandsThere fam t s p x since start flight → flight_in t.world p ≡ Some flight
         → Comes (Next p) free p refl (λ q its. its) on_next (old_of s.state.words (ask_of (want_of t.world.coding flight))) now_kept start flight → Extra (after_turn t (Next p))
     by_step x since found (Container start) (flights.TheVariants.Container flight) stands flies comes =
-        let there = is_there shown t.world.coding t.world.capacity t s p x since (passes t.world (Next p) free).turns found start flight stands in
+        let there = is_there shown dying t.world.coding t.world.capacity t s p x since found start flight stands in
         step_by start flight _ _ there.at flies
         (subst (λ kept. CallSees flight (seen_by p t.events) (state_in kept p)) same_kept (subst (λ o. FlightSees o (seen_by p t.events) (state_in t.world.kept p)) flies (h.known p))) comes
     by_step x since found start flight stands flies comes = absurd stands.at
@@ -288,7 +288,7 @@ module _ {T : Type 0} (t : Trace T) (is : t.world.kind ≡ kinds.TheVariants.Con
     by_decision : (x : Party T) (since : ℕ) → party_of p t.world.latest ≡ Some x → (start : Start T) (flight : Flight T) → StandsThere fam t s p x since start flight → flight_in t.world p ≡ Some flight → is_question (want_of t.world.coding flight) ≡ true
         → DecisionComes now_kept start flight → Extra (after_turn t (Decide p said))
     by_decision x since found (Container start) (flights.TheVariants.Container flight) stands flies due comes =
-        let there = is_there shown t.world.coding t.world.capacity t s p x since (passes t.world (Decide p said) free).turns found start flight stands in
+        let there = is_there shown dying t.world.coding t.world.capacity t s p x since found start flight stands in
         decided_by start flight _ _ there.at due
         (subst (λ kept. CallSees flight (seen_by p t.events) (state_in kept p)) same_kept (subst (λ o. FlightSees o (seen_by p t.events) (state_in t.world.kept p)) flies (h.known p))) comes
     by_decision x since found start flight stands flies due comes = absurd stands.at

@@ -37,7 +37,7 @@ use Rattle.model.specs.Families.Container.Promises.{TellsRight}
 use Rattle.model.specs.Promises.Families.{promise_of}
 use Rattle.model.specs.declared.turn.Turn.{Turn}
 use Rattle.model.proofs.Reached.{turn_making, reached_more}
-use Rattle.container_laws.proofs.Everything.{container_keeps}
+use Rattle.container_laws.proofs.Everything.{shown, container_keeps}
 use Rattle.model.specs.Refusals.{refusal_of, is_due}
 use Rattle.model.specs.Turns.{after_turn, IsReached}
 use Rattle.model.specs.World.{Trace, flight_in}
@@ -47,7 +47,6 @@ use Rattle.robust_laws.proofs.Sound.{raise_asks_none, count_asks_none, lock_asks
 use Rattle.container_laws.proofs.Invariant.{family}
 use Rattle.container_laws.proofs.Sound.{reached_sound}
 use Rattle.turn_laws.specs.Questions.{WaitsForAnswers, IsAnswered}
-use Rattle.turn_laws.proofs.Shown.{shown}
 use Rattle.turn_laws.proofs.Standing.{under_way}
 
 -- ---- a call that is no find and no recovery asks no question
