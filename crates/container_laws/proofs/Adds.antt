@@ -1,5 +1,5 @@
 -- The steps of an add while it acquires its index: what the acquire of the set leads to, in a call that goes on after the grant.
-use Rattle.std.proofs.Common.{inl, inr, ◌+◌, ◌∙◌, ⊎_elim, ◌≡◌, ℕ, ◌<◌, ◌≤◌, Bool, false, Option, List, [], ◌∷◌, ◌++◌, refl, ap, arith}
+use Rattle.std.proofs.Common.{inl, inr, ◌∙◌, ⊎_elim, ◌≡◌, ℕ, ◌<◌, ◌≤◌, Bool, false, Option, List, [], ◌∷◌, ◌++◌, refl, ap, arith}
 use Rattle.std.specs.Prelude.{Err}
 use Rattle.steps.specs.declared.ask.Ask.{Ask}
 use Rattle.steps.specs.declared.ask.After.{After}

@@ -1,5 +1,5 @@
 -- What a container's answers say, once its counter may be worn; and in the words of a machine whose owners die.
-use Rattle.std.proofs.Common.{◌⊎◌, ⊎_elim, inl, inr, ℕ, List, ◌∷◌, subst}
+use Rattle.std.proofs.Common.{⊎_elim, inl, inr, ℕ, List, ◌∷◌, subst}
 use Rattle.steps.specs.declared.container.enums.ContainerAddFailure.TheVariants as failures
 use Rattle.steps.specs.declared.indices.enums.ReleaseMode.{ReleaseMode}
 use Rattle.steps.specs.declared.indices.enums.ReleaseMode.TheVariants.{LockIfLastIndex, Default}

@@ -25,7 +25,6 @@ use Rattle.model.specs.declared.turn.Turn.TheVariants.{Decide}
 use Rattle.model.specs.Coding.{Coding}
 use Rattle.model.specs.Families.{is_question}
 use Rattle.model.specs.Families.Container.Calls.{want, after}
-use Rattle.model.specs.Families.Container.Promises.{IsStopped, FindsUpTo}
 use Rattle.model.specs.Families.Container.Questions.{question_in, question_at, AllRight, HasWritten, AsksOnce, IsAnswered, IsTold, YesTells, NoTells, QuestionsRight}
 use Rattle.model.specs.Families.Container.Reading.{acts_of}
 use Rattle.model.specs.Families.Container.States.{state_of}
@@ -33,24 +32,26 @@ use Rattle.model.specs.Families.Container.Steps.{shown as shown_there, effects, 
 use Rattle.model.specs.Families.Indices.Robust.Promises.{IsIn}
 use Rattle.model.specs.Families.Indices.Robust.Reading.{deeds_of}
 use Rattle.model.specs.Families.Queues.Calls.{read_in}
-use Rattle.model.specs.Refusals.{refusal_of}
 use Rattle.model.specs.Shape.{IsOpenFor}
 use Rattle.model.specs.Step.{answer_in}
 use Rattle.model.specs.Turns.{number_of, ending_of, events_of, after_turn}
 use Rattle.model.specs.World.{Trace}
 use Rattle.model.proofs.Frame as frame
-use Rattle.model.proofs.Rows.{passes}
 use Rattle.robust_laws.proofs.Effects.{both_ways}
 use Rattle.container_laws.proofs.AskedLeft.{made}
 use Rattle.container_laws.proofs.AskedTurn.{IsCalm, IsGoing, any_turn, decided}
 use Rattle.container_laws.proofs.AskedWrites.{goes_right}
-use Rattle.container_laws.proofs.Invariant.{family}
+use Rattle.container_laws.proofs.Invariant.{family_by}
 use Rattle.container_laws.proofs.LooksTell.{container_is}
 use Rattle.robust_laws.proofs.Sound.{raise_asks_none, lock_asks_none}
-use Rattle.container_laws.proofs.Sound.{Shown}
+use Rattle.container_laws.proofs.Sound.{MayGoOn, Shown}
 use Rattle.container_laws.proofs.Stages.{any_call}
 use Rattle.container_laws.proofs.Standing.{find_at, recover_at, At}
 use Rattle.container_laws.proofs.Tells.{counts_up_to}
+use Rattle.container_laws.specs.Tells.{StoppedIf, FindsUpToIf}
+use Rattle.container_laws.proofs.Allowed.{IsAllowed}
+use Rattle.container_laws.proofs.Proper.{IsProperSoFar}
+use Rattle.container_laws.proofs.Terms.{Terms}
 
 -- ---- what a step makes a call ask about, it has copied; and it makes none ask that has waited for an answer
 
@@ -136,7 +137,7 @@ module _ {T : Type 0} (code : Coding T) (q : ℕ) where
 
 -- ---- a decision
 
-module _ {T : Type 0} (shown : Shown T) (code : Coding T) (t : Trace T) (s : frame.Sound (family code t.world.capacity) t) where
+module _ {T : Type 0} (shown : Shown T) (terms : Terms) (code : Coding T) (t : Trace T) (s : frame.Sound (family_by terms code t.world.capacity) t) (may : MayGoOn terms t) where
   abbrev c : ℕ
   c = t.world.capacity
 
@@ -162,9 +163,9 @@ module _ {T : Type 0} (shown : Shown T) (code : Coding T) (t : Trace T) (s : fra
       pub asked : HasAsked flight
       pub wrote : Wrote said start flight (number_of said)
 
-    waiting : (said : Bool) (start : ContainerStart T) → refusal_of t.world (Decide p said) ≡ None → IsIn p (Container start) t → Waiting said start
+    waiting : (said : Bool) (start : ContainerStart T) → IsAllowed t.world (Decide p said) → IsIn p (Container start) t → Waiting said start
     waiting said start r here =
-        let d = decided shown code c t s (passes t.world (Decide p said) r).turns p said r in
+        let d = decided shown terms code c t s may p said r in
         let g = d.goes in
         let name = container_is g.start start (subst (IsOpenFor (Container start) (λ wrote. Unit {0})) g.span here).0 in
         record {
@@ -223,9 +224,9 @@ module _ {T : Type 0} (shown : Shown T) (code : Coding T) (t : Trace T) (s : fra
 
     -- ---- a find
 
-    module _ (owner : ℕ) (r : refusal_of t.world (Decide p false) ≡ None) where
+    module _ (owner : ℕ) (r : IsAllowed t.world (Decide p false)) (proper : Type 0) (so_far : proper → IsProperSoFar terms (after_turn t (Decide p false)).world.latest (after_turn t (Decide p false)).events) where
       abbrev Stops : ContainerFlight T → Type 0
-      Stops flight = is_question (want code flight) ≡ true → HasAsked flight → Wrote false (starts.TheVariants.Find owner) flight 0 → IsStopped p owner t (after_turn t (Decide p false))
+      Stops flight = is_question (want code flight) ≡ true → HasAsked flight → Wrote false (starts.TheVariants.Find owner) flight 0 → StoppedIf proper p owner t (after_turn t (Decide p false))
 
       stage_stops : (capacity given : ℕ) (room : rooms.Kept 128) (stage : FindStage) → Stops (find_at capacity given room stage)
       stage_stops capacity given room (finds.TheVariants.LoadsCell k found) due asked e = absurd (cc)
@@ -240,7 +241,7 @@ module _ {T : Type 0} (shown : Shown T) (code : Coding T) (t : Trace T) (s : fra
             number = found;
             asked = asked;
             ends = ends;
-            counts = counts_up_to shown code t s (Decide p false) r p owner found k (read_in code room) ends refl asked;
+            counts = counts_up_to shown terms code t s may (Decide p false) r proper so_far p owner found k (read_in code room) ends refl asked;
           }
 
       stops : (flight : ContainerFlight T) → At c code.size (deeds_of p t.events) (acts_of p t.events) (starts.TheVariants.Find owner) flight → Stops flight
@@ -249,17 +250,17 @@ module _ {T : Type 0} (shown : Shown T) (code : Coding T) (t : Trace T) (s : fra
 
   -- ---- any turn
 
-  module _ (turn : Turn T) (r : refusal_of t.world turn ≡ None) where
+  module _ (turn : Turn T) (r : IsAllowed t.world turn) where
     abbrev new : Trace T
     new = after_turn t turn
 
-    by_turn : (p : ℕ) (said : Bool) → turn ≡ Decide p said → refusal_of t.world (Decide p said) ≡ None
-    by_turn p said is = subst (λ u. refusal_of t.world u ≡ None) is r
+    by_turn : (p : ℕ) (said : Bool) → turn ≡ Decide p said → IsAllowed t.world (Decide p said)
+    by_turn p said is = subst (λ u. IsAllowed t.world u) is r
 
-    pub finds_up_to : FindsUpTo t turn (after_turn t turn)
-    finds_up_to p owner is here =
+    pub finds_up_to : (proper : Type 0) (so_far : proper → IsProperSoFar terms (after_turn t turn).world.latest (after_turn t turn).events) → FindsUpToIf proper t turn (after_turn t turn)
+    finds_up_to proper so_far p owner is here =
         let w = waiting p false (starts.TheVariants.Find owner) (by_turn p false is) here in
-        subst (λ u. IsStopped p owner t (after_turn t u)) (sym is) (stops p owner (by_turn p false is) w.flight w.at w.due w.asked w.wrote)
+        subst (λ u. StoppedIf proper p owner t (after_turn t u)) (sym is) (stops p owner (by_turn p false is) proper (subst (λ u. proper → IsProperSoFar terms (after_turn t u).world.latest (after_turn t u).events) is so_far) w.flight w.at w.due w.asked w.wrote)
 
     tells_yes : YesTells t turn (after_turn t turn)
     tells_yes p owner mode is here =
@@ -273,17 +274,17 @@ module _ {T : Type 0} (shown : Shown T) (code : Coding T) (t : Trace T) (s : fra
 
     answered : IsAnswered turn (after_turn t turn)
     answered p said is =
-        let d = decided shown code c t s (passes t.world turn r).turns p said (by_turn p said is) in
+        let d = decided shown terms code c t s may p said (by_turn p said is) in
         subst (λ u. question_at (after_turn t u) p ≡ None) (sym is) (d.goes.asks ∙ waits_none code p d.goes.flight d.goes.answer d.due)
 
     once : AsksOnce t (after_turn t turn)
     once p index value e ne =
         ⊎_elim
-        (λ (calm : IsCalm shown code c t s (passes t.world turn r).turns turn). absurd (ne (calm.asks p index value e)))
-        (λ (going : IsGoing shown code c t s (passes t.world turn r).turns turn). ⊎_elim (λ is. here going is) (λ other. absurd (ne (sym (going.goes.others p other) ∙ e))) (cases_eq p going.party))
-        (any_turn shown code c t s (passes t.world turn r).turns turn r)
+        (λ (calm : IsCalm shown terms code c t s may turn). absurd (ne (calm.asks p index value e)))
+        (λ (going : IsGoing shown terms code c t s may turn). ⊎_elim (λ is. here going is) (λ other. absurd (ne (sym (going.goes.others p other) ∙ e))) (cases_eq p going.party))
+        (any_turn shown terms code c t s may turn r)
       where
-        here : (going : IsGoing shown code c t s (passes t.world turn r).turns turn) → p ≡ going.party → HasWritten (Copied p index value) t (after_turn t turn)
+        here : (going : IsGoing shown terms code c t s may turn) → p ≡ going.party → HasWritten (Copied p index value) t (after_turn t turn)
         here going is =
             let g = going.goes in
             let first = made_copies code going.party (state_of going.party s.state.states) g.flight g.answer index value (sym g.asks ∙ subst (λ n. question_at (after_turn t turn) n ≡ Some (index, value)) is e) in
@@ -300,9 +301,9 @@ module _ {T : Type 0} (shown : Shown T) (code : Coding T) (t : Trace T) (s : fra
           wrote = events_of t.world turn;
           is = refl;
           right = ⊎_elim
-              (λ (calm : IsCalm shown code c t s (passes t.world turn r).turns turn). calm.right)
-              (λ (going : IsGoing shown code c t s (passes t.world turn r).turns turn). goes_right shown code c t s (passes t.world turn r).turns turn going.party going.goes)
-              (any_turn shown code c t s (passes t.world turn r).turns turn r);
+              (λ (calm : IsCalm shown terms code c t s may turn). calm.right)
+              (λ (going : IsGoing shown terms code c t s may turn). goes_right shown terms code c t s may turn going.party going.goes)
+              (any_turn shown terms code c t s may turn r);
         }
 
     pub questions_right : QuestionsRight t turn (after_turn t turn)

@@ -1,5 +1,5 @@
 -- A find that ends writes nothing else in that turn, and where no no ends it, it has come to the indices of the whole container.
-use Rattle.std.proofs.Common.{◌≡◌, ℕ, ◌+◌, ◌==◌, ⊎_elim, if◌then◌else◌, Bool, true, false, Option, Some, None, List, [], ◌∷◌, ◌++◌, refl, sym, ap, subst, ◌∙◌, append-nil}
+use Rattle.std.proofs.Common.{◌≡◌, ℕ, ◌+◌, ◌==◌, ⊎_elim, if◌then◌else◌, Bool, true, false, Option, Some, List, [], ◌∷◌, ◌++◌, refl, sym, ap, subst, ◌∙◌, append-nil}
 use Rattle.std.proofs.lemmas.List.{append_cancel_left}
 use Rattle.steps.specs.declared.ask.After.TheVariants.{GoOn}
 use Rattle.steps.specs.declared.container.find.FindStage.{FindStage}
@@ -19,27 +19,28 @@ use Rattle.model.specs.declared.families.container.calls.ContainerFlight.TheVari
 use Rattle.model.specs.declared.turn.Turn.{Turn}
 use Rattle.model.specs.Coding.{Coding}
 use Rattle.model.specs.Families.Container.Calls.{after}
-use Rattle.model.specs.Families.Container.Promises.{CountsRight, FindsAll}
 use Rattle.model.specs.Families.Container.Reading.{acts_of}
 use Rattle.model.specs.Families.Container.States.{state_of}
 use Rattle.model.specs.Families.Container.Steps.{effects, questions}
 use Rattle.model.specs.Families.Indices.Robust.Reading.{deeds_of}
 use Rattle.model.specs.Families.Queues.Calls.{as_it_is, read_in}
-use Rattle.model.specs.Refusals.{refusal_of}
 use Rattle.model.specs.Step.{as_call, answer_in}
 use Rattle.model.specs.Turns.{ending_of, events_of, after_turn}
 use Rattle.model.specs.World.{Trace}
 use Rattle.model.proofs.Frame as frame
 use Rattle.model.proofs.Readings.{no_more}
-use Rattle.model.proofs.Rows.{passes}
 use Rattle.container_laws.proofs.AskedTurn.{GoesOn, IsCalm, IsGoing, any_turn}
-use Rattle.container_laws.proofs.Invariant.{family}
+use Rattle.container_laws.proofs.Invariant.{family_by}
 use Rattle.container_laws.proofs.LooksTell.{container_is, ends_last}
-use Rattle.container_laws.proofs.Sound.{Shown}
+use Rattle.container_laws.proofs.Sound.{MayGoOn, Shown}
 use Rattle.container_laws.proofs.Stages.{any_call}
 use Rattle.container_laws.proofs.Standing.{find_at, At}
 use Rattle.container_laws.proofs.Tells.{counts_all}
 use Rattle.container_laws.proofs.Written.{all_effects}
+use Rattle.container_laws.specs.Tells.{CountsIf, FindsAllIf}
+use Rattle.container_laws.proofs.Allowed.{IsAllowed}
+use Rattle.container_laws.proofs.Proper.{IsProperSoFar}
+use Rattle.container_laws.proofs.Terms.{Terms}
 
 -- ---- the step that ends a find
 
@@ -70,7 +71,7 @@ only_one : {A : Type 0} → (x y : A) (before : List A) → x ∷ [] ≡ before 
 only_one x y [] e = refl
 only_one x y (z ∷ zs) e = let none : [] ≡ zs ++ y ∷ [] = cc in absurd (no_more zs y [] none)
 
-module _ {T : Type 0} (shown : Shown T) (code : Coding T) (t : Trace T) (s : frame.Sound (family code t.world.capacity) t) (turn : Turn T) (r : refusal_of t.world turn ≡ None) (p owner number : ℕ) where
+module _ {T : Type 0} (shown : Shown T) (terms : Terms) (code : Coding T) (t : Trace T) (s : frame.Sound (family_by terms code t.world.capacity) t) (may : MayGoOn terms t) (turn : Turn T) (r : IsAllowed t.world turn) (p owner number : ℕ) where
   abbrev c : ℕ
   c = t.world.capacity
 
@@ -84,11 +85,11 @@ module _ {T : Type 0} (shown : Shown T) (code : Coding T) (t : Trace T) (s : fra
   ends_alone : (wrote : List (Event T)) → events_of t.world turn ≡ wrote ++ Finished p (Container (starts.Find owner)) (Number number) ∷ [] → wrote ≡ []
   ends_alone wrote e =
       ⊎_elim
-      (λ (calm : IsCalm shown code c t s (passes t.world turn r).turns turn). absurd (calm.ends_none p (Container (starts.Find owner)) (Number number) wrote e))
-      (λ (going : IsGoing shown code c t s (passes t.world turn r).turns turn). by going.party going.goes)
-      (any_turn shown code c t s (passes t.world turn r).turns turn r)
+      (λ (calm : IsCalm shown terms code c t s may turn). absurd (calm.ends_none p (Container (starts.Find owner)) (Number number) wrote e))
+      (λ (going : IsGoing shown terms code c t s may turn). by going.party going.goes)
+      (any_turn shown terms code c t s may turn r)
     where
-      by : (q : ℕ) → GoesOn shown code c t s (passes t.world turn r).turns turn q → wrote ≡ []
+      by : (q : ℕ) → GoesOn shown terms code c t s may turn q → wrote ≡ []
       by q g =
           let state = state_of q s.state.states in
           let did = effects code q state g.flight g.answer ++ questions q g.flight g.answer in
@@ -101,10 +102,11 @@ module _ {T : Type 0} (shown : Shown T) (code : Coding T) (t : Trace T) (s : fra
           only_one (Finished q (Container g.start) (Number number)) last wrote
           (sym (ap (λ es. es ++ ending_of q (Container g.start) outcome) nothing ∙ ap (λ o. ending_of q (Container g.start) o) end.done) ∙ whole)
 
-module _ {T : Type 0} (shown : Shown T) (code : Coding T) (t : Trace T) (s : frame.Sound (family code t.world.capacity) t) (turn : Turn T) (r : refusal_of t.world turn ≡ None) where
-  pub finds_all : FindsAll t turn (after_turn t turn)
+module _ {T : Type 0} (shown : Shown T) (terms : Terms) (code : Coding T) (t : Trace T) (s : frame.Sound (family_by terms code t.world.capacity) t) (may : MayGoOn terms t) (turn : Turn T) (r : IsAllowed t.world turn)
+    (proper : Type 0) (so_far : proper → IsProperSoFar terms (after_turn t turn).world.latest (after_turn t turn).events) where
+  pub finds_all : FindsAllIf proper t turn (after_turn t turn)
   finds_all p owner number ends ne =
-      let none = ends_alone shown code t s turn r p owner number ends.wrote (append_cancel_left t.events (events_of t.world turn) _ ends.is) in
+      let none = ends_alone shown terms code t s may turn r p owner number ends.wrote (append_cancel_left t.events (events_of t.world turn) _ ends.is) in
       let alone = subst (λ w. (after_turn t turn).events ≡ t.events ++ (w ++ Finished p (Container (starts.Find owner)) (Number number) ∷ [])) none ends.is in
-      subst (λ w. CountsRight p owner t.world.capacity number (t.events ++ w) (after_turn t turn)) (sym none)
-      (subst (λ es. CountsRight p owner t.world.capacity number es (after_turn t turn)) (sym (append-nil t.events)) (counts_all shown code t s turn r p owner number alone ne))
+      subst (λ w. CountsIf proper p owner t.world.capacity number (t.events ++ w)) (sym none)
+      (subst (λ es. CountsIf proper p owner t.world.capacity number es) (sym (append-nil t.events)) (counts_all shown terms code t s may turn r proper so_far p owner number alone ne))

@@ -1,6 +1,6 @@
 -- A turn in which a call of the container goes on: what it writes, and what its party asks about then. Another party asks about
 -- what it did, and so does each party after a begin or a death.
-use Rattle.std.proofs.Common.{◌≡◌, ◌≢◌, ℕ, ◌+◌, ◌-◌, ◌^◌, ◌<◌, ◌⊎◌, ⊎_elim, inl, inr, Bool, true, false, Option, Some, None, is_none, List, [], ◌∷◌, ◌++◌, refl, sym, ap, subst, ◌∙◌}
+use Rattle.std.proofs.Common.{◌≡◌, ◌≢◌, ℕ, ◌+◌, ◌⊎◌, ⊎_elim, inl, inr, Bool, true, false, Option, Some, None, is_none, List, [], ◌∷◌, ◌++◌, refl, sym, ap, subst, ◌∙◌}
 use Rattle.std.specs.List.{AllByRecursion}
 use Rattle.std.proofs.lemmas.Bool.{cases_eq}
 use Rattle.steps.specs.declared.ask.After.{After}
@@ -33,22 +33,23 @@ use Rattle.model.specs.Families.Indices.Robust.Reading.{deeds_of}
 use Rattle.model.specs.Parties.{party_of, doing_of, flight_of}
 use Rattle.model.specs.Promises.Turns.{IsParty}
 use Rattle.model.specs.Reading.{Open, span_of}
-use Rattle.model.specs.Refusals.{refusal_of, is_due, call_refusal}
+use Rattle.model.specs.Refusals.{is_due, call_refusal}
 use Rattle.model.specs.Step.{Step, answer_in}
 use Rattle.model.specs.Turns.{old_of, number_of, doing_after, party_after, party_at_begin, after_begin, after_step, after_answer, after_next, after_decision, step_in, step_count, change_of, events_of_step, events_of_answer, events_of_next, events_of_decision, events_of, ending_of, ask_of_doing, after_turn}
 use Rattle.model.specs.World.{World, Trace, flight_in}
 use Rattle.model.proofs.Frame as frame
 use Rattle.model.proofs.Parties.{party_put_same, party_put_other}
-use Rattle.model.proofs.Rows.{row_passed, passes, must_be_due}
+use Rattle.model.proofs.Rows.{row_passed}
 use Rattle.model.proofs.Scenes.{StandsThere, stands_there}
 use Rattle.container_laws.proofs.AskedLeft.{call_in, made, question_left, question_first}
-use Rattle.container_laws.proofs.Invariant.{family, view, wrote_of}
+use Rattle.container_laws.proofs.Invariant.{family_by, view, wrote_of}
 use Rattle.container_laws.proofs.Knows.{Knows}
 use Rattle.container_laws.proofs.LooksTell.{no_end}
-use Rattle.container_laws.proofs.Sound.{Shown, kept_is, kept_now, is_there, begins_own}
+use Rattle.container_laws.proofs.Sound.{MayGoOn, Shown, kept_is, kept_now, is_there, begins_own}
 use Rattle.container_laws.proofs.Stages.{any_call}
 use Rattle.container_laws.proofs.Standing.{At}
-use Rattle.container_laws.proofs.Terms.{dying}
+use Rattle.container_laws.proofs.Terms.{Terms}
+use Rattle.container_laws.proofs.Allowed.{IsAllowed}
 
 -- ---- what a party asks about in a machine
 
@@ -77,7 +78,7 @@ module _ {T : Type 0} where
 
 -- ---- a call goes on
 
-module _ {T : Type 0} (shown : Shown T) (code : Coding T) (c : ℕ) (t : Trace T) (s : frame.Sound (family code c) t) (small : t.world.turns < 2 ^ 64 - 2) where
+module _ {T : Type 0} (shown : Shown T) (terms : Terms) (code : Coding T) (c : ℕ) (t : Trace T) (s : frame.Sound (family_by terms code c) t) (may : MayGoOn terms t) where
   -- the party's call goes on, handed this answer
   pub record GoesOn (turn : Turn T) (q : ℕ) : Type 0 where
     pub start : ContainerStart T
@@ -88,7 +89,7 @@ module _ {T : Type 0} (shown : Shown T) (code : Coding T) (c : ℕ) (t : Trace T
     pub asked : question_at t q ≡ question_in code (Some (flights.TheVariants.Container flight))
     pub span : span_of q t.events ≡ Open (Container start) (wrote_of q t.events)
     pub at : At c code.size (deeds_of q t.events) (acts_of q t.events) start flight
-    pub knows : Knows code c flight (view dying s.state.words s.state.states t.world.latest t.events q since t.world.changes backs)
+    pub knows : Knows code c flight (view terms s.state.words s.state.states t.world.latest t.events q since t.world.changes backs)
     pub wrote : events_of t.world turn
         ≡ (effects code q (state_of q s.state.states) flight answer ++ questions q flight answer)
         ++ ending_of q (Container start) (answer_in (any_call (after code (state_of q s.state.states) flight answer)))
@@ -126,9 +127,9 @@ module _ {T : Type 0} (shown : Shown T) (code : Coding T) (c : ℕ) (t : Trace T
     From y kept a flight =
         Wrote y kept a flight → Asks y kept a flight → ((p : ℕ) → p ≢ q → question_at (after_turn t turn) p ≡ question_at t p) → ByYes y flight → question_at t q ≡ question_in y (Some flight) → Went flight
 
-    by_names : (a : Start T) (flight : Flight T) → StandsThere (family code c) t s q x since a flight → From code (kept_now shown dying code c t s) a flight
+    by_names : (a : Start T) (flight : Flight T) → StandsThere (family_by terms code c) t s q x since a flight → From code (kept_now shown terms code c t s) a flight
     by_names (Container start) (flights.TheVariants.Container flight) stands wrote asks others told asked =
-        let there = is_there shown dying code c t s q x since found start flight stands in
+        let there = is_there shown terms code c t s q x since found start flight stands in
         record {
           on =
               record {
@@ -155,7 +156,7 @@ module _ {T : Type 0} (shown : Shown T) (code : Coding T) (c : ℕ) (t : Trace T
     went : (flight : Flight T) → x.doing ≡ Going flight since → From t.world.coding t.world.kept x.start flight
     went flight doing =
         subst (λ y. From y t.world.kept x.start flight) (sym s.coding)
-        (subst (λ kept. From code kept x.start flight) (sym (kept_is t.world.kept t.world.words s.state s.fit).0) (by_names x.start flight (stands_there (family code c) t s q x since flight found doing)))
+        (subst (λ kept. From code kept x.start flight) (sym (kept_is t.world.kept t.world.words s.state s.fit).0) (by_names x.start flight (stands_there (family_by terms code c) t s q x since flight found doing)))
 
   -- ---- a step
 
@@ -223,11 +224,11 @@ module _ {T : Type 0} (shown : Shown T) (code : Coding T) (c : ℕ) (t : Trace T
       is_yes true some = refl
       is_yes false some = absurd (some refl)
 
-  pub decided : (q : ℕ) (said : Bool) → refusal_of t.world (Decide q said) ≡ None → IsDecided q said
+  pub decided : (q : ℕ) (said : Bool) → IsAllowed t.world (Decide q said) → IsDecided q said
   decided q said r = by (party_of q t.world.latest) refl
     where
       due : is_due t.world.coding (flight_in t.world q) ≡ true
-      due = frame.is_true (is_due t.world.coding (flight_in t.world q)) (must_be_due t.world q said (passes t.world (Decide q said) r).on)
+      due = r
 
       by : (o : Option (Party T)) → party_of q t.world.latest ≡ o → IsDecided q said
       by None found =
@@ -273,7 +274,7 @@ module _ {T : Type 0} (shown : Shown T) (code : Coding T) (c : ℕ) (t : Trace T
     pub party : ℕ
     pub goes : GoesOn turn party
 
-  pub any_turn : (turn : Turn T) → refusal_of t.world turn ≡ None → IsCalm turn ⊎ IsGoing turn
+  pub any_turn : (turn : Turn T) → IsAllowed t.world turn → IsCalm turn ⊎ IsGoing turn
   any_turn (Begin q start) r =
       inl
       (record {
@@ -281,7 +282,7 @@ module _ {T : Type 0} (shown : Shown T) (code : Coding T) (c : ℕ) (t : Trace T
         ends_none = λ p b answer wrote e. no_end (Begun q start) p b answer wrote (λ h. cc) e;
         asks = begun_asks q start (first_of t.world.kind t.world.capacity start t.world.kept) refl;
       })
-  any_turn (Next q) r = inr (record { party = q; goes = next_goes q (passes t.world (Next q) r).on })
+  any_turn (Next q) r = inr (record { party = q; goes = next_goes q r })
   any_turn (Decide q said) r = inr (record { party = q; goes = (decided q said r).goes })
   any_turn (Die o) r =
       inl

@@ -1,6 +1,6 @@
 -- What a call of the container writes of a question as it goes on: a find and a recovery come to indices that were their owner's
 -- and ask at once about what they copy, and a recovery is told by a yes.
-use Rattle.std.proofs.Common.{◌≡◌, ◌≢◌, ℕ, ◌-◌, ◌^◌, ◌<◌, ◌==◌, if◌then◌else◌, Bool, true, false, Option, Some, None, List, [], ◌∷◌, ◌++◌, refl, sym, ap, subst, arith}
+use Rattle.std.proofs.Common.{◌≡◌, ◌≢◌, ℕ, ◌==◌, if◌then◌else◌, Bool, true, false, Option, Some, None, List, [], ◌∷◌, ◌++◌, refl, sym, ap, subst, arith}
 use Rattle.std.specs.List.{AllByRecursion}
 use Rattle.std.proofs.lemmas.Bool.Decides.{nat_tests}
 use Rattle.steps.specs.Container.Layout.{is_even}
@@ -51,11 +51,11 @@ use Rattle.model.proofs.Frame as frame
 use Rattle.robust_laws.proofs.Written.{HoldsOf, all_freed, all_locked, all_acquire, all_release}
 use Rattle.container_laws.proofs.AskedLeft.{find_made, recover_made, made}
 use Rattle.container_laws.proofs.AskedTurn.{GoesOn}
-use Rattle.container_laws.proofs.Invariant.{family, view, wrote_of}
+use Rattle.container_laws.proofs.Invariant.{family_by, view, wrote_of}
 use Rattle.container_laws.proofs.Knows.{View, FindKnows, RecoverKnows, Knows}
-use Rattle.container_laws.proofs.Sound.{Shown as Proved}
+use Rattle.container_laws.proofs.Sound.{MayGoOn, Shown as Proved}
 use Rattle.container_laws.proofs.Standing.{At}
-use Rattle.container_laws.proofs.Terms.{dying}
+use Rattle.container_laws.proofs.Terms.{Terms}
 
 module _ {T : Type 0} (code : Coding T) (c : ℕ) (t : Trace T) (turn : Turn T) (q : ℕ) where
   abbrev new : Trace T
@@ -216,11 +216,11 @@ module _ {T : Type 0} (code : Coding T) (c : ℕ) (t : Trace T) (turn : Turn T) 
   end_right start None = tt
   end_right start (Some answer) = (tt, tt)
 
-module _ {T : Type 0} (shown : Proved T) (code : Coding T) (c : ℕ) (t : Trace T) (s : frame.Sound (family code c) t) (small : t.world.turns < 2 ^ 64 - 2) (turn : Turn T) (q : ℕ) where
+module _ {T : Type 0} (shown : Proved T) (terms : Terms) (code : Coding T) (c : ℕ) (t : Trace T) (s : frame.Sound (family_by terms code c) t) (may : MayGoOn terms t) (turn : Turn T) (q : ℕ) where
   -- what a turn writes in which a call goes on
-  pub goes_right : (g : GoesOn shown code c t s small turn q) → AllByRecursion (WritesRight t turn (after_turn t turn)) (events_of t.world turn)
+  pub goes_right : (g : GoesOn shown terms code c t s may turn q) → AllByRecursion (WritesRight t turn (after_turn t turn)) (events_of t.world turn)
   goes_right g =
       subst (AllByRecursion (WritesRight t turn (after_turn t turn))) (sym g.wrote)
       (joined code c t turn q (effects code q (state_of q s.state.states) g.flight g.answer ++ questions q g.flight g.answer) _
-      (any_call_right code c t turn q (state_of q s.state.states) (view dying s.state.words s.state.states t.world.latest t.events q g.since t.world.changes g.backs) refl refl g.start g.flight g.answer g.span g.at g.knows g.asks (λ due some. g.by_yes due some))
+      (any_call_right code c t turn q (state_of q s.state.states) (view terms s.state.words s.state.states t.world.latest t.events q g.since t.world.changes g.backs) refl refl g.start g.flight g.answer g.span g.at g.knows g.asks (λ due some. g.by_yes due some))
       (end_right code c t turn q g.start _))

@@ -9,7 +9,6 @@ use Rattle.container_laws.proofs.Finds.{find_step, find_decided}
 use Rattle.container_laws.proofs.Invariant.{Scene, Inv}
 use Rattle.container_laws.proofs.Justified.{keeps}
 use Rattle.container_laws.proofs.Looks.{look_step}
-use Rattle.container_laws.proofs.LooksTell.{looks_right, looks_leave}
 use Rattle.container_laws.proofs.Moves.{CallSteps}
 use Rattle.container_laws.proofs.Opening.{opens}
 use Rattle.container_laws.proofs.Recovers.{recover_step, recover_decided}
@@ -44,9 +43,4 @@ module _ {T : Type 0} where
 
   -- what is proved of every run of the container
   pub container_keeps : Keeps T kinds.TheVariants.Container
-  container_keeps =
-      keeps shown
-      (record {
-        right = λ code t turn e s. looks_right shown code t turn e s;
-        leaves = λ code t turn e s. looks_leave shown code t turn e s;
-      })
+  container_keeps = keeps shown

@@ -16,7 +16,7 @@ use Rattle.model.specs.declared.turn.Turn.TheVariants.{Next, Decide}
 use Rattle.model.specs.Coding.{Coding}
 use Rattle.model.specs.Families.{want_of, ask_of, beside_of, step_of, goes_of}
 use Rattle.model.specs.Families.Container.Calls.{after}
-use Rattle.model.specs.Families.Container.Promises.{LooksRight, LeavesState, promise}
+use Rattle.model.specs.Families.Container.Promises.{IsProperRun, promise}
 use Rattle.model.specs.Families.Container.States.{state_of}
 use Rattle.model.specs.Families.Container.Steps.{effects, questions}
 use Rattle.model.specs.Parties.{party_of}
@@ -28,17 +28,17 @@ use Rattle.model.specs.Step.{answer_in}
 use Rattle.model.specs.Turns.{old_of, number_of, step_in, events_of_step, ending_of, after_turn}
 use Rattle.model.specs.World.{Trace}
 use Rattle.model.proofs.Frame as frame
+use Rattle.model.proofs.Rows.{passes}
 use Rattle.model.proofs.Orders.{Orders, Keeps, ends_end, turn_is}
 use Rattle.model.proofs.Scenes.{stands_there}
-use Rattle.container_laws.proofs.AskedAnswers.{finds_up_to, questions_right}
-use Rattle.container_laws.proofs.AskedFinds.{finds_all}
+use Rattle.container_laws.proofs.Allowed.{allowed_by}
 use Rattle.container_laws.proofs.Invariant.{ContainerNow, Fit, family}
 use Rattle.container_laws.proofs.Kept.{kept}
-use Rattle.container_laws.proofs.KeptStates.{keeps_states}
-use Rattle.container_laws.proofs.KeptVisits.{visits_unlocked}
-use Rattle.container_laws.proofs.Sound.{Shown, kept_is, kept_now, reached_sound}
+use Rattle.container_laws.proofs.Proper.{proper_so_far}
+use Rattle.container_laws.proofs.Sound.{Shown, kept_is, kept_now, may_go_on, reached_sound}
 use Rattle.container_laws.proofs.Stages.{any_call}
 use Rattle.container_laws.proofs.Terms.{dying}
+use Rattle.container_laws.proofs.TurnTells.{tells_if}
 use Rattle.container_laws.proofs.Written.{all_effects}
 
 -- ---- every turn
@@ -78,12 +78,7 @@ told y z c words beside s p (Container start) (flights.TheVariants.Container fli
 told y z c words beside s p (Container start) (flights.TheVariants.Container flight) answer held fit at = absurd fit
 told y z c words beside s p start flight answer held fit at = absurd at
 
--- what is shown of looks
-pub record LooksShown (T : Type 0) : Type 0 where
-  pub right : (code : Coding T) (t : Trace T) (turn : Turn T) → refusal_of t.world turn ≡ None → frame.Sound (family code t.world.capacity) t → LooksRight t turn (after_turn t turn)
-  pub leaves : (code : Coding T) (t : Trace T) (turn : Turn T) → refusal_of t.world turn ≡ None → frame.Sound (family code t.world.capacity) t → LeavesState t turn (after_turn t turn)
-
-module _ {T : Type 0} (shown : Shown T) (looks : LooksShown T) where
+module _ {T : Type 0} (shown : Shown T) where
   orders : (t : Trace T) → Orders (family t.world.coding t.world.capacity)
   orders u =
       let code = u.world.coding in
@@ -101,14 +96,19 @@ module _ {T : Type 0} (shown : Shown T) (looks : LooksShown T) where
         where
           here : frame.Sound (family code t.world.capacity) t → promise.tells t turn (after_turn t turn)
           here h =
+              let passed = passes t.world turn e in
+              let new : Trace T = after_turn t turn in
+              let tells = tells_if shown dying code t h (may_go_on dying code t.world.capacity t h passed.turns) turn (allowed_by t.world turn passed.on) (IsProperRun new) (λ proper. proper_so_far new proper) in
               record {
-                finds = finds_all shown code t h turn e;
-                finds_up_to = finds_up_to shown code t h turn e;
-                questions = questions_right shown code t h turn e;
-                looks = looks.right code t turn e h;
-                leaves = looks.leaves code t turn e h;
-                states = keeps_states shown code t turn e h;
-                visits = visits_unlocked shown code t turn e h;
+                finds = tells.finds;
+                finds_up_to = λ p owner is here.
+                    let k = tells.finds_up_to p owner is here in
+                    record { index = k.index; value = k.value; number = k.number; asked = k.asked; ends = k.ends; counts = k.counts };
+                questions = tells.questions;
+                looks = tells.looks;
+                leaves = tells.leaves;
+                states = tells.states;
+                visits = tells.visits;
               }
 
   -- what is proved of every run of the container

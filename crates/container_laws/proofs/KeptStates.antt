@@ -40,22 +40,22 @@ use Rattle.model.specs.Families.Container.Opening.{keeps}
 use Rattle.model.specs.Families.Container.States.{state_of, with_state, fresh}
 use Rattle.model.specs.Families.Loan.Opening.{keeps as loan_keeps}
 use Rattle.model.specs.Parties.{party_of, put, doing_of, flight_of, progress_after}
-use Rattle.model.specs.Refusals.{refusal_of, is_due}
+use Rattle.model.specs.Refusals.{is_due}
 use Rattle.model.specs.Step.{answer_in}
 use Rattle.model.specs.Turns.{old_of, number_of, after_begin, after_next, after_decision, after_answer, ask_of_doing, after_turn}
 use Rattle.model.specs.World.{World, Trace, flight_in, progress_in}
 use Rattle.model.proofs.Frame as frame
 use Rattle.model.proofs.Parties.{party_put_same, found_put_other}
-use Rattle.model.proofs.Rows.{passes, must_be_due}
 use Rattle.model.proofs.Scenes.{StandsThere, stands_there}
 use Rattle.robust_laws.proofs.Effects.{both_ways}
-use Rattle.container_laws.proofs.Invariant.{family}
+use Rattle.container_laws.proofs.Invariant.{family_by}
 use Rattle.container_laws.proofs.Looks.{looks_as, written_other}
-use Rattle.container_laws.proofs.LooksTell.{look_asks_none, LookEnd, ended, small, looks_right, looks_own, looks_leave}
-use Rattle.container_laws.proofs.Sound.{Shown, kept_is, kept_now}
+use Rattle.container_laws.proofs.LooksTell.{look_asks_none, LookEnd, ended, looks_right, looks_own, looks_leave}
+use Rattle.container_laws.proofs.Sound.{MayGoOn, Shown, kept_is, kept_now}
 use Rattle.container_laws.proofs.Stages.{any_call}
 use Rattle.container_laws.proofs.Standing.{look_at, look_number}
-use Rattle.container_laws.proofs.Terms.{dying}
+use Rattle.container_laws.proofs.Terms.{Terms}
+use Rattle.container_laws.proofs.Allowed.{IsAllowed}
 
 differ : (p q : ℕ) → (p == q) ≡ false → q ≢ p
 differ p q none = grind (arith, nat_tests)
@@ -122,12 +122,12 @@ module _ {T : Type 0} where
 
 -- ---- a step of a party's call
 
-module _ {T : Type 0} (shown : Shown T) (code : Coding T) (c : ℕ) (t : Trace T) (s : frame.Sound (family code c) t) (q : ℕ) (x : Party T) (since : ℕ) (found : party_of q t.world.latest ≡ Some x) where
+module _ {T : Type 0} (shown : Shown T) (terms : Terms) (code : Coding T) (c : ℕ) (t : Trace T) (s : frame.Sound (family_by terms code c) t) (q : ℕ) (x : Party T) (since : ℕ) (found : party_of q t.world.latest ≡ Some x) where
   abbrev Stays : ℕ → Coding T → Kept T → Start T → Flight T → Type 0
   Stays n y kept a flight =
       (p : ℕ) → IsApart p q flight → state_in (step_of y t.world.words (beside_of t.world.words kept t.world.latest q) q a flight n kept).kept p ≡ state_in kept p
 
-  step_stays : (n : ℕ) (a : Start T) (flight : Flight T) → StandsThere (family code c) t s q x since a flight → Stays n code (kept_now shown dying code c t s) a flight
+  step_stays : (n : ℕ) (a : Start T) (flight : Flight T) → StandsThere (family_by terms code c) t s q x since a flight → Stays n code (kept_now shown terms code c t s) a flight
   step_stays n (Container a) (flights.TheVariants.Container flight) stands p apart = stays code q flight n s.state.states p apart
   step_stays n a flight stands p apart = absurd stands.at
 
@@ -135,11 +135,11 @@ module _ {T : Type 0} (shown : Shown T) (code : Coding T) (c : ℕ) (t : Trace T
   any_stays n flight doing =
       let same = kept_is t.world.kept t.world.words s.state s.fit in
       subst (λ y. Stays n y t.world.kept x.start flight) (sym s.coding)
-      (subst (λ kept. Stays n code kept x.start flight) (sym same.0) (step_stays n x.start flight (stands_there (family code c) t s q x since flight found doing)))
+      (subst (λ kept. Stays n code kept x.start flight) (sym same.0) (step_stays n x.start flight (stands_there (family_by terms code c) t s q x since flight found doing)))
 
 -- ---- any turn
 
-module _ {T : Type 0} (shown : Shown T) (code : Coding T) (t : Trace T) (s : frame.Sound (family code t.world.capacity) t) where
+module _ {T : Type 0} (shown : Shown T) (terms : Terms) (code : Coding T) (t : Trace T) (s : frame.Sound (family_by terms code t.world.capacity) t) where
   flies : (q : ℕ) (x : Party T) (flight : Flight T) (since : ℕ) → party_of q t.world.latest ≡ Some x → x.doing ≡ Going flight since → flight_in t.world q ≡ Some flight
   flies q x flight since found d = ap (λ o. flight_of (doing_of o)) found ∙ ap (λ d. flight_of (Some d)) d
 
@@ -151,7 +151,7 @@ module _ {T : Type 0} (shown : Shown T) (code : Coding T) (t : Trace T) (s : fra
       go (Over others) d = refl
       go (Going flight since) d =
           let here = flies q x flight since found d in
-          any_stays shown code t.world.capacity t s q x since found _ flight d p (apart_is p q flight (subst (λ o. ((q == p) && is_looking o) ≡ false) here none))
+          any_stays shown terms code t.world.capacity t s q x since found _ flight d p (apart_is p q flight (subst (λ o. ((q == p) && is_looking o) ≡ false) here none))
 
   decision_moves : (q p : ℕ) (said : Bool) → is_due t.world.coding (flight_in t.world q) ≡ true → (o : Option (Party T)) → party_of q t.world.latest ≡ o → state_in (after_decision t.world q said o).kept p ≡ state_in t.world.kept p
   decision_moves q p said due None found = refl
@@ -162,7 +162,7 @@ module _ {T : Type 0} (shown : Shown T) (code : Coding T) (t : Trace T) (s : fra
       go (Going flight since) d =
           let here = flies q x flight since found d in
           let asks : is_question (want_of t.world.coding flight) ≡ true = subst (λ o. is_due t.world.coding o ≡ true) here due in
-          any_stays shown code t.world.capacity t s q x since found _ flight d p (inr (no_look t.world.coding flight asks))
+          any_stays shown terms code t.world.capacity t s q x since found _ flight d p (inr (no_look t.world.coding flight asks))
 
   begin_moves : (p q : ℕ) (start : Start T) → is_look_of t.world q (Begin p start) ≡ false → (o : Option (Flight T)) → state_in (after_begin t.world p start o).kept q ≡ state_in t.world.kept q
   begin_moves p q start none None = refl
@@ -172,14 +172,14 @@ module _ {T : Type 0} (shown : Shown T) (code : Coding T) (t : Trace T) (s : fra
   update_begins p state found None = found
   update_begins p state found (Some flight) = update_keeps t.world.coding t.world.capacity p t.world.kept state found
 
-  module _ (turn : Turn T) (r : refusal_of t.world turn ≡ None) where
+  module _ (turn : Turn T) (r : IsAllowed t.world turn) where
     moves : MovesInLooks t turn (after_turn t turn)
     moves q none = by turn r none
       where
-        by : (u : Turn T) → refusal_of t.world u ≡ None → is_look_of t.world q u ≡ false → state_in (after_turn t u).world.kept q ≡ state_in t.world.kept q
+        by : (u : Turn T) → IsAllowed t.world u → is_look_of t.world q u ≡ false → state_in (after_turn t u).world.kept q ≡ state_in t.world.kept q
         by (Begin p start) r none = begin_moves p q start none (first_of t.world.kind t.world.capacity start t.world.kept)
         by (Next p) r none = next_moves p q none (party_of p t.world.latest) refl
-        by (Decide p said) r none = decision_moves p q said (frame.is_true (is_due t.world.coding (flight_in t.world p)) (must_be_due t.world p said (passes t.world (Decide p said) r).on)) (party_of p t.world.latest) refl
+        by (Decide p said) r none = decision_moves p q said r (party_of p t.world.latest) refl
         by (Die owner) r none = died_stays t.world.kept owner q
 
     begins : BeginsWithState t turn (after_turn t turn)
@@ -231,9 +231,9 @@ module _ {T : Type 0} where
   first_step code c which (stages.TheVariants.LoadsWord index count word) (Some state) n name e = absurd (later_step code c which (stages.TheVariants.LoadsWord index count word) state n name (λ is. cc) e)
   first_step code c which (stages.TheVariants.ChecksCount index count) (Some state) n name e = absurd (later_step code c which (stages.TheVariants.ChecksCount index count) state n name (λ is. cc) e)
 
-module _ {T : Type 0} (shown : Shown T) (code : Coding T) (t : Trace T) (turn : Turn T) (r : refusal_of t.world turn ≡ None) (s : frame.Sound (family code t.world.capacity) t) (p : ℕ) (ends : EndsLook p UpdateState (Truth false) t (after_turn t turn)) where
-  abbrev end : LookEnd shown code t.world.capacity t s (small shown code t turn r s) p UpdateState (Truth false) ends.is_look ends.wrote (after_turn t turn)
-  end = ended shown code t turn r s p UpdateState (Truth false) ends
+module _ {T : Type 0} (shown : Shown T) (terms : Terms) (code : Coding T) (t : Trace T) (turn : Turn T) (r : IsAllowed t.world turn) (s : frame.Sound (family_by terms code t.world.capacity) t) (may : MayGoOn terms t) (p : ℕ) (ends : EndsLook p UpdateState (Truth false) t (after_turn t turn)) where
+  abbrev end : LookEnd shown terms code t.world.capacity t s may p UpdateState (Truth false) ends.is_look ends.wrote (after_turn t turn)
+  end = ended shown terms code t turn r s may p UpdateState (Truth false) ends
 
   one_step : steps_of (progress_in (after_turn t turn).world p) ≡ 1
   one_step =
@@ -246,20 +246,20 @@ module _ {T : Type 0} (shown : Shown T) (code : Coding T) (t : Trace T) (turn : 
       ap (λ o. steps_of (progress_after (after_turn t turn).world.changes o)) latest ∙ one
 
   state_left : state_in (after_turn t turn).world.kept p ≡ state_in t.world.kept p
-  state_left = by (state_in (after_turn t turn).world.kept p) refl (looks_leave shown code t turn r s p UpdateState (Truth false) ends)
+  state_left = by (state_in (after_turn t turn).world.kept p) refl (looks_leave shown terms code t turn r s may p UpdateState (Truth false) ends)
     where
       by : (o : Option (ContainerState T)) → state_in (after_turn t turn).world.kept p ≡ o → is_some (state_in (after_turn t turn).world.kept p) ≡ true → state_in (after_turn t turn).world.kept p ≡ state_in t.world.kept p
       by None is some = let none : is_some (state_in (after_turn t turn).world.kept p) ≡ false = ap is_some is in both_ways _ none some
-      by (Some state) is some = is ∙ sym (looks_right shown code t turn r s p UpdateState (Truth false) state ends is).0
+      by (Some state) is some = is ∙ sym (looks_right shown terms code t turn r s may ⊥ (λ never. absurd never) p UpdateState (Truth false) state ends is).0
 
 -- ---- as the promise says it
 
-module _ {T : Type 0} (shown : Shown T) (code : Coding T) (t : Trace T) (turn : Turn T) (r : refusal_of t.world turn ≡ None) (s : frame.Sound (family code t.world.capacity) t) where
+module _ {T : Type 0} (shown : Shown T) (terms : Terms) (code : Coding T) (t : Trace T) (turn : Turn T) (r : IsAllowed t.world turn) (s : frame.Sound (family_by terms code t.world.capacity) t) (may : MayGoOn terms t) where
   pub keeps_states : KeepsStates t turn (after_turn t turn)
   keeps_states =
       record {
-        moves = moves shown code t s turn r;
-        begins = begins shown code t s turn r;
-        at_once = λ p ends. (one_step shown code t turn r s p ends, state_left shown code t turn r s p ends);
-        own = looks_own shown code t turn r s;
+        moves = moves shown terms code t s turn r;
+        begins = begins shown terms code t s turn r;
+        at_once = λ p ends. (one_step shown terms code t turn r s may p ends, state_left shown terms code t turn r s may p ends);
+        own = looks_own shown terms code t turn r s may;
       }

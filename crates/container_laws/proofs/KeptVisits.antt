@@ -1,5 +1,5 @@
 -- A recovery that began after the lock comes to no index.
-use Rattle.std.proofs.Common.{◌≡◌, ◌⊎◌, ⊎_elim, inl, inr, ℕ, ◌-◌, ◌^◌, ◌<◌, Bool, Option, Some, None, List, [], ◌∷◌, ◌++◌, refl, sym, subst}
+use Rattle.std.proofs.Common.{◌≡◌, ◌⊎◌, ⊎_elim, inl, inr, ℕ, Bool, Option, Some, None, List, [], ◌∷◌, ◌++◌, refl, sym, subst}
 use Rattle.std.proofs.lemmas.List.{append_cancel_left}
 use Rattle.std.specs.List.{AllByRecursion}
 use Rattle.steps.specs.declared.container.recover.RecoverStage.{RecoverStage}
@@ -35,18 +35,16 @@ use Rattle.model.specs.Families.Queues.Calls.{read_in}
 use Rattle.model.specs.Moments.{HeldOnce}
 use Rattle.model.specs.Parties.{party_of}
 use Rattle.model.specs.Promises.Turns.{IsEffectOf}
-use Rattle.model.specs.Refusals.{refusal_of}
 use Rattle.model.specs.Step.{answer_in}
 use Rattle.model.specs.Turns.{old_of, number_of, ask_of_doing, events_of_step, events_of_answer, events_of_next, events_of_decision, events_of, ending_of, after_turn}
 use Rattle.model.specs.World.{Trace}
 use Rattle.model.proofs.Frame as frame
-use Rattle.model.proofs.Rows.{passes}
 use Rattle.model.proofs.Scenes.{StandsThere, stands_there}
-use Rattle.container_laws.proofs.Invariant.{family}
+use Rattle.container_laws.proofs.Invariant.{family_by}
 use Rattle.container_laws.proofs.Knows.{View, RecoverKnows}
-use Rattle.container_laws.proofs.Sound.{Shown as AllShown, kept_is, kept_now, scene_of, IsThere, is_there}
+use Rattle.container_laws.proofs.Sound.{MayGoOn, Shown as AllShown, kept_is, kept_now, scene_of, IsThere, is_there}
 use Rattle.container_laws.proofs.Stages.{sees_now, any_call}
-use Rattle.container_laws.proofs.Terms.{dying}
+use Rattle.container_laws.proofs.Terms.{Terms}
 use Rattle.container_laws.proofs.Written.{all_effects}
 
 -- ---- what a party writes
@@ -95,15 +93,15 @@ module _ {T : Type 0} (code : Coding T) (c owner : ℕ) (mode : ReleaseMode) (ro
 
 -- ---- a step of a party's call
 
-module _ {T : Type 0} (shown : AllShown T) (code : Coding T) (c : ℕ) (t : Trace T) (s : frame.Sound (family code c) t) (small : t.world.turns < 2 ^ 64 - 2) (q : ℕ) (x : Party T) (since : ℕ) (found : party_of q t.world.latest ≡ Some x) where
+module _ {T : Type 0} (shown : AllShown T) (terms : Terms) (code : Coding T) (c : ℕ) (t : Trace T) (s : frame.Sound (family_by terms code c) t) (may : MayGoOn terms t) (q : ℕ) (x : Party T) (since : ℕ) (found : party_of q t.world.latest ≡ Some x) where
   abbrev wrote : ContainerFlight T → ℕ → List (Event T)
   wrote flight n = effects code q (state_of q s.state.states) flight n ++ questions q flight n
 
   -- it writes nothing, or began before the lock if it is a recovery
-  began_by : (start : ContainerStart T) (flight : ContainerFlight T) → IsThere shown dying code c t s q x since found start flight → (n : ℕ) → (wrote flight n ≡ []) ⊎ BeganUnlocked q t.events
+  began_by : (start : ContainerStart T) (flight : ContainerFlight T) → IsThere shown terms code c t s q x since found start flight → (n : ℕ) → (wrote flight n ≡ []) ⊎ BeganUnlocked q t.events
   began_by (Recover owner mode) (calls.TheVariants.Recover run) there n =
       ⊎_elim (λ quiet. inl (quiet q run.given (read_in code run.room) n)) (λ held. inr (λ recovery. held))
-      (recover_began code c run.given.owner run.given.mode run.room (sees_now (scene_of shown dying code c t s q x since)) run.call.stage there.knows.1)
+      (recover_began code c run.given.owner run.given.mode run.room (sees_now (scene_of shown terms code c t s q x since)) run.call.stage there.knows.1)
   began_by (Recover owner mode) flight there n = absurd there.at
   began_by start flight there n = inr (λ recovery. absurd (subst IsRecovery there.here.span recovery))
 
@@ -111,32 +109,29 @@ module _ {T : Type 0} (shown : AllShown T) (code : Coding T) (c : ℕ) (t : Trac
   Visits n y kept a flight =
       All q t.events (events_of_step q a (step_of y t.world.words (beside_of t.world.words kept t.world.latest q) q a flight n kept))
 
-  step_visits : (n : ℕ) (a : Start T) (flight : Flight T) → StandsThere (family code c) t s q x since a flight → Visits n code (kept_now shown dying code c t s) a flight
+  step_visits : (n : ℕ) (a : Start T) (flight : Flight T) → StandsThere (family_by terms code c) t s q x since a flight → Visits n code (kept_now shown terms code c t s) a flight
   step_visits n (Container a) (flights.TheVariants.Container flight) stands =
       with_end q t.events (Container a) (answer_in (any_call (after code (state_of q s.state.states) flight n))) (wrote flight n)
       (⊎_elim (λ quiet. subst (All q t.events) (sym quiet) tt) (λ began. all_visit q t.events began (wrote flight n) (all_effects (Next q) q refl code (state_of q s.state.states) flight n))
-      (began_by a flight (is_there shown dying code c t s q x since found a flight stands) n))
+      (began_by a flight (is_there shown terms code c t s q x since found a flight stands) n))
   step_visits n a flight stands = absurd stands.at
 
   any_visits : (n : ℕ) (flight : Flight T) → x.doing ≡ Going flight since → Visits n t.world.coding t.world.kept x.start flight
   any_visits n flight doing =
       let same = kept_is t.world.kept t.world.words s.state s.fit in
       subst (λ y. Visits n y t.world.kept x.start flight) (sym s.coding)
-      (subst (λ kept. Visits n code kept x.start flight) (sym same.0) (step_visits n x.start flight (stands_there (family code c) t s q x since flight found doing)))
+      (subst (λ kept. Visits n code kept x.start flight) (sym same.0) (step_visits n x.start flight (stands_there (family_by terms code c) t s q x since flight found doing)))
 
 -- ---- any turn
 
-module _ {T : Type 0} (shown : AllShown T) (code : Coding T) (t : Trace T) (turn : Turn T) (r : refusal_of t.world turn ≡ None) (s : frame.Sound (family code t.world.capacity) t) where
-  small : t.world.turns < 2 ^ 64 - 2
-  small = (passes t.world turn r).turns
-
+module _ {T : Type 0} (shown : AllShown T) (terms : Terms) (code : Coding T) (t : Trace T) (turn : Turn T) (s : frame.Sound (family_by terms code t.world.capacity) t) (may : MayGoOn terms t) where
   next_visits : (q : ℕ) (o : Option (Party T)) → party_of q t.world.latest ≡ o → All q t.events (events_of_next t.world q o)
   next_visits q None found = tt
   next_visits q (Some x) found = go x.doing refl
     where
       go : (doing : Doing T) → x.doing ≡ doing → All q t.events (events_of_answer t.world q x (old_of t.world.words (ask_of_doing t.world.coding doing)) doing)
       go (Over others) d = tt
-      go (Going flight since) d = any_visits shown code t.world.capacity t s small q x since found _ flight d
+      go (Going flight since) d = any_visits shown terms code t.world.capacity t s may q x since found _ flight d
 
   decision_visits : (q : ℕ) (said : Bool) (o : Option (Party T)) → party_of q t.world.latest ≡ o → All q t.events (events_of_decision t.world q said o)
   decision_visits q said None found = tt
@@ -144,7 +139,7 @@ module _ {T : Type 0} (shown : AllShown T) (code : Coding T) (t : Trace T) (turn
     where
       go : (doing : Doing T) → x.doing ≡ doing → All q t.events (events_of_answer t.world q x (number_of said) doing)
       go (Over others) d = tt
-      go (Going flight since) d = any_visits shown code t.world.capacity t s small q x since found _ flight d
+      go (Going flight since) d = any_visits shown terms code t.world.capacity t s may q x since found _ flight d
 
   visits : (u : Turn T) → AllByRecursion (VisitsRight t.events) (events_of t.world u)
   visits (Begin p start) = (tt, tt)

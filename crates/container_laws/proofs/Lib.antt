@@ -1,5 +1,6 @@
 pub mod AddWrites
 pub mod Adds
+pub mod Allowed
 pub mod Alone
 pub mod Announced
 pub mod Answers
@@ -62,6 +63,7 @@ pub mod Standing
 pub mod Steps
 pub mod Tells
 pub mod Terms
+pub mod TurnTells
 pub mod Turns
 pub mod Writers
 pub mod Writing

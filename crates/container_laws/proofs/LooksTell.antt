@@ -1,5 +1,5 @@
 -- A look that ends leaves a state, as its answer says; and in a proper run the state shows what stands.
-use Rattle.std.proofs.Common.{◌≡◌, ◌≢◌, ℕ, ◌+◌, ◌-◌, ◌^◌, ◌<◌, Bool, true, false, Option, Some, None, is_some, List, [], ◌∷◌, ◌++◌, refl, sym, ap, subst, ◌∙◌}
+use Rattle.std.proofs.Common.{◌≡◌, ◌≢◌, ℕ, ◌+◌, Bool, true, false, Option, Some, None, is_some, List, [], ◌∷◌, ◌++◌, refl, sym, ap, subst, ◌∙◌}
 use Rattle.std.proofs.lemmas.List.{append_cancel_left}
 use Rattle.std.specs.List.{AllByRecursion}
 use Rattle.steps.specs.declared.container.look.LookStage.{LookStage}
@@ -31,7 +31,7 @@ use Rattle.model.specs.Families.{want_of, ask_of, is_question, beside_of, step_o
 use Rattle.model.specs.Families.Container.Calls.{after as goes_after, states_after}
 use Rattle.model.specs.Families.Container.Keeping.{ShowsOwnCopies}
 use Rattle.model.specs.Families.Container.Looks.{state_in, shows, IsLook, EndsLook, IsCurrent, AnswersOfState, MomentsOfState}
-use Rattle.model.specs.Families.Container.Promises.{IsProperRun, LooksRight, LeavesState}
+use Rattle.model.specs.Families.Container.Promises.{LeavesState}
 use Rattle.model.specs.Families.Container.Reading.{Act}
 use Rattle.model.specs.Families.Container.States.{state_of}
 use Rattle.model.specs.Families.Container.Steps.{effects, questions}
@@ -39,27 +39,28 @@ use Rattle.model.specs.Families.Indices.Robust.Reading.{Deed}
 use Rattle.model.specs.Parties.{party_of, put, doing_of, flight_of}
 use Rattle.model.specs.Promises.Turns.{IsParty, IsEffectOf}
 use Rattle.model.specs.Reading.{Span, span_of}
-use Rattle.model.specs.Refusals.{refusal_of, is_due}
+use Rattle.model.specs.Refusals.{is_due}
 use Rattle.model.specs.Shape.{IsShut}
 use Rattle.model.specs.Step.{Step, answer_in}
 use Rattle.model.specs.Turns.{old_of, number_of, step_count, after_next, after_decision, after_answer, events_of_step, events_of_answer, events_of_next, events_of_decision, events_of, ending_of, ask_of_doing, after_turn}
 use Rattle.model.specs.World.{Trace, flight_in}
 use Rattle.model.proofs.Frame as frame
 use Rattle.model.proofs.Readings.{no_more}
-use Rattle.model.proofs.Rows.{passes, must_be_due}
 use Rattle.model.proofs.Scenes.{StandsThere, stands_there}
 use Rattle.robust_laws.proofs.Effects.{both_ways}
-use Rattle.container_laws.proofs.Invariant.{Scene, Inv, family}
+use Rattle.container_laws.proofs.Invariant.{Scene, Inv, family_by}
 use Rattle.container_laws.proofs.KeptCopies.{name_of, IsGetting, HasCopied}
 use Rattle.container_laws.proofs.Looks.{looks_as}
 use Rattle.container_laws.proofs.LooksEnd.{look_tells, look_leaves}
-use Rattle.container_laws.proofs.Proper.{IsProperSoFar, proper_so_far}
-use Rattle.container_laws.proofs.Sound.{Shown, kept_is, kept_now, scene_of, inv_of, IsThere, is_there}
+use Rattle.container_laws.proofs.Proper.{IsProperSoFar}
+use Rattle.container_laws.proofs.Sound.{MayGoOn, Shown, kept_is, kept_now, scene_of, inv_with, IsThere, is_there}
 use Rattle.container_laws.proofs.Stages.{all, done, any_call}
 use Rattle.container_laws.proofs.Standing.{look_at, LookAt, At}
-use Rattle.container_laws.proofs.Terms.{dying}
+use Rattle.container_laws.proofs.Terms.{Terms}
 use Rattle.container_laws.proofs.Turns.{owes}
 use Rattle.container_laws.proofs.Written.{all_effects}
+use Rattle.container_laws.specs.Tells.{LooksRightIf}
+use Rattle.container_laws.proofs.Allowed.{IsAllowed}
 
 -- ---- a turn that ends a call writes its end last
 
@@ -140,7 +141,7 @@ look_counts size c (stages.TheVariants.ChecksCount index count) = refl
 
 -- ---- a step in which a look ends
 
-module _ {T : Type 0} (shown : Shown T) (code : Coding T) (c : ℕ) (t : Trace T) (s : frame.Sound (family code c) t) (small : t.world.turns < 2 ^ 64 - 2) (p : ℕ) (start : ContainerStart T) (answer : Answer T) (look : IsLook start) (wrote : List (Event T)) where
+module _ {T : Type 0} (shown : Shown T) (terms : Terms) (code : Coding T) (c : ℕ) (t : Trace T) (s : frame.Sound (family_by terms code c) t) (may : MayGoOn terms t) (p : ℕ) (start : ContainerStart T) (answer : Answer T) (look : IsLook start) (wrote : List (Event T)) where
   abbrev Ended : List (Event T) → Type 0
   Ended es = es ≡ wrote ++ Finished p (Container start) answer ∷ []
 
@@ -155,7 +156,7 @@ module _ {T : Type 0} (shown : Shown T) (code : Coding T) (c : ℕ) (t : Trace T
     pub which : LookOf
     pub stage : LookStage
     pub name : start ≡ looks_as which
-    pub there : IsThere shown dying code c t s q party since found (looks_as which) (look_at which c stage)
+    pub there : IsThere shown terms code c t s q party since found (looks_as which) (look_at which c stage)
     pub next : Party T
     pub latest_is : latest ≡ put q next t.world.latest
     pub steps_then : next.steps ≡ party.steps + 1
@@ -173,11 +174,11 @@ module _ {T : Type 0} (shown : Shown T) (code : Coding T) (c : ℕ) (t : Trace T
 
     abbrev Case : ContainerStart T → ContainerFlight T → Type 0
     Case a flight =
-        (n : ℕ) → StandsThere (family code c) t s q x since (Container a) (flights.TheVariants.Container flight) → (is_question (want_of code (flights.TheVariants.Container flight)) ≡ false → n ≡ old_of s.state.words (ask_of (want_of code (flights.TheVariants.Container flight))))
-        → StepFrom n code (kept_now shown dying code c t s) (Container a) (flights.TheVariants.Container flight)
+        (n : ℕ) → StandsThere (family_by terms code c) t s q x since (Container a) (flights.TheVariants.Container flight) → (is_question (want_of code (flights.TheVariants.Container flight)) ≡ false → n ≡ old_of s.state.words (ask_of (want_of code (flights.TheVariants.Container flight))))
+        → StepFrom n code (kept_now shown terms code c t s) (Container a) (flights.TheVariants.Container flight)
 
     -- what a step writes of which the last is this end
-    last_of : (n : ℕ) (a : ContainerStart T) (flight : ContainerFlight T) → Ended (events_of_step q (Container a) (stepping n code (kept_now shown dying code c t s) (Container a) (flights.TheVariants.Container flight)))
+    last_of : (n : ℕ) (a : ContainerStart T) (flight : ContainerFlight T) → Ended (events_of_step q (Container a) (stepping n code (kept_now shown terms code c t s) (Container a) (flights.TheVariants.Container flight)))
         → IsLast q p (Container a) (Container start) (answer_in (any_call (goes_after code (state_of q s.state.states) flight n))) answer
     last_of n a flight e =
         ends_last turn q p (effects code q (state_of q s.state.states) flight n ++ questions q flight n) (Container a) (Container start) (answer_in (any_call (goes_after code (state_of q s.state.states) flight n))) answer wrote
@@ -185,7 +186,7 @@ module _ {T : Type 0} (shown : Shown T) (code : Coding T) (c : ℕ) (t : Trace T
 
     look_case : (which : LookOf) (stage : LookStage) → Case (looks_as which) (look_at which c stage)
     look_case which stage n stands is =
-        subst (λ k. StepFrom k code (kept_now shown dying code c t s) (Container (looks_as which)) (flights.TheVariants.Container (look_at which c stage))) (sym (is (look_asks_none code.size c stage)))
+        subst (λ k. StepFrom k code (kept_now shown terms code c t s) (Container (looks_as which)) (flights.TheVariants.Container (look_at which c stage))) (sym (is (look_asks_none code.size c stage)))
         (λ next counts e.
         let end = last_of (old stage) (looks_as which) (look_at which c stage) e in
         record {
@@ -196,7 +197,7 @@ module _ {T : Type 0} (shown : Shown T) (code : Coding T) (c : ℕ) (t : Trace T
           which = which;
           stage = stage;
           name = sym (container_is (looks_as which) start end.name);
-          there = is_there shown dying code c t s q x since found (looks_as which) (look_at which c stage) stands;
+          there = is_there shown terms code c t s q x since found (looks_as which) (look_at which c stage) stands;
           next = next;
           latest_is = refl;
           steps_then = counts (look_asks_none code.size c stage) ∙ ap (λ n. x.steps + n) (look_counts code.size c stage);
@@ -206,12 +207,12 @@ module _ {T : Type 0} (shown : Shown T) (code : Coding T) (c : ℕ) (t : Trace T
           done = end.done;
         })
 
-    step_look : (n : ℕ) (a : Start T) (flight : Flight T) → StandsThere (family code c) t s q x since a flight → (is_question (want_of code flight) ≡ false → n ≡ old_of s.state.words (ask_of (want_of code flight))) → StepFrom n code (kept_now shown dying code c t s) a flight
+    step_look : (n : ℕ) (a : Start T) (flight : Flight T) → StandsThere (family_by terms code c) t s q x since a flight → (is_question (want_of code flight) ≡ false → n ≡ old_of s.state.words (ask_of (want_of code flight))) → StepFrom n code (kept_now shown terms code c t s) a flight
     step_look n (Container a) (flights.TheVariants.Container flight) stands is next counts e =
         let end = last_of n a flight e in
         let name = container_is a start end.name in
-        let there = is_there shown dying code c t s q x since found a flight stands in
-        let one = look_flight c code.size (all (scene_of shown dying code c t s q x since)) (done (scene_of shown dying code c t s q x since)) a flight (subst IsLook (sym name) look) there.at in
+        let there = is_there shown terms code c t s q x since found a flight stands in
+        let one = look_flight c code.size (all (scene_of shown terms code c t s q x since)) (done (scene_of shown terms code c t s q x since)) a flight (subst IsLook (sym name) look) there.at in
         subst (λ b. Case b flight) (sym one.name) (subst (λ f. Case (looks_as one.which) f) (sym one.is) (look_case one.which one.stage)) n stands is next counts e
     step_look n a flight stands is next counts e = absurd stands.at
 
@@ -222,7 +223,7 @@ module _ {T : Type 0} (shown : Shown T) (code : Coding T) (c : ℕ) (t : Trace T
         let same = kept_is t.world.kept t.world.words s.state s.fit in
         subst (λ y. StepFrom n y t.world.kept x.start flight) (sym s.coding)
         (subst (λ kept. StepFrom n code kept x.start flight) (sym same.0)
-        (step_look n x.start flight (stands_there (family code c) t s q x since flight found doing)
+        (step_look n x.start flight (stands_there (family_by terms code c) t s q x since flight found doing)
         (λ no.
         is (subst (λ y. is_question (want_of y flight) ≡ false) (sym s.coding) no)
         ∙ (ap (λ ws. old_of ws (ask_of (want_of t.world.coding flight))) same.1 ∙ ap (λ y. old_of s.state.words (ask_of (want_of y flight))) s.coding))))
@@ -260,7 +261,7 @@ module _ {T : Type 0} (shown : Shown T) (code : Coding T) (c : ℕ) (t : Trace T
     pub is : new.events ≡ t.events ++ events
     pub turn : LookTurn party new.world.kept new.world.latest events
 
-  pub look_end : (turn : Turn T) → refusal_of t.world turn ≡ None → Ended (events_of t.world turn) → LookEnd (after_turn t turn)
+  pub look_end : (turn : Turn T) → IsAllowed t.world turn → Ended (events_of t.world turn) → LookEnd (after_turn t turn)
   look_end (Begin q a) r e = absurd (no_end (Begun q a) p (Container start) answer wrote (λ h. cc) e)
   look_end (Next q) r e = record { party = q; events = events_of t.world (Next q); is = refl; turn = next_look q (party_of q t.world.latest) refl e }
   look_end (Decide q said) r e =
@@ -268,7 +269,7 @@ module _ {T : Type 0} (shown : Shown T) (code : Coding T) (c : ℕ) (t : Trace T
         party = q;
         events = events_of t.world (Decide q said);
         is = refl;
-        turn = decision_look q said (frame.is_true (is_due t.world.coding (flight_in t.world q)) (must_be_due t.world q said (passes t.world (Decide q said) r).on)) (party_of q t.world.latest) refl e;
+        turn = decision_look q said r (party_of q t.world.latest) refl e;
       }
   look_end (Die o) r e = absurd (no_end (Died o) p (Container start) answer wrote (λ h. cc) e)
 
@@ -278,23 +279,23 @@ module _ {T : Type 0} (shown : Shown T) (code : Coding T) (c : ℕ) (t : Trace T
   alone_now : (q : ℕ) → owes (flight_of (doing_of (party_of q t.world.latest))) ≡ true → IsShut (span_of q t.events) → ⊥
   alone_now q = by (party_of q t.world.latest) (span_of q t.events) (s.inv.calls q)
     where
-      by_doing : (x : Party T) (doing : Doing T) (span : Span T) → frame.FitsDoing (family code c) s.state q x doing span → owes (flight_of (Some doing)) ≡ true → IsShut span → ⊥
+      by_doing : (x : Party T) (doing : Doing T) (span : Span T) → frame.FitsDoing (family_by terms code c) s.state q x doing span → owes (flight_of (Some doing)) ≡ true → IsShut span → ⊥
       by_doing x (Going flight since) span fits is shut = subst IsShut fits.span shut
       by_doing x (Over others) span fits is shut = absurd (cc)
 
-      by : (o : Option (Party T)) (span : Span T) → frame.Fits (family code c) s.state q o span → owes (flight_of (doing_of o)) ≡ true → IsShut span → ⊥
+      by : (o : Option (Party T)) (span : Span T) → frame.Fits (family_by terms code c) s.state q o span → owes (flight_of (doing_of o)) ≡ true → IsShut span → ⊥
       by None span fits is shut = absurd (cc)
       by (Some x) span fits is shut = by_doing x x.doing span fits is shut
 
-  module _ (new : Trace T) (end : LookEnd new) where
+  module _ (new : Trace T) (end : LookEnd new) (proper : Type 0) (so_far : proper → IsProperSoFar terms new.world.latest new.events) where
     abbrev l : LookTurn end.party new.world.kept new.world.latest end.events
     l = end.turn
 
     abbrev scene : Scene T
-    scene = scene_of shown dying code c t s end.party l.party l.since
+    scene = scene_of shown terms code c t s end.party l.party l.since
 
     inv : Inv scene
-    inv = inv_of shown dying code c t s end.party l.party l.since l.found small
+    inv = inv_with shown terms code c t s end.party l.party l.since l.found may
 
     stands : LookAt c code.size (all scene) (done scene) l.stage
     stands = look_stands l.which c code.size (all scene) (done scene) l.stage l.there.at
@@ -303,7 +304,7 @@ module _ {T : Type 0} (shown : Shown T) (code : Coding T) (c : ℕ) (t : Trace T
     abbrev Right : ℕ → ContainerStart T → Type 0
     Right n a =
         (state : ContainerState T) → state_in new.world.kept n ≡ Some state
-        → AnswersOfState a answer (state_in t.world.kept n) state × (IsProperRun new → IsCurrent n c state new.events × MomentsOfState n c a answer state new.events)
+        → AnswersOfState a answer (state_in t.world.kept n) state × (proper → IsCurrent n c state new.events × MomentsOfState n c a answer state new.events)
 
     here_right : Right end.party (looks_as l.which)
     here_right state is =
@@ -314,9 +315,9 @@ module _ {T : Type 0} (shown : Shown T) (code : Coding T) (c : ℕ) (t : Trace T
         end.is ∙ ap (λ es. t.events ++ es) l.events_are
         in (
           subst (λ o. AnswersOfState (looks_as l.which) answer o state) (sym was) told.answers,
-          λ proper.
+          λ h.
               subst (λ es. IsCurrent end.party c state es × MomentsOfState end.party c (looks_as l.which) answer state es) (sym events_new)
-              (told.current l.next (subst (λ es. IsProperSoFar dying (put end.party l.next t.world.latest) es) events_new (subst (λ ps. IsProperSoFar dying ps new.events) l.latest_is (proper_so_far new proper)))),
+              (told.current l.next (subst (λ es. IsProperSoFar terms (put end.party l.next t.world.latest) es) events_new (subst (λ ps. IsProperSoFar terms ps new.events) l.latest_is (so_far h)))),
         )
 
     -- what a get_state shows it has copied itself
@@ -344,19 +345,16 @@ module _ {T : Type 0} (shown : Shown T) (code : Coding T) (c : ℕ) (t : Trace T
 
 -- ---- as the promise says it
 
-module _ {T : Type 0} (shown : Shown T) (code : Coding T) (t : Trace T) (turn : Turn T) (r : refusal_of t.world turn ≡ None) (s : frame.Sound (family code t.world.capacity) t) where
-  pub small : t.world.turns < 2 ^ 64 - 2
-  small = (passes t.world turn r).turns
+module _ {T : Type 0} (shown : Shown T) (terms : Terms) (code : Coding T) (t : Trace T) (turn : Turn T) (r : IsAllowed t.world turn) (s : frame.Sound (family_by terms code t.world.capacity) t) (may : MayGoOn terms t) where
+  pub ended : (p : ℕ) (start : ContainerStart T) (answer : Answer T) (ends : EndsLook p start answer t (after_turn t turn)) → LookEnd shown terms code t.world.capacity t s may p start answer ends.is_look ends.wrote (after_turn t turn)
+  ended p start answer ends = look_end shown terms code t.world.capacity t s may p start answer ends.is_look ends.wrote turn r (append_cancel_left t.events (events_of t.world turn) _ ends.is)
 
-  pub ended : (p : ℕ) (start : ContainerStart T) (answer : Answer T) (ends : EndsLook p start answer t (after_turn t turn)) → LookEnd shown code t.world.capacity t s small p start answer ends.is_look ends.wrote (after_turn t turn)
-  ended p start answer ends = look_end shown code t.world.capacity t s small p start answer ends.is_look ends.wrote turn r (append_cancel_left t.events (events_of t.world turn) _ ends.is)
-
-  pub looks_right : LooksRight t turn (after_turn t turn)
-  looks_right p start answer state ends found = told_right shown code t.world.capacity t s small p start answer ends.is_look ends.wrote (after_turn t turn) (ended p start answer ends) state found
+  pub looks_right : (proper : Type 0) (so_far : proper → IsProperSoFar terms (after_turn t turn).world.latest (after_turn t turn).events) → LooksRightIf proper t turn (after_turn t turn)
+  looks_right proper so_far p start answer state ends found = told_right shown terms code t.world.capacity t s may p start answer ends.is_look ends.wrote (after_turn t turn) (ended p start answer ends) proper so_far state found
 
   pub looks_own : ShowsOwnCopies t (after_turn t turn)
   looks_own p i answer state value ends found shown_there =
-      told_own shown code t.world.capacity t s small p starts.TheVariants.GetState answer ends.is_look ends.wrote (after_turn t turn) (ended p starts.TheVariants.GetState answer ends) state found refl i value shown_there
+      told_own shown terms code t.world.capacity t s may p starts.TheVariants.GetState answer ends.is_look ends.wrote (after_turn t turn) (ended p starts.TheVariants.GetState answer ends) ⊥ (λ never. absurd never) state found refl i value shown_there
 
   pub looks_leave : LeavesState t turn (after_turn t turn)
-  looks_leave p start answer ends = told_leaves shown code t.world.capacity t s small p start answer ends.is_look ends.wrote (after_turn t turn) (ended p start answer ends)
+  looks_leave p start answer ends = told_leaves shown terms code t.world.capacity t s may p start answer ends.is_look ends.wrote (after_turn t turn) (ended p start answer ends) ⊥ (λ never. absurd never)

@@ -1,5 +1,6 @@
 -- What holds of the machine of a container keeps to every turn of an open run, so it holds wherever such a run leads.
-use Rattle.std.proofs.Common.{◌≡◌, ℕ, ◌+◌, ◌-◌, ◌^◌, ◌<◌, ◌≤◌, ◌&&◌, Bool, true, false, not, Option, Some, None, is_some, is_none, List, [], ◌∷◌, ◌++◌, refl, sym, ap, subst, ◌∙◌, append-nil, arith}
+use Rattle.std.proofs.Common.{◌≡◌, ℕ, ◌+◌, ◌-◌, ◌^◌, ◌<◌, ◌≤◌, ◌&&◌, nat_lt, Bool, true, false, not, Option, Some, None, is_some, is_none, List, [], ◌∷◌, ◌++◌, refl, sym, ap, subst, ◌∙◌, append-nil, arith}
+use Rattle.std.proofs.lemmas.Bool.Decides.{nat_tests}
 use Rattle.steps.specs.declared.ask.Ask.{Ask}
 use Rattle.steps.specs.Indices.Robust.Parts.{greatest}
 use Rattle.model.specs.declared.event.Event.TheVariants.{Begun}
@@ -31,13 +32,16 @@ use Rattle.robust_laws.specs.Open.{open_refusal, attempt_open, run_open, IsReach
 use Rattle.robust_laws.proofs.Core.{counter_of}
 use Rattle.robust_laws.proofs.Opening.{admitted_is}
 use Rattle.container_laws.specs.Gone.{AnswersBy}
-use Rattle.container_laws.specs.Open.{is_for_gone, steps_for_gone, is_faithful, IsOpenContainer}
+use Rattle.container_laws.specs.Open.{is_for_gone, steps_for_gone, is_faithful, IsFaithfulRun, IsOpenContainer}
+use Rattle.container_laws.specs.Tells.{TellsIf}
+use Rattle.container_laws.proofs.Allowed.{allowed_open}
 use Rattle.container_laws.proofs.Everything.{shown}
 use Rattle.container_laws.proofs.Invariant.{family_by}
 use Rattle.container_laws.proofs.Kept.{cells, lock, dead, questions, states, contained}
 use Rattle.container_laws.proofs.Proper.{proper_on}
 use Rattle.container_laws.proofs.Sound.{MayGoOn, IsRightly, MayRecoverIn, kept_is, recovers_by, step_comes, decision_comes, begin_comes, opening_sound}
 use Rattle.container_laws.proofs.Terms.{Terms}
+use Rattle.container_laws.proofs.TurnTells.{tells_if}
 
 -- ---- one turn
 
@@ -237,3 +241,25 @@ module _ {T : Type 0} (t : Trace T) (is : t.world.kind ≡ kinds.TheVariants.Con
             let keeping = terms true w.coding w.capacity in
             contained keeping w.coding t (reached_sound true (λ keeps. run.faithful) (λ keeps. run.few)) (proper_on keeping t refl run.honest run.proper);
       }
+
+  -- ---- what a turn tells
+
+  and_true : (a b : Bool) → a ≡ true → b ≡ true → (a && b) ≡ true
+  and_true true b h k = k
+  and_true false b h k = absurd (cc)
+
+  few_is : (n : ℕ) → nat_lt n (2 ^ 64 - 2) ≡ true → n < 2 ^ 64 - 2
+  few_is n e = grind (arith, nat_tests)
+
+  is_few : (n : ℕ) → n < 2 ^ 64 - 2 → nat_lt n (2 ^ 64 - 2) ≡ true
+  is_few n less = grind (arith, nat_tests)
+
+  pub reached_open_tells : (turn : Turn T) → open_refusal t.world turn ≡ None → TellsIf (IsFaithfulRun t r (after_turn t turn)) t turn (after_turn t turn)
+  reached_open_tells turn e =
+      let w = t.world in
+      let faithful : Bool = is_faithful r.turns first in
+      let few : Bool = nat_lt w.turns (2 ^ 64 - 2) in
+      let on = terms (faithful && few) w.coding w.capacity in
+      let s = reached_sound (faithful && few) (λ keeps. (both_true faithful few keeps).0) (λ keeps. few_is w.turns (both_true faithful few keeps).1) in
+      tells_if shown on w.coding t s (record { room = tt; few = λ keeps. few_is w.turns (both_true faithful few keeps).1 }) turn (allowed_open w turn e) (IsFaithfulRun t r (after_turn t turn))
+      (λ run. proper_on on (after_turn t turn) (and_true faithful few run.faithful (is_few w.turns run.few)) run.honest run.proper)

@@ -1,6 +1,6 @@
 -- A find that ends has come to the indices of the whole container, or to those up to the one that it asked about where a no
 -- ends it; and in a proper run it has copied what stood at each that it has counted.
-use Rattle.std.proofs.Common.{◌≡◌, ◌≢◌, ℕ, ◌+◌, ◌-◌, ◌^◌, ◌==◌, ◌<◌, ◌≤◌, if◌then◌else◌, nat_lt, Bool, true, false, Option, Some, None, is_none, is_some, List, [], ◌∷◌, ◌++◌, refl, sym, ap, subst, ◌∙◌, arith}
+use Rattle.std.proofs.Common.{◌≡◌, ◌≢◌, ℕ, ◌+◌, ◌==◌, ◌<◌, ◌≤◌, if◌then◌else◌, nat_lt, Bool, true, false, Option, Some, None, is_none, is_some, List, [], ◌∷◌, ◌++◌, refl, sym, ap, subst, ◌∙◌, arith}
 use Rattle.std.proofs.lemmas.Bool.Decides.{nat_tests}
 use Rattle.std.proofs.lemmas.List.{append_cancel_left}
 use Rattle.steps.specs.declared.ask.After.{After}
@@ -35,7 +35,7 @@ use Rattle.model.specs.declared.turn.Turn.TheVariants.{Begin, Next, Decide, Die}
 use Rattle.model.specs.Coding.{Coding}
 use Rattle.model.specs.Families.{want_of, ask_of, is_question, beside_of, step_of}
 use Rattle.model.specs.Families.Container.Calls.{want, after}
-use Rattle.model.specs.Families.Container.Promises.{IsFoundWhole, CountsRight}
+use Rattle.model.specs.Families.Container.Promises.{IsFoundWhole}
 use Rattle.model.specs.Families.Container.Questions.{question_in, question_at}
 use Rattle.model.specs.Families.Container.Reading.{contents_of}
 use Rattle.model.specs.Families.Container.States.{state_of}
@@ -44,28 +44,30 @@ use Rattle.model.specs.Families.Indices.Robust.Promises.{IsFilledWith, IsCount}
 use Rattle.model.specs.Families.Queues.Calls.{as_it_is, read_in}
 use Rattle.model.specs.Parties.{party_of, put, doing_of, flight_of}
 use Rattle.model.specs.Promises.Turns.{IsParty}
-use Rattle.model.specs.Refusals.{refusal_of, is_due, call_refusal}
+use Rattle.model.specs.Refusals.{is_due, call_refusal}
 use Rattle.model.specs.Step.{as_call, answer_in}
 use Rattle.model.specs.Turns.{old_of, number_of, after_next, after_decision, after_answer, events_of_step, events_of_answer, events_of_next, events_of_decision, events_of, ask_of_doing, after_turn}
 use Rattle.model.specs.World.{Trace, flight_in}
 use Rattle.model.proofs.Frame as frame
-use Rattle.model.proofs.Rows.{row_passed, passes, must_be_due}
+use Rattle.model.proofs.Rows.{row_passed}
 use Rattle.model.proofs.Scenes.{StandsThere, stands_there}
 use Rattle.robust_laws.proofs.Core.{cell}
 use Rattle.robust_laws.proofs.Effects.{both_ways}
 use Rattle.robust_laws.proofs.Past.{through_now}
 use Rattle.robust_laws.proofs.Tells.{IsEnd, ends_alone}
 use Rattle.container_laws.proofs.Finds.{nothing_stands, none_counts, found_none, found_past}
-use Rattle.container_laws.proofs.Invariant.{Scene, Inv, before, family}
+use Rattle.container_laws.proofs.Invariant.{Scene, Inv, before, family_by}
 use Rattle.container_laws.proofs.Knows.{HasFoundBelow, Knows}
-use Rattle.container_laws.proofs.Proper.{IsProperSoFar, proper_so_far}
-use Rattle.container_laws.proofs.Sound.{Shown, kept_is, kept_now, scene_of, inv_of, is_there}
+use Rattle.container_laws.proofs.Proper.{IsProperSoFar}
+use Rattle.container_laws.proofs.Sound.{MayGoOn, Shown, kept_is, kept_now, scene_of, inv_with, is_there}
 use Rattle.container_laws.proofs.Stages.{IsHere, all, done, sees_now, any_call, was_proper}
 use Rattle.container_laws.proofs.Standing.{find_at, At, FindAt}
-use Rattle.container_laws.proofs.Terms.{dying}
+use Rattle.container_laws.proofs.Terms.{Terms}
 use Rattle.container_laws.proofs.Turns.{Proper, count_in}
 use Rattle.container_laws.proofs.Writing.{even_is}
 use Rattle.container_laws.proofs.Written.{all_effects}
+use Rattle.container_laws.specs.Tells.{CountsIf}
+use Rattle.container_laws.proofs.Allowed.{IsAllowed}
 
 -- ---- a find that ends
 
@@ -205,7 +207,7 @@ module _ {T : Type 0} where
 
 -- ---- a step of a party's call
 
-module _ {T : Type 0} (shown : Shown T) (code : Coding T) (c : ℕ) (t : Trace T) (s : frame.Sound (family code c) t) (q : ℕ) (x : Party T) (since : ℕ) (small : t.world.turns < 2 ^ 64 - 2) (found : party_of q t.world.latest ≡ Some x) (turn : Turn T)
+module _ {T : Type 0} (shown : Shown T) (terms : Terms) (code : Coding T) (c : ℕ) (t : Trace T) (s : frame.Sound (family_by terms code c) t) (q : ℕ) (x : Party T) (since : ℕ) (may : MayGoOn terms t) (found : party_of q t.world.latest ≡ Some x) (turn : Turn T)
     (mine : IsParty turn q) (answer p owner number : ℕ) where
   -- it wrote that a find is done, and nothing else
   abbrev Wrote : Coding T → Kept T → Start T → Flight T → Type 0
@@ -215,7 +217,7 @@ module _ {T : Type 0} (shown : Shown T) (code : Coding T) (c : ℕ) (t : Trace T
   abbrev end_of : ContainerFlight T → Option (Answer T)
   end_of flight = answer_in (any_call (after code (state_of q s.state.states) flight answer))
 
-  wrote_end : (start : ContainerStart T) (flight : ContainerFlight T) → Wrote code (kept_now shown dying code c t s) (Container start) (flights.TheVariants.Container flight) → IsEnd q p (Container start) (Container (Find owner)) (end_of flight) (Number number)
+  wrote_end : (start : ContainerStart T) (flight : ContainerFlight T) → Wrote code (kept_now shown terms code c t s) (Container start) (flights.TheVariants.Container flight) → IsEnd q p (Container start) (Container (Find owner)) (end_of flight) (Number number)
   wrote_end start flight e =
       ends_alone turn q p (effects code q (state_of q s.state.states) flight answer ++ questions q flight answer) (Container start) (Container (Find owner)) (end_of flight) (Number number) (all_effects turn q mine code (state_of q s.state.states) flight answer) e
 
@@ -223,9 +225,9 @@ module _ {T : Type 0} (shown : Shown T) (code : Coding T) (c : ℕ) (t : Trace T
   pub record Ends (bound : ℕ) : Type 0 where
     pub party : q ≡ p
     pub count : IsCount p (IsFilledWith owner) bound number t.events
-    pub whole : (y : Party T) → IsProperSoFar dying (put q y t.world.latest) (t.events ++ Finished p (Container (Find owner)) (Number number) ∷ []) → IsFoundWhole p owner bound number t.events
+    pub whole : (y : Party T) → IsProperSoFar terms (put q y t.world.latest) (t.events ++ Finished p (Container (Find owner)) (Number number) ∷ []) → IsFoundWhole p owner bound number t.events
 
-  ends_with : (bound : ℕ) (flight : ContainerFlight T) → q ≡ p → IsHere (scene_of shown dying code c t s q x since) (Find owner) flight → (fits : owner < empty) → Has (scene_of shown dying code c t s q x since) (inv_of shown dying code c t s q x since found small) owner fits bound number → Ends bound
+  ends_with : (bound : ℕ) (flight : ContainerFlight T) → q ≡ p → IsHere (scene_of shown terms code c t s q x since) (Find owner) flight → (fits : owner < empty) → Has (scene_of shown terms code c t s q x since) (inv_with shown terms code c t s q x since found may) owner fits bound number → Ends bound
   ends_with bound flight is here fits h =
       record {
         party = is;
@@ -233,44 +235,44 @@ module _ {T : Type 0} (shown : Shown T) (code : Coding T) (c : ℕ) (t : Trace T
         whole = λ y proper.
             subst (λ n. IsFoundWhole n owner bound number t.events) is
             (h.whole
-            (was_proper (scene_of shown dying code c t s q x since) (Find owner) tt here.span s.state.words y (Finished p (Container (Find owner)) (Number number) ∷ []) (ap Some (sym is), tt) proper));
+            (was_proper (scene_of shown terms code c t s q x since) (Find owner) tt here.span s.state.words y (Finished p (Container (Find owner)) (Number number) ∷ []) (ap Some (sym is), tt) proper));
       }
 
-  counted : (due : Bool) → (due ≡ true → answer ≢ 0) → (start : Start T) (flight : Flight T) → StandsThere (family code c) t s q x since start flight → is_question (want_of code flight) ≡ due → (due ≡ false → answer ≡ old_of s.state.words (ask_of (want_of code flight)))
-      → Wrote code (kept_now shown dying code c t s) start flight → Ends c
+  counted : (due : Bool) → (due ≡ true → answer ≢ 0) → (start : Start T) (flight : Flight T) → StandsThere (family_by terms code c) t s q x since start flight → is_question (want_of code flight) ≡ due → (due ≡ false → answer ≡ old_of s.state.words (ask_of (want_of code flight)))
+      → Wrote code (kept_now shown terms code c t s) start flight → Ends c
   counted due told (Container start) (flights.TheVariants.Container flight) h asks loads e =
       let end = wrote_end start flight e in
       let name = find_name start owner end.name in
-      let stands = subst (λ a. StandsThere (family code c) t s q x since (Container a) (flights.TheVariants.Container flight)) name h in
-      let there = is_there shown dying code c t s q x since found (Find owner) flight stands in
-      let scene = scene_of shown dying code c t s q x since in
-      let fits = owner_fits scene (inv_of shown dying code c t s q x since found small) owner flight there.at in
-      ends_with c flight end.party there.here fits (find_tells scene (inv_of shown dying code c t s q x since found small) owner number due flight there.at fits there.here there.knows asks answer loads told end.done)
+      let stands = subst (λ a. StandsThere (family_by terms code c) t s q x since (Container a) (flights.TheVariants.Container flight)) name h in
+      let there = is_there shown terms code c t s q x since found (Find owner) flight stands in
+      let scene = scene_of shown terms code c t s q x since in
+      let fits = owner_fits scene (inv_with shown terms code c t s q x since found may) owner flight there.at in
+      ends_with c flight end.party there.here fits (find_tells scene (inv_with shown terms code c t s q x since found may) owner number due flight there.at fits there.here there.knows asks answer loads told end.done)
   counted due told start flight h asks loads e = absurd h.at
 
-  stopped : (index : ℕ) (value : T) → answer ≡ 0 → (start : Start T) (flight : Flight T) → StandsThere (family code c) t s q x since start flight → question_in code (Some flight) ≡ Some (index, value) → Wrote code (kept_now shown dying code c t s) start flight → Ends (index + 1)
+  stopped : (index : ℕ) (value : T) → answer ≡ 0 → (start : Start T) (flight : Flight T) → StandsThere (family_by terms code c) t s q x since start flight → question_in code (Some flight) ≡ Some (index, value) → Wrote code (kept_now shown terms code c t s) start flight → Ends (index + 1)
   stopped index value zero (Container start) (flights.TheVariants.Container flight) h asks e =
       let end = wrote_end start flight e in
       let name = find_name start owner end.name in
-      let stands = subst (λ a. StandsThere (family code c) t s q x since (Container a) (flights.TheVariants.Container flight)) name h in
-      let there = is_there shown dying code c t s q x since found (Find owner) flight stands in
-      let scene = scene_of shown dying code c t s q x since in
-      let fits = owner_fits scene (inv_of shown dying code c t s q x since found small) owner flight there.at in
+      let stands = subst (λ a. StandsThere (family_by terms code c) t s q x since (Container a) (flights.TheVariants.Container flight)) name h in
+      let there = is_there shown terms code c t s q x since found (Find owner) flight stands in
+      let scene = scene_of shown terms code c t s q x since in
+      let fits = owner_fits scene (inv_with shown terms code c t s q x since found may) owner flight there.at in
       ends_with (index + 1) flight end.party there.here fits
-      (find_stops scene (inv_of shown dying code c t s q x since found small) owner number index value flight there.at fits there.knows asks (subst (λ n. answer_in (any_call (after code (state_of q s.state.states) flight n)) ≡ Some (Number number)) zero end.done))
+      (find_stops scene (inv_with shown terms code c t s q x since found may) owner number index value flight there.at fits there.knows asks (subst (λ n. answer_in (any_call (after code (state_of q s.state.states) flight n)) ≡ Some (Number number)) zero end.done))
   stopped index value zero start flight h asks e = absurd h.at
 
-  own_end : (start : Start T) (flight : Flight T) → StandsThere (family code c) t s q x since start flight → Wrote code (kept_now shown dying code c t s) start flight → q ≡ p
+  own_end : (start : Start T) (flight : Flight T) → StandsThere (family_by terms code c) t s q x since start flight → Wrote code (kept_now shown terms code c t s) start flight → q ≡ p
   own_end (Container start) (flights.TheVariants.Container flight) h e = (wrote_end start flight e).party
   own_end start flight h e = absurd h.at
 
   -- by the words, and what is kept beside them
   module _ (flight : Flight T) (doing : x.doing ≡ Going flight since) (e : Wrote t.world.coding t.world.kept x.start flight) where
-    there_is : StandsThere (family code c) t s q x since x.start flight
-    there_is = stands_there (family code c) t s q x since flight found doing
+    there_is : StandsThere (family_by terms code c) t s q x since x.start flight
+    there_is = stands_there (family_by terms code c) t s q x since flight found doing
 
-    by_now : Wrote code (kept_now shown dying code c t s) x.start flight
-    by_now = subst (λ y. Wrote y (kept_now shown dying code c t s) x.start flight) s.coding (subst (λ kept. Wrote t.world.coding kept x.start flight) (kept_is t.world.kept t.world.words s.state s.fit).0 e)
+    by_now : Wrote code (kept_now shown terms code c t s) x.start flight
+    by_now = subst (λ y. Wrote y (kept_now shown terms code c t s) x.start flight) s.coding (subst (λ kept. Wrote t.world.coding kept x.start flight) (kept_is t.world.kept t.world.words s.state s.fit).0 e)
 
     pub own_party : q ≡ p
     own_party = own_end x.start flight there_is by_now
@@ -285,31 +287,31 @@ module _ {T : Type 0} (shown : Shown T) (code : Coding T) (c : ℕ) (t : Trace T
 
 -- ---- any turn
 
-module _ {T : Type 0} (shown : Shown T) (code : Coding T) (c : ℕ) (t : Trace T) (s : frame.Sound (family code c) t) (p owner number : ℕ) where
+module _ {T : Type 0} (shown : Shown T) (terms : Terms) (code : Coding T) (c : ℕ) (t : Trace T) (s : frame.Sound (family_by terms code c) t) (p owner number : ℕ) where
   abbrev Ended : List (Event T) → Type 0
   Ended es = es ≡ Finished p (Container (Find owner)) (Number number) ∷ []
 
   -- what the turn tells that leaves this machine
   abbrev Told : ℕ → List (ℕ × Party T) → Type 0
   Told bound latest =
-      IsCount p (IsFilledWith owner) bound number t.events × (IsProperSoFar dying latest (t.events ++ Finished p (Container (Find owner)) (Number number) ∷ []) → IsFoundWhole p owner bound number t.events)
+      IsCount p (IsFilledWith owner) bound number t.events × (IsProperSoFar terms latest (t.events ++ Finished p (Container (Find owner)) (Number number) ∷ []) → IsFoundWhole p owner bound number t.events)
 
-  next_tells : (q : ℕ) → t.world.turns < 2 ^ 64 - 2 → is_due t.world.coding (flight_in t.world q) ≡ false → (o : Option (Party T)) → party_of q t.world.latest ≡ o → Ended (events_of_next t.world q o) → Told c (after_next t.world q o).latest
-  next_tells q small free None found e = absurd (cc)
-  next_tells q small free (Some x) found e = go x.doing refl e
+  next_tells : (q : ℕ) → MayGoOn terms t → is_due t.world.coding (flight_in t.world q) ≡ false → (o : Option (Party T)) → party_of q t.world.latest ≡ o → Ended (events_of_next t.world q o) → Told c (after_next t.world q o).latest
+  next_tells q may free None found e = absurd (cc)
+  next_tells q may free (Some x) found e = go x.doing refl e
     where
       go : (doing : Doing T) → x.doing ≡ doing → Ended (events_of_answer t.world q x (old_of t.world.words (ask_of_doing t.world.coding doing)) doing)
           → Told c (after_answer t.world q x (ask_of_doing t.world.coding doing) (old_of t.world.words (ask_of_doing t.world.coding doing)) doing).latest
       go (Over others) d e = absurd (cc)
       go (Going flight since) d e =
           let here : flight_in t.world q ≡ Some flight = ap (λ o. flight_of (doing_of o)) found ∙ ap (λ d. flight_of (Some d)) d in
-          let h = all_counted shown code c t s q x since small found (Next q) refl (old_of t.world.words (ask_of (want_of t.world.coding flight))) p owner number flight d e false (λ told. absurd (cc)) (rw here at free) (λ no. refl) in
+          let h = all_counted shown terms code c t s q x since may found (Next q) refl (old_of t.world.words (ask_of (want_of t.world.coding flight))) p owner number flight d e false (λ told. absurd (cc)) (rw here at free) (λ no. refl) in
           (h.count, h.whole _)
 
-  decision_tells : (q : ℕ) (said : Bool) → t.world.turns < 2 ^ 64 - 2 → is_due t.world.coding (flight_in t.world q) ≡ true → ◌≢◌ {A = Turn T} (Decide q said) (Decide p false) → (o : Option (Party T)) → party_of q t.world.latest ≡ o → Ended (events_of_decision t.world q said o)
+  decision_tells : (q : ℕ) (said : Bool) → MayGoOn terms t → is_due t.world.coding (flight_in t.world q) ≡ true → ◌≢◌ {A = Turn T} (Decide q said) (Decide p false) → (o : Option (Party T)) → party_of q t.world.latest ≡ o → Ended (events_of_decision t.world q said o)
       → Told c (after_decision t.world q said o).latest
-  decision_tells q said small due ne None found e = absurd (cc)
-  decision_tells q said small due ne (Some x) found e = go x.doing refl e
+  decision_tells q said may due ne None found e = absurd (cc)
+  decision_tells q said may due ne (Some x) found e = go x.doing refl e
     where
       go : (doing : Doing T) → x.doing ≡ doing → Ended (events_of_answer t.world q x (number_of said) doing) → Told c (after_answer t.world q x None (number_of said) doing).latest
       go (Over others) d e = absurd (cc)
@@ -318,20 +320,20 @@ module _ {T : Type 0} (shown : Shown T) (code : Coding T) (c : ℕ) (t : Trace T
           by : (b : Bool) → said ≡ b → Told c (after_answer t.world q x None (number_of said) (Going flight since)).latest
           by true is =
               let here : flight_in t.world q ≡ Some flight = ap (λ o. flight_of (doing_of o)) found ∙ ap (λ d. flight_of (Some d)) d in
-              let h = all_counted shown code c t s q x since small found (Decide q said) refl (number_of said) p owner number flight d e true (λ told zero. let one : number_of said ≡ 1 = ap number_of is in absurd (omega arith)) (rw here at due) (λ no. absurd (cc)) in
+              let h = all_counted shown terms code c t s q x since may found (Decide q said) refl (number_of said) p owner number flight d e true (λ told zero. let one : number_of said ≡ 1 = ap number_of is in absurd (omega arith)) (rw here at due) (λ no. absurd (cc)) in
               (h.count, h.whole _)
           by false is =
-              let party = own_party shown code c t s q x since small found (Decide q said) refl (number_of said) p owner number flight d e in
+              let party = own_party shown terms code c t s q x since may found (Decide q said) refl (number_of said) p owner number flight d e in
               absurd (ne (ap (λ n. Decide n said) party ∙ ap (λ b. Decide p b) is))
 
-  stop_tells : (index : ℕ) (value : T) → t.world.turns < 2 ^ 64 - 2 → (o : Option (Party T)) → party_of p t.world.latest ≡ o → question_in t.world.coding (flight_of (doing_of o)) ≡ Some (index, value) → Ended (events_of_decision t.world p false o) → Told (index + 1) (after_decision t.world p false o).latest
-  stop_tells index value small None found asks e = absurd (cc)
-  stop_tells index value small (Some x) found asks e = go x.doing refl asks e
+  stop_tells : (index : ℕ) (value : T) → MayGoOn terms t → (o : Option (Party T)) → party_of p t.world.latest ≡ o → question_in t.world.coding (flight_of (doing_of o)) ≡ Some (index, value) → Ended (events_of_decision t.world p false o) → Told (index + 1) (after_decision t.world p false o).latest
+  stop_tells index value may None found asks e = absurd (cc)
+  stop_tells index value may (Some x) found asks e = go x.doing refl asks e
     where
       go : (doing : Doing T) → x.doing ≡ doing → question_in t.world.coding (flight_of (Some doing)) ≡ Some (index, value) → Ended (events_of_answer t.world p x (number_of false) doing) → Told (index + 1) (after_answer t.world p x None (number_of false) doing).latest
       go (Over others) d asks e = absurd (cc)
       go (Going flight since) d asks e =
-          let h = all_stopped shown code c t s p x since small found (Decide p false) refl (number_of false) p owner number flight d e index value refl asks in
+          let h = all_stopped shown terms code c t s p x since may found (Decide p false) refl (number_of false) p owner number flight d e index value refl asks in
           (h.count, h.whole _)
 
   -- no decision is due in a step
@@ -341,26 +343,27 @@ module _ {T : Type 0} (shown : Shown T) (code : Coding T) (c : ℕ) (t : Trace T
       let second = row_passed (is_due t.world.coding (flight_in t.world q)) Undecided _ first.1 in
       second.0
 
-  tells : (turn : Turn T) → refusal_of t.world turn ≡ None → Ended (events_of t.world turn) → turn ≢ Decide p false → Told c (after_turn t turn).world.latest
-  tells (Begin q start) r e ne = absurd (cc)
-  tells (Next q) r e ne = next_tells q (passes t.world (Next q) r).turns (not_due q (passes t.world (Next q) r).on) (party_of q t.world.latest) refl e
-  tells (Decide q said) r e ne =
-      decision_tells q said (passes t.world (Decide q said) r).turns (frame.is_true (is_due t.world.coding (flight_in t.world q)) (must_be_due t.world q said (passes t.world (Decide q said) r).on)) ne (party_of q t.world.latest) refl e
-  tells (Die o) r e ne = absurd (cc)
+  tells : MayGoOn terms t → (turn : Turn T) → IsAllowed t.world turn → Ended (events_of t.world turn) → turn ≢ Decide p false → Told c (after_turn t turn).world.latest
+  tells may (Begin q start) r e ne = absurd (cc)
+  tells may (Next q) r e ne = next_tells q may (not_due q r) (party_of q t.world.latest) refl e
+  tells may (Decide q said) r e ne =
+      decision_tells q said may r ne (party_of q t.world.latest) refl e
+  tells may (Die o) r e ne = absurd (cc)
 
-module _ {T : Type 0} (shown : Shown T) (code : Coding T) (t : Trace T) (s : frame.Sound (family code t.world.capacity) t) (turn : Turn T) (r : refusal_of t.world turn ≡ None) where
+module _ {T : Type 0} (shown : Shown T) (terms : Terms) (code : Coding T) (t : Trace T) (s : frame.Sound (family_by terms code t.world.capacity) t) (may : MayGoOn terms t) (turn : Turn T) (r : IsAllowed t.world turn)
+    (proper : Type 0) (so_far : proper → IsProperSoFar terms (after_turn t turn).world.latest (after_turn t turn).events) where
   -- as the promise says it of the machine after the turn
-  right : (p owner number bound : ℕ) → (after_turn t turn).events ≡ t.events ++ Finished p (Container (Find owner)) (Number number) ∷ [] → Told shown code t.world.capacity t s p owner number bound (after_turn t turn).world.latest → CountsRight p owner bound number t.events (after_turn t turn)
+  right : (p owner number bound : ℕ) → (after_turn t turn).events ≡ t.events ++ Finished p (Container (Find owner)) (Number number) ∷ [] → Told shown terms code t.world.capacity t s p owner number bound (after_turn t turn).world.latest → CountsIf proper p owner bound number t.events
   right p owner number bound is told =
-      (told.0, λ proper. told.1 (subst (IsProperSoFar dying (after_turn t turn).world.latest) is (proper_so_far (after_turn t turn) proper)))
+      (told.0, λ h. told.1 (subst (IsProperSoFar terms (after_turn t turn).world.latest) is (so_far h)))
 
-  pub counts_all : (p owner number : ℕ) → (after_turn t turn).events ≡ t.events ++ Finished p (Container (Find owner)) (Number number) ∷ [] → turn ≢ Decide p false → CountsRight p owner t.world.capacity number t.events (after_turn t turn)
+  pub counts_all : (p owner number : ℕ) → (after_turn t turn).events ≡ t.events ++ Finished p (Container (Find owner)) (Number number) ∷ [] → turn ≢ Decide p false → CountsIf proper p owner t.world.capacity number t.events
   counts_all p owner number is ne =
-      right p owner number t.world.capacity is (tells shown code t.world.capacity t s p owner number turn r (append_cancel_left t.events (events_of t.world turn) _ is) ne)
+      right p owner number t.world.capacity is (tells shown terms code t.world.capacity t s p owner number may turn r (append_cancel_left t.events (events_of t.world turn) _ is) ne)
 
-  pub counts_up_to : (p owner number index : ℕ) (value : T) → (after_turn t turn).events ≡ t.events ++ Finished p (Container (Find owner)) (Number number) ∷ [] → turn ≡ Decide p false → question_at t p ≡ Some (index, value) → CountsRight p owner (index + 1) number t.events (after_turn t turn)
+  pub counts_up_to : (p owner number index : ℕ) (value : T) → (after_turn t turn).events ≡ t.events ++ Finished p (Container (Find owner)) (Number number) ∷ [] → turn ≡ Decide p false → question_at t p ≡ Some (index, value) → CountsIf proper p owner (index + 1) number t.events
   counts_up_to p owner number index value is stops asks =
       right p owner number (index + 1) is
-      (subst (λ u. Told shown code t.world.capacity t s p owner number (index + 1) (after_turn t u).world.latest) (sym stops)
-      (stop_tells shown code t.world.capacity t s p owner number index value (passes t.world turn r).turns (party_of p t.world.latest) refl asks
+      (subst (λ u. Told shown terms code t.world.capacity t s p owner number (index + 1) (after_turn t u).world.latest) (sym stops)
+      (stop_tells shown terms code t.world.capacity t s p owner number index value may (party_of p t.world.latest) refl asks
       (subst (λ u. events_of t.world u ≡ Finished p (Container (Find owner)) (Number number) ∷ []) stops (append_cancel_left t.events (events_of t.world turn) _ is))))

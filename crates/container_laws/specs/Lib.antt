@@ -1,2 +1,3 @@
 pub mod Gone
 pub mod Open
+pub mod Tells

@@ -14,6 +14,7 @@ use Rattle.model.specs.Families.Container.Keeping.{is_look_of}
 use Rattle.model.specs.Families.Container.Reading.{Act}
 use Rattle.model.specs.Families.Container.Steps.{effects, questions}
 use Rattle.model.specs.Families.Indices.Robust.Reading.{Deed}
+use Rattle.container_laws.proofs.Allowed.{allowed_by}
 use Rattle.container_laws.proofs.KeptStates.{keeps_states}
 use Rattle.container_laws.proofs.Stages.{any_call}
 use Rattle.model.specs.declared.event.Start.{Start}
@@ -50,7 +51,7 @@ use Rattle.robust_laws.proofs.Effects.{both_ways}
 use Rattle.container_laws.proofs.Everything.{shown, container_keeps}
 use Rattle.container_laws.proofs.Invariant.{family}
 use Rattle.container_laws.proofs.Looks.{looks_as, written_same}
-use Rattle.container_laws.proofs.Sound.{kept_is, reached_sound, is_there}
+use Rattle.container_laws.proofs.Sound.{kept_is, may_go_on, reached_sound, is_there}
 use Rattle.container_laws.proofs.Standing.{At}
 use Rattle.container_laws.proofs.Written.{all_effects}
 use Rattle.container_laws.proofs.Terms.{dying}
@@ -88,7 +89,9 @@ module _ {T : Type 0} (t : Trace T) (is : t.world.kind ≡ kinds.TheVariants.Con
 
   module _ (turn : Turn T) (free : refusal_of t.world turn ≡ None) where
     moves : (q : ℕ) → is_look_of t.world q turn ≡ false → state_in (world_after t.world turn).kept q ≡ state_in t.world.kept q
-    moves = (keeps_states shown t.world.coding t turn free s).moves
+    moves =
+        let passed = passes t.world turn free in
+        (keeps_states shown dying t.world.coding t turn (allowed_by t.world turn passed.on) s (may_go_on dying t.world.coding t.world.capacity t s passed.turns)).moves
 
     abbrev pub SeesThen : List (Event T) → ℕ → Type 0
     SeesThen es q = FlightSees (flight_in (world_after t.world turn) q) (seen_by q (t.events ++ es)) (state_in (world_after t.world turn).kept q)
