@@ -34,6 +34,7 @@ pub mod KeptStates
 pub mod KeptVisits
 pub mod Knows
 pub mod Left
+pub mod Living
 pub mod LookWalk
 pub mod Looks
 pub mod LooksEnd

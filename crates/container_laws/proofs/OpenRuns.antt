@@ -1,7 +1,8 @@
 -- What holds of the machine of a container keeps to every turn of an open run, so it holds wherever such a run leads.
-use Rattle.std.proofs.Common.{◌≡◌, ℕ, ◌+◌, ◌-◌, ◌^◌, ◌<◌, ◌≤◌, ◌&&◌, nat_lt, Bool, true, false, not, Option, Some, None, is_some, is_none, List, [], ◌∷◌, ◌++◌, refl, sym, ap, subst, ◌∙◌, append-nil, arith}
+use Rattle.std.proofs.Common.{◌≡◌, ℕ, ◌+◌, ◌-◌, ◌^◌, ◌<◌, ◌≤◌, ◌&&◌, nat_lt, Bool, true, false, not, Option, Some, None, is_some, is_none, List, [], ◌∷◌, ◌++◌, length, refl, sym, ap, subst, ◌∙◌, append-nil, arith}
 use Rattle.std.proofs.lemmas.Bool.Decides.{nat_tests}
 use Rattle.steps.specs.declared.ask.Ask.{Ask}
+use Rattle.steps.specs.Container.Layout.{total_words}
 use Rattle.steps.specs.Indices.Robust.Parts.{greatest}
 use Rattle.model.specs.declared.event.Event.TheVariants.{Begun}
 use Rattle.model.specs.declared.event.Start.{Start}
@@ -29,8 +30,10 @@ use Rattle.model.proofs.Frame as frame
 use Rattle.model.proofs.Rows.{row_passed, may_begin, next_passes}
 use Rattle.robust_laws.specs.Gone.{Word}
 use Rattle.robust_laws.specs.Open.{open_refusal, attempt_open, run_open, IsReachedOpen}
+use Rattle.robust_laws.proofs.Alive.{AllLive, all_live_on}
 use Rattle.robust_laws.proofs.Core.{counter_of}
 use Rattle.robust_laws.proofs.Opening.{admitted_is}
+use Rattle.robust_laws.proofs.OpenTurns.{reached_keeps}
 use Rattle.container_laws.specs.Gone.{AnswersBy}
 use Rattle.container_laws.specs.Open.{is_for_gone, steps_for_gone, is_faithful, IsFaithfulRun, IsOpenContainer}
 use Rattle.container_laws.specs.Tells.{TellsIf}
@@ -38,6 +41,7 @@ use Rattle.container_laws.proofs.Allowed.{allowed_open}
 use Rattle.container_laws.proofs.Everything.{shown}
 use Rattle.container_laws.proofs.Invariant.{family_by}
 use Rattle.container_laws.proofs.Kept.{cells, lock, dead, questions, states, contained}
+use Rattle.container_laws.proofs.Living.{steps_leave}
 use Rattle.container_laws.proofs.Proper.{proper_on}
 use Rattle.container_laws.proofs.Sound.{MayGoOn, IsRightly, MayRecoverIn, kept_is, recovers_by, step_comes, decision_comes, begin_comes, opening_sound}
 use Rattle.container_laws.proofs.Terms.{Terms}
@@ -213,19 +217,48 @@ module _ {T : Type 0} (t : Trace T) (is : t.world.kind ≡ kinds.TheVariants.Con
   abbrev first : Trace T
   first = opening t.world.coding t.world.kind t.world.capacity t.world.parties
 
-  reached_sound : (kept : Bool) → (kept ≡ true → is_faithful r.turns first ≡ true) → (kept ≡ true → t.world.turns < 2 ^ 64 - 2) → Holds kept t.world.coding t.world.capacity t
-  reached_sound kept faithful few =
+  open_at_first : (kept : Bool) → Holds kept t.world.coding t.world.capacity first
+  open_at_first kept =
       let w = t.world in
       let may = admitted_is w.capacity (subst (λ kind. capacity_error kind w.capacity ≡ None) is r.admitted) in
-      let opens : Holds kept w.coding w.capacity first =
-      subst (λ kind. Holds kept w.coding w.capacity (opening w.coding kind w.capacity w.parties)) (sym is) (opening_sound shown (terms kept w.coding w.capacity) w.coding w.capacity w.parties r.coded may.0 may.1) in
-      subst (Holds kept w.coding w.capacity) (sym r.is) (run_sound kept w.coding w.capacity r.turns first opens faithful (λ keeps. subst (λ (u : Trace T). u.world.turns < 2 ^ 64 - 2) r.is (few keeps)))
+      subst (λ kind. Holds kept w.coding w.capacity (opening w.coding kind w.capacity w.parties)) (sym is)
+      (opening_sound shown (terms kept w.coding w.capacity) w.coding w.capacity w.parties r.coded may.0 may.1)
+
+  reached_sound : (kept : Bool) → (kept ≡ true → is_faithful r.turns first ≡ true) → (kept ≡ true → t.world.turns < 2 ^ 64 - 2)
+      → Holds kept t.world.coding t.world.capacity t
+  reached_sound kept faithful few =
+      let w = t.world in
+      subst (Holds kept w.coding w.capacity) (sym r.is)
+      (run_sound kept w.coding w.capacity r.turns first (open_at_first kept) faithful
+      (λ keeps. subst (λ (u : Trace T). u.world.turns < 2 ^ 64 - 2) r.is (few keeps)))
+
+  -- of any run
+  abbrev pub any : Terms
+  any = terms false t.world.coding t.world.capacity
+
+  pub reached_open_sound : frame.Sound (family_by any t.world.coding t.world.capacity) t
+  reached_open_sound = reached_sound false (λ keeps. absurd (cc)) (λ keeps. absurd (cc))
+
+  -- nobody dies in it
+  pub reached_open_lives : AllLive t.events
+  reached_open_lives =
+      let code = t.world.coding in
+      let c = t.world.capacity in
+      (reached_keeps (λ u. Holds false code c u × AllLive u.events)
+      (λ u turn e h.
+      (open_turn_sound false code c u h.0 (λ keeps. absurd (cc)) turn e (λ keeps. absurd (cc)), all_live_on u (steps_leave any code c u h.0) turn e h.1))
+      t r (open_at_first false, λ owner. refl)).1
+
+  -- no turn changes how many words it has
+  pub reached_open_wide : length t.world.words ≡ total_words t.world.capacity t.world.coding.size
+  reached_open_wide =
+      let s = reached_open_sound in
+      ap length (kept_is t.world.kept t.world.words s.state s.fit).1 ∙ s.holds.elements.wide
 
   pub reached_open_kept : IsOpenContainer t r
   reached_open_kept =
       let w = t.world in
-      let any = terms false w.coding w.capacity in
-      let s = reached_sound false (λ keeps. absurd (cc)) (λ keeps. absurd (cc)) in
+      let s = reached_open_sound in
       record {
         does = s.holds.good.does;
         asks = s.holds.elements.asks;
@@ -233,6 +266,7 @@ module _ {T : Type 0} (t : Trace T) (is : t.world.kind ≡ kinds.TheVariants.Con
         answers = subst (λ ws. Each (AnswersBy Word (counter_of ws ≡ greatest) w.capacity) t.events) (sym (kept_is w.kept w.words s.state s.fit).1) s.holds.elements.answers;
         cells = cells any w.coding t s;
         lock = lock any w.coding t s;
+        lives = reached_open_lives;
         dead = dead any w.coding t s;
         questions = questions any w.coding t s;
         states = states any w.coding t s;
@@ -260,6 +294,7 @@ module _ {T : Type 0} (t : Trace T) (is : t.world.kind ≡ kinds.TheVariants.Con
       let faithful : Bool = is_faithful r.turns first in
       let few : Bool = nat_lt w.turns (2 ^ 64 - 2) in
       let on = terms (faithful && few) w.coding w.capacity in
-      let s = reached_sound (faithful && few) (λ keeps. (both_true faithful few keeps).0) (λ keeps. few_is w.turns (both_true faithful few keeps).1) in
-      tells_if shown on w.coding t s (record { room = tt; few = λ keeps. few_is w.turns (both_true faithful few keeps).1 }) turn (allowed_open w turn e) (IsFaithfulRun t r (after_turn t turn))
+      let are_few : (faithful && few) ≡ true → w.turns < 2 ^ 64 - 2 = λ keeps. few_is w.turns (both_true faithful few keeps).1 in
+      let s = reached_sound (faithful && few) (λ keeps. (both_true faithful few keeps).0) are_few in
+      tells_if shown on w.coding t s (record { room = tt; few = are_few }) turn (allowed_open w turn e) (IsFaithfulRun t r (after_turn t turn))
       (λ run. proper_on on (after_turn t turn) (and_true faithful few run.faithful (is_few w.turns run.few)) run.honest run.proper)

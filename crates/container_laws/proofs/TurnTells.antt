@@ -16,7 +16,8 @@ use Rattle.container_laws.proofs.Proper.{IsProperSoFar}
 use Rattle.container_laws.proofs.Sound.{Shown, MayGoOn}
 use Rattle.container_laws.proofs.Terms.{Terms}
 
-module _ {T : Type 0} (shown : Shown T) (terms : Terms) (code : Coding T) (t : Trace T) (s : frame.Sound (family_by terms code t.world.capacity) t) (may : MayGoOn terms t) (turn : Turn T) (r : IsAllowed t.world turn)
+module _ {T : Type 0} (shown : Shown T) (terms : Terms) (code : Coding T) (t : Trace T)
+    (s : frame.Sound (family_by terms code t.world.capacity) t) (may : MayGoOn terms t) (turn : Turn T) (r : IsAllowed t.world turn)
     (proper : Type 0) (so_far : proper → IsProperSoFar terms (after_turn t turn).world.latest (after_turn t turn).events) where
   pub tells_if : TellsIf proper t turn (after_turn t turn)
   tells_if =

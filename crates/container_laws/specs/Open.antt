@@ -11,7 +11,7 @@ use Rattle.model.specs.Families.Container.Promises.{IsProperRun, IsContained, Ke
 use Rattle.model.specs.Families.Container.Questions.{AsksCopies}
 use Rattle.model.specs.Families.Indices.Reading.{is_locked}
 use Rattle.model.specs.Families.Indices.Robust.Promises.{cell_of, SetDoes, IsProper, HoldsRight}
-use Rattle.model.specs.Families.Indices.Robust.Reading.{filled_of}
+use Rattle.model.specs.Families.Indices.Robust.Reading.{filled_of, is_dead}
 use Rattle.model.specs.Reading.{Each}
 use Rattle.model.specs.World.{Trace, opening, flight_in}
 use Rattle.robust_laws.specs.Gone.{Word, IsHonest}
@@ -44,8 +44,9 @@ module _ {T : Type 0} where
 
   -- ---- what holds of the machine
 
-  -- What its cells hold and whether it is locked, by its events; what each event says; what is asked and what a state at rest
-  -- shows was copied. Who holds an index, in a run that is proper and honest; and what its elements hold, in a faithful one.
+  -- What its cells hold and whether it is locked, by its events; what each event says; that nobody has died; what is asked
+  -- and what a state at rest shows was copied. Who holds an index, in a run that is proper and honest; and what its elements
+  -- hold, in a faithful one.
   pub record IsOpenContainer (t : Trace T) (r : IsReachedOpen t) : Type 0 where
     pub does : Each (SetDoes t.world.capacity) t.events
     pub asks : Each (AsksBy Word) t.events
@@ -54,6 +55,7 @@ module _ {T : Type 0} where
     pub cells : (index : ℕ) → index < t.world.capacity
         → slice_index t.world.words (cell_word index) ≡ cell_of (filled_of index t.events)
     pub lock : (slice_index t.world.words 0 == locked) ≡ is_locked t.events
+    pub lives : (owner : ℕ) → is_dead owner t.events ≡ false
     pub dead : KeepsDead t.world.kept t.events
     pub questions : AsksCopies t
     pub states : ShowsCopies t.world t.events

@@ -1,4 +1,5 @@
 pub mod Acquires
+pub mod Alive
 pub mod Alone
 pub mod Begins
 pub mod Core
@@ -22,6 +23,7 @@ pub mod Locks
 pub mod Looks
 pub mod Opening
 pub mod OpenRuns
+pub mod OpenTurns
 pub mod Parts
 pub mod Past
 pub mod RecoverSteps

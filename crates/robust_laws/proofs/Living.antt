@@ -1,8 +1,6 @@
 -- No owner dies in an open run, so none of its calls is refused for a dead owner.
-use Rattle.std.proofs.Common.{◌≡◌, ℕ, Bool, false, Option, Some, None, List, [], ◌∷◌, fold, refl, sym, ap, subst, ◌∙◌}
+use Rattle.std.proofs.Common.{◌≡◌, ℕ, false, Some, None, List, refl, sym, subst, ◌∙◌}
 use Rattle.std.specs.List.{AllByRecursion}
-use Rattle.std.proofs.lemmas.List.Sums.{fold-append}
-use Rattle.model.specs.declared.event.Answer.{Answer}
 use Rattle.model.specs.declared.event.Event.{Event}
 use Rattle.model.specs.declared.event.Start.{Start}
 use Rattle.model.specs.declared.event.Start.TheVariants.{Robust}
@@ -12,49 +10,25 @@ use Rattle.model.specs.declared.families.Kept.{Kept}
 use Rattle.model.specs.declared.families.Kept as kepts
 use Rattle.model.specs.declared.families.indices.robust.calls.RobustFlight.{RobustFlight}
 use Rattle.model.specs.declared.families.indices.robust.calls.RobustFlight.TheVariants.{Acquire, Release, Recover}
-use Rattle.model.specs.declared.party.Doing.{Doing}
-use Rattle.model.specs.declared.party.Doing.TheVariants.{Going, Over}
-use Rattle.model.specs.declared.party.Party.{Party}
-use Rattle.model.specs.declared.turn.Turn.{Turn}
-use Rattle.model.specs.declared.turn.Turn.TheVariants.{Begin, Next, Decide, Die}
 use Rattle.model.specs.Coding.{Coding}
 use Rattle.model.specs.Families.{beside_of, step_of, going_rows}
 use Rattle.model.specs.Families.Indices.Robust.Calls.{after}
 use Rattle.model.specs.Families.Indices.Robust.Dead.{has_died, acts_for_dead, frees_living}
 use Rattle.model.specs.Families.Indices.Robust.Dead as rows
-use Rattle.model.specs.Families.Indices.Robust.Reading.{dead_after, is_dead}
 use Rattle.model.specs.Families.Indices.Robust.Steps.{effects}
-use Rattle.model.specs.Parties.{party_of}
 use Rattle.model.specs.Rows.{first_row}
 use Rattle.model.specs.Step.{answer_in}
-use Rattle.model.specs.Turns.{old_of, number_of, ask_of_doing, events_of_step, events_of_answer, events_of_next, events_of_decision, events_of, ending_of, after_turn}
+use Rattle.model.specs.Turns.{events_of_step}
 use Rattle.model.specs.World.{Trace}
 use Rattle.model.proofs.Frame as frame
 use Rattle.model.proofs.Scenes.{stands_there}
 use Rattle.robust_laws.specs.Gone.{Word}
-use Rattle.robust_laws.specs.Open.{open_refusal}
+use Rattle.robust_laws.proofs.Alive.{Leaves, AllLive, StepsLeave, end_leaves}
 use Rattle.robust_laws.proofs.Invariant.{family_by}
 use Rattle.robust_laws.proofs.Sound.{kept_is}
 use Rattle.robust_laws.proofs.Stages.{any_call}
 use Rattle.robust_laws.proofs.Told.{joined}
 use Rattle.robust_laws.proofs.Written.{effects_hold}
-
-module _ {T : Type 0} where
-  -- who lives, lives on past it
-  abbrev Leaves : Event T → Type 0
-  Leaves e = (owner : ℕ) (dead : Bool) → dead_after owner dead e ≡ dead
-
-  all_leave : (owner : ℕ) (es : List (Event T)) (dead : Bool) → AllByRecursion Leaves es → fold (dead_after owner) dead es ≡ dead
-  all_leave owner [] dead h = refl
-  all_leave owner (e ∷ es) dead h = ap (λ b. fold (dead_after owner) b es) (h.0 owner dead) ∙ all_leave owner es dead h.1
-
-  end_leaves : (p : ℕ) (start : Start T) (outcome : Option (Answer T)) → AllByRecursion Leaves (ending_of p start outcome)
-  end_leaves p start None = tt
-  end_leaves p start (Some answer) = (λ owner dead. refl, tt)
-
-  -- nobody has died
-  abbrev pub AllLive : List (Event T) → Type 0
-  AllLive events = (owner : ℕ) → is_dead owner events ≡ false
 
 module _ {T : Type 0} (code : Coding T) (c : ℕ) (t : Trace T) (s : frame.Sound (family_by Word code c) t) where
   -- ---- what a step writes
@@ -81,37 +55,10 @@ module _ {T : Type 0} (code : Coding T) (c : ℕ) (t : Trace T) (s : frame.Sound
         (end_leaves p (Robust start) (answer_in (any_call (after {T = T} flight answer))))
     step_leaves start flight at = absurd at
 
-    flight_leaves : (x : Party T) (since : ℕ) (flight : Flight T) → party_of p t.world.latest ≡ Some x → x.doing ≡ Going flight since → AllByRecursion Leaves (writes t.world.kept x.start flight)
-    flight_leaves x since flight found doing =
-        let there = stands_there (family_by Word code c) t s p x since flight found doing in
-        subst (λ kept. AllByRecursion Leaves (writes kept x.start flight)) (sym (kept_is t.world.kept t.world.words s.state s.fit).0) (step_leaves x.start flight there.at)
-
-  next_leaves : (p : ℕ) (o : Option (Party T)) → party_of p t.world.latest ≡ o → AllByRecursion Leaves (events_of_next t.world p o)
-  next_leaves p None found = tt
-  next_leaves p (Some x) found = go x.doing refl
-    where
-      go : (doing : Doing T) → x.doing ≡ doing → AllByRecursion Leaves (events_of_answer t.world p x (old_of t.world.words (ask_of_doing t.world.coding doing)) doing)
-      go (Over others) d = tt
-      go (Going flight since) d = flight_leaves p (old_of t.world.words (ask_of_doing t.world.coding (Going flight since))) x since flight found d
-
-  decision_leaves : (p : ℕ) (said : Bool) (o : Option (Party T)) → party_of p t.world.latest ≡ o → AllByRecursion Leaves (events_of_decision t.world p said o)
-  decision_leaves p said None found = tt
-  decision_leaves p said (Some x) found = go x.doing refl
-    where
-      go : (doing : Doing T) → x.doing ≡ doing → AllByRecursion Leaves (events_of_answer t.world p x (number_of said) doing)
-      go (Over others) d = tt
-      go (Going flight since) d = flight_leaves p (number_of said) x since flight found d
-
-  turn_leaves : (turn : Turn T) → open_refusal t.world turn ≡ None → AllByRecursion Leaves (events_of t.world turn)
-  turn_leaves (Begin p start) e = (λ owner dead. refl, tt)
-  turn_leaves (Next p) e = next_leaves p (party_of p t.world.latest) refl
-  turn_leaves (Decide p said) e = decision_leaves p said (party_of p t.world.latest) refl
-  turn_leaves (Die owner) e = absurd (cc)
-
-  pub all_live_on : (turn : Turn T) → open_refusal t.world turn ≡ None → AllLive t.events → AllLive (after_turn t turn).events
-  all_live_on turn e all owner =
-      fold-append (dead_after owner) false t.events (events_of t.world turn)
-      ∙ (all_leave owner (events_of t.world turn) (is_dead owner t.events) (turn_leaves turn e) ∙ all owner)
+  pub steps_leave : StepsLeave t
+  steps_leave p x since flight answer found doing =
+      let there = stands_there (family_by Word code c) t s p x since flight found doing in
+      subst (λ kept. AllByRecursion Leaves (writes p answer kept x.start flight)) (sym (kept_is t.world.kept t.world.words s.state s.fit).0) (step_leaves p answer x.start flight there.at)
 
   -- ---- what is not refused
 

@@ -11,7 +11,6 @@ use Rattle.model.specs.declared.party.Doing.TheVariants.{Going, Over}
 use Rattle.model.specs.declared.party.Party.{Party}
 use Rattle.model.specs.declared.turn.Kind.{Kind}
 use Rattle.model.specs.declared.turn.Kind as kinds
-use Rattle.model.specs.declared.turn.Refusal.{Refusal}
 use Rattle.model.specs.declared.turn.Refusal.TheVariants.{WrongCall, Busy, Idle, Undecided}
 use Rattle.model.specs.declared.turn.Turn.{Turn}
 use Rattle.model.specs.declared.turn.Turn.TheVariants.{Begin, Next, Decide, Die}
@@ -28,11 +27,13 @@ use Rattle.model.proofs.Reached.{turn_making}
 use Rattle.model.proofs.Rows.{row_passed}
 use Rattle.robust_laws.specs.Gone.{Word, IsHonest, AnswersBy}
 use Rattle.robust_laws.specs.Open.{open_refusal, attempt_open, run_open, IsReachedOpen, IsOpenSet}
+use Rattle.robust_laws.proofs.Alive.{AllLive, all_live_on}
 use Rattle.robust_laws.proofs.Core.{counter_of, cell}
 use Rattle.robust_laws.proofs.Gone.{answers_right}
 use Rattle.robust_laws.proofs.Invariant.{family_by}
-use Rattle.robust_laws.proofs.Living.{AllLive, all_live_on}
+use Rattle.robust_laws.proofs.Living.{steps_leave}
 use Rattle.robust_laws.proofs.Opening.{admitted_is}
+use Rattle.robust_laws.proofs.OpenTurns.{reached_keeps}
 use Rattle.robust_laws.proofs.Sound.{kept_is, laws_by, opening_sound, decision_comes, MayDecideIn}
 
 module _ {T : Type 0} (code : Coding T) (c : ℕ) where
@@ -99,25 +100,7 @@ module _ {T : Type 0} (code : Coding T) (c : ℕ) where
       let d = row_passed (not (is_due t.world.coding (flight_in t.world p))) Undecided None b.1 in
       decided t p said (frame.is_true (is_due t.world.coding (flight_in t.world p)) d.0) s (party_of p t.world.latest) refl
 
-  -- ---- whole runs
-
-  attempted : (t : Trace T) (turn : Turn T) (o : Option Refusal) → open_refusal t.world turn ≡ o → Sound t → Sound (unless_refused t (after_turn t turn) o)
-  attempted t turn None e s = open_turn_sound t turn e s
-  attempted t turn (Some refusal) e s = s
-
-  pub run_sound : (turns : List (Turn T)) (t : Trace T) → Sound t → Sound (run_open turns t)
-  run_sound [] t s = s
-  run_sound (turn ∷ turns) t s = run_sound turns (attempt_open t turn) (attempted t turn (open_refusal t.world turn) refl s)
-
-  -- and nobody dies
-  live_on : (t : Trace T) (turn : Turn T) (o : Option Refusal) → open_refusal t.world turn ≡ o → Sound t → AllLive t.events → AllLive (unless_refused t (after_turn t turn) o).events
-  live_on t turn None e s all = all_live_on code c t s turn e all
-  live_on t turn (Some refusal) e s all = all
-
-  run_lives : (turns : List (Turn T)) (t : Trace T) → Sound t → AllLive t.events → AllLive (run_open turns t).events
-  run_lives [] t s all = all
-  run_lives (turn ∷ turns) t s all =
-      run_lives turns (attempt_open t turn) (attempted t turn (open_refusal t.world turn) refl s) (live_on t turn (open_refusal t.world turn) refl s all)
+-- ---- whole runs
 
 module _ {T : Type 0} where
   opens : (t : Trace T) → t.world.kind ≡ kinds.TheVariants.Robust → IsReachedOpen t → frame.Sound (family_by Word t.world.coding t.world.capacity) (opening t.world.coding t.world.kind t.world.capacity t.world.parties)
@@ -130,12 +113,15 @@ module _ {T : Type 0} where
   pub reached_open_sound : (t : Trace T) → t.world.kind ≡ kinds.TheVariants.Robust → IsReachedOpen t → frame.Sound (family_by Word t.world.coding t.world.capacity) t
   reached_open_sound t is r =
       let w = t.world in
-      subst (frame.Sound (family_by Word w.coding w.capacity)) (sym r.is) (run_sound w.coding w.capacity r.turns (opening w.coding w.kind w.capacity w.parties) (opens t is r))
+      reached_keeps (frame.Sound (family_by Word w.coding w.capacity)) (λ u turn e s. open_turn_sound w.coding w.capacity u turn e s) t r (opens t is r)
 
+  -- and nobody dies
   pub reached_open_lives : (t : Trace T) → t.world.kind ≡ kinds.TheVariants.Robust → IsReachedOpen t → AllLive t.events
   reached_open_lives t is r =
-      let w = t.world in
-      subst (λ u. AllLive u.events) (sym r.is) (run_lives w.coding w.capacity r.turns (opening w.coding w.kind w.capacity w.parties) (opens t is r) (λ owner. refl))
+      let code = t.world.coding in
+      let c = t.world.capacity in
+      (reached_keeps (λ u. frame.Sound (family_by Word code c) u × AllLive u.events)
+      (λ u turn e h. (open_turn_sound code c u turn e h.0, all_live_on u (steps_leave code c u h.0) turn e h.1)) t r (opens t is r, λ owner. refl)).1
 
   open_kept : (code : Coding T) (t : Trace T) → frame.Sound (family_by Word code t.world.capacity) t → AllLive t.events → IsOpenSet t
   open_kept code t s lives =

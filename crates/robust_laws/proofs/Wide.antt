@@ -1,5 +1,5 @@
 -- No turn changes how many words a machine has, so one of the robust set has its counter and a cell an index.
-use Rattle.std.proofs.Common.{◌≡◌, ℕ, ◌+◌, Bool, Option, Some, None, List, [], ◌∷◌, length, refl, sym, ap, subst, ◌∙◌, arith}
+use Rattle.std.proofs.Common.{◌≡◌, ℕ, ◌+◌, Bool, Option, Some, None, List, length, refl, sym, subst, ◌∙◌, arith}
 use Rattle.std.proofs.lemmas.List.{length-set, length-replicate}
 use Rattle.steps.specs.Indices.Robust.Parts.{empty}
 use Rattle.steps.specs.declared.ask.Ask.{Ask}
@@ -9,15 +9,15 @@ use Rattle.model.specs.declared.party.Doing.{Doing}
 use Rattle.model.specs.declared.party.Doing.TheVariants.{Going, Over}
 use Rattle.model.specs.declared.party.Party.{Party}
 use Rattle.model.specs.declared.turn.Kind as kinds
-use Rattle.model.specs.declared.turn.Refusal.{Refusal}
 use Rattle.model.specs.declared.turn.Turn.{Turn}
 use Rattle.model.specs.declared.turn.Turn.TheVariants.{Begin, Next, Decide, Die}
 use Rattle.model.specs.Families.{first_of}
 use Rattle.model.specs.Families.Indices.Robust.Opening.{opening_words}
 use Rattle.model.specs.Parties.{party_of}
-use Rattle.model.specs.Turns.{old_of, words_after, number_of, ask_of_doing, after_begin, after_answer, after_next, after_decision, world_after, after_turn, unless_refused}
+use Rattle.model.specs.Turns.{old_of, words_after, number_of, ask_of_doing, after_begin, after_answer, after_next, after_decision, world_after}
 use Rattle.model.specs.World.{World, Trace, opening}
-use Rattle.robust_laws.specs.Open.{open_refusal, attempt_open, run_open, IsReachedOpen}
+use Rattle.robust_laws.specs.Open.{IsReachedOpen}
+use Rattle.robust_laws.proofs.OpenTurns.{reached_keeps}
 
 words_wide : (words : List ℕ) (ask : Option Ask) → length (words_after words ask) ≡ length words
 words_wide words None = refl
@@ -49,17 +49,8 @@ module _ {T : Type 0} where
   turn_wide w (Decide p said) = decision_wide w p said (party_of p w.latest)
   turn_wide w (Die owner) = refl
 
-  attempt_wide : (t : Trace T) (turn : Turn T) (o : Option Refusal) → length (unless_refused t (after_turn t turn) o).world.words ≡ length t.world.words
-  attempt_wide t turn None = turn_wide t.world turn
-  attempt_wide t turn (Some refusal) = refl
-
-  run_wide : (turns : List (Turn T)) (t : Trace T) → length (run_open turns t).world.words ≡ length t.world.words
-  run_wide [] t = refl
-  run_wide (turn ∷ turns) t = run_wide turns (attempt_open t turn) ∙ attempt_wide t turn (open_refusal t.world turn)
-
   pub reached_open_wide : (t : Trace T) → t.world.kind ≡ kinds.TheVariants.Robust → IsReachedOpen t → length t.world.words ≡ t.world.capacity + 1
   reached_open_wide t is r =
       let w = t.world in
-      ap (λ (u : Trace T). length u.world.words) r.is
-      ∙ (run_wide r.turns (opening w.coding w.kind w.capacity w.parties)
-      ∙ subst (λ kind. length (opening w.coding kind w.capacity w.parties).world.words ≡ w.capacity + 1) (sym is) (opening_wide w.capacity))
+      reached_keeps (λ u. length u.world.words ≡ w.capacity + 1) (λ u turn e h. turn_wide u.world turn ∙ h) t r
+      (subst (λ kind. length (opening w.coding kind w.capacity w.parties).world.words ≡ w.capacity + 1) (sym is) (opening_wide w.capacity))
