@@ -1,7 +1,6 @@
 -- Who is gone stays so; a run was honest and proper a turn ago; and in an honest run nothing is filled again with an owner
 -- who is gone.
-use Rattle.std.proofs.Common.{⊎_elim, inl, inr, ◌≡◌, ◌≢◌, ℕ, ◌==◌, ◌||◌, if◌then◌else◌, Bool, true, false, Option, Some, None, List, [], ◌∷◌, ◌++◌, fold, refl, sym, ap, subst, ◌∙◌, append_assoc, append-nil, eq-eqb, arith}
-use Rattle.std.proofs.lemmas.Bool.Decides.{nat_tests}
+use Rattle.std.proofs.Common.{⊎_elim, inl, inr, ◌≡◌, ◌≢◌, ℕ, ◌==◌, ◌||◌, if◌then◌else◌, Bool, true, false, Option, Some, None, List, [], ◌∷◌, ◌++◌, fold, refl, sym, ap, subst, ◌∙◌, append_assoc, append-nil, eq-eqb}
 use Rattle.std.proofs.lemmas.List.Sums.{fold-append}
 use Rattle.steps.specs.declared.indices.enums.ReleaseMode.{ReleaseMode}
 use Rattle.steps.specs.declared.indices.enums.ReleaseMode.TheVariants.{LockIfLastIndex}
@@ -13,10 +12,10 @@ use Rattle.model.specs.declared.event.Event.TheVariants.{Begun, Filled, Granted,
 use Rattle.model.specs.declared.event.Start.TheVariants.{Robust, Container}
 use Rattle.model.specs.declared.families.container.ContainerStart as containers
 use Rattle.model.specs.declared.families.indices.robust.RobustStart.TheVariants.{Acquire, Release, Recover}
-use Rattle.model.specs.Families.Indices.Robust.Promises.{LivesToRelease, SetDoes, AsksRight, FreesRight, AnswersRight}
+use Rattle.model.specs.Families.Indices.Robust.Promises.{AsksRight, FreesRight, AnswersRight}
 use Rattle.model.specs.Families.Indices.Robust.Reading.{filled_after, filled_of, dead_after, is_dead}
-use Rattle.model.specs.Reading.{Each, Span, Open, span_of}
-use Rattle.robust_laws.specs.Gone.{GoneBy, Death, Word, gone_after, is_gone, GivesBackRight, ActsForRight, IsHonest, IsHonestBy, IsCalm, MayBeTold, AsksBy, AnswersBy}
+use Rattle.model.specs.Reading.{Each}
+use Rattle.robust_laws.specs.Gone.{GoneBy, Death, Word, gone_after, is_gone, ActsForRight, IsHonest, IsHonestBy, IsCalm, MayBeTold, AsksBy, AnswersBy}
 
 or_true : (b : Bool) → (b || true) ≡ true
 or_true true = refl
@@ -36,10 +35,6 @@ filled_so i index o owner old other e = go (index == i) e
 freed_so : (b : Bool) (owner : ℕ) (old : Option ℕ) → (if b then None else old) ≡ Some owner → old ≡ Some owner
 freed_so true owner old h = absurd (cc)
 freed_so false owner old h = h
-
-dead_too : (owner o : ℕ) (gone dead : Bool) (b : Bool) → (o == owner) ≡ b → gone ≡ dead → (b ≡ true → dead ≡ true) → ((o == owner) || gone) ≡ dead
-dead_too owner o gone dead true is same told = ap (λ b. b || gone) is ∙ sym (told refl)
-dead_too owner o gone dead false is same told = ap (λ b. b || gone) is ∙ same
 
 module _ {T : Type 0} where
   -- ---- who is gone
@@ -126,55 +121,6 @@ module _ {T : Type 0} where
       → (i owner : ℕ) → IsHonestBy by (events ++ es) → is_gone by owner events ≡ true → filled_of i (events ++ es) ≡ Some owner → filled_of i events ≡ Some owner
   stays_lost Death events es fills i owner honest gone h = fills i owner gone h
   stays_lost Word events es fills i owner honest gone h = lost_so_far i owner events es honest gone h
-
-  -- ---- where owners die
-
-  -- the dead alone are recovered, and no add ends for them
-  abbrev pub MindsDeath : List (Event T) → Event T → Type 0
-  MindsDeath before (Told p index owner) = is_dead owner before ≡ true
-  MindsDeath before (Begun p (Container (containers.TheVariants.Recover owner mode))) = is_dead owner before ≡ true
-  MindsDeath before (Finished p (Container (containers.TheVariants.Add value owner)) (Index index)) = is_dead owner before ≡ false
-  MindsDeath before e = Unit {0}
-
-  same_after : (owner : ℕ) (before : List (Event T)) (e : Event T) → MindsDeath before e → is_gone Word owner before ≡ is_dead owner before → gone_after owner (is_gone Word owner before) e ≡ dead_after owner (is_dead owner before) e
-  same_after owner before (Died o) right same = ap (λ b. (o == owner) || b) same
-  same_after owner before (Told p i o) right same =
-      dead_too owner o (is_gone Word owner before) (is_dead owner before) (o == owner) refl same
-      (λ t. let is : o ≡ owner = grind (arith, nat_tests) in subst (λ n. is_dead n before ≡ true) is right)
-  same_after owner before (Begun p (Container (containers.TheVariants.Recover o mode))) right same =
-      dead_too owner o (is_gone Word owner before) (is_dead owner before) (o == owner) refl same
-      (λ t. let is : o ≡ owner = grind (arith, nat_tests) in subst (λ n. is_dead n before ≡ true) is right)
-  same_after owner before e right same = same
-
-  same_so_far : (owner : ℕ) (before es : List (Event T)) → Each MindsDeath (before ++ es) → is_gone Word owner before ≡ is_dead owner before → is_gone Word owner (before ++ es) ≡ is_dead owner (before ++ es)
-  same_so_far owner before [] asks same = rw (append-nil before) same
-  same_so_far owner before (e ∷ es) asks same =
-      let is : before ++ e ∷ es ≡ (before ++ e ∷ []) ++ es = sym (append_assoc before (e ∷ []) es) in
-      let one : is_gone Word owner (before ++ e ∷ []) ≡ is_dead owner (before ++ e ∷ []) =
-      fold-append (gone_after owner) false before (e ∷ []) ∙ (same_after owner before e (asks before es e refl) same ∙ sym (fold-append (dead_after owner) false before (e ∷ [])))
-      in
-      subst (λ xs. is_gone Word owner xs ≡ is_dead owner xs) (sym is) (same_so_far owner (before ++ e ∷ []) es (subst (Each MindsDeath) is asks) one)
-
-  -- gone are just the dead, where none who lives is recovered
-  pub gone_is_dead : (events : List (Event T)) → Each MindsDeath events → (owner : ℕ) → is_gone Word owner events ≡ is_dead owner events
-  gone_is_dead events asks owner = same_so_far owner [] events asks refl
-
-  gives_back : (owner : ℕ) (before : List (Event T)) (span : Span T) → is_gone Word owner before ≡ is_dead owner before → LivesToRelease owner before span → GivesBackRight owner before span
-  gives_back owner before (Open (Robust (Release i o mode)) wrote) same lives = same ∙ lives
-  gives_back owner before (Open (Container (containers.TheVariants.Remove i o mode)) wrote) same lives = same ∙ lives
-  gives_back owner before span same lives = tt
-
-  acts_right : (c : ℕ) (before : List (Event T)) (e : Event T) → ((owner : ℕ) → is_gone Word owner before ≡ is_dead owner before) → SetDoes c before e → MindsDeath before e → ActsForRight before e
-  acts_right c before (Filled p i o) same does minds = same o ∙ does.2
-  acts_right c before (Granted p i o) same does minds = same o ∙ does.1
-  acts_right c before (FreedOf p i o) same does minds = gives_back o before (span_of p before) (same o) does.1
-  acts_right c before (Finished p (Container (containers.TheVariants.Add value o)) (Index i)) same does minds = same o ∙ minds
-  acts_right c before e same does minds = tt
-
-  -- and every run is honest
-  pub honest_if_dead : (c : ℕ) (events : List (Event T)) → Each (SetDoes c) events → Each MindsDeath events → IsHonest events
-  honest_if_dead c events does asks before after e is =
-      acts_right c before e (gone_is_dead before (each_less MindsDeath before (e ∷ after) (subst (Each MindsDeath) is asks))) (does before after e is) (asks before after e is)
 
   -- ---- answers, in the words of a machine whose owners die
 
