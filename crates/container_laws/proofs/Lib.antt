@@ -24,6 +24,7 @@ pub mod HiddenKnows
 pub mod HiddenLater
 pub mod HiddenOn
 pub mod HiddenRemoves
+pub mod Honest
 pub mod Invariant
 pub mod Justified
 pub mod Keeping

@@ -80,7 +80,7 @@ module _ {T : Type 0} (scene : Scene T) where
 -- ---- a call that is no find and no recovery asks no question
 
 module _ {T : Type 0} (code : Coding T) (c : ℕ) where
-  add_asks_none : (stage : AddStage) (given : Owned T) → is_question (add_asks code.words_of code.size c stage given) ≡ false
+  pub add_asks_none : (stage : AddStage) (given : Owned T) → is_question (add_asks code.words_of code.size c stage given) ≡ false
   add_asks_none (adds.TheVariants.Acquires stage) given = acquire_asks_none stage given.owner
   add_asks_none (adds.TheVariants.LoadsCount index) given = refl
   add_asks_none (adds.TheVariants.Hides index count) given = refl
@@ -97,7 +97,7 @@ module _ {T : Type 0} (code : Coding T) (c : ℕ) where
   replace_asks_none replaces.TheVariants.AddsCount given = refl
   replace_asks_none replaces.TheVariants.AddsChange given = refl
 
-remove_asks_none : (c : ℕ) (stage : RemoveStage) (given : GiveBack) → is_question (remove_asks c stage given) ≡ false
+pub remove_asks_none : (c : ℕ) (stage : RemoveStage) (given : GiveBack) → is_question (remove_asks c stage given) ≡ false
 remove_asks_none c removes.TheVariants.Refuses given = refl
 remove_asks_none c removes.TheVariants.LoadsCount given = refl
 remove_asks_none c (removes.TheVariants.Releases count stage) given = release_asks_none stage given

@@ -19,6 +19,7 @@ use Rattle.model.specs.declared.turn.Refusal.TheVariants.{WrongCall, Busy, Idle,
 use Rattle.model.specs.declared.turn.Turn.{Turn}
 use Rattle.model.specs.declared.turn.Turn.TheVariants.{Begin, Next, Decide, Die}
 use Rattle.model.specs.Coding.{Coding}
+use Rattle.model.specs.Families.Container.Promises.{IsProperRun}
 use Rattle.model.specs.Families.{first_of, want_of, ask_of, is_question, going_rows}
 use Rattle.model.specs.Parties.{party_of, doing_of, flight_of}
 use Rattle.model.specs.Reading.{Each}
@@ -27,18 +28,20 @@ use Rattle.model.specs.Rows.{first_row}
 use Rattle.model.specs.Turns.{old_of, number_of, party_at_begin, after_begin, after_step, step_in, party_after, change_of, step_count, ask_of_doing, after_next, after_decision, after_answer, events_of_step, events_of_answer, events_of_next, events_of_decision, after_turn, unless_refused}
 use Rattle.model.specs.World.{World, Trace, opening, capacity_error, flight_in}
 use Rattle.model.proofs.Frame as frame
+use Rattle.model.proofs.Readings.{Each-nil}
 use Rattle.model.proofs.Rows.{row_passed, may_begin, next_passes}
-use Rattle.robust_laws.specs.Gone.{Word}
+use Rattle.robust_laws.specs.Gone.{Word, IsHonest}
 use Rattle.robust_laws.specs.Open.{open_refusal, attempt_open, run_open, IsReachedOpen}
 use Rattle.robust_laws.proofs.Alive.{AllLive, all_live_on}
 use Rattle.robust_laws.proofs.Core.{counter_of}
 use Rattle.robust_laws.proofs.Opening.{admitted_is}
 use Rattle.robust_laws.proofs.OpenTurns.{reached_keeps}
 use Rattle.container_laws.specs.Gone.{AnswersBy}
-use Rattle.container_laws.specs.Open.{is_for_gone, steps_for_gone, is_faithful, IsFaithfulRun, IsOpenContainer}
+use Rattle.container_laws.specs.Open.{is_for_gone, steps_for_gone, is_faithful, IsFaithful, IsFaithfulRun, IsOpenContainer}
 use Rattle.container_laws.specs.Tells.{TellsIf}
 use Rattle.container_laws.proofs.Allowed.{allowed_open}
 use Rattle.container_laws.proofs.Everything.{shown}
+use Rattle.container_laws.proofs.Honest.{turn_honest}
 use Rattle.container_laws.proofs.Invariant.{family_by}
 use Rattle.container_laws.proofs.Kept.{cells, lock, dead, questions, states, contained}
 use Rattle.container_laws.proofs.Living.{steps_leave}
@@ -213,6 +216,24 @@ module _ {T : Type 0} (kept : Bool) (code : Coding T) (c : ℕ) where
       (attempted t turn (open_refusal t.world turn) refl s (λ keeps. let grows = run_grows (turn ∷ turns) t in let end = few keeps in omega arith) (λ keeps. not_true (steps_for_gone t turn) (both_true (not (steps_for_gone t turn)) (is_faithful turns (attempt_open t turn)) (faithful keeps)).0))
       (λ keeps. (both_true (not (steps_for_gone t turn)) (is_faithful turns (attempt_open t turn)) (faithful keeps)).1) few
 
+module _ {T : Type 0} (code : Coding T) (c : ℕ) where
+  abbrev Any : Trace T → Type 0
+  Any t = Holds false code c t
+
+  attempt_honest : (t : Trace T) (turn : Turn T) (o : Option Refusal) → open_refusal t.world turn ≡ o → Any t → IsHonest t.events
+      → steps_for_gone t turn ≡ false → Any (unless_refused t (after_turn t turn) o) × IsHonest (unless_refused t (after_turn t turn) o).events
+  attempt_honest t turn None e s honest steps =
+      let next : Any (after_turn t turn) = open_turn_sound false code c t s (λ keeps. absurd (cc)) turn e (λ keeps. absurd (cc)) in
+      (next, turn_honest (terms false code c) code c t s honest turn e steps next)
+  attempt_honest t turn (Some refusal) e s honest steps = (s, honest)
+
+  run_honest : (turns : List (Turn T)) (t : Trace T) → Any t → IsHonest t.events → is_faithful turns t ≡ true → IsHonest (run_open turns t).events
+  run_honest [] t s honest faithful = honest
+  run_honest (turn ∷ turns) t s honest faithful =
+      let both = both_true (not (steps_for_gone t turn)) (is_faithful turns (attempt_open t turn)) faithful in
+      let next = attempt_honest t turn (open_refusal t.world turn) refl s honest (not_true (steps_for_gone t turn) both.0) in
+      run_honest turns (attempt_open t turn) next.0 next.1 both.1
+
 module _ {T : Type 0} (t : Trace T) (is : t.world.kind ≡ kinds.TheVariants.Container) (r : IsReachedOpen t) where
   abbrev first : Trace T
   first = opening t.world.coding t.world.kind t.world.capacity t.world.parties
@@ -238,6 +259,12 @@ module _ {T : Type 0} (t : Trace T) (is : t.world.kind ≡ kinds.TheVariants.Con
 
   pub reached_open_sound : frame.Sound (family_by any t.world.coding t.world.capacity) t
   reached_open_sound = reached_sound false (λ keeps. absurd (cc)) (λ keeps. absurd (cc))
+
+  -- a faithful run is honest
+  reached_open_honest : IsFaithful t r → IsHonest t.events
+  reached_open_honest faithful =
+      subst (λ (u : Trace T). IsHonest u.events) (sym r.is)
+      (run_honest t.world.coding t.world.capacity r.turns first (open_at_first false) (Each-nil _) faithful)
 
   -- nobody dies in it
   pub reached_open_lives : AllLive t.events
@@ -271,9 +298,11 @@ module _ {T : Type 0} (t : Trace T) (is : t.world.kind ≡ kinds.TheVariants.Con
         questions = questions any w.coding t s;
         states = states any w.coding t s;
         holds = λ proper honest. s.holds.good.holds (proper, honest);
-        contained = λ run.
+        honest = reached_open_honest;
+        contained = λ proper run.
             let keeping = terms true w.coding w.capacity in
-            contained keeping w.coding t (reached_sound true (λ keeps. run.faithful) (λ keeps. run.few)) (proper_on keeping t refl run.honest run.proper);
+            contained keeping w.coding t (reached_sound true (λ keeps. run.faithful) (λ keeps. run.few))
+            (proper_on keeping t refl (reached_open_honest run.faithful) proper);
       }
 
   -- ---- what a turn tells
@@ -288,13 +317,25 @@ module _ {T : Type 0} (t : Trace T) (is : t.world.kind ≡ kinds.TheVariants.Con
   is_few : (n : ℕ) → n < 2 ^ 64 - 2 → nat_lt n (2 ^ 64 - 2) ≡ true
   is_few n less = grind (arith, nat_tests)
 
-  pub reached_open_tells : (turn : Turn T) → open_refusal t.world turn ≡ None → TellsIf (IsFaithfulRun t r (after_turn t turn)) t turn (after_turn t turn)
+  pub reached_open_tells : (turn : Turn T) → open_refusal t.world turn ≡ None
+      → TellsIf (IsFaithfulRun t r × IsProperRun (after_turn t turn) × IsHonest (after_turn t turn).events) t turn (after_turn t turn)
   reached_open_tells turn e =
       let w = t.world in
+      let new = after_turn t turn in
       let faithful : Bool = is_faithful r.turns first in
       let few : Bool = nat_lt w.turns (2 ^ 64 - 2) in
       let on = terms (faithful && few) w.coding w.capacity in
       let are_few : (faithful && few) ≡ true → w.turns < 2 ^ 64 - 2 = λ keeps. few_is w.turns (both_true faithful few keeps).1 in
       let s = reached_sound (faithful && few) (λ keeps. (both_true faithful few keeps).0) are_few in
-      tells_if shown on w.coding t s (record { room = tt; few = are_few }) turn (allowed_open w turn e) (IsFaithfulRun t r (after_turn t turn))
-      (λ run. proper_on on (after_turn t turn) (and_true faithful few run.faithful (is_few w.turns run.few)) run.honest run.proper)
+      tells_if shown on w.coding t s (record { room = tt; few = are_few }) turn (allowed_open w turn e)
+      (IsFaithfulRun t r × IsProperRun new × IsHonest new.events)
+      (λ run. proper_on on new (and_true faithful few run.0.faithful (is_few w.turns run.0.few)) run.2 run.1)
+
+  -- where the turn is faithful too, the run with it is honest
+  pub reached_turn_honest : (turn : Turn T) → open_refusal t.world turn ≡ None → IsFaithful t r → steps_for_gone t turn ≡ false
+      → IsHonest (after_turn t turn).events
+  reached_turn_honest turn e faithful steps =
+      let w = t.world in
+      let s = reached_open_sound in
+      turn_honest any w.coding w.capacity t s (reached_open_honest faithful) turn e steps
+      (open_turn_sound false w.coding w.capacity t s (λ keeps. absurd (cc)) turn e (λ keeps. absurd (cc)))

@@ -33,20 +33,20 @@ module _ {T : Type 0} where
   is_faithful [] t = true
   is_faithful (turn ∷ turns) t = not (steps_for_gone t turn) && is_faithful turns (attempt_open t turn)
 
-  -- The run is faithful so far, and of so few turns that no number of an element has come round; and the run that leads to
-  -- this machine, the same or the next, is proper and honest.
-  pub record IsFaithfulRun (t : Trace T) (r : IsReachedOpen t) (new : Trace T) : Type 0 where
-    pub proper : IsProperRun new
-    pub honest : IsHonest new.events
-    pub faithful : is_faithful r.turns (opening t.world.coding t.world.kind t.world.capacity t.world.parties)
-        ≡ true
+  abbrev pub IsFaithful : (t : Trace T) → IsReachedOpen t → Type 0
+  IsFaithful t r =
+      is_faithful r.turns (opening t.world.coding t.world.kind t.world.capacity t.world.parties) ≡ true
+
+  -- it is, and of so few turns that no number of an element has come round
+  pub record IsFaithfulRun (t : Trace T) (r : IsReachedOpen t) : Type 0 where
+    pub faithful : IsFaithful t r
     pub few : t.world.turns < 2 ^ 64 - 2
 
   -- ---- what holds of the machine
 
   -- What its cells hold and whether it is locked, by its events; what each event says; that nobody has died; what is asked
-  -- and what a state at rest shows was copied. Who holds an index, in a run that is proper and honest; and what its elements
-  -- hold, in a faithful one.
+  -- and what a state at rest shows was copied. Who holds an index, in a run that is proper and honest, as a faithful one is;
+  -- and what its elements hold, in one that is proper, faithful and of few turns.
   pub record IsOpenContainer (t : Trace T) (r : IsReachedOpen t) : Type 0 where
     pub does : Each (SetDoes t.world.capacity) t.events
     pub asks : Each (AsksBy Word) t.events
@@ -60,4 +60,5 @@ module _ {T : Type 0} where
     pub questions : AsksCopies t
     pub states : ShowsCopies t.world t.events
     pub holds : IsProper t.events → IsHonest t.events → Each HoldsRight t.events
-    pub contained : IsFaithfulRun t r t → IsContained t
+    pub honest : IsFaithful t r → IsHonest t.events
+    pub contained : IsProperRun t → IsFaithfulRun t r → IsContained t
