@@ -4,6 +4,7 @@ use Rattle.std.proofs.Common.{◌≡◌, ◌⊎◌, ⊎_elim, inl, inr, ℕ, Boo
 use Rattle.std.specs.List.{AllByRecursion}
 use Rattle.std.proofs.lemmas.List.Sums.{fold-append}
 use Rattle.steps.specs.declared.container.add.Owned.{Owned}
+use Rattle.steps.specs.declared.indices.enums.ReleaseMode.{ReleaseMode}
 use Rattle.steps.specs.declared.indices.robust.release.GiveBack.{GiveBack}
 use Rattle.model.specs.declared.event.Answer.{Answer}
 use Rattle.model.specs.declared.event.Answer.TheVariants.{Index}
@@ -127,6 +128,13 @@ module _ {T : Type 0} (p : ℕ) where
   add_leaves value o wrote (Died other) its h owner gone = absurd its
   add_leaves value o wrote e its h owner gone = refl
 
+  remove_leaves : (index o : ℕ) (mode : ReleaseMode) (wrote : List (Event T)) (e : Event T) → IsEffectOf (Next p) e
+      → may_stand e (Open (Container (Remove index o mode)) wrote) → (owner : ℕ) (gone : Bool) → gone_after owner gone e ≡ gone
+  remove_leaves index o mode wrote (Told q i other) its h owner gone = absurd h
+  remove_leaves index o mode wrote (Begun q start) its h owner gone = absurd its
+  remove_leaves index o mode wrote (Died other) its h owner gone = absurd its
+  remove_leaves index o mode wrote e its h owner gone = refl
+
   module _ (wrote events : List (Event T)) where
     abbrev at : ContainerStart T → Span T
     at start = Open (Container start) wrote
@@ -136,13 +144,7 @@ module _ {T : Type 0} (p : ℕ) where
     stays (Add value owner) e its h live =
         fold-append (gone_after owner) false events (e ∷ []) ∙ (add_leaves value owner wrote e its h owner (is_gone Word owner events) ∙ live)
     stays (Remove index owner mode) e its h live =
-        fold-append (gone_after owner) false events (e ∷ []) ∙ (remove_leaves e its h (is_gone Word owner events) ∙ live)
-      where
-        remove_leaves : (e : Event T) → IsEffectOf (Next p) e → may_stand e (at (Remove index owner mode)) → (gone : Bool) → gone_after owner gone e ≡ gone
-        remove_leaves (Told q i other) its h gone = absurd h
-        remove_leaves (Begun q start) its h gone = absurd its
-        remove_leaves (Died other) its h gone = absurd its
-        remove_leaves e its h gone = refl
+        fold-append (gone_after owner) false events (e ∷ []) ∙ (remove_leaves index owner mode wrote e its h owner (is_gone Word owner events) ∙ live)
     stays start e its h live = tt
 
     fills : (start : ContainerStart T) (q i o : ℕ) → may_stand (Filled q i o) (at start) → IsForLiving events start → is_gone Word o events ≡ false
