@@ -1,20 +1,24 @@
 -- How machines are reached, by kind: one turn more, and what is so of each kind but the robust set.
-use Rattle.std.proofs.Common.{Bool, true, ◌≡◌, ◌≢◌, ℕ, Option, Some, None, refl}
+use Rattle.std.proofs.Common.{Bool, true, is_some, is_none, ◌≡◌, ◌≢◌, ℕ, Option, Some, None, refl}
 use Rattle.model.specs.declared.event.Start.{Start}
+use Rattle.model.specs.declared.event.Start.TheVariants.{Container}
+use Rattle.model.specs.declared.families.container.ContainerStart.TheVariants.{Recover}
 use Rattle.model.specs.declared.families.Flight.{Flight}
 use Rattle.model.specs.declared.families.queues.QueueKind.{QueueKind}
 use Rattle.model.specs.declared.families.queues.QueueKind as queues
 use Rattle.model.specs.declared.turn.Kind.{Kind}
 use Rattle.model.specs.declared.turn.Kind.TheVariants as kinds
 use Rattle.model.specs.declared.turn.Refusal.{Refusal}
+use Rattle.model.specs.declared.turn.Refusal.TheVariants.{Busy, WrongCall}
 use Rattle.model.specs.declared.turn.Turn.{Turn}
 use Rattle.model.specs.declared.turn.Turn.TheVariants.{Begin, Next, Decide}
 use Rattle.model.specs.Coding.{Coding, IsCoding}
-use Rattle.model.specs.Families.{want_of, is_question}
+use Rattle.model.specs.Families.{first_of, want_of, is_question}
 use Rattle.model.specs.Refusals.{call_refusal}
 use Rattle.model.specs.Turns.{IsReachedOn, after_turn}
 use Rattle.model.specs.World.{World, Trace, opening, capacity_error, flight_in}
 use Rattle.model.proofs.Reached.{reached_on_more, reached_on_opening}
+use Rattle.model.proofs.Rows.{row_passed}
 use Rattle.queue_laws.specs.Fresh.{IsFreshTurn, IsFreshRun}
 use Rattle.queue_laws.proofs.Queues.Invariant.{machine_kind}
 use Rattle.queue_laws.proofs.Queues.Sound.{fresh_more, fresh_opening}
@@ -37,6 +41,10 @@ module _ {T : Type 0} where
 
   -- it refuses the begin and the step of a call alike
   pub begin_as : (kind : Kind) (w : World T) (p : ℕ) (start : Start T) → call_refusal w (Begin p start) ≡ None → refusal_as kind w (Begin p start) ≡ None
+  begin_as kinds.Robust w p (Container (Recover owner mode)) e =
+      let free = row_passed (is_some (flight_in w p)) Busy _ e in
+      let has = row_passed (is_none (first_of w.kind w.capacity (Container (Recover owner mode)) w.kept)) WrongCall _ free.1 in
+      rw (free.0, has.0) refl
   begin_as kinds.Robust w p start e = e
   begin_as kind w p start e = e
 

@@ -28,8 +28,9 @@ use Rattle.model.proofs.Frame as frame
 use Rattle.model.proofs.Scenes.{stands_there}
 use Rattle.robust_laws.specs.Gone.{Word}
 use Rattle.robust_laws.specs.Open.{IsOpenSet}
+use Rattle.robust_laws.proofs.Alive.{AllLive}
 use Rattle.robust_laws.proofs.Invariant.{RobustSet, Fit, FlightAt, family_by}
-use Rattle.robust_laws.proofs.Living.{AllLive, has_not_died, step_is_free}
+use Rattle.robust_laws.proofs.Living.{has_not_died, step_is_free}
 use Rattle.robust_laws.proofs.OpenRuns.{reached_open_sound, reached_open_lives, reached_open_kept}
 use Rattle.robust_laws.proofs.Sound.{kept_is}
 use Rattle.robust_laws.proofs.Wide.{reached_open_wide}
