@@ -1,5 +1,5 @@
 -- A look after a look is one look.
-use Rattle.std.proofs.Common.{◌≡◌, ◌≢◌, inl, inr, ⊎_elim, ℕ, ◌+◌, ◌<◌, ◌==◌, if◌then◌else◌, true, false, Option, Some, None, List, [], ◌∷◌, ◌++◌, length, sum_by, refl, sym, ap, subst, ◌∙◌, append_assoc, length-append, arith}
+use Rattle.std.proofs.Common.{◌≡◌, ◌≢◌, inl, inr, ⊎_elim, ℕ, ◌<◌, ◌==◌, if◌then◌else◌, true, false, Option, Some, None, List, [], ◌∷◌, ◌++◌, length, sum_by, refl, sym, ap, subst, ◌∙◌, append_assoc, length-append, arith}
 use Rattle.std.proofs.lemmas.Bool.{cases_eq}
 use Rattle.std.proofs.lemmas.Bool.Decides.{nat_tests}
 use Rattle.model.specs.declared.event.Event.{Event}
@@ -8,7 +8,7 @@ use Rattle.model.specs.Coding.{Coding}
 use Rattle.model.specs.Reading.{whose}
 use Rattle.lock_free_sp.specs.Shares.{IsAll}
 use Rattle.history.specs.declared.view.View.{View}
-use Rattle.history.specs.History.{IsBeginning, IsOfParties}
+use Rattle.history.specs.History.{IsOfParties}
 use Rattle.history.specs.Known.{own_of, events_by, owned, if_owned}
 use Rattle.history.specs.Views.{Looks}
 use Rattle.history.proofs.Known.{by_more, nil_right, none_before, sum_first}

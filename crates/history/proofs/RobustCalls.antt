@@ -1,5 +1,5 @@
 -- That an acquire and a release of the robust index set, and its looks, are calls of the model.
-use Rattle.std.proofs.Common.{◌≡◌, inl, inr, ℕ, ◌+◌, ◌<◌, ◌==◌, nat_lt, nat_le, Bool, true, false, None, Ok, Err, List, [], ◌∷◌, ◌++◌, refl, sym, ap, subst, ◌∙◌, arith}
+use Rattle.std.proofs.Common.{◌≡◌, inl, inr, ℕ, ◌+◌, ◌<◌, ◌==◌, nat_lt, nat_le, Bool, true, false, None, List, [], ◌∷◌, ◌++◌, refl, sym, ap, subst, ◌∙◌, arith}
 use Rattle.std.proofs.lemmas.Bool.Decides.{nat_tests}
 use Rattle.steps.specs.Indices.Robust.Acquire.{Acquired, first_acquire, at_acquire, acquire_asks, acquire_want, acquire_tries, acquire_sees, acquire_raised, acquire_takes, acquire_after}
 use Rattle.steps.specs.Indices.Robust.Looks.{first_borrowed, borrowed_want, borrowed_counted, borrowed_after, locked_after}
@@ -34,8 +34,7 @@ use Rattle.steps.specs.declared.indices.robust.release.ReleaseStage.TheVariants 
 use Rattle.model.specs.declared.event.Answer.{Answer}
 use Rattle.model.specs.declared.event.Answer.TheVariants.{Number}
 use Rattle.model.specs.declared.event.Event.{Event}
-use Rattle.model.specs.declared.event.Event.TheVariants.{Filled, Granted, FreedOf, Locked}
-use Rattle.model.specs.declared.families.Flight.{Flight}
+use Rattle.model.specs.declared.event.Event.TheVariants.{Filled, FreedOf}
 use Rattle.model.specs.declared.families.Flight.TheVariants as flights
 use Rattle.model.specs.declared.families.indices.robust.RobustStart.TheVariants.{Acquire, Release, BorrowedIndices, IsLocked}
 use Rattle.model.specs.declared.families.indices.robust.calls.RobustFlight.TheVariants as calls
@@ -48,7 +47,7 @@ use Rattle.model.specs.Step.{as_call}
 use Rattle.lock_free_sp.specs.Driver.{answered, KeepsRule}
 use Rattle.history.specs.declared.view.View.{View}
 use Rattle.history.specs.History.{IsMachine}
-use Rattle.history.specs.Robust.{AcquireIn, ReleaseIn, CountIn, filled_at, HasTaken, takes_owned, freed_at, HasGiven, gives_owned, counts_owned, looks_owned}
+use Rattle.history.specs.Robust.{AcquireIn, ReleaseIn, filled_at, HasTaken, takes_owned, freed_at, HasGiven, gives_owned, counts_owned, looks_owned}
 use Rattle.history.specs.Stages.{At, Ends}
 use Rattle.history.proofs.CallsIn.{AsksFor}
 use Rattle.history.proofs.Drives.{IsCallOf, goes, keeps_all}

@@ -1,5 +1,5 @@
 -- The parts of the calls on robust index sets, raise, count and lock: the words that they ask for, and where they go on.
-use Rattle.std.proofs.Common.{◌≡◌, ℕ, ◌+◌, ◌<◌, ◌==◌, ◌&&◌, nat_lt, not, Bool, true, false, refl, sym, ap, ◌∙◌, arith}
+use Rattle.std.proofs.Common.{◌≡◌, ℕ, ◌+◌, ◌<◌, ◌==◌, ◌&&◌, nat_lt, not, refl, sym, ap, ◌∙◌, arith}
 use Rattle.std.proofs.lemmas.Bool.Decides.{nat_tests}
 use Rattle.steps.specs.Indices.Robust.Parts.{locked, greatest, raise_want, count_want, count_comes_to, count_after, lock_want, lock_counted, lock_after}
 use Rattle.steps.specs.Picks.{by_test}

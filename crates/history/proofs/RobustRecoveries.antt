@@ -22,14 +22,14 @@ use Rattle.steps.specs.declared.indices.robust.recover.RecoverStage.TheVariants 
 use Rattle.model.specs.declared.event.Answer.{Answer}
 use Rattle.model.specs.declared.event.Answer.TheVariants.{State}
 use Rattle.model.specs.declared.event.Event.{Event}
-use Rattle.model.specs.declared.event.Event.TheVariants.{FreedOf, Asked, Told, Locked}
+use Rattle.model.specs.declared.event.Event.TheVariants.{FreedOf, Told, Locked}
 use Rattle.model.specs.declared.families.Flight.{Flight}
 use Rattle.model.specs.declared.families.Flight.TheVariants as flights
 use Rattle.model.specs.declared.families.indices.robust.RobustStart.TheVariants.{Recover}
 use Rattle.model.specs.declared.families.indices.robust.calls.RobustFlight.TheVariants as calls
 use Rattle.model.specs.declared.turn.Kind.TheVariants as kinds
 use Rattle.model.specs.Coding.{Coding}
-use Rattle.model.specs.Families.{opening_of, first_of, is_question}
+use Rattle.model.specs.Families.{is_question}
 use Rattle.model.specs.Families.Indices.Robust.Steps.{recover_effects}
 use Rattle.model.specs.Families.Queues.Calls.{as_it_is}
 use Rattle.model.specs.Step.{as_call}
@@ -39,7 +39,7 @@ use Rattle.lock_free_sp.specs.Driver.{answered, KeepsRule}
 use Rattle.history.specs.declared.view.View.{View}
 use Rattle.history.specs.History.{IsMachine}
 use Rattle.history.specs.Robust.{RecoverIn, Came, HasAsked, WasTold, HasFreed, HasLocked, MayCome, wrote_of, HasPassed, HasCome, RecoveredAt, HasRecovered, recovers_owned}
-use Rattle.history.specs.Stages.{At, Ends, AtAsked}
+use Rattle.history.specs.Stages.{Ends, AtAsked}
 use Rattle.history.proofs.CallsIn.{AsksFor}
 use Rattle.history.proofs.Decisions.{IsAskingOf, keeps_asked, hears_answer}
 use Rattle.history.proofs.Drives.{goes}
