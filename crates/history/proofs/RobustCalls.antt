@@ -47,7 +47,7 @@ use Rattle.model.specs.Step.{as_call}
 use Rattle.lock_free_sp.specs.Driver.{answered, KeepsRule}
 use Rattle.history.specs.declared.view.View.{View}
 use Rattle.history.specs.History.{IsMachine}
-use Rattle.history.specs.Robust.{AcquireIn, ReleaseIn, filled_at, HasTaken, takes_owned, freed_at, HasGiven, gives_owned, counts_owned, looks_owned}
+use Rattle.history.specs.Robust.{AcquireIn, ReleaseIn, filled_at, AcquireWrote, takes_owned, freed_at, ReleaseWrote, gives_owned, counts_owned, looks_owned}
 use Rattle.history.specs.Stages.{At, Ends}
 use Rattle.history.proofs.CallsIn.{AsksFor}
 use Rattle.history.proofs.Drives.{IsCallOf, goes, keeps_all}
@@ -72,7 +72,7 @@ acquire_words capacity (acquires.Raises index raise) owner h = raise_asks capaci
 module _ (T : Type 0) (capacity : ℕ) (c : Acquiring) (same : c.capacity ≡ capacity) (p owner : ℕ) where
   abbrev AcquireGoes : List (Event T) → After Acquiring Acquired → Type 0
   AcquireGoes es (GoOn d) = (takes_owned {T = T} owner).stands capacity d × (es ≡ filled_at p owner d.stage)
-  AcquireGoes es (Done e) = HasTaken capacity p owner e es
+  AcquireGoes es (Done e) = AcquireWrote capacity p owner e es
 
   tries : (counter index : ℕ) → AcquireGoes [] (acquire_tries c counter index)
   tries counter index =
@@ -128,7 +128,7 @@ module _ {T : Type 0} (code : Coding T) (owner : ℕ) where
         tells = λ capacity p from c d m n es h wrote e new.
             ap (λ zs. zs ++ acquire_effects p owner c.stage n) (wrote new) ∙ (takes_on capacity p c n (GoOn d) h e).1;
         tells_all = λ capacity p from c end m n es h skip wrote e new.
-            subst (λ zs. HasTaken capacity p owner end (zs ++ acquire_effects p owner c.stage n)) (sym (wrote new)) (takes_on capacity p c n (Done end) h e);
+            subst (λ zs. AcquireWrote capacity p owner end (zs ++ acquire_effects p owner c.stage n)) (sym (wrote new)) (takes_on capacity p c n (Done end) h e);
       }
 
   pub acquire_keeps : KeepsRule (λ (z : View T). z.capacity) (At code kinds.Robust (takes_owned owner)) (Ends code kinds.Robust (takes_owned owner))
@@ -169,7 +169,7 @@ release_words capacity (releases.Locks lock) given low h = lock_asks capacity lo
 module _ (T : Type 0) (capacity : ℕ) (c : Releasing) (same : c.capacity ≡ capacity) (p : ℕ) (given : GiveBack) (low : given.index < capacity) where
   abbrev ReleaseGoes : List (Event T) → After Releasing Released → Type 0
   ReleaseGoes es (GoOn d) = (gives_owned {T = T} given).stands capacity d × (es ≡ freed_at p given d.stage)
-  ReleaseGoes es (Done e) = HasGiven p given e es
+  ReleaseGoes es (Done e) = ReleaseWrote p given e es
 
   abbrev freed_it : List (Event T)
   freed_it = FreedOf p given.index given.owner ∷ []
@@ -230,7 +230,7 @@ module _ {T : Type 0} (code : Coding T) (given : GiveBack) where
         tells = λ capacity p from c d m n es h wrote e new.
             ap (λ zs. zs ++ release_effects p given c.stage n) (wrote new) ∙ (gives_on capacity p c n (GoOn d) h e).1;
         tells_all = λ capacity p from c end m n es h skip wrote e new.
-            subst (λ zs. HasGiven p given end (zs ++ release_effects p given c.stage n)) (sym (wrote new)) (gives_on capacity p c n (Done end) h e);
+            subst (λ zs. ReleaseWrote p given end (zs ++ release_effects p given c.stage n)) (sym (wrote new)) (gives_on capacity p c n (Done end) h e);
       }
 
   pub release_keeps : KeepsRule (λ (z : View T). z.capacity) (At code kinds.Robust (gives_owned given)) (Ends code kinds.Robust (gives_owned given))

@@ -38,7 +38,7 @@ use Rattle.robust_laws.proofs.Sound.{raise_asks_none, lock_asks_none}
 use Rattle.lock_free_sp.specs.Driver.{answered, KeepsRule}
 use Rattle.history.specs.declared.view.View.{View}
 use Rattle.history.specs.History.{IsMachine}
-use Rattle.history.specs.Robust.{RecoverIn, Came, HasAsked, WasTold, HasFreed, HasLocked, MayCome, wrote_of, HasPassed, HasCome, RecoveredAt, HasRecovered, recovers_owned}
+use Rattle.history.specs.Robust.{RecoverIn, Came, HasAsked, WasTold, HasFreed, HasLocked, MayCome, wrote_of, HasPassed, HasCome, RecoveredAt, RecoveryWrote, recovers_owned}
 use Rattle.history.specs.Stages.{Ends, AtAsked}
 use Rattle.history.proofs.CallsIn.{AsksFor}
 use Rattle.history.proofs.Decisions.{IsAskingOf, keeps_asked, hears_answer}
@@ -93,7 +93,7 @@ module _ (c : Recovering) (mode : ReleaseMode) where
 module _ {T : Type 0} (capacity : ℕ) (c : Recovering) (same : c.capacity ≡ capacity) (p : ℕ) (mode : ReleaseMode) where
   abbrev RecoverGoes : List (Event T) → After Recovering ReleaseState → Type 0
   RecoverGoes es (GoOn d) = (recovers_owned {T = T} mode).stands capacity d × RecoveredAt capacity p mode d.stage es
-  RecoverGoes es (Done e) = HasRecovered capacity p mode e es
+  RecoverGoes es (Done e) = RecoveryWrote capacity p mode e es
 
   -- a step that writes nothing
   quiet : (es : List (Event T)) (r : After Recovering ReleaseState) → RecoverGoes es r → RecoverGoes (es ++ []) r

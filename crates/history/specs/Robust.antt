@@ -66,12 +66,12 @@ module _ {T : Type 0} where
   filled_at p owner stage = []
 
   -- and in all: one that met the lock may have filled an index, which keeps its owner
-  abbrev pub HasTaken : ℕ → ℕ → ℕ → Acquired → List (Event T) → Type 0
-  HasTaken capacity p owner (Ok index) es =
+  abbrev pub AcquireWrote : ℕ → ℕ → ℕ → Acquired → List (Event T) → Type 0
+  AcquireWrote capacity p owner (Ok index) es =
       (index < capacity) × (es ≡ Filled p index owner ∷ Granted p index owner ∷ [])
-  HasTaken capacity p owner (Err failures.IsLocked) es =
+  AcquireWrote capacity p owner (Err failures.IsLocked) es =
       (es ≡ []) ⊎ ((index : ℕ) × (index < capacity) × (es ≡ Filled p index owner ∷ []))
-  HasTaken capacity p owner (Err failures.OutOfIndices) es = es ≡ []
+  AcquireWrote capacity p owner (Err failures.OutOfIndices) es = es ≡ []
 
   -- of a call that is told of from its begin on
   abbrev pub takes_owned : ℕ → Calling T Acquiring (Unit {0}) Acquired
@@ -87,7 +87,7 @@ module _ {T : Type 0} where
         skips = λ c n. false;
         left = λ e. ⊥;
         wrote = λ capacity p from c m es. from ≡ None → es ≡ filled_at p owner c.stage;
-        wrote_all = λ capacity p from e m es. from ≡ None → HasTaken capacity p owner e es;
+        wrote_all = λ capacity p from e m es. from ≡ None → AcquireWrote capacity p owner e es;
       }
 
   -- ---- release
@@ -98,10 +98,10 @@ module _ {T : Type 0} where
   freed_at p given stage = FreedOf p given.index given.owner ∷ []
 
   -- and in all: nothing where another owner had the index, or none; it answers that the set is locked by whom it may
-  abbrev pub HasGiven : ℕ → GiveBack → Released → List (Event T) → Type 0
-  HasGiven p given (Err failure) es = es ≡ []
-  HasGiven p given (Ok states.Unlocked) es = es ≡ FreedOf p given.index given.owner ∷ []
-  HasGiven p given (Ok states.Locked) es =
+  abbrev pub ReleaseWrote : ℕ → GiveBack → Released → List (Event T) → Type 0
+  ReleaseWrote p given (Err failure) es = es ≡ []
+  ReleaseWrote p given (Ok states.Unlocked) es = es ≡ FreedOf p given.index given.owner ∷ []
+  ReleaseWrote p given (Ok states.Locked) es =
       (given.mode ≡ LockIfLastIndex)
       × ((es ≡ FreedOf p given.index given.owner ∷ [])
       ⊎ (es ≡ FreedOf p given.index given.owner ∷ Locked p ∷ []))
@@ -120,7 +120,7 @@ module _ {T : Type 0} where
         skips = λ c n. false;
         left = λ e. ⊥;
         wrote = λ capacity p from c m es. from ≡ None → es ≡ freed_at p given c.stage;
-        wrote_all = λ capacity p from e m es. from ≡ None → HasGiven p given e es;
+        wrote_all = λ capacity p from e m es. from ≡ None → ReleaseWrote p given e es;
       }
 
 -- ---- recovery
@@ -177,9 +177,9 @@ module _ {T : Type 0} where
       HasPassed p mode capacity es
 
   -- and in all: one that found the set locked may have ended before it had come past each index
-  abbrev pub HasRecovered : ℕ → ℕ → ReleaseMode → ReleaseState → List (Event T) → Type 0
-  HasRecovered capacity p mode states.Unlocked es = HasPassed p mode capacity es
-  HasRecovered capacity p mode states.Locked es =
+  abbrev pub RecoveryWrote : ℕ → ℕ → ReleaseMode → ReleaseState → List (Event T) → Type 0
+  RecoveryWrote capacity p mode states.Unlocked es = HasPassed p mode capacity es
+  RecoveryWrote capacity p mode states.Locked es =
       (bound : ℕ) × (bound ≤ capacity) × HasPassed p mode bound es
 
   abbrev pub recovers_owned : ReleaseMode → Calling T Recovering (Unit {0}) ReleaseState
@@ -195,7 +195,7 @@ module _ {T : Type 0} where
         skips = λ c n. false;
         left = λ e. ⊥;
         wrote = λ capacity p from c m es. from ≡ None → RecoveredAt capacity p mode c.stage es;
-        wrote_all = λ capacity p from e m es. from ≡ None → HasRecovered capacity p mode e es;
+        wrote_all = λ capacity p from e m es. from ≡ None → RecoveryWrote capacity p mode e es;
       }
 
   -- ---- looks

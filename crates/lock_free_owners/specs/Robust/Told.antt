@@ -44,19 +44,19 @@ pub record HasMade (start : RobustStart) (answer : Answer ℕ) (Wrote : ℕ → 
 abbrev pub HasTaken : ℕ → Acquired → View ℕ → View ℕ → Type 0
 HasTaken owner answer old =
     HasMade (Acquire owner) (acquire_answer answer)
-    (λ by es. robust.HasTaken old.capacity by owner answer es) old
+    (λ by es. robust.AcquireWrote old.capacity by owner answer es) old
 
 -- a release frees the index, and may lock the set
 abbrev pub HasGiven : GiveBack → Released → View ℕ → View ℕ → Type 0
 HasGiven given answer =
     HasMade (Release given.index given.owner given.mode) (release_answer answer)
-    (λ by es. robust.HasGiven by given answer es)
+    (λ by es. robust.ReleaseWrote by given answer es)
 
 -- a recovery asks about indices, is told to free some, and frees of them
 abbrev pub HasRecovered : ReleaseMode → ReleaseState → View ℕ → View ℕ → Type 0
 HasRecovered mode state old =
     HasMade (Recover mode) (State state)
-    (λ by es. robust.HasRecovered old.capacity by mode state es) old
+    (λ by es. robust.RecoveryWrote old.capacity by mode state es) old
 
 abbrev pub HasCounted : ℕ → View ℕ → View ℕ → Type 0
 HasCounted number = HasMade BorrowedIndices (Number number) (λ by es. es ≡ [])
