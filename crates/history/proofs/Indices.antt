@@ -39,7 +39,7 @@ use Rattle.history.specs.Held.{Holds}
 use Rattle.history.specs.History.{IsRun, call_in}
 use Rattle.history.specs.Known.{owned}
 use Rattle.history.specs.Stages.{Starts, Calling}
-use Rattle.history.proofs.Calls.{stands}
+use Rattle.history.proofs.Calls.{stands, IsStateless}
 use Rattle.history.proofs.Held.{held_by}
 use Rattle.history.proofs.Known.{AreOf}
 use Rattle.history.proofs.Turns.{CallGoesOn, KindLaws}
@@ -115,7 +115,12 @@ module _ {T : Type 0} (code : Coding T) (capacity : ℕ) where
       }
 
   pub indices_owe : KindLaws code kinds.TheVariants.Indices capacity (core.size capacity) index_effects
-  indices_owe = record { size = size; goes_on = goes_on; alone = λ going late h. h }
+  indices_owe = record {
+      size = size;
+      goes_on = goes_on;
+      alone = λ going late h. h;
+      stateless = λ t r. (let s = sound t r in subst IsStateless (sym (kept_is t.world.kept t.world.words s.state s.fit).0) tt);
+    }
 
 -- ---- which party may begin a call
 

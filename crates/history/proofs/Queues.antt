@@ -53,7 +53,7 @@ use Rattle.history.specs.Stages.{Starts, Calling}
 use Rattle.history.proofs.Roles.{role_by}
 use Rattle.history.specs.History.{IsRun, IsLate, call_in}
 use Rattle.history.proofs.Known.{AreOf}
-use Rattle.history.proofs.Calls.{stands}
+use Rattle.history.proofs.Calls.{stands, IsStateless}
 use Rattle.history.proofs.Reached.{queue_run}
 use Rattle.history.proofs.Turns.{CallGoesOn, KindLaws}
 
@@ -199,7 +199,12 @@ module _ {T : Type 0} (code : Coding T) (capacity : ℕ) (r : Ring) where
       }
 
   pub ring_owes : KindLaws code (machine_kind (kind_of r)) capacity ring_words (queue_effects code)
-  ring_owes = record { size = size; goes_on = goes_on; alone = alone r }
+  ring_owes = record {
+      size = size;
+      goes_on = goes_on;
+      alone = alone r;
+      stateless = λ t run. (let s = sound_of code capacity (kind_of r) t run in subst IsStateless (sym (kept_is t.world.kept t.world.words s.state s.fit).0) tt);
+    }
     where
       alone : (q : Ring) (going : Option (Start T × Flight T)) (late : List (Event T)) → IsLate (machine_kind (kind_of q)) going late → late ≡ []
       alone of_indices going late h = h

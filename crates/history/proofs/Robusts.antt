@@ -39,7 +39,7 @@ use Rattle.history.specs.declared.view.View.{View}
 use Rattle.history.specs.History.{IsRun, call_in}
 use Rattle.history.specs.Known.{owned}
 use Rattle.history.specs.Stages.{Starts, Calling}
-use Rattle.history.proofs.Calls.{stands}
+use Rattle.history.proofs.Calls.{stands, IsStateless}
 use Rattle.history.proofs.Known.{AreOf}
 use Rattle.history.proofs.Turns.{CallGoesOn, KindLaws}
 
@@ -128,7 +128,12 @@ module _ {T : Type 0} (code : Coding T) (capacity : ℕ) where
       }
 
   pub robusts_owe : KindLaws code kinds.Robust capacity (cells_and_counter capacity) robust_effects
-  robusts_owe = record { size = robust_size; goes_on = goes_on; alone = λ going late h. h }
+  robusts_owe = record {
+      size = robust_size;
+      goes_on = goes_on;
+      alone = λ going late h. h;
+      stateless = λ t r. (let s = robust_sound t r in subst IsStateless (sym (kept_is t.world.kept t.world.words s.state s.fit).0) tt);
+    }
 
 -- ---- which party may begin a call
 

@@ -41,7 +41,7 @@ use Rattle.history.specs.Known.{owned}
 use Rattle.history.specs.Stages.{Calling, Starts}
 use Rattle.history.specs.Views.{first_view}
 use Rattle.history.proofs.Known.{AreOf}
-use Rattle.history.proofs.Calls.{stands}
+use Rattle.history.proofs.Calls.{stands, IsStateless}
 use Rattle.history.proofs.Turns.{CallGoesOn, KindLaws}
 use Rattle.history.proofs.Passes.{opens, one_more}
 
@@ -138,7 +138,7 @@ module _ {T : Type 0} (K : SetKind T) (laws : (code : Coding T) (c : ℕ) → Se
       }
 
   pub sets_owe : ((going : Option (Start T × Flight T)) (late : List (Event T)) → IsLate K.kind going late → late ≡ []) → KindLaws code K.kind capacity words set_effects
-  sets_owe alone = record { size = size; goes_on = goes_on; alone = alone }
+  sets_owe alone = record { size = size; goes_on = goes_on; alone = alone; stateless = λ t r. subst IsStateless (sym (sound t r).fit.0) tt }
 
   -- a call that may begin on a new set may begin at any time, as the party that the pass was last
   pub set_starts : {C M E : Type 0} → (call : Calling T C M E) (base : View T) (c : C) (m : M) → base.capacity ≡ capacity → ((o : Option ℕ) (p : ℕ) → IfSome o (λ q. q ≡ p) → call.by o p)
