@@ -84,7 +84,7 @@ module _ {T : Type 0} (terms : Terms) (code : Coding T) (c : ℕ) (t : Trace T) 
   -- ---- what is not refused
 
   module _ (all : AllLive t.events) where
-    has_not_died : (owner : ℕ) → has_died owner s.state.dead ≡ false
+    pub has_not_died : (owner : ℕ) → has_died owner s.state.dead ≡ false
     has_not_died owner = s.holds.good.died owner ∙ all owner
 
     acts_for_none : (flight : ContainerFlight T) → acts_for_dead s.state.dead flight ≡ false
@@ -93,7 +93,7 @@ module _ {T : Type 0} (terms : Terms) (code : Coding T) (c : ℕ) (t : Trace T) 
     acts_for_none (Replace run) = has_not_died run.given.owner
     acts_for_none flight = refl
 
-    step_is_free : (flight : ContainerFlight T)
+    pub step_is_free : (flight : ContainerFlight T)
         → first_row (going_rows t.world.coding t.world.kept (Some (flights.TheVariants.Container flight)) None) ≡ None
     step_is_free flight =
         subst (λ kept. first_row (rows.kept_going_rows flight kept None) ≡ None) (sym (kept_is t.world.kept t.world.words s.state s.fit).0)

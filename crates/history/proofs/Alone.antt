@@ -16,7 +16,7 @@ use Rattle.model.specs.declared.families.Flight.{Flight}
 use Rattle.model.specs.declared.turn.Kind.{Kind}
 use Rattle.model.specs.declared.turn.Turn.TheVariants.{Begin, Next}
 use Rattle.model.specs.Coding.{Coding, IsCoding}
-use Rattle.model.specs.Families.{opening_of, want_of, after_of, goes_of, begin_rows}
+use Rattle.model.specs.Families.{opening_of, want_of, after_of, goes_of}
 use Rattle.model.specs.Rows.{first_row}
 use Rattle.model.specs.Step.{answer_in}
 use Rattle.model.specs.Turns.{after_turn, events_of, ending_of}
@@ -27,7 +27,7 @@ use Rattle.lock_free_sp.specs.Shares.{all_shares}
 use Rattle.history.specs.declared.view.View.{View}
 use Rattle.history.specs.History.{IsMachine, call_in}
 use Rattle.history.specs.Known.{owned, events_by}
-use Rattle.history.specs.Stages.{Calling, Starts}
+use Rattle.history.specs.Stages.{Calling, Starts, rows_as}
 use Rattle.history.specs.Views.{first_view}
 use Rattle.history.proofs.Reached.{reached_as_opening, fresh_as_opening}
 use Rattle.history.proofs.Calls.{call_then}
@@ -106,7 +106,7 @@ module _ {T : Type 0} (code : Coding T) (kind : Kind) (capacity size : ℕ) (eff
   pub begins : {C M E : Type 0} (call : Calling T C M E) (c : C) (m : M) (words : List ℕ) (es : List (Event T)) → (h : Here words es None) → Starts code kind call (maker es) c m h.u same_seat 0 → Here words (es ++ Begun 0 call.start ∷ []) (Some (call.start, call.flight c m))
   begins call c m words es h s =
       let is : s.party ≡ 0 = s.mine in
-      let may : first_row (begin_rows kind capacity h.u.world.kept 0 call.start) ≡ None = subst (λ p. first_row (begin_rows kind capacity h.u.world.kept p call.start) ≡ None) is s.may in
+      let may : first_row (rows_as kind capacity h.u.world.kept 0 call.start) ≡ None = subst (λ p. first_row (rows_as kind capacity h.u.world.kept p call.start) ≡ None) is s.may in
       record {
         u = after_turn h.u (Begin 0 call.start);
         between = begun code kind capacity size effects there_laws same_seat (alone words) 0 0 es h.u h.between call.start (call.flight c m) h.there s.first may;

@@ -16,7 +16,7 @@ use Rattle.model.specs.declared.turn.Kind.{Kind}
 use Rattle.model.specs.declared.turn.Turn.{Turn}
 use Rattle.model.specs.declared.turn.Turn.TheVariants.{Begin, Next}
 use Rattle.model.specs.Coding.{Coding}
-use Rattle.model.specs.Families.{first_of, begin_rows, want_of, goes_of, ask_of}
+use Rattle.model.specs.Families.{first_of, want_of, goes_of, ask_of}
 use Rattle.model.specs.Rows.{first_row}
 use Rattle.model.specs.Step.{answer_in}
 use Rattle.model.specs.Reading.{span_of, own_after, Open}
@@ -26,7 +26,7 @@ use Rattle.lock_free_sp.specs.Shares.{IsAll}
 use Rattle.history.specs.declared.view.View.{View}
 use Rattle.history.specs.Known.{events_by, by_party, owned}
 use Rattle.history.specs.History.{IsRun, IsMachine, Fits, IsLate, call_in}
-use Rattle.history.specs.Stages.{Calling, Since, opened, Starts, IsUnderWay, At, Ends}
+use Rattle.history.specs.Stages.{Calling, Since, opened, Starts, IsUnderWay, At, Ends, rows_as}
 use Rattle.queue_laws.proofs.Queues.Knows.{IsFreshCall}
 use Rattle.history.proofs.Known.{known_whole, by_more, nil_right, idle_seat, late_none, none_late}
 use Rattle.history.proofs.Calls.{call_then}
@@ -195,7 +195,7 @@ module _ {T C M E : Type 0} (code : Coding T) (kind : Kind) (effects : World T �
         let p = starts.party in
         let idle : (q : ℕ) → r.owner q ≡ id → call_in r.trace.world q ≡ None = idle_seat r.owner r.trace id v none here in
         let is_first : first_of kind key call.start r.trace.world.kept ≡ Some (call.flight c m) = subst (λ n. first_of kind n call.start r.trace.world.kept ≡ Some (call.flight c m)) size starts.first in
-        let may : first_row (begin_rows kind key r.trace.world.kept p call.start) ≡ None = subst (λ n. first_row (begin_rows kind n r.trace.world.kept p call.start) ≡ None) size starts.may in
+        let may : first_row (rows_as kind key r.trace.world.kept p call.start) ≡ None = subst (λ n. first_row (rows_as kind n r.trace.world.kept p call.start) ≡ None) size starts.may in
         let before : Between code kind key r.owner s id p [] r.trace = at_first code kind key s id p r [] starts.mine self (λ q of_id ne. idle q of_id) (λ u there f. (let same : sum_by f u.made ≡ sum_by f v.made = ap (λ (z : View T). sum_by f z.made) (some-injective u v (sym there ∙ at)) in let all = own_made f in omega arith)) in
         record {
           p = p;

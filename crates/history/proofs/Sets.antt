@@ -38,10 +38,11 @@ use Rattle.bit_laws.proofs.Bits.Justified.{laws as bits_laws}
 use Rattle.history.specs.History.{IsRun, IsMachine, IsReachedAs, call_in, IsLate}
 use Rattle.history.specs.declared.view.View.{View}
 use Rattle.history.specs.Known.{owned}
-use Rattle.history.specs.Stages.{Calling, Starts}
+use Rattle.history.specs.Stages.{Calling, Starts, rows_as}
 use Rattle.history.specs.Views.{first_view}
 use Rattle.history.proofs.Known.{AreOf}
 use Rattle.history.proofs.Calls.{stands, IsStateless}
+use Rattle.history.proofs.Reached.{rows_free}
 use Rattle.history.proofs.Turns.{CallGoesOn, KindLaws}
 use Rattle.history.proofs.Passes.{opens, one_more}
 
@@ -152,8 +153,8 @@ module _ {T : Type 0} (K : SetKind T) (laws : (code : Coding T) (c : ℕ) → Se
       first_here : first_of K.kind base.capacity call.start t.world.kept ≡ Some (call.flight c m)
       first_here = subst (λ n. first_of K.kind n call.start t.world.kept ≡ Some (call.flight c m)) (sym size) (subst (λ k. first_of K.kind capacity call.start k ≡ Some (call.flight c m)) (sym kept) first)
 
-      may_here : (p : ℕ) → first_row (begin_rows K.kind base.capacity t.world.kept p call.start) ≡ None
-      may_here p = subst (λ n. first_row (begin_rows K.kind n t.world.kept p call.start) ≡ None) (sym size) (subst (λ k. first_row (begin_rows K.kind capacity k p call.start) ≡ None) (sym kept) (may p))
+      may_here : (p : ℕ) → first_row (rows_as K.kind base.capacity t.world.kept p call.start) ≡ None
+      may_here p = rows_free K.kind base.capacity t.world.kept p call.start (subst (λ n. first_row (begin_rows K.kind n t.world.kept p call.start) ≡ None) (sym size) (subst (λ k. first_row (begin_rows K.kind capacity k p call.start) ≡ None) (sym kept) (may p)))
 
       go : (o : Option ℕ) → base.party ≡ o → IfSome o (λ p. owner p ≡ j) → Starts code K.kind call base c m t owner j
       go None e h = record { party = j; mine = self; by = by base.party j (subst (λ (z : Option ℕ). IfSome z (λ q. q ≡ j)) (sym e) tt); first = first_here; may = may_here j }

@@ -21,7 +21,7 @@ use Rattle.model.specs.declared.turn.Kind.{Kind}
 use Rattle.model.specs.declared.turn.Turn.{Turn}
 use Rattle.model.specs.declared.turn.Turn.TheVariants.{Begin, Next, Decide}
 use Rattle.model.specs.Coding.{Coding}
-use Rattle.model.specs.Families.{first_of, begin_rows, going_rows, want_of, after_of, goes_of, ask_of}
+use Rattle.model.specs.Families.{first_of, going_rows, want_of, after_of, goes_of, ask_of}
 use Rattle.model.specs.Parties.{party_of}
 use Rattle.model.specs.Promises.Turns.{ask_in}
 use Rattle.model.specs.Refusals.{call_refusal}
@@ -38,6 +38,7 @@ use Rattle.lock_free_sp.specs.Shares.{Shares, IsAll}
 use Rattle.history.specs.declared.view.View.{View}
 use Rattle.history.specs.Known.{events_by, by_party, owned, of_none}
 use Rattle.history.specs.History.{IsBeginning, IsRun, IsMachine, Fits, HasSeenOf, call_in, IsLate}
+use Rattle.history.specs.Stages.{rows_as}
 use Rattle.history.proofs.Known.{by_more, by_same, by_other, by_mine, by_twice, by_apart, owned_none, owned_one, owned_whole, late_none, none_late, late_more, AreOf, sum_first}
 use Rattle.history.proofs.Reached.{refusal_as, begin_as, next_as, reached_as_more, fresh_as_more}
 use Rattle.history.proofs.Calls.{IsStateless, goes_alike, stands, flight_is, no_flight, next_other, begin_other, decision_other, begin_own, call_then, moved, heard_going, heard_events, get_left, set_left, Moved}
@@ -300,22 +301,19 @@ module _ {T : Type 0} where
 
       -- ---- a call begins
 
-      module _ (start : Start T) (flight : Flight T) (idle : call_in u.world p ≡ None) (first : first_of kind capacity start u.world.kept ≡ Some flight) (may : first_row (begin_rows kind capacity u.world.kept p start) ≡ None) where
+      module _ (start : Start T) (flight : Flight T) (idle : call_in u.world p ≡ None) (first : first_of kind capacity start u.world.kept ≡ Some flight) (may : first_row (rows_as kind capacity u.world.kept p start) ≡ None) where
         first_here : first_of u.world.kind u.world.capacity start u.world.kept ≡ Some flight
         first_here =
             ap (λ k. first_of k u.world.capacity start u.world.kept) b.run.of_kind
             ∙ (ap (λ n. first_of kind n start u.world.kept) b.run.sized ∙ first)
 
-        pub begins_free : call_refusal u.world (Begin p start) ≡ None
+        begins_free : refusal_as kind u.world (Begin p start) ≡ None
         begins_free =
-            let rows : first_row (begin_rows u.world.kind u.world.capacity u.world.kept p start) ≡ None =
-            ap (λ k. first_row (begin_rows k u.world.capacity u.world.kept p start)) b.run.of_kind
-            ∙ (ap (λ n. first_row (begin_rows kind n u.world.kept p start)) b.run.sized ∙ may)
-            in
-            rw (no_flight u.world p idle) rows
+            begin_as kind u.world p start b.run.of_kind (no_flight u.world p idle)
+            (subst (λ n. first_row (rows_as kind n u.world.kept p start) ≡ None) (sym b.run.sized) may)
 
         begins : Between owner s id p (gained ++ events_by p (Begun p start ∷ [])) (after_turn u (Begin p start))
-        begins = turned s.words (Begin p start) (begin_as kind u.world p start begins_free) tt
+        begins = turned s.words (Begin p start) begins_free tt
             (b.words ∙ ap (λ ws. ws ++ 0 ∷ []) (sym (writes_one_word u.world (Begin p start)))) refl
             (λ q ne. subst (λ zs. IsLate kind (call_in u.world q) zs) (sym (by_other p q (Begun p start ∷ []) ne (refl, tt)))
             (none_late kind (call_in u.world q))) (λ j ne. begin_other u.world p j start ne (first_of u.world.kind u.world.capacity start u.world.kept))
