@@ -41,6 +41,7 @@ use Rattle.history.specs.Known.{owned}
 use Rattle.history.specs.Stages.{Starts, Calling}
 use Rattle.history.proofs.Calls.{stands, IsStateless}
 use Rattle.history.proofs.Known.{AreOf}
+use Rattle.history.proofs.Starting.{starts_by_last}
 use Rattle.history.proofs.Turns.{CallGoesOn, KindLaws}
 
 module _ {T : Type 0} where
@@ -159,7 +160,8 @@ module _ {T : Type 0} (code : Coding T) (base : View T) where
     pub robust_starts : (t : Trace T) (owner : ℕ → ℕ) (j : ℕ) → IsOn t → owner j ≡ j → IfSome base.party (λ p. owner p ≡ j)
         → ((f : Event T → ℕ) → sum_by f base.made ≡ sum_by (owned owner j f) t.events)
         → Starts code kinds.Robust call base c m t owner j
-    robust_starts t owner j run self party sums = go base.party refl party
+    robust_starts t owner j run self party sums =
+        starts_by_last code kinds.Robust call base c m t owner j by_last self party first_here may
       where
         kept : (dead : List ℕ) × (t.world.kept ≡ kepts.TheVariants.Owners dead) × ((owner : ℕ) → has_died owner dead ≡ false)
         kept = kept_there t run
@@ -172,15 +174,3 @@ module _ {T : Type 0} (code : Coding T) (base : View T) where
 
         first_here : first_of kinds.Robust base.capacity call.start t.world.kept ≡ Some (call.flight c m)
         first_here = rw named (first_is t.world.kept)
-
-        go : (o : Option ℕ) → base.party ≡ o → IfSome o (λ p. owner p ≡ j) → Starts code kinds.Robust call base c m t owner j
-        go None e h = record {
-          party = j;
-          mine = self;
-          by = by_last base.party j
-              (subst (λ (z : Option ℕ). IfSome z (λ q. q ≡ j)) (sym e) tt);
-          first = first_here;
-          may = may j;
-        }
-        go (Some p) e h = record
-            { party = p; mine = h; by = by_last base.party p (subst (λ (z : Option ℕ). IfSome z (λ q. q ≡ p)) (sym e) refl); first = first_here; may = may p }
