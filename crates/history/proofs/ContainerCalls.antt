@@ -1,9 +1,9 @@
 -- That a remove of the container, and its looks at its set, are calls of the model.
-use Rattle.std.proofs.Common.{◌≡◌, inl, inr, ℕ, ◌+◌, ◌*◌, ◌<◌, ◌≤◌, ◌==◌, nat_lt, nat_le, Bool, true, false, None, Ok, Err, List, [], ◌∷◌, ◌++◌, append-nil, refl, sym, ap, subst, ◌∙◌, arith}
+use Rattle.std.proofs.Common.{◌≡◌, inl, ℕ, ◌+◌, ◌<◌, ◌≤◌, ◌==◌, nat_lt, true, false, None, Ok, Err, List, [], ◌++◌, append-nil, refl, sym, ap, subst, arith}
 use Rattle.std.proofs.lemmas.Bool.Decides.{nat_tests}
 use Rattle.steps.specs.Container.Layout.{is_even, change_word, count_word, total_words}
-use Rattle.steps.specs.Container.Remove.{Removed, first_remove, at_remove, inner_release, remove_asks, remove_want, remove_released, remove_takes, remove_after}
-use Rattle.steps.specs.Indices.Robust.Looks.{first_borrowed, borrowed_want, borrowed_counted, borrowed_after, locked_after}
+use Rattle.steps.specs.Container.Remove.{Removed, first_remove, inner_release, remove_asks, remove_want, remove_released, remove_takes, remove_after}
+use Rattle.steps.specs.Indices.Robust.Looks.{first_borrowed, borrowed_want, borrowed_after, locked_after}
 use Rattle.steps.specs.Indices.Robust.Parts.{empty, count_after}
 use Rattle.steps.specs.Indices.Robust.Release.{Released, release_takes}
 use Rattle.steps.specs.Picks.{by_test}
@@ -16,17 +16,13 @@ use Rattle.steps.specs.declared.ask.Want.TheVariants as wants
 use Rattle.steps.specs.declared.container.remove.Remove.{Remove as Removing}
 use Rattle.steps.specs.declared.container.remove.RemoveStage.{RemoveStage}
 use Rattle.steps.specs.declared.container.remove.RemoveStage.TheVariants as removes
-use Rattle.steps.specs.declared.indices.enums.ReleaseState.{ReleaseState}
 use Rattle.steps.specs.declared.indices.robust.looks.BorrowedIndices.{BorrowedIndices as Counting}
 use Rattle.steps.specs.declared.indices.robust.looks.IsLocked.{IsLocked as Looking}
 use Rattle.steps.specs.declared.indices.robust.release.GiveBack.{GiveBack}
 use Rattle.steps.specs.declared.indices.robust.release.Release.{Release as Releasing}
 use Rattle.steps.specs.declared.indices.robust.release.ReleaseStage.{ReleaseStage}
-use Rattle.steps.specs.declared.indices.robust.release.ReleaseStage.TheVariants as releases
 use Rattle.model.specs.declared.event.Answer.{Answer}
 use Rattle.model.specs.declared.event.Event.{Event}
-use Rattle.model.specs.declared.event.Event.TheVariants.{Hidden}
-use Rattle.model.specs.declared.families.Flight.{Flight}
 use Rattle.model.specs.declared.families.Flight.TheVariants as flights
 use Rattle.model.specs.declared.families.container.ContainerStart.TheVariants.{Remove, IsLocked}
 use Rattle.model.specs.declared.families.container.calls.ContainerFlight.TheVariants as calls
@@ -43,9 +39,8 @@ use Rattle.model.specs.Families.Queues.Calls.{as_it_is}
 use Rattle.model.specs.Step.{as_call}
 use Rattle.lock_free_sp.specs.Driver.{answered, KeepsRule}
 use Rattle.history.specs.declared.view.View.{View}
-use Rattle.history.specs.Container.{when, HasCleared, RemoveIn, HasRemovedIt, RemovedAt, HasRemoved, removes_value, count_start, counts_values, sees_lock}
+use Rattle.history.specs.Container.{RemoveIn, HasRemovedIt, RemovedAt, HasRemoved, removes_value, count_start, counts_values, sees_lock}
 use Rattle.history.specs.History.{IsMachine}
-use Rattle.history.specs.Robust.{ReleaseIn, CountIn, freed_at, HasGiven}
 use Rattle.history.specs.Stages.{At, Ends}
 use Rattle.history.proofs.CallsIn.{AsksFor}
 use Rattle.history.proofs.Containers.{plain_effects, container_words, container_keeps, container_first, container_starts, fewer}

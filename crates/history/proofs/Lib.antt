@@ -26,6 +26,7 @@ pub mod RobustCalls
 pub mod RobustRecoveries
 pub mod Containers
 pub mod ContainerCalls
+pub mod ContainerAdds
 pub mod Finds
 pub mod Rooms
 pub mod Values
