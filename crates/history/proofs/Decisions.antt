@@ -40,7 +40,10 @@ pub record IsAskingOf {T C M E : Type 0} (code : Coding T) (kind : Kind) (effect
   pub steps : StepsOf ((capacity : ℕ) (c : C) → call.stands capacity c → is_question (want c) ≡ false → AsksFor (size_of capacity) (want c)) code effects want
       after kept call
   pub never : (c : C) (n : ℕ) → call.skips c n ≡ false
-  pub same_call : (c d : C) (m k : M) → call.flight c m ≡ call.flight d k → (c ≡ d) × (m ≡ k)
+  pub same_call : (c d : C) (m k : M) → call.flight c m ≡ call.flight d k → c ≡ d
+  -- what it has written tells no rooms apart that the model has as one
+  pub same_room : (capacity p : ℕ) (from : Option (Start T × Flight T)) (c : C) (m k : M) (es : List (Event T)) → call.flight c m ≡ call.flight c k
+      → call.wrote capacity p from c m es → call.wrote capacity p from c k es
   pub first : (n : ℕ) (c : C) (m : M) → first_of kind n call.start ((opening_of kind).kept n) ≡ Some (call.flight c m) → is_question (want c) ≡ false
   pub one : (c d : C) (n : ℕ) → is_question (want c) ≡ true → after c n ≡ GoOn d → is_question (want d) ≡ false
   pub lasts : (c : C) (e : E) (n : ℕ) → is_question (want c) ≡ true → after c n ≡ Done e → ⊥
@@ -117,15 +120,36 @@ module _ {T C M E : Type 0} (code : Coding T) (kind : Kind) (decides : MayDecide
         (call.flight c m) h.said y.there free comes
 
     module _ (base : View T) (k : Heard base v c m) where
-      same_one : (k.asking ≡ h.asking) × (k.room ≡ h.room)
-      same_one =
+      same_flight : call.flight k.asking k.room ≡ from
+      same_flight =
           let both : ◌≡◌ {A = Option (Start T × Flight T)} (Some (call.start, call.flight k.asking k.room)) (Some (call.start, from)) = sym k.before.going
           ∙ h.before.going in
           let pair : ◌≡◌ {A = Start T × Flight T} (call.start, call.flight k.asking k.room) (call.start, from) = cc in
-          same_call k.asking h.asking k.room h.room (ap (λ (z : Start T × Flight T). z.1) pair)
+          ap (λ (z : Start T × Flight T). z.1) pair
+
+      same_asking : k.asking ≡ h.asking
+      same_asking = same_call k.asking h.asking k.room h.room same_flight
 
       stage_then : Stage base v h.asking h.room
-      stage_then = inr (subst (λ (z : C × M). IsUnderWay code kind call base v z.0 z.1) (λ i. (same_one.0 i, same_one.1 i)) k.before)
+      stage_then =
+          let under : IsUnderWay code kind call base v h.asking k.room = subst (λ z. IsUnderWay code kind call base v z k.room) same_asking k.before in
+          let same : call.flight h.asking k.room ≡ from = ap (λ z. call.flight z k.room) (sym same_asking) ∙ same_flight in
+          inr (record {
+            capacity = under.capacity;
+            standing = under.standing;
+            share = under.share;
+            some = under.some;
+            party = under.party;
+            mine = under.mine;
+            same = under.same;
+            going = h.before.going;
+            past = under.past;
+            alone = under.alone;
+            wrote = under.wrote;
+            tells = is_call.same_room base.capacity under.party base.going h.asking k.room h.room under.wrote same under.tells;
+            since = under.since;
+            history = under.history;
+          })
 
       told_by : Told_by code kind effects size_of laws call y.p h.asking h.room base y.u.events (v.made ++ y.gained)
       told_by = y.prior base stage_then
@@ -185,7 +209,7 @@ module _ {T C M E : Type 0} (code : Coding T) (kind : Kind) (decides : MayDecide
       (Some (call.start, call.flight c m)) = sym k.before.going ∙ under.going in
       let pair : ◌≡◌ {A = Start T × Flight T} (call.start, call.flight k.asking k.room) (call.start, call.flight c m) = cc in
       let same = same_call k.asking c k.room m (ap (λ (z : Start T × Flight T). z.1) pair) in
-      clash (is_question (want c)) (subst (λ z. is_question (want z) ≡ true) same.0 (ap is_question (sym (steps.same_want k.asking k.room)) ∙ k.asks)) still
+      clash (is_question (want c)) (subst (λ z. is_question (want z) ≡ true) same (ap is_question (sym (steps.same_want k.asking k.room)) ∙ k.asks)) still
 
   standing : (base v : View T) (c : C) (m : M) → AtAsked code kind after kept call base v c m → call.stands base.capacity c
   standing base v c m (inl stage) = still_stands code kind effects size_of laws call base v c m stage

@@ -12,6 +12,7 @@ pub mod Overflow
 pub mod Value
 pub mod ValueQueue
 pub mod ValueOpened
+pub mod ContainerRecovery
 pub mod Views
 pub mod Passes
 pub mod Finds
