@@ -16,7 +16,7 @@ use Rattle.model.specs.declared.turn.Kind.{Kind}
 use Rattle.model.specs.declared.turn.Turn.{Turn}
 use Rattle.model.specs.declared.turn.Turn.TheVariants.{Begin, Next}
 use Rattle.model.specs.Coding.{Coding}
-use Rattle.model.specs.Families.{first_of, begin_rows, want_of, after_of, ask_of}
+use Rattle.model.specs.Families.{first_of, want_of, goes_of, ask_of}
 use Rattle.model.specs.Rows.{first_row}
 use Rattle.model.specs.Step.{answer_in}
 use Rattle.model.specs.Reading.{span_of, own_after, Open}
@@ -26,16 +26,16 @@ use Rattle.lock_free_sp.specs.Shares.{IsAll}
 use Rattle.history.specs.declared.view.View.{View}
 use Rattle.history.specs.Known.{events_by, by_party, owned}
 use Rattle.history.specs.History.{IsRun, IsMachine, Fits, IsLate, call_in}
-use Rattle.history.specs.Stages.{Calling, Since, opened, Starts, IsUnderWay, At, Ends}
+use Rattle.history.specs.Stages.{Calling, Since, opened, Starts, IsUnderWay, At, Ends, rows_as}
 use Rattle.queue_laws.proofs.Queues.Knows.{IsFreshCall}
 use Rattle.history.proofs.Known.{known_whole, by_more, nil_right, idle_seat, late_none, none_late}
 use Rattle.history.proofs.Calls.{call_then}
-use Rattle.history.proofs.Turns.{MachineLaws, Between, want_for, at_ask, at_first, begun, begun_at, gone, goes_to, told as turn_told, own_told, found_old, made_between}
+use Rattle.history.proofs.Turns.{KeptLaws, Between, want_for, at_ask, at_first, begun, begun_at, gone, goes_to, told as turn_told, own_told, found_old, made_between}
 use Rattle.history.proofs.Steps.{view_after}
 use Rattle.history.proofs.CallsIn.{no_rest, same_rest, none_after, regroup, Prior, span_since}
 use Rattle.history.proofs.CallsIn.{Met}
 
-module _ {T C M E : Type 0} (code : Coding T) (kind : Kind) (effects : World T → ℕ → Flight T → ℕ → List (Event T)) (size_of : ℕ → ℕ) (laws : (capacity : ℕ) → MachineLaws code kind capacity (size_of capacity) effects) (call : Calling T C M E) where
+module _ {T C M E : Type 0} (code : Coding T) (kind : Kind) (effects : World T → ℕ → Flight T → ℕ → List (Event T)) (size_of : ℕ → ℕ) (laws : (capacity : ℕ) → KeptLaws code kind capacity (size_of capacity) effects) (call : Calling T C M E) where
   abbrev Stage : View T → View T → C → M → Type 0
   Stage base v c m = At code kind call base v c m
 
@@ -195,7 +195,7 @@ module _ {T C M E : Type 0} (code : Coding T) (kind : Kind) (effects : World T �
         let p = starts.party in
         let idle : (q : ℕ) → r.owner q ≡ id → call_in r.trace.world q ≡ None = idle_seat r.owner r.trace id v none here in
         let is_first : first_of kind key call.start r.trace.world.kept ≡ Some (call.flight c m) = subst (λ n. first_of kind n call.start r.trace.world.kept ≡ Some (call.flight c m)) size starts.first in
-        let may : first_row (begin_rows kind key r.trace.world.kept p call.start) ≡ None = subst (λ n. first_row (begin_rows kind n r.trace.world.kept p call.start) ≡ None) size starts.may in
+        let may : first_row (rows_as kind key r.trace.world.kept p call.start) ≡ None = subst (λ n. first_row (rows_as kind n r.trace.world.kept p call.start) ≡ None) size starts.may in
         let before : Between code kind key r.owner s id p [] r.trace = at_first code kind key s id p r [] starts.mine self (λ q of_id ne. idle q of_id) (λ u there f. (let same : sum_by f u.made ≡ sum_by f v.made = ap (λ (z : View T). sum_by f z.made) (some-injective u v (sym there ∙ at)) in let all = own_made f in omega arith)) in
         record {
           p = p;
@@ -252,6 +252,10 @@ module _ {T C M E : Type 0} (code : Coding T) (kind : Kind) (effects : World T �
     abbrev flight_now : Flight T
     flight_now = call.flight c m
 
+    -- how it goes on, by what is kept
+    abbrev pub comes_now : After (Flight T) (Answer T)
+    comes_now = goes_of code y.p flight_now found y.u.world.kept
+
     abbrev pub then_trace : Trace T
     then_trace = after_turn y.u (Next y.p)
 
@@ -261,7 +265,7 @@ module _ {T C M E : Type 0} (code : Coding T) (kind : Kind) (effects : World T �
     pub next_between : Between code kind key y.owner (record { words = words_after s.words ask; homes = s.homes; views = s.views }) id y.p then_gained then_trace
     next_between = gone code kind key (size_of key) effects (laws key) y.owner s id y.p y.gained y.u y.between call.start flight_now ask low y.there asks_it finds
 
-    going_then : call_in then_trace.world y.p ≡ call_then call.start (after_of code flight_now found)
+    going_then : call_in then_trace.world y.p ≡ call_then call.start (comes_now)
     going_then = goes_to code kind key (size_of key) effects (laws key) y.owner s id y.p y.gained y.u y.between call.start flight_now ask low y.there asks_it finds
 
     run_then : (base : View T) → Stage base v c m → IsRun code kind base.capacity then_trace
@@ -288,7 +292,7 @@ module _ {T C M E : Type 0} (code : Coding T) (kind : Kind) (effects : World T �
         }
 
     -- it is later by what the step wrote, and by its end
-    since_then : (base : View T) (wrote last : List (Event T)) → Prior y.p call.start wrote base y.u.events (v.made ++ y.gained) → ending_of y.p call.start (answer_in (after_of code flight_now found)) ≡ last → Since y.p call.start (wrote ++ mine_now) last base view_then
+    since_then : (base : View T) (wrote last : List (Event T)) → Prior y.p call.start wrote base y.u.events (v.made ++ y.gained) → ending_of y.p call.start (answer_in (comes_now)) ≡ last → Since y.p call.start (wrote ++ mine_now) last base view_then
     since_then base wrote last prior ends =
         let told_now : events_of y.u.world (Next y.p) ≡ effs ++ last =
         turn_told code kind key (size_of key) effects (laws key) y.owner s id y.p y.gained y.u y.between call.start flight_now ask low y.there asks_it finds ∙ ap (λ zs. effs ++ zs) ends
@@ -299,7 +303,7 @@ module _ {T C M E : Type 0} (code : Coding T) (kind : Kind) (effects : World T �
         since_turn y.p id (Next y.p) y.u v base y.gained wrote effs last prior told_now own_now
 
     -- the call goes on
-    pub goes_then : (base : View T) (stage : Stage base v c m) (d : C) (m' : M) → after_of code flight_now found ≡ GoOn (call.flight d m') → call.stands base.capacity d → ((n : ℕ) → call.skips d n ≡ false)
+    pub goes_then : (base : View T) (stage : Stage base v c m) (d : C) (m' : M) → comes_now ≡ GoOn (call.flight d m') → call.stands base.capacity d → ((n : ℕ) → call.skips d n ≡ false)
         → ((es late : List (Event T)) → call.wrote base.capacity y.p base.going c m es → IsLate kind (Some (call.start, flight_now)) late → Met code kind base.capacity call.start flight_now y.p base.going (es ++ late) found y.u → call.wrote base.capacity y.p base.going d m' ((es ++ late) ++ mine_now)) → IsUnderWay code kind call base view_then d m'
     goes_then base stage d m' afters standing past tells =
         let before = y.prior base stage in
@@ -321,7 +325,7 @@ module _ {T C M E : Type 0} (code : Coding T) (kind : Kind) (effects : World T �
         }
 
     -- the call ends
-    pub ends_then : (base : View T) (stage : Stage base v c m) (end : E) (m' : M) → after_of code flight_now found ≡ Done (call.answer end m')
+    pub ends_then : (base : View T) (stage : Stage base v c m) (end : E) (m' : M) → comes_now ≡ Done (call.answer end m')
         → ((es late : List (Event T)) → call.wrote base.capacity y.p base.going c m es → IsLate kind (Some (call.start, flight_now)) late → Met code kind base.capacity call.start flight_now y.p base.going (es ++ late) found y.u → call.wrote_all base.capacity y.p base.going end m' ((es ++ late) ++ mine_now)) → Ends code kind call base end m' view_then
     ends_then base stage end m' afters tells =
         let before = y.prior base stage in

@@ -13,6 +13,7 @@ pub mod CallTurns
 pub mod Drives
 pub mod Decisions
 pub mod Made
+pub mod Starting
 pub mod Sets
 pub mod Ledger
 pub mod Held
@@ -23,6 +24,9 @@ pub mod Robusts
 pub mod RobustParts
 pub mod RobustCalls
 pub mod RobustRecoveries
+pub mod Containers
+pub mod ContainerCalls
+pub mod ContainerAdds
 pub mod Finds
 pub mod Rooms
 pub mod Values

@@ -42,7 +42,7 @@ use Rattle.history.specs.Robust.{RecoverIn, Came, HasAsked, WasTold, HasFreed, H
 use Rattle.history.specs.Stages.{Ends, AtAsked}
 use Rattle.history.proofs.CallsIn.{AsksFor}
 use Rattle.history.proofs.Decisions.{IsAskingOf, keeps_asked, hears_answer}
-use Rattle.history.proofs.Drives.{goes}
+use Rattle.history.proofs.Drives.{goes, all_kept_laws, acts_alone}
 use Rattle.history.proofs.RobustParts.{found_of, raise_found, lock_found, raise_asks, lock_asks, LockOn, lock_on}
 use Rattle.history.proofs.Robusts.{robust_effects, cells_and_counter, robusts_owe, robust_starts}
 
@@ -225,8 +225,8 @@ module _ {T : Type 0} (code : Coding T) (mode : ReleaseMode) where
   begun_recovery c None = c
   begun_recovery c (Some flight) = recovery_of c flight
 
-  same_recovery : (c d : Recovering) (m k : Unit {0}) → (recovers_owned {T = T} mode).flight c m ≡ (recovers_owned mode).flight d k → (c ≡ d) × (m ≡ k)
-  same_recovery c d m k e = (ap (recovery_of c) e, refl)
+  same_recovery : (c d : Recovering) (m k : Unit {0}) → (recovers_owned {T = T} mode).flight c m ≡ (recovers_owned mode).flight d k → c ≡ d
+  same_recovery c d m k e = ap (recovery_of c) e
 
   pub recover_call : IsAskingOf code kinds.Robust robust_effects cells_and_counter recover_want after kept (recovers_owned mode)
   recover_call =
@@ -246,6 +246,7 @@ module _ {T : Type 0} (code : Coding T) (mode : ReleaseMode) where
             };
         never = λ c n. refl;
         same_call = same_recovery;
+        same_room = λ capacity p from c m k es e wrote. wrote;
         first = λ n c m e. ap (λ (z : Recovering). is_question (recover_want z)) (sym (ap (λ (o : Option (Flight T)). begun_recovery c o) e));
         one = λ c d n due e. subst AnswersOn e (answers_on c mode c.stage n due);
         lasts = λ c end n due e. subst AnswersOn e (answers_on c mode c.stage n due);
@@ -255,15 +256,17 @@ module _ {T : Type 0} (code : Coding T) (mode : ReleaseMode) where
   pub recover_keeps : KeepsRule (λ (z : View T). z.capacity) (AtAsked code kinds.Robust after kept (recovers_owned mode))
       (Ends code kinds.Robust (recovers_owned mode)) (λ key. cells_and_counter key + 1) (λ key. key)
       (λ key. IsMachine code kinds.Robust key) recover_want after kept
-  recover_keeps = keeps_asked code kinds.Robust tt robust_effects cells_and_counter (robusts_owe code) recover_want after kept
-      (recovers_owned mode) recover_call
+  recover_keeps = keeps_asked code kinds.Robust tt (λ w. robust_effects) robust_effects cells_and_counter
+      (all_kept_laws code kinds.Robust robust_effects cells_and_counter (robusts_owe code)) recover_want after kept (recovers_owned mode)
+      (acts_alone code kinds.Robust robust_effects cells_and_counter (robusts_owe code) (recovers_owned mode)) recover_call
 
   -- a recovery that has asked goes on from the answer
   pub recover_hears : (base v : View T) (c d : Recovering) (m : Unit {0}) (said : Bool) → is_question (recover_want c) ≡ true
       → after c (number_of said) ≡ GoOn d
       → AtAsked code kinds.Robust after kept (recovers_owned mode) base v c m → AtAsked code kinds.Robust after kept (recovers_owned mode) base v d m
-  recover_hears = hears_answer code kinds.Robust tt robust_effects cells_and_counter (robusts_owe code) recover_want after kept
-      (recovers_owned mode) recover_call
+  recover_hears = hears_answer code kinds.Robust tt (λ w. robust_effects) robust_effects cells_and_counter
+      (all_kept_laws code kinds.Robust robust_effects cells_and_counter (robusts_owe code)) recover_want after kept (recovers_owned mode)
+      (acts_alone code kinds.Robust robust_effects cells_and_counter (robusts_owe code) (recovers_owned mode)) recover_call
 
   pub recover_first : (v : View T) (m : Unit {0}) → v.going ≡ None → v.other ≡ [] → 0 < v.share.part
       → AtAsked code kinds.Robust after kept (recovers_owned mode) v v (first_recover v.capacity) m

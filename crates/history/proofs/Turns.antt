@@ -21,7 +21,7 @@ use Rattle.model.specs.declared.turn.Kind.{Kind}
 use Rattle.model.specs.declared.turn.Turn.{Turn}
 use Rattle.model.specs.declared.turn.Turn.TheVariants.{Begin, Next, Decide}
 use Rattle.model.specs.Coding.{Coding}
-use Rattle.model.specs.Families.{first_of, begin_rows, going_rows, want_of, after_of, ask_of}
+use Rattle.model.specs.Families.{first_of, going_rows, want_of, after_of, goes_of, ask_of}
 use Rattle.model.specs.Parties.{party_of}
 use Rattle.model.specs.Promises.Turns.{ask_in}
 use Rattle.model.specs.Refusals.{call_refusal}
@@ -38,9 +38,10 @@ use Rattle.lock_free_sp.specs.Shares.{Shares, IsAll}
 use Rattle.history.specs.declared.view.View.{View}
 use Rattle.history.specs.Known.{events_by, by_party, owned, of_none}
 use Rattle.history.specs.History.{IsBeginning, IsRun, IsMachine, Fits, HasSeenOf, call_in, IsLate}
+use Rattle.history.specs.Stages.{rows_as}
 use Rattle.history.proofs.Known.{by_more, by_same, by_other, by_mine, by_twice, by_apart, owned_none, owned_one, owned_whole, late_none, none_late, late_more, AreOf, sum_first}
 use Rattle.history.proofs.Reached.{refusal_as, begin_as, next_as, reached_as_more, fresh_as_more}
-use Rattle.history.proofs.Calls.{stands, flight_is, no_flight, next_other, begin_other, decision_other, begin_own, call_then, moved, heard_going, heard_events, get_left, set_left, Moved}
+use Rattle.history.proofs.Calls.{IsStateless, goes_alike, stands, flight_is, no_flight, next_other, begin_other, decision_other, begin_own, call_then, moved, heard_going, heard_events, get_left, set_left, Moved}
 
 -- what is wanted, where it is a word or nothing
 abbrev pub want_for : Option Ask → Want (Unit {0})
@@ -138,17 +139,31 @@ module _ {T : Type 0} where
   -- ---- what a kind owes
 
   module _ (code : Coding T) (kind : Kind) (capacity words : ℕ) (effects : World T → ℕ → Flight T → ℕ → List (Event T)) where
-    -- of each of its calls under way: what a step writes, for another only what may be late there
+    -- of each of its calls under way: what a step writes, for another only what may be late there, and where it leads
     pub record StepsOn (t : Trace T) (p : ℕ) (flight : Flight T) : Type 0 where
       pub may : first_row (going_rows t.world.coding t.world.kept (Some flight) None) ≡ None
       pub writes : (x : Party T) (n : ℕ) → party_of p t.world.latest ≡ Some x → (step_in t.world p x flight n).wrote ≡ effects t.world p flight n
       pub someone : (n : ℕ) → sum_by (λ e. of_none (whose e)) (effects t.world p flight n) ≡ 0
       pub beside : (n q : ℕ) → q ≢ p → IsLate kind (call_in t.world q) (events_by q (effects t.world p flight n))
-      pub goes : (x : Party T) (n : ℕ) → party_of p t.world.latest ≡ Some x → (step_in t.world p x flight n).after ≡ after_of t.world.coding flight n
+      pub goes : (x : Party T) (n : ℕ) → party_of p t.world.latest ≡ Some x → (step_in t.world p x flight n).after ≡ goes_of t.world.coding p flight n t.world.kept
 
+    -- of a kind whose calls may go on by what is kept
+    pub record KeptLaws : Type 0 where
+      pub size : (t : Trace T) → IsRun code kind capacity t → length t.world.words ≡ words
+      pub steps_on : (t : Trace T) → IsRun code kind capacity t → (p : ℕ) (start : Start T) (flight : Flight T) → call_in t.world p ≡ Some (start, flight) → StepsOn t p flight
+
+    -- of one whose calls do not
     pub record MachineLaws : Type 0 where
       pub size : (t : Trace T) → IsRun code kind capacity t → length t.world.words ≡ words
       pub steps_on : (t : Trace T) → IsRun code kind capacity t → (p : ℕ) (start : Start T) (flight : Flight T) → call_in t.world p ≡ Some (start, flight) → StepsOn t p flight
+      pub stateless : (t : Trace T) → IsRun code kind capacity t → IsStateless t.world.kept
+
+    pub kept_laws : MachineLaws → KeptLaws
+    kept_laws laws = record { size = laws.size; steps_on = laws.steps_on }
+
+    pub goes_on_alike : MachineLaws → (t : Trace T) → IsRun code kind capacity t → (p : ℕ) (flight : Flight T) (n : ℕ)
+        → goes_of code p flight n t.world.kept ≡ after_of code flight n
+    goes_on_alike laws t run p flight n = goes_alike code p flight n t.world.kept (laws.stateless t run)
 
   -- what a kind owes whose parties write for themselves alone
   module _ (code : Coding T) (kind : Kind) (capacity words : ℕ) (effects : ℕ → Flight T → ℕ → List (Event T)) where
@@ -162,6 +177,7 @@ module _ {T : Type 0} where
       pub size : (t : Trace T) → IsRun code kind capacity t → length t.world.words ≡ words
       pub goes_on : (t : Trace T) → IsRun code kind capacity t → (p : ℕ) (start : Start T) (flight : Flight T) → call_in t.world p ≡ Some (start, flight) → CallGoesOn t p flight
       pub alone : (going : Option (Start T × Flight T)) (late : List (Event T)) → IsLate kind going late → late ≡ []
+      pub stateless : (t : Trace T) → IsRun code kind capacity t → IsStateless t.world.kept
 
     own_beside : (w : World T) (p q : ℕ) (es : List (Event T)) → q ≢ p → AreOf p es → IsLate kind (call_in w q) (events_by q es)
     own_beside w p q es ne own = subst (λ zs. IsLate kind (call_in w q) zs) (sym (by_other p q es ne own)) (none_late kind (call_in w q))
@@ -177,8 +193,9 @@ module _ {T : Type 0} where
                 writes = own.writes;
                 someone = λ n. all_someone p (effects p flight n) (own.own n);
                 beside = λ n q ne. own_beside t.world p q (effects p flight n) ne (own.own n);
-                goes = own.goes;
+                goes = λ x n found. own.goes x n found ∙ sym (goes_alike t.world.coding p flight n t.world.kept (laws.stateless t run));
               });
+          stateless = laws.stateless;
         }
 
   module _ (code : Coding T) (kind : Kind) (capacity : ℕ) where
@@ -241,7 +258,7 @@ module _ {T : Type 0} where
           fresh = fresh_as_more kind t turn e fresh r.fresh;
         }
 
-    module _ (words : ℕ) (effects : World T → ℕ → Flight T → ℕ → List (Event T)) (laws : MachineLaws code kind capacity words effects) (owner : ℕ → ℕ) (s : State (Unit {0}) (View T)) (id p : ℕ) (gained : List (Event T)) (u : Trace T) (b : Between owner s id p gained u) where
+    module _ (words : ℕ) (effects : World T → ℕ → Flight T → ℕ → List (Event T)) (laws : KeptLaws code kind capacity words effects) (owner : ℕ → ℕ) (s : State (Unit {0}) (View T)) (id p : ℕ) (gained : List (Event T)) (u : Trace T) (b : Between owner s id p gained u) where
       -- a party of another seat is another
       not_mine : (j q : ℕ) → j ≢ id → owner q ≡ j → q ≢ p
       not_mine j q ne own e = ne (sym own ∙ (ap owner e ∙ b.mine))
@@ -284,22 +301,19 @@ module _ {T : Type 0} where
 
       -- ---- a call begins
 
-      module _ (start : Start T) (flight : Flight T) (idle : call_in u.world p ≡ None) (first : first_of kind capacity start u.world.kept ≡ Some flight) (may : first_row (begin_rows kind capacity u.world.kept p start) ≡ None) where
+      module _ (start : Start T) (flight : Flight T) (idle : call_in u.world p ≡ None) (first : first_of kind capacity start u.world.kept ≡ Some flight) (may : first_row (rows_as kind capacity u.world.kept p start) ≡ None) where
         first_here : first_of u.world.kind u.world.capacity start u.world.kept ≡ Some flight
         first_here =
             ap (λ k. first_of k u.world.capacity start u.world.kept) b.run.of_kind
             ∙ (ap (λ n. first_of kind n start u.world.kept) b.run.sized ∙ first)
 
-        pub begins_free : call_refusal u.world (Begin p start) ≡ None
+        begins_free : refusal_as kind u.world (Begin p start) ≡ None
         begins_free =
-            let rows : first_row (begin_rows u.world.kind u.world.capacity u.world.kept p start) ≡ None =
-            ap (λ k. first_row (begin_rows k u.world.capacity u.world.kept p start)) b.run.of_kind
-            ∙ (ap (λ n. first_row (begin_rows kind n u.world.kept p start)) b.run.sized ∙ may)
-            in
-            rw (no_flight u.world p idle) rows
+            begin_as kind u.world p start b.run.of_kind (no_flight u.world p idle)
+            (subst (λ n. first_row (rows_as kind n u.world.kept p start) ≡ None) (sym b.run.sized) may)
 
         begins : Between owner s id p (gained ++ events_by p (Begun p start ∷ [])) (after_turn u (Begin p start))
-        begins = turned s.words (Begin p start) (begin_as kind u.world p start begins_free) tt
+        begins = turned s.words (Begin p start) begins_free tt
             (b.words ∙ ap (λ ws. ws ++ 0 ∷ []) (sym (writes_one_word u.world (Begin p start)))) refl
             (λ q ne. subst (λ zs. IsLate kind (call_in u.world q) zs) (sym (by_other p q (Begun p start ∷ []) ne (refl, tt)))
             (none_late kind (call_in u.world q))) (λ j ne. begin_other u.world p j start ne (first_of u.world.kind u.world.capacity start u.world.kept))
@@ -357,35 +371,38 @@ module _ {T : Type 0} where
         its_step = moved u.world p start flight (effects u.world p flight) (stands u.world p start flight at) mine.goes mine.writes
 
         -- what it comes to, from the word that the table had
-        pub goes_to : call_in (after_turn u (Next p)).world p ≡ call_then start (after_of code flight found)
-        goes_to = its_step.going ∙ ap (call_then start) (ap (λ z. after_of z flight (old_of u.world.words (ask_of (want_of u.world.coding flight)))) b.run.coded ∙ ap (after_of code flight) found_old)
+        abbrev goes_then : ℕ → After (Flight T) (Answer T)
+        goes_then n = goes_of code p flight n u.world.kept
+
+        pub goes_to : call_in (after_turn u (Next p)).world p ≡ call_then start (goes_then found)
+        goes_to = its_step.going ∙ ap (call_then start) (ap (λ z. goes_of z p flight (old_of u.world.words (ask_of (want_of u.world.coding flight))) u.world.kept) b.run.coded ∙ ap goes_then found_old)
 
         abbrev pub tells : List (Event T)
-        tells = effects u.world p flight found ++ ending_of p start (answer_in (after_of code flight found))
+        tells = effects u.world p flight found ++ ending_of p start (answer_in (goes_then found))
 
         pub told : events_of u.world (Next p) ≡ tells
         told =
             its_step.events
-            ∙ (ap (λ z. effects u.world p flight (old_of u.world.words (ask_of (want_of u.world.coding flight))) ++ ending_of p start (answer_in (after_of z flight (old_of u.world.words (ask_of (want_of u.world.coding flight)))))) b.run.coded
-            ∙ ap (λ n. effects u.world p flight n ++ ending_of p start (answer_in (after_of code flight n))) found_old)
+            ∙ (ap (λ z. effects u.world p flight (old_of u.world.words (ask_of (want_of u.world.coding flight))) ++ ending_of p start (answer_in (goes_of z p flight (old_of u.world.words (ask_of (want_of u.world.coding flight))) u.world.kept))) b.run.coded
+            ∙ ap (λ n. effects u.world p flight n ++ ending_of p start (answer_in (goes_then n))) found_old)
 
-        ends_own : AreOf p (ending_of p start (answer_in (after_of code flight found)))
-        ends_own = ending_of_own p start (answer_in (after_of code flight found))
+        ends_own : AreOf p (ending_of p start (answer_in (goes_then found)))
+        ends_own = ending_of_own p start (answer_in (goes_then found))
 
         someone : sum_by (λ e. of_none (whose e)) (events_of u.world (Next p)) ≡ 0
         someone =
             let all : sum_by (λ e. of_none (whose e)) (events_of u.world (Next p)) ≡ sum_by (λ e. of_none (whose e)) tells = ap (sum_by (λ e. of_none (whose e))) told in
-            let one = sum_by-append (λ e. of_none (whose e)) (effects u.world p flight found) (ending_of p start (answer_in (after_of code flight found))) in
+            let one = sum_by-append (λ e. of_none (whose e)) (effects u.world p flight found) (ending_of p start (answer_in (goes_then found))) in
             let wrote = mine.someone found in
-            let ends = all_someone p (ending_of p start (answer_in (after_of code flight found))) ends_own in
+            let ends = all_someone p (ending_of p start (answer_in (goes_then found))) ends_own in
             omega arith
 
         beside : (q : ℕ) → q ≢ p → IsLate kind (call_in u.world q) (events_by q (events_of u.world (Next p)))
-        beside q ne = subst (λ zs. IsLate kind (call_in u.world q) zs) (sym (ap (events_by q) told ∙ by_same q (effects u.world p flight found) (ending_of p start (answer_in (after_of code flight found))) (by_other p q (ending_of p start (answer_in (after_of code flight found))) ne ends_own))) (mine.beside found q ne)
+        beside q ne = subst (λ zs. IsLate kind (call_in u.world q) zs) (sym (ap (events_by q) told ∙ by_same q (effects u.world p flight found) (ending_of p start (answer_in (goes_then found))) (by_other p q (ending_of p start (answer_in (goes_then found))) ne ends_own))) (mine.beside found q ne)
 
         -- what it writes of its own
-        pub own_told : events_by p (events_of u.world (Next p)) ≡ events_by p (effects u.world p flight found) ++ ending_of p start (answer_in (after_of code flight found))
-        own_told = ap (events_by p) told ∙ (by_more p (effects u.world p flight found) (ending_of p start (answer_in (after_of code flight found))) ∙ ap (λ zs. events_by p (effects u.world p flight found) ++ zs) (by_mine p (ending_of p start (answer_in (after_of code flight found))) ends_own))
+        pub own_told : events_by p (events_of u.world (Next p)) ≡ events_by p (effects u.world p flight found) ++ ending_of p start (answer_in (goes_then found))
+        own_told = ap (events_by p) told ∙ (by_more p (effects u.world p flight found) (ending_of p start (answer_in (goes_then found))) ∙ ap (λ zs. events_by p (effects u.world p flight found) ++ zs) (by_mine p (ending_of p start (answer_in (goes_then found))) ends_own))
 
         words_then : words_after s.words ask ≡ (after_turn u (Next p)).world.words ++ 0 ∷ []
         words_then = go ask low asked
@@ -413,15 +430,15 @@ module _ {T : Type 0} where
       -- ---- it is handed an answer to its question, and goes on without a word
 
       module _ (start : Start T) (flight next : Flight T) (said : Bool) (at : call_in u.world p ≡ Some (start, flight))
-          (free : refusal_as kind u.world (Decide p said) ≡ None) (comes : after_of code flight (number_of said) ≡ GoOn next) where
+          (free : refusal_as kind u.world (Decide p said) ≡ None) (comes : goes_of code p flight (number_of said) u.world.kept ≡ GoOn next) where
         steps_so : StepsOn code kind capacity words effects u p flight
         steps_so = laws.steps_on u b.run p start flight at
 
         abbrev hears : List (Event T)
         hears = effects u.world p flight (number_of said)
 
-        comes_here : after_of u.world.coding flight (number_of said) ≡ GoOn next
-        comes_here = ap (λ z. after_of z flight (number_of said)) b.run.coded ∙ comes
+        comes_here : goes_of u.world.coding p flight (number_of said) u.world.kept ≡ GoOn next
+        comes_here = ap (λ z. goes_of z p flight (number_of said) u.world.kept) b.run.coded ∙ comes
 
         pub heard : events_of u.world (Decide p said) ≡ hears ++ []
         heard =
