@@ -96,14 +96,14 @@ module _ {T C M E : Type 0} (code : Coding T) (kind : Kind) (decides : MayDecide
 
     between_heard : Between code kind key y.owner s id y.p gained_then u_then
     between_heard = decided code kind key (size_of key) effects (laws key) y.owner s id y.p y.gained y.u y.between call.start from
-        (call.flight c m) h.said y.there free comes
+        (GoOn (call.flight c m)) h.said y.there free comes
 
     machine_heard : IsMachine code kind key table_heard
     machine_heard = settle code kind key id y.p y.owner s.words s v gained_then u_then at h.before.some between_heard
 
     there_heard : call_in u_then.world y.p ≡ Some (call.start, call.flight c m)
     there_heard = decided_at code kind key (size_of key) effects (laws key) y.owner s id y.p y.gained y.u y.between call.start from
-        (call.flight c m) h.said y.there free comes
+        (GoOn (call.flight c m)) h.said y.there free comes
 
     -- ---- whoever has heard an answer stands so, whatever the view with which its drive began
 
@@ -115,7 +115,7 @@ module _ {T C M E : Type 0} (code : Coding T) (kind : Kind) (decides : MayDecide
 
     told_heard : events_of y.u.world (Decide y.p h.said) ≡ effs ++ []
     told_heard = heard code kind key (size_of key) effects (laws key) y.owner s id y.p y.gained y.u y.between call.start from
-        (call.flight c m) h.said y.there free comes
+        (GoOn (call.flight c m)) h.said y.there free comes
 
     module _ (base : View T) (k : Heard base v c m) where
       same_one : (k.asking ≡ h.asking) × (k.room ≡ h.room)
