@@ -46,3 +46,4 @@ pub mod ValueQueueCalls
 pub mod ValueQueueRoles
 pub mod Holders
 pub mod OverflowHolders
+pub mod Settling

@@ -14,3 +14,4 @@ pub mod ValueOpened
 pub mod Views
 pub mod Passes
 pub mod Finds
+pub mod Settled
