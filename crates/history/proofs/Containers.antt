@@ -28,7 +28,6 @@ use Rattle.model.specs.Families.Container.Reading.{Act, acts_of}
 use Rattle.model.specs.Families.Container.Steps.{effects, questions}
 use Rattle.model.specs.Families.Indices.Robust.Dead.{has_died}
 use Rattle.model.specs.Families.Indices.Robust.Reading.{Deed, deeds_of}
-use Rattle.model.specs.Parties.{party_of}
 use Rattle.model.specs.Rows.{first_row}
 use Rattle.model.specs.Turns.{step_in}
 use Rattle.model.specs.World.{World, Trace}
@@ -49,7 +48,7 @@ use Rattle.history.specs.History.{IsRun, IsMachine, call_in}
 use Rattle.history.specs.Known.{owned}
 use Rattle.history.specs.Stages.{Calling, Starts, At, Ends, rows_as}
 use Rattle.history.proofs.Calls.{stands}
-use Rattle.history.proofs.CallsIn.{StepsOf, AsksFor, ActsAlone, steps_alone}
+use Rattle.history.proofs.CallsIn.{AsksFor, ActsAlone, steps_alone}
 use Rattle.history.proofs.Drives.{IsCallOf, keeps_all_there}
 use Rattle.history.proofs.Known.{AreOf, by_other}
 use Rattle.history.proofs.Sets.{effects_own}

@@ -1,5 +1,5 @@
 -- Calls that put questions: the machine is handed an answer with the call's next step, as it is told of a begin with the first.
-use Rattle.std.proofs.Common.{Bool, true, false, ◌≡◌, inl, inr, ℕ, ◌+◌, ◌<◌, Option, Some, None, List, [], ◌∷◌, ◌++◌, slice_index, slice_set, set-set, refl, sym, ap, subst, ◌∙◌, append-nil, arith}
+use Rattle.std.proofs.Common.{Bool, true, false, ◌≡◌, inl, inr, ℕ, ◌+◌, ◌<◌, Option, Some, None, List, [], ◌++◌, slice_index, slice_set, set-set, refl, sym, ap, subst, ◌∙◌, append-nil, arith}
 use mathlib.Core.Option.{some}
 use lib.ListN.{get_elem?}
 use Rattle.atomic_table.specs.Table.{State}
@@ -11,7 +11,6 @@ use Rattle.steps.specs.declared.ask.After.{After}
 use Rattle.steps.specs.declared.ask.After.TheVariants.{GoOn, Done}
 use Rattle.steps.specs.declared.ask.Want.{Want}
 use Rattle.steps.specs.declared.ask.Want.TheVariants as wants
-use Rattle.model.specs.declared.event.Answer.{Answer}
 use Rattle.model.specs.declared.event.Event.{Event}
 use Rattle.model.specs.declared.event.Start.{Start}
 use Rattle.model.specs.declared.families.Flight.{Flight}
@@ -25,7 +24,7 @@ use Rattle.lock_free_sp.specs.Driver.{answered, Owes, OwesAsk, Next as NextKnown
 use Rattle.history.specs.declared.view.View.{View}
 use Rattle.history.specs.Known.{events_by}
 use Rattle.history.specs.History.{IsRun, IsMachine, call_in}
-use Rattle.history.specs.Stages.{Calling, Since, IsUnderWay, At, Ends, Over, HasHeard, AtAsked}
+use Rattle.history.specs.Stages.{Calling, Since, IsUnderWay, At, Ends, HasHeard, AtAsked}
 use Rattle.history.proofs.Known.{by_more, within}
 use Rattle.history.proofs.Reached.{MayDecide, refusal_as, decide_as}
 use Rattle.history.proofs.Calls.{stands, flight_is}

@@ -25,6 +25,8 @@ pub mod RobustParts
 pub mod RobustCalls
 pub mod RobustRecoveries
 pub mod Containers
+pub mod ContainerCalls
+pub mod ContainerAdds
 pub mod Finds
 pub mod Rooms
 pub mod Values

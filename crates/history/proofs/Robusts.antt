@@ -1,7 +1,5 @@
 -- What the robust index set owes, from the laws of its open runs, and which party may begin a call on it.
-use Rattle.std.proofs.Common.{◌≡◌, ℕ, ◌+◌, ◌<◌, ◌==◌, nat_lt, nat_le, true, false, Option, Some, None, is_none, IfSome, List, [], length, sum_by, refl, sym, ap, subst, ◌∙◌, arith}
-use Rattle.std.proofs.lemmas.Bool.Decides.{nat_tests}
-use Rattle.steps.specs.Indices.Robust.Parts.{empty}
+use Rattle.std.proofs.Common.{◌≡◌, ℕ, ◌+◌, false, Option, Some, None, is_none, IfSome, List, [], length, sum_by, refl, sym, ap, subst, ◌∙◌}
 use Rattle.model.specs.declared.event.Event.{Event}
 use Rattle.model.specs.declared.event.Start.{Start}
 use Rattle.model.specs.declared.event.Start.TheVariants.{Robust}
@@ -10,7 +8,6 @@ use Rattle.model.specs.declared.families.Flight as flights
 use Rattle.model.specs.declared.families.Kept.{Kept}
 use Rattle.model.specs.declared.families.Kept as kepts
 use Rattle.model.specs.declared.families.indices.robust.RobustStart.{RobustStart}
-use Rattle.model.specs.declared.families.indices.robust.calls.RobustFlight.{RobustFlight}
 use Rattle.model.specs.declared.party.Party.{Party}
 use Rattle.model.specs.declared.turn.Kind.TheVariants as kinds
 use Rattle.model.specs.Coding.{Coding}
@@ -19,7 +16,6 @@ use Rattle.model.specs.Families.Indices.Robust.Dead.{has_died}
 use Rattle.model.specs.Families.Indices.Robust.Opening.{call_rows, kept_rows}
 use Rattle.model.specs.Families.Indices.Robust.Reading.{Deed, deeds_of}
 use Rattle.model.specs.Families.Indices.Robust.Steps.{effects}
-use Rattle.model.specs.Parties.{party_of}
 use Rattle.model.specs.Reading.{whose}
 use Rattle.model.specs.Rows.{first_row}
 use Rattle.model.specs.Turns.{step_in}

@@ -3,6 +3,7 @@ pub mod Held
 pub mod Roles
 pub mod Indices
 pub mod Robust
+pub mod Container
 pub mod History
 pub mod Rooms
 pub mod Stages
