@@ -40,7 +40,8 @@ pub record IsAskingIn {T C M E : Type 0} (code : Coding T) (kind : Kind) (effect
   pub steps : StepsOf ((capacity : ℕ) (c : C) → call.stands capacity c → is_question (want c) ≡ false → AsksFor (size_of capacity) (want c)) code effects want
       after kept call
   pub never : (c : C) (n : ℕ) → call.skips c n ≡ false
-  pub same_call : (c d : C) (m k : M) → call.flight c m ≡ call.flight d k → (c ≡ d) × (m ≡ k)
+  pub same_call : (c d : C) (m k : M) → call.flight c m ≡ call.flight d k → c ≡ d
+  pub keeps_room : (c : C) (m : M) (n : ℕ) → is_question (want c) ≡ true → kept c m n ≡ m
   pub first : (n : ℕ) (c : C) (m : M) → first_of kind n call.start ((opening_of kind).kept n) ≡ Some (call.flight c m) → is_question (want c) ≡ false
   pub one : (c d : C) (n : ℕ) → is_question (want c) ≡ true → after c n ≡ GoOn d → is_question (want d) ≡ false
 
@@ -51,7 +52,7 @@ module _ {T C M E : Type 0} (code : Coding T) (kind : Kind) (decides : MayDecide
     (Finished : View T → E → M → View T → Type 0) (ended : (base : View T) (e : E) (m : M) (w : View T) → Ends code kind call base e m w → Finished base e m w)
     (rested : (base v : View T) (c : C) (m : M) (said : Bool) (e : E) → is_question (want c) ≡ true → after c (number_of said) ≡ Done e
         → IsUnderWay code kind call base v c m → Finished base e (kept c m (number_of said)) v) where
-  open is_call use {steps as steps, same_call as same_call}
+  open is_call use {steps as steps, same_call as same_call, keeps_room as keeps_room}
 
   abbrev Heard : View T → View T → C → M → Type 0
   Heard base v c m = HasHeard code kind after kept call base v c m
@@ -108,6 +109,9 @@ module _ {T C M E : Type 0} (code : Coding T) (kind : Kind) (decides : MayDecide
 
     -- ---- whoever has heard an answer stands so, whatever the view with which its drive began
 
+    kept_there : {b : View T} (k : Heard b v c m) → kept k.asking k.room (number_of k.said) ≡ k.room
+    kept_there k = keeps_room k.asking k.room (number_of k.said) (ap is_question (sym (steps.same_want k.asking k.room)) ∙ k.asks)
+
     abbrev effs : List (Event T)
     effs = effects y.u.world y.p from n
 
@@ -123,8 +127,10 @@ module _ {T C M E : Type 0} (code : Coding T) (kind : Kind) (decides : MayDecide
       same_one =
           let both : ◌≡◌ {A = Option (Start T × Flight T)} (Some (call.start, call.flight k.asking k.room)) (Some (call.start, from)) = sym k.before.going
           ∙ h.before.going in
-          let pair : ◌≡◌ {A = Start T × Flight T} (call.start, call.flight k.asking k.room) (call.start, from) = cc in
-          same_call k.asking h.asking k.room h.room (ap (λ (z : Start T × Flight T). z.1) pair)
+          let pair : ◌≡◌ {A = Start T × Flight T} (call.start, call.flight k.asking k.room) (call.start, from) = cc in (
+            same_call k.asking h.asking k.room h.room (ap (λ (z : Start T × Flight T). z.1) pair),
+            sym (k.keeps ∙ kept_there k) ∙ (h.keeps ∙ kept_there h),
+          )
 
       stage_then : Stage base v h.asking h.room
       stage_then = inr (subst (λ (z : C × M). IsUnderWay code kind call base v z.0 z.1) (λ i. (same_one.0 i, same_one.1 i)) k.before)
@@ -187,7 +193,7 @@ module _ {T C M E : Type 0} (code : Coding T) (kind : Kind) (decides : MayDecide
       (Some (call.start, call.flight c m)) = sym k.before.going ∙ under.going in
       let pair : ◌≡◌ {A = Start T × Flight T} (call.start, call.flight k.asking k.room) (call.start, call.flight c m) = cc in
       let same = same_call k.asking c k.room m (ap (λ (z : Start T × Flight T). z.1) pair) in
-      clash (is_question (want c)) (subst (λ z. is_question (want z) ≡ true) same.0 (ap is_question (sym (steps.same_want k.asking k.room)) ∙ k.asks)) still
+      clash (is_question (want c)) (subst (λ z. is_question (want z) ≡ true) same (ap is_question (sym (steps.same_want k.asking k.room)) ∙ k.asks)) still
 
   standing : (base v : View T) (c : C) (m : M) → AtAsked code kind after kept call base v c m → call.stands base.capacity c
   standing base v c m (inl stage) = still_stands code kind effects size_of laws call base v c m stage

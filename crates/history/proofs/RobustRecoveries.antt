@@ -225,8 +225,8 @@ module _ {T : Type 0} (code : Coding T) (mode : ReleaseMode) where
   begun_recovery c None = c
   begun_recovery c (Some flight) = recovery_of c flight
 
-  same_recovery : (c d : Recovering) (m k : Unit {0}) → (recovers_owned {T = T} mode).flight c m ≡ (recovers_owned mode).flight d k → (c ≡ d) × (m ≡ k)
-  same_recovery c d m k e = (ap (recovery_of c) e, refl)
+  same_recovery : (c d : Recovering) (m k : Unit {0}) → (recovers_owned {T = T} mode).flight c m ≡ (recovers_owned mode).flight d k → c ≡ d
+  same_recovery c d m k e = ap (recovery_of c) e
 
   pub recover_call : IsAskingOf code kinds.Robust robust_effects cells_and_counter recover_want after kept (recovers_owned mode)
   recover_call =
@@ -248,6 +248,7 @@ module _ {T : Type 0} (code : Coding T) (mode : ReleaseMode) where
                     };
                 never = λ c n. refl;
                 same_call = same_recovery;
+                keeps_room = λ c m n due. refl;
                 first = λ n c m e. ap (λ (z : Recovering). is_question (recover_want z)) (sym (ap (λ (o : Option (Flight T)). begun_recovery c o) e));
                 one = λ c d n due e. subst AnswersOn e (answers_on c mode c.stage n due);
             };

@@ -1,6 +1,7 @@
 -- A call that an answer may end takes no step behind it, so its party stands at the question until the pass takes a step
 -- again. The machine is handed the answer then, before anything else: the call has ended.
-use Rattle.std.specs.Prelude.{◌≡◌, ◌⊎◌, ℕ, ◌<◌, true, false, None, Some, List, [], ◌∷◌, ◌++◌, sum_by}
+use Rattle.std.specs.Prelude.{Bool, ◌≡◌, ◌⊎◌, ℕ, ◌<◌, true, false, None, Some, List, [], ◌∷◌, ◌++◌, sum_by}
+use Rattle.steps.specs.declared.ask.After.{After}
 use Rattle.steps.specs.declared.ask.After.TheVariants.{Done}
 use Rattle.model.specs.declared.event.Answer.{Answer}
 use Rattle.model.specs.declared.event.Event.{Event}
@@ -16,6 +17,7 @@ use Rattle.lock_free_sp.specs.Shares.{IsAll}
 use Rattle.history.specs.declared.view.View.{View}
 use Rattle.history.specs.Known.{events_by}
 use Rattle.history.specs.History.{IsHistory, IsOfParties}
+use Rattle.history.specs.Stages.{Calling, IsUnderWay, Ends}
 
 module _ {T : Type 0} (code : Coding T) where
   -- it stands at a question, which a no ends
@@ -76,3 +78,19 @@ module _ {T C M E : Type 0} (code : Coding T) (kind : Kind) (begins : ℕ → C 
     pub from : View T
     pub settled : SettledFrom code kind base from
     pub over : ends from e m w
+
+-- of a call that puts questions, and goes on so
+module _ {T C M E : Type 0} (code : Coding T) (kind : Kind) (after : C → ℕ → After C E) (kept : C → M → ℕ → M)
+    (call : Calling T C M E) where
+  -- it stands at a question still, and an answer has ended it
+  pub record RestsAt (base v : View T) (e : E) (m : M) : Type 0 where
+    pub asking : C
+    pub before : IsUnderWay code kind call base v asking m
+    pub asks : is_question (want_of code (call.flight asking m)) ≡ true
+    pub said : Bool
+    pub goes : after asking (number_of said) ≡ Done e
+    pub keeps : kept asking m (number_of said) ≡ m
+
+  -- it has ended so, or with a step
+  abbrev pub EndsAsked : View T → E → M → View T → Type 0
+  EndsAsked base e m w = Ends code kind call base e m w ⊎ RestsAt base w e m
