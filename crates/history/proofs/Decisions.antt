@@ -34,8 +34,8 @@ use Rattle.history.proofs.CallsIn.{by_bool, goes, AsksFor, StepsOf, StepsThere, 
 use Rattle.history.proofs.CallTurns.{still_stands, Ready, ready, Told_by, since_turn}
 use Rattle.history.proofs.Drives.{ToldOver, keeps_at, next_ended}
 
--- A call that may put questions. It begins with none, and puts none right after another; no answer ends it.
-pub record IsAskingOf {T C M E : Type 0} (code : Coding T) (kind : Kind) (effects : ℕ → Flight T → ℕ → List (Event T)) (size_of : ℕ → ℕ)
+-- A call that may put questions. It begins with none, and puts none right after another.
+pub record IsAskingIn {T C M E : Type 0} (code : Coding T) (kind : Kind) (effects : ℕ → Flight T → ℕ → List (Event T)) (size_of : ℕ → ℕ)
     (want : C → Want (Unit {0})) (after : C → ℕ → After C E) (kept : C → M → ℕ → M) (call : Calling T C M E) : Type 0 where
   pub steps : StepsOf ((capacity : ℕ) (c : C) → call.stands capacity c → is_question (want c) ≡ false → AsksFor (size_of capacity) (want c)) code effects want
       after kept call
@@ -46,12 +46,14 @@ pub record IsAskingOf {T C M E : Type 0} (code : Coding T) (kind : Kind) (effect
       → call.wrote capacity p from c m es → call.wrote capacity p from c k es
   pub first : (n : ℕ) (c : C) (m : M) → first_of kind n call.start ((opening_of kind).kept n) ≡ Some (call.flight c m) → is_question (want c) ≡ false
   pub one : (c d : C) (n : ℕ) → is_question (want c) ≡ true → after c n ≡ GoOn d → is_question (want d) ≡ false
-  pub lasts : (c : C) (e : E) (n : ℕ) → is_question (want c) ≡ true → after c n ≡ Done e → ⊥
 
 module _ {T C M E : Type 0} (code : Coding T) (kind : Kind) (decides : MayDecide kind) (effects : World T → ℕ → Flight T → ℕ → List (Event T))
     (own : ℕ → Flight T → ℕ → List (Event T)) (size_of : ℕ → ℕ) (laws : (capacity : ℕ) → KeptLaws code kind capacity (size_of capacity) effects)
     (want : C → Want (Unit {0})) (after : C → ℕ → After C E) (kept : C → M → ℕ → M) (call : Calling T C M E)
-    (acts : ActsAlone code kind effects own call) (is_call : IsAskingOf code kind own size_of want after kept call) where
+    (acts : ActsAlone code kind effects own call) (is_call : IsAskingIn code kind own size_of want after kept call)
+    (Finished : View T → E → M → View T → Type 0) (ended : (base : View T) (e : E) (m : M) (w : View T) → Ends code kind call base e m w → Finished base e m w)
+    (rested : (base v : View T) (c : C) (m : M) (said : Bool) (e : E) → is_question (want c) ≡ true → after c (number_of said) ≡ Done e
+        → IsUnderWay code kind call base v c m → Finished base e (kept c m (number_of said)) v) where
   open is_call use {steps as steps, same_call as same_call}
 
   abbrev Heard : View T → View T → C → M → Type 0
@@ -98,14 +100,14 @@ module _ {T C M E : Type 0} (code : Coding T) (kind : Kind) (decides : MayDecide
 
     between_heard : Between code kind key y.owner s id y.p gained_then u_then
     between_heard = decided code kind key (size_of key) effects (laws key) y.owner s id y.p y.gained y.u y.between call.start from
-        (call.flight c m) h.said y.there free comes
+        (GoOn (call.flight c m)) h.said y.there free comes
 
     machine_heard : IsMachine code kind key table_heard
     machine_heard = settle code kind key id y.p y.owner s.words s v gained_then u_then at h.before.some between_heard
 
     there_heard : call_in u_then.world y.p ≡ Some (call.start, call.flight c m)
     there_heard = decided_at code kind key (size_of key) effects (laws key) y.owner s id y.p y.gained y.u y.between call.start from
-        (call.flight c m) h.said y.there free comes
+        (GoOn (call.flight c m)) h.said y.there free comes
 
     -- ---- whoever has heard an answer stands so, whatever the view with which its drive began
 
@@ -117,7 +119,7 @@ module _ {T C M E : Type 0} (code : Coding T) (kind : Kind) (decides : MayDecide
 
     told_heard : events_of y.u.world (Decide y.p h.said) ≡ effs ++ []
     told_heard = heard code kind key (size_of key) effects (laws key) y.owner s id y.p y.gained y.u y.between call.start from
-        (call.flight c m) h.said y.there free comes
+        (GoOn (call.flight c m)) h.said y.there free comes
 
     module _ (base : View T) (k : Heard base v c m) where
       same_flight : call.flight k.asking k.room ≡ from
@@ -223,32 +225,40 @@ module _ {T C M E : Type 0} (code : Coding T) (kind : Kind) (decides : MayDecide
   -- ---- a question is answered
 
   abbrev ToldAsked : C → M → View T → ℕ → View T → Type 0
-  ToldAsked c m = Told (λ (z : View T). z.capacity) (AtAsked code kind after kept call) (Ends code kind call) after kept c m
+  ToldAsked c m = Told (λ (z : View T). z.capacity) (AtAsked code kind after kept call) Finished after kept c m
 
   -- who stands at a question has heard the answer that it takes
-  pub hears_answer : (base v : View T) (c d : C) (m : M) (said : Bool) → is_question (want c) ≡ true → after c (number_of said) ≡ GoOn d
+  pub hears_said : (base v : View T) (c d : C) (m : M) (said : Bool) → is_question (want c) ≡ true → after c (number_of said) ≡ GoOn d
       → AtAsked code kind after kept call base v c m → AtAsked code kind after kept call base v d (kept c m (number_of said))
-  hears_answer base v c d m said due e (inl (inl first)) = clash (is_question (want c)) due (is_call.first base.capacity c m first.first)
-  hears_answer base v c d m said due e (inl (inr under)) =
+  hears_said base v c d m said due e (inl (inl first)) = clash (is_question (want c)) due (is_call.first base.capacity c m first.first)
+  hears_said base v c d m said due e (inl (inr under)) =
       inr (record { asking = c; room = m; before = under; asks = ap is_question (steps.same_want c m) ∙ due; said = said; goes = e; keeps = refl })
-  hears_answer base v c d m said due e (inr k) =
+  hears_said base v c d m said due e (inr k) =
+      clash (is_question (want c)) due (is_call.one k.asking c (number_of k.said) (ap is_question (sym (steps.same_want k.asking k.room)) ∙ k.asks) k.goes)
+
+  -- and where the answer ends its call, it has ended
+  pub ends_said : (base v : View T) (c : C) (m : M) (said : Bool) (e : E) → is_question (want c) ≡ true → after c (number_of said) ≡ Done e
+      → AtAsked code kind after kept call base v c m → Finished base e (kept c m (number_of said)) v
+  ends_said base v c m said end due e (inl (inl first)) = clash (is_question (want c)) due (is_call.first base.capacity c m first.first)
+  ends_said base v c m said end due e (inl (inr under)) = rested base v c m said end due e under
+  ends_said base v c m said end due e (inr k) =
       clash (is_question (want c)) due (is_call.one k.asking c (number_of k.said) (ap is_question (sym (steps.same_want k.asking k.room)) ∙ k.asks) k.goes)
 
   told_no : (v : View T) (c : C) (m : M) → is_question (want c) ≡ true → ToldAsked c m v 0 v
   told_no v c m due = (refl, λ base stage. go base stage (after c 0) refl)
     where
       go : (base : View T) → AtAsked code kind after kept call base v c m → (a : After C E) → after c 0 ≡ a
-          → NextKnown (λ (z : View T). z.capacity) (AtAsked code kind after kept call) (Ends code kind call) base a (kept c m 0) v
-      go base stage (GoOn d) e = hears_answer base v c d m false due e stage
-      go base stage (Done end) e = absurd (is_call.lasts c end 0 due e)
+          → NextKnown (λ (z : View T). z.capacity) (AtAsked code kind after kept call) Finished base a (kept c m 0) v
+      go base stage (GoOn d) e = hears_said base v c d m false due e stage
+      go base stage (Done end) e = ends_said base v c m false end due e stage
 
   -- ---- each step keeps the rule
 
   with_asked : (base : View T) (a : After C E) (k : M) (w : View T) → NextKnown (λ (z : View T). z.capacity) (At code kind call)
       (Ends code kind call) base a k w
-      → NextKnown (λ (z : View T). z.capacity) (AtAsked code kind after kept call) (Ends code kind call) base a k w
+      → NextKnown (λ (z : View T). z.capacity) (AtAsked code kind after kept call) Finished base a k w
   with_asked base (GoOn d) k w h = inl h
-  with_asked base (Done e) k w h = h
+  with_asked base (Done e) k w h = ended base e k w h
 
   steps_there : StepsThere ((capacity : ℕ) (c : C) → call.stands capacity c → is_question (want c) ≡ false → AsksFor (size_of capacity) (want c)) code
       kind effects want after kept call
@@ -324,9 +334,9 @@ module _ {T C M E : Type 0} (code : Coding T) (kind : Kind) (decides : MayDecide
         as_heard s r at base (inl stage) = never_both base base₀ v c m still stage h
         as_heard s r at base (inr k) = inr (lifted s v key id c m r at known base₀ h base k)
 
-  pub keeps_asked : KeepsRule (λ (z : View T). z.capacity) (AtAsked code kind after kept call) (Ends code kind call) (λ key. size_of key + 1) (λ key. key)
+  pub keeps_said : KeepsRule (λ (z : View T). z.capacity) (AtAsked code kind after kept call) Finished (λ key. size_of key + 1) (λ key. key)
       (λ key. IsMachine code kind key) want after kept
-  keeps_asked base₀ v c m key words slots id wide known at₀ = by_bool (is_question (want c)) (λ due. at_question (want c) refl due)
+  keeps_said base₀ v c m key words slots id wide known at₀ = by_bool (is_question (want c)) (λ due. at_question (want c) refl due)
       (λ still. at_its_word still (steps.asks key c stands_so still))
     where
       stands_so : call.stands key c
@@ -344,3 +354,26 @@ module _ {T C M E : Type 0} (code : Coding T) (kind : Kind) (decides : MayDecide
           go : AtAsked code kind after kept call base₀ v c m → OwedAt key words slots id c m wide still asked v ToldAsked
           go (inl stage) = at_once key words slots id c m wide still asked base₀ v known stage
           go (inr h) = once_heard key words slots id c m wide still asked base₀ v known h
+
+-- ---- of a call that no answer ends
+
+pub record IsAskingOf {T C M E : Type 0} (code : Coding T) (kind : Kind) (effects : ℕ → Flight T → ℕ → List (Event T)) (size_of : ℕ → ℕ)
+    (want : C → Want (Unit {0})) (after : C → ℕ → After C E) (kept : C → M → ℕ → M) (call : Calling T C M E) : Type 0 where
+  pub asking : IsAskingIn code kind effects size_of want after kept call
+  pub lasts : (c : C) (e : E) (n : ℕ) → is_question (want c) ≡ true → after c n ≡ Done e → ⊥
+
+module _ {T C M E : Type 0} (code : Coding T) (kind : Kind) (decides : MayDecide kind) (effects : World T → ℕ → Flight T → ℕ → List (Event T))
+    (own : ℕ → Flight T → ℕ → List (Event T)) (size_of : ℕ → ℕ) (laws : (capacity : ℕ) → KeptLaws code kind capacity (size_of capacity) effects)
+    (want : C → Want (Unit {0})) (after : C → ℕ → After C E) (kept : C → M → ℕ → M) (call : Calling T C M E)
+    (acts : ActsAlone code kind effects own call) (is_call : IsAskingOf code kind own size_of want after kept call) where
+  never_ends : (base v : View T) (c : C) (m : M) (said : Bool) (e : E) → is_question (want c) ≡ true → after c (number_of said) ≡ Done e
+      → IsUnderWay code kind call base v c m → Ends code kind call base e (kept c m (number_of said)) v
+  never_ends base v c m said end due e under = absurd (is_call.lasts c end (number_of said) due e)
+
+  pub keeps_asked : KeepsRule (λ (z : View T). z.capacity) (AtAsked code kind after kept call) (Ends code kind call) (λ key. size_of key + 1) (λ key. key)
+      (λ key. IsMachine code kind key) want after kept
+  keeps_asked = keeps_said code kind decides effects own size_of laws want after kept call acts is_call.asking (Ends code kind call) (λ base e m w h. h) never_ends
+
+  pub hears_answer : (base v : View T) (c d : C) (m : M) (said : Bool) → is_question (want c) ≡ true → after c (number_of said) ≡ GoOn d
+      → AtAsked code kind after kept call base v c m → AtAsked code kind after kept call base v d (kept c m (number_of said))
+  hears_answer = hears_said code kind decides effects own size_of laws want after kept call acts is_call.asking (Ends code kind call) (λ base e m w h. h) never_ends

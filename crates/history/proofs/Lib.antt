@@ -48,3 +48,4 @@ pub mod ValueQueueCalls
 pub mod ValueQueueRoles
 pub mod Holders
 pub mod OverflowHolders
+pub mod Settling

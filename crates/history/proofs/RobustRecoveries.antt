@@ -231,24 +231,27 @@ module _ {T : Type 0} (code : Coding T) (mode : ReleaseMode) where
   pub recover_call : IsAskingOf code kinds.Robust robust_effects cells_and_counter recover_want after kept (recovers_owned mode)
   recover_call =
       record {
-        steps =
+        asking =
             record {
-              same_want = λ c m. refl;
-              same_after = λ capacity c m n h. as_recovered (after c n);
-              hears = λ c m a n e. (ap (after c) (recover_found c.stage a n e), refl);
-              stays = λ capacity c d n h e. stands_so capacity c d n h e;
-              asks = λ capacity c h still. recover_words capacity mode c.stage h.1 still;
-              past = λ capacity c d n k h e. refl;
-              finds = λ c m n small t. tt;
-              leaves = λ c a n t e. absurd (cc);
-              tells = λ capacity p from c d m n es h wrote e new. (goes_so capacity p c n es (GoOn d) h (wrote new) e).1;
-              tells_all = λ capacity p from c end m n es h skip wrote e new. goes_so capacity p c n es (Done end) h (wrote new) e;
+                steps =
+                    record {
+                      same_want = λ c m. refl;
+                      same_after = λ capacity c m n h. as_recovered (after c n);
+                      hears = λ c m a n e. (ap (after c) (recover_found c.stage a n e), refl);
+                      stays = λ capacity c d n h e. stands_so capacity c d n h e;
+                      asks = λ capacity c h still. recover_words capacity mode c.stage h.1 still;
+                      past = λ capacity c d n k h e. refl;
+                      finds = λ c m n small t. tt;
+                      leaves = λ c a n t e. absurd (cc);
+                      tells = λ capacity p from c d m n es h wrote e new. (goes_so capacity p c n es (GoOn d) h (wrote new) e).1;
+                      tells_all = λ capacity p from c end m n es h skip wrote e new. goes_so capacity p c n es (Done end) h (wrote new) e;
+                    };
+                never = λ c n. refl;
+                same_call = same_recovery;
+                same_room = λ capacity p from c m k es e wrote. wrote;
+                first = λ n c m e. ap (λ (z : Recovering). is_question (recover_want z)) (sym (ap (λ (o : Option (Flight T)). begun_recovery c o) e));
+                one = λ c d n due e. subst AnswersOn e (answers_on c mode c.stage n due);
             };
-        never = λ c n. refl;
-        same_call = same_recovery;
-        same_room = λ capacity p from c m k es e wrote. wrote;
-        first = λ n c m e. ap (λ (z : Recovering). is_question (recover_want z)) (sym (ap (λ (o : Option (Flight T)). begun_recovery c o) e));
-        one = λ c d n due e. subst AnswersOn e (answers_on c mode c.stage n due);
         lasts = λ c end n due e. subst AnswersOn e (answers_on c mode c.stage n due);
       }
 

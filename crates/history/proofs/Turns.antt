@@ -8,7 +8,6 @@ use Rattle.atomic_table.specs.Table.{State}
 use Rattle.steps.specs.Ask.{written}
 use Rattle.steps.specs.declared.ask.Ask.{Ask}
 use Rattle.steps.specs.declared.ask.After.{After}
-use Rattle.steps.specs.declared.ask.After.TheVariants.{GoOn}
 use Rattle.steps.specs.declared.ask.Want.{Want}
 use Rattle.steps.specs.declared.ask.Want.TheVariants as wants
 use Rattle.model.specs.declared.event.Answer.{Answer}
@@ -427,35 +426,54 @@ module _ {T : Type 0} where
         gone = turned (words_after s.words ask) (Next p) (next_as kind u.world p goes_free) fresh_now words_then someone beside
             (λ j ne. next_other u.world p j ne (party_of p u.world.latest))
 
-      -- ---- it is handed an answer to its question, and goes on without a word
+      -- ---- it is handed an answer to its question, and goes on without a word, or ends
 
-      module _ (start : Start T) (flight next : Flight T) (said : Bool) (at : call_in u.world p ≡ Some (start, flight))
-          (free : refusal_as kind u.world (Decide p said) ≡ None) (comes : goes_of code p flight (number_of said) u.world.kept ≡ GoOn next) where
+      module _ (start : Start T) (flight : Flight T) (next : After (Flight T) (Answer T)) (said : Bool) (at : call_in u.world p ≡ Some (start, flight))
+          (free : refusal_as kind u.world (Decide p said) ≡ None) (comes : goes_of code p flight (number_of said) u.world.kept ≡ next) where
         steps_so : StepsOn code kind capacity words effects u p flight
         steps_so = laws.steps_on u b.run p start flight at
 
         abbrev hears : List (Event T)
         hears = effects u.world p flight (number_of said)
 
-        comes_here : goes_of u.world.coding p flight (number_of said) u.world.kept ≡ GoOn next
+        abbrev ends_so : List (Event T)
+        ends_so = ending_of p start (answer_in next)
+
+        comes_here : goes_of u.world.coding p flight (number_of said) u.world.kept ≡ next
         comes_here = ap (λ z. goes_of z p flight (number_of said) u.world.kept) b.run.coded ∙ comes
 
-        pub heard : events_of u.world (Decide p said) ≡ hears ++ []
+        pub heard : events_of u.world (Decide p said) ≡ hears ++ ends_so
         heard =
             heard_events u.world p start flight (effects u.world p flight) (stands u.world p start flight at) steps_so.goes steps_so.writes said
             ∙ ap (λ (a : After (Flight T) (Answer T)). hears ++ ending_of p start (answer_in a)) comes_here
 
-        heard_only : events_of u.world (Decide p said) ≡ hears
-        heard_only = heard ∙ append-nil hears
+        -- what it writes of its own
+        pub own_heard : events_by p (events_of u.world (Decide p said)) ≡ events_by p hears ++ ends_so
+        own_heard =
+            ap (events_by p) heard
+            ∙ (by_more p hears ends_so ∙ ap (λ zs. events_by p hears ++ zs) (by_mine p ends_so (ending_of_own p start (answer_in next))))
+
+        heard_someone : sum_by (λ e. of_none (whose e)) (events_of u.world (Decide p said)) ≡ 0
+        heard_someone =
+            let all : sum_by (λ e. of_none (whose e)) (events_of u.world (Decide p said)) ≡ sum_by (λ e. of_none (whose e)) (hears ++ ends_so) =
+            ap (sum_by (λ e. of_none (whose e))) heard in
+            let one = sum_by-append (λ e. of_none (whose e)) hears ends_so in
+            let wrote = steps_so.someone (number_of said) in
+            let ends = all_someone p ends_so (ending_of_own p start (answer_in next)) in
+            omega arith
+
+        heard_beside : (q : ℕ) → q ≢ p → IsLate kind (call_in u.world q) (events_by q (events_of u.world (Decide p said)))
+        heard_beside q ne =
+            subst (λ zs. IsLate kind (call_in u.world q) zs)
+            (sym (ap (events_by q) heard ∙ by_same q hears ends_so (by_other p q ends_so ne (ending_of_own p start (answer_in next)))))
+            (steps_so.beside (number_of said) q ne)
 
         pub decided : Between owner s id p (gained ++ events_by p (events_of u.world (Decide p said))) (after_turn u (Decide p said))
         decided =
-            turned s.words (Decide p said) free tt (b.words ∙ ap (λ ws. ws ++ 0 ∷ []) (sym (writes_one_word u.world (Decide p said))))
-            (ap (sum_by (λ e. of_none (whose e))) heard_only ∙ steps_so.someone (number_of said))
-            (λ q ne. subst (λ zs. IsLate kind (call_in u.world q) (events_by q zs)) (sym heard_only) (steps_so.beside (number_of said) q ne))
+            turned s.words (Decide p said) free tt (b.words ∙ ap (λ ws. ws ++ 0 ∷ []) (sym (writes_one_word u.world (Decide p said)))) heard_someone heard_beside
             (λ j ne. decision_other u.world p j said ne (party_of p u.world.latest))
 
-        pub decided_at : call_in (after_turn u (Decide p said)).world p ≡ Some (start, next)
+        pub decided_at : call_in (after_turn u (Decide p said)).world p ≡ call_then start next
         decided_at =
             heard_going u.world p start flight (effects u.world p flight) (stands u.world p start flight at) steps_so.goes steps_so.writes said
             ∙ ap (call_then start) comes_here

@@ -16,3 +16,4 @@ pub mod ContainerRecovery
 pub mod Views
 pub mod Passes
 pub mod Finds
+pub mod Settled
