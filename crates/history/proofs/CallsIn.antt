@@ -15,7 +15,7 @@ use Rattle.model.specs.declared.event.Start.{Start}
 use Rattle.model.specs.declared.families.Flight.{Flight}
 use Rattle.model.specs.declared.turn.Kind.{Kind}
 use Rattle.model.specs.Coding.{Coding}
-use Rattle.model.specs.Families.{want_of, after_of, goes_of, ask_of}
+use Rattle.model.specs.Families.{want_of, after_of, goes_of, ask_of, is_question}
 use Rattle.model.specs.Reading.{whose, is_party, span_of, span_after, own_after, Span, Never, Open}
 use Rattle.model.specs.Turns.{old_of}
 use Rattle.model.specs.World.{World, Trace}
@@ -70,7 +70,7 @@ pub record StepsOf {T C M E : Type 0} (Asks : Type 0) (code : Coding T) (effects
   pub finds : (c : C) (m : M) (n : ℕ) → n < 2 ^ 64 → call.skips c n ≡ false → IsFreshCall n (call.flight c m)
   pub leaves : (c : C) (a : Ask) (n : ℕ) → call.skips c n ≡ true → want c ≡ wants.Ask a → (written a.op n ≡ n) × (e : E) × call.left e × (after c n ≡ Done e)
   pub tells : (capacity p : ℕ) (from : Option (Start T × Flight T)) (c d : C) (m : M) (n : ℕ) (es : List (Event T)) → call.stands capacity c → call.wrote capacity p from c m es → after c n ≡ GoOn d → call.wrote capacity p from d (kept c m n) (es ++ effects p (call.flight c m) n)
-  pub tells_all : (capacity p : ℕ) (from : Option (Start T × Flight T)) (c : C) (e : E) (m : M) (n : ℕ) (es : List (Event T)) → call.stands capacity c → call.skips c n ≡ false → call.wrote capacity p from c m es → after c n ≡ Done e → call.wrote_all capacity p from e (kept c m n) (es ++ effects p (call.flight c m) n)
+  pub tells_all : (capacity p : ℕ) (from : Option (Start T × Flight T)) (c : C) (e : E) (m : M) (n : ℕ) (es : List (Event T)) → call.stands capacity c → call.skips c n ≡ false → call.wrote capacity p from c m es → after c n ≡ Done e → is_question (want c) ≡ false → call.wrote_all capacity p from e (kept c m n) (es ++ effects p (call.flight c m) n)
 
 -- each step of it is at a word
 abbrev pub IsCallOf : {T C M E : Type 0} → Coding T → (ℕ → Flight T → ℕ → List (Event T)) → (ℕ → ℕ) → (C → Want (Unit {0})) → (C → ℕ → After C E)
@@ -111,7 +111,7 @@ pub record StepsAs {T C M E : Type 0} (Asks Goes : Type 0) (code : Coding T) (ki
   pub tells : (capacity p : ℕ) (from : Option (Start T × Flight T)) (c d : C) (m : M) (n : ℕ) (es late : List (Event T)) (t : Trace T) → call.stands capacity c → call.wrote capacity p from c m es → IsLate kind (Some (call.start, call.flight c m)) late
       → Met code kind capacity call.start (call.flight c m) p from (es ++ late) n t → after c n ≡ GoOn d → call.wrote capacity p from d (kept c m n) ((es ++ late) ++ events_by p (effects t.world p (call.flight c m) n))
   pub tells_all : (capacity p : ℕ) (from : Option (Start T × Flight T)) (c : C) (e : E) (m : M) (n : ℕ) (es late : List (Event T)) (t : Trace T) → call.stands capacity c → call.skips c n ≡ false → call.wrote capacity p from c m es → IsLate kind (Some (call.start, call.flight c m)) late
-      → Met code kind capacity call.start (call.flight c m) p from (es ++ late) n t → after c n ≡ Done e → call.wrote_all capacity p from e (kept c m n) ((es ++ late) ++ events_by p (effects t.world p (call.flight c m) n))
+      → Met code kind capacity call.start (call.flight c m) p from (es ++ late) n t → after c n ≡ Done e → is_question (want c) ≡ false → call.wrote_all capacity p from e (kept c m n) ((es ++ late) ++ events_by p (effects t.world p (call.flight c m) n))
 
 -- of a call that goes on by itself, and of one that may go on by what is kept
 abbrev pub StepsIn : {T C M E : Type 0} → Type 0 → Coding T → Kind → (World T → ℕ → Flight T → ℕ → List (Event T)) → (C → Want (Unit {0}))
@@ -152,7 +152,7 @@ steps_as {T} {C} {M} {E} {Asks} {Goes} code kind effects own want after kept cal
       finds = h.finds;
       leaves = h.leaves;
       tells = λ capacity p from c d m n es late t stands wrote waits met e. subst (λ zs. call.wrote capacity p from d (kept c m n) zs) (sym (all capacity p from c m n es late t waits met)) (h.tells capacity p from c d m n es stands wrote e);
-      tells_all = λ capacity p from c e m n es late t stands skip wrote waits met is. subst (λ zs. call.wrote_all capacity p from e (kept c m n) zs) (sym (all capacity p from c m n es late t waits met)) (h.tells_all capacity p from c e m n es stands skip wrote is);
+      tells_all = λ capacity p from c e m n es late t stands skip wrote waits met is still. subst (λ zs. call.wrote_all capacity p from e (kept c m n) zs) (sym (all capacity p from c m n es late t waits met)) (h.tells_all capacity p from c e m n es stands skip wrote is still);
     }
   where
     all : (capacity p : ℕ) (from : Option (Start T × Flight T)) (c : C) (m : M) (n : ℕ) (es late : List (Event T)) (t : Trace T) → IsLate kind (Some (call.start, call.flight c m)) late → Met code kind capacity call.start (call.flight c m) p from (es ++ late) n t → (es ++ late) ++ events_by p (effects t.world p (call.flight c m) n) ≡ es ++ own p (call.flight c m) n

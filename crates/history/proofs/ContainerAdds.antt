@@ -176,7 +176,7 @@ module _ {T : Type 0} (code : Coding T) (law : IsCoding code) (given : Owned T) 
         finds = λ c m n small t. tt;
         leaves = λ c a n t e. absurd (cc);
         tells = λ capacity p from c d m n es h wrote e new. (add_goes capacity p c n es (GoOn d) h (wrote new) e).1;
-        tells_all = λ capacity p from c end m n es h skip wrote e new. add_goes capacity p c n es (Done end) h (wrote new) e;
+        tells_all = λ capacity p from c end m n es h skip wrote e still new. add_goes capacity p c n es (Done end) h (wrote new) e;
       }
 
   pub container_add_keeps : KeepsRule (λ (z : View T). z.capacity) (At code kinds.Container adding) (Ends code kinds.Container adding)
@@ -295,7 +295,7 @@ module _ {T : Type 0} (code : Coding T) (law : IsCoding code) (given : Replaceme
         finds = λ c m n small t. tt;
         leaves = λ c a n t e. absurd (cc);
         tells = λ capacity p from c d m n es h wrote e new. (replace_goes capacity p c n es (GoOn d) h (wrote new) e).1;
-        tells_all = λ capacity p from c end m n es h skip wrote e new. replace_goes capacity p c n es (Done end) h (wrote new) e;
+        tells_all = λ capacity p from c end m n es h skip wrote e still new. replace_goes capacity p c n es (Done end) h (wrote new) e;
       }
 
   pub container_replace_keeps : KeepsRule (λ (z : View T). z.capacity) (At code kinds.Container replacing) (Ends code kinds.Container replacing)

@@ -82,7 +82,7 @@ module _ {T : Type 0} (code : Coding T) (which : CountOf) where
         finds = λ c m n small t. tt;
         leaves = λ c a n t e. absurd (cc);
         tells = λ capacity p from c d m n es h wrote e. ap (λ zs. zs ++ []) wrote;
-        tells_all = λ capacity p from c end m n es h skip wrote e. ap (λ zs. zs ++ []) wrote;
+        tells_all = λ capacity p from c end m n es h skip wrote e still. ap (λ zs. zs ++ []) wrote;
       }
 
   pub container_count_keeps : KeepsRule (λ (z : View T). z.capacity) (At code kinds.Container (counts_values which)) (Ends code kinds.Container (counts_values which))
@@ -128,7 +128,7 @@ module _ {T : Type 0} (code : Coding T) where
         finds = λ c m n small t. tt;
         leaves = λ c a n t e. absurd (cc);
         tells = λ capacity p from c d m n es h wrote e. absurd (cc);
-        tells_all = λ capacity p from c end m n es h skip wrote e. ap (λ zs. zs ++ []) wrote;
+        tells_all = λ capacity p from c end m n es h skip wrote e still. ap (λ zs. zs ++ []) wrote;
       }
 
   pub container_lock_keeps : KeepsRule (λ (z : View T). z.capacity) (At code kinds.Container sees_lock) (Ends code kinds.Container sees_lock)
@@ -252,7 +252,7 @@ module _ {T : Type 0} (code : Coding T) (given : GiveBack) where
         finds = λ c m n small t. tt;
         leaves = λ c a n t e. absurd (cc);
         tells = λ capacity p from c d m n es h wrote e new. (goes_so capacity p c n es (GoOn d) h (wrote new) e).1;
-        tells_all = λ capacity p from c end m n es h skip wrote e new. goes_so capacity p c n es (Done end) h (wrote new) e;
+        tells_all = λ capacity p from c end m n es h skip wrote e still new. goes_so capacity p c n es (Done end) h (wrote new) e;
       }
 
   pub container_remove_keeps : KeepsRule (λ (z : View T). z.capacity) (At code kinds.Container (removes_value given)) (Ends code kinds.Container (removes_value given))

@@ -15,7 +15,7 @@ use Rattle.model.specs.declared.families.Flight.{Flight}
 use Rattle.model.specs.declared.turn.Kind.{Kind}
 use Rattle.model.specs.declared.turn.Turn.TheVariants.{Next}
 use Rattle.model.specs.Coding.{Coding}
-use Rattle.model.specs.Families.{want_of, after_of, goes_of}
+use Rattle.model.specs.Families.{want_of, after_of, goes_of, is_question}
 use Rattle.model.specs.Turns.{after_turn}
 use Rattle.model.specs.World.{World, Trace}
 use Rattle.lock_free_sp.specs.Driver.{answered, Owes, Next as NextKnown, Told, KeepsRule}
@@ -67,7 +67,7 @@ module _ {T C M E Asks : Type 0} (code : Coding T) (kind : Kind) (effects : Worl
         (is_call.stays base.capacity c d n (still_stands code kind effects size_of laws call base v c m stage) e) (λ k. is_call.past base.capacity c d n k (still_stands code kind effects size_of laws call base v c m stage) e) (λ es late h waits met. is_call.tells base.capacity y.p base.going c d m n es late y.u (still_stands code kind effects size_of laws call base v c m stage) h waits met e))
     known_then base stage (Done end) e =
         inl (ends_then code kind effects size_of laws call s v key id c m at known y (Some ask) low asks_it finds_it base stage end (kept c m n) (comes_there base stage ∙ ap (λ r. goes call r (kept c m n)) e)
-        (λ es late h waits met. is_call.tells_all base.capacity y.p base.going c end m n es late y.u (still_stands code kind effects size_of laws call base v c m stage) skip h waits met e))
+        (λ es late h waits met. is_call.tells_all base.capacity y.p base.going c end m n es late y.u (still_stands code kind effects size_of laws call base v c m stage) skip h waits met e (ap is_question wants_it)))
 
     pub told : Told (λ (z : View T). z.capacity) (At code kind call) (Over code kind call) after kept c m v (answered ask.op n) view_now
     told =

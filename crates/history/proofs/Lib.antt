@@ -49,3 +49,4 @@ pub mod ValueQueueRoles
 pub mod Holders
 pub mod OverflowHolders
 pub mod Settling
+pub mod ContainerFinds

@@ -127,7 +127,7 @@ module _ {T : Type 0} (code : Coding T) (owner : ℕ) where
         leaves = λ c a n t e. absurd (cc);
         tells = λ capacity p from c d m n es h wrote e new.
             ap (λ zs. zs ++ acquire_effects p owner c.stage n) (wrote new) ∙ (takes_on capacity p c n (GoOn d) h e).1;
-        tells_all = λ capacity p from c end m n es h skip wrote e new.
+        tells_all = λ capacity p from c end m n es h skip wrote e still new.
             subst (λ zs. AcquireWrote capacity p owner end (zs ++ acquire_effects p owner c.stage n)) (sym (wrote new)) (takes_on capacity p c n (Done end) h e);
       }
 
@@ -229,7 +229,7 @@ module _ {T : Type 0} (code : Coding T) (given : GiveBack) where
         leaves = λ c a n t e. absurd (cc);
         tells = λ capacity p from c d m n es h wrote e new.
             ap (λ zs. zs ++ release_effects p given c.stage n) (wrote new) ∙ (gives_on capacity p c n (GoOn d) h e).1;
-        tells_all = λ capacity p from c end m n es h skip wrote e new.
+        tells_all = λ capacity p from c end m n es h skip wrote e still new.
             subst (λ zs. ReleaseWrote p given end (zs ++ release_effects p given c.stage n)) (sym (wrote new)) (gives_on capacity p c n (Done end) h e);
       }
 
@@ -286,7 +286,7 @@ module _ {T : Type 0} (code : Coding T) where
         finds = λ c m n small t. tt;
         leaves = λ c a n t e. absurd (cc);
         tells = λ capacity p from c d m n es h wrote e. ap (λ zs. zs ++ []) wrote;
-        tells_all = λ capacity p from c end m n es h skip wrote e. ap (λ zs. zs ++ []) wrote;
+        tells_all = λ capacity p from c end m n es h skip wrote e still. ap (λ zs. zs ++ []) wrote;
       }
 
   pub count_keeps : KeepsRule (λ (z : View T). z.capacity) (At code kinds.Robust counts_owned) (Ends code kinds.Robust counts_owned)
@@ -320,7 +320,7 @@ module _ {T : Type 0} (code : Coding T) where
         finds = λ c m n small t. tt;
         leaves = λ c a n t e. absurd (cc);
         tells = λ capacity p from c d m n es h wrote e. absurd (cc);
-        tells_all = λ capacity p from c end m n es h skip wrote e. ap (λ zs. zs ++ []) wrote;
+        tells_all = λ capacity p from c end m n es h skip wrote e still. ap (λ zs. zs ++ []) wrote;
       }
 
   pub look_keeps : KeepsRule (λ (z : View T). z.capacity) (At code kinds.Robust looks_owned) (Ends code kinds.Robust looks_owned)

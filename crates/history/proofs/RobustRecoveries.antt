@@ -244,7 +244,7 @@ module _ {T : Type 0} (code : Coding T) (mode : ReleaseMode) where
                       finds = λ c m n small t. tt;
                       leaves = λ c a n t e. absurd (cc);
                       tells = λ capacity p from c d m n es h wrote e new. (goes_so capacity p c n es (GoOn d) h (wrote new) e).1;
-                      tells_all = λ capacity p from c end m n es h skip wrote e new. goes_so capacity p c n es (Done end) h (wrote new) e;
+                      tells_all = λ capacity p from c end m n es h skip wrote e still new. goes_so capacity p c n es (Done end) h (wrote new) e;
                     };
                 never = λ c n. refl;
                 same_call = same_recovery;

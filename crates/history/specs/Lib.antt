@@ -17,3 +17,4 @@ pub mod Views
 pub mod Passes
 pub mod Finds
 pub mod Settled
+pub mod ContainerFind
