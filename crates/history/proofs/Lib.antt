@@ -27,6 +27,7 @@ pub mod RobustRecoveries
 pub mod Containers
 pub mod ContainerCalls
 pub mod ContainerAdds
+pub mod ContainerRecoveries
 pub mod Finds
 pub mod Rooms
 pub mod Values
