@@ -1,5 +1,5 @@
 -- That a find on a container is a call of the model, which may rest at its question.
-use Rattle.std.proofs.Common.{Bool, true, false, ◌≡◌, ◌⊎◌, inl, inr, ℕ, suc, ◌+◌, ◌-◌, ◌*◌, ◌^◌, ◌<◌, ◌≤◌, ◌==◌, nat_lt, Option, Some, None, List, [], ◌∷◌, ◌++◌, length, slice_set, append-nil, refl, sym, ap, subst, ◌∙◌, arith}
+use Rattle.std.proofs.Common.{Bool, true, false, if◌then◌else◌, option_map, ◌≡◌, ◌⊎◌, inl, inr, ℕ, suc, ◌+◌, ◌-◌, ◌*◌, ◌^◌, ◌<◌, ◌≤◌, ◌==◌, nat_lt, Option, Some, None, List, [], ◌∷◌, ◌++◌, length, slice_set, append-nil, refl, sym, ap, subst, ◌∙◌, arith}
 use Rattle.std.proofs.Math.Nat.{mul-le-mul_left}
 use Rattle.std.proofs.lemmas.Bool.Decides.{nat_tests}
 use Rattle.steps.specs.Container.Find.{find_asks, find_keeps, first_find, find_want, find_comes_to, find_takes, find_after, find_kept}
@@ -22,21 +22,30 @@ use Rattle.model.specs.declared.event.Event.{Event}
 use Rattle.model.specs.declared.event.Event as events
 use Rattle.model.specs.declared.families.Flight.{Flight}
 use Rattle.model.specs.declared.families.Flight.TheVariants as flights
+use Rattle.model.specs.declared.families.container.ContainerStart.TheVariants.{Find}
 use Rattle.model.specs.declared.families.container.calls.ContainerFlight.TheVariants as calls
+use Rattle.model.specs.declared.turn.Kind.TheVariants as kinds
 use Rattle.model.specs.Coding.{Coding, IsCoding}
-use Rattle.model.specs.Families.{after_of, is_question}
+use Rattle.model.specs.Families.{opening_of, is_question}
+use Rattle.model.specs.Families.Container.Calls.{find_of}
+use Rattle.model.specs.Families.Indices.Robust.Opening.{is_owner}
 use Rattle.model.specs.Families.Container.Steps.{find_effects}
-use Rattle.model.specs.Families.Queues.Calls.{as_it_is, kept_at, read_in}
+use Rattle.model.specs.Families.Queues.Calls.{as_it_is, fresh_cell, kept_at, read_in}
 use Rattle.model.specs.Step.{as_call}
-use Rattle.lock_free_sp.specs.Driver.{answered}
+use Rattle.model.specs.Turns.{number_of}
+use Rattle.lock_free_sp.specs.Driver.{answered, KeepsRule}
+use Rattle.history.specs.declared.view.View.{View}
 use Rattle.history.specs.ContainerFind.{FindIn, came_from, HasCopied, HasCopiedBelow, HasCopiedLast, CopiedAt, finds_values}
+use Rattle.history.specs.History.{IsMachine}
 use Rattle.history.specs.Rooms.{room_of}
+use Rattle.history.specs.Settled.{EndsAsked}
 use Rattle.history.specs.Value.{value_of_room}
 use Rattle.history.proofs.CallsIn.{goes, AsksFor, StepsOf}
-use Rattle.history.proofs.Containers.{plain_effects, container_words}
+use Rattle.history.proofs.Containers.{container_effects, plain_effects, container_words, containers_owe, plain_acts, container_first, container_starts}
+use Rattle.history.proofs.Decisions.{IsAskingIn, keeps_said, hears_said, ends_said}
 use Rattle.history.proofs.RobustParts.{found_of}
 use Rattle.history.proofs.Rooms.{room_set, room_read}
-use Rattle.history.specs.Stages.{Calling}
+use Rattle.history.specs.Stages.{Calling, IsUnderWay, Ends, AtAsked}
 
 -- ---- how its copies go on
 
@@ -290,3 +299,121 @@ module _ {T R : Type 0} (code : Coding T) (law : IsCoding code) (words_in : R �
         tells = λ capacity p from c d m n es h wrote e. (goes_so capacity p (came_from from) c m n es (GoOn d) h wrote (went_on_so c m n capacity p c.stage d e h.0)).1;
         tells_all = λ capacity p from c end m n es h skip wrote e still. goes_so capacity p (came_from from) c m n es (Done end) h wrote (ended_so c n capacity p c.stage end e still h.0);
       }
+
+  -- ---- which find a flight is, and with which room
+
+  abbrev find_in : Finding T R → Flight T → Finding T R
+  find_in c (flights.Container (calls.Find run)) = record { capacity = run.call.capacity; stage = run.call.stage; of = record {} }
+  find_in c flight = c
+
+  abbrev read_of : T → Flight T → T
+  read_of value (flights.Container (calls.Find run)) = read_in code run.room
+  read_of value flight = value
+
+  same_value : (c : Finding T R) (m k : R) → finding.flight c m ≡ finding.flight c k → value_of_room code words_in m ≡ value_of_room code words_in k
+  same_value c m k e = sym (room_read code (words_in m)) ∙ (ap (read_of (value_of_room code words_in m)) e ∙ room_read code (words_in k))
+
+  abbrev begun_find : Finding T R → Option (Flight T) → Finding T R
+  begun_find c None = c
+  begun_find c (Some flight) = find_in c flight
+
+  -- the first of it puts no question
+  first_so : (capacity : ℕ) (c : Finding T R) (m : R) (named : Bool)
+      → option_map flights.Container (if named then Some (find_of {T = T} capacity owner) else None) ≡ Some (finding.flight c m)
+      → is_question (want c) ≡ false
+  first_so capacity c m true e = ap (λ (z : Finding T R). is_question (want z)) (sym (ap (λ (o : Option (Flight T)). begun_find c o) e))
+  first_so capacity c m false e = absurd (cc)
+
+  -- no question comes right after another
+  abbrev AsksNone : After (Finding T R) ℕ → Type 0
+  AsksNone (GoOn d) = is_question (want d) ≡ false
+  AsksNone (Done found) = Unit {0}
+
+  asks_none : (c : Finding T R) (n : ℕ) (stage : FindStage) → is_question (find_asks code.size c.capacity stage) ≡ true → AsksNone (find_takes code.size c stage owner n)
+  asks_none c n (finds.LoadsCell index found) due = absurd (cc)
+  asks_none c n (finds.LoadsCount index found) due = absurd (cc)
+  asks_none c n (finds.LoadsWord index found count at) due = absurd (cc)
+  asks_none c n (finds.ChecksCount index found count) due = absurd (cc)
+  asks_none c n (finds.Asks index found) due =
+      by_test AsksNone (n == 0) _ _ (λ t. tt) (λ t. by_test AsksNone (nat_lt (index + 1) c.capacity) _ _ (λ u. refl) (λ u. tt))
+
+  pub find_call : IsAskingIn code kinds.Container (plain_effects code) (container_words code) want after kept finding
+  find_call =
+      record {
+        steps = find_steps;
+        never = λ c n. refl;
+        same_call = λ c d m k e. ap (find_in c) e;
+        same_room = λ capacity p from c m k es e wrote. subst (λ x. CopiedAt p (came_from from) x c.stage es) (same_value c m k e) wrote;
+        first = λ n c m e. first_so n c m (is_owner owner) e;
+        one = λ c d n due e. subst AsksNone e (asks_none c n c.stage due);
+      }
+
+  -- ---- it may rest at its question
+
+  abbrev FindOver : View T → ℕ → R → View T → Type 0
+  FindOver = EndsAsked code kinds.Container after kept finding
+
+  rests_so : (base v : View T) (c : Finding T R) (m : R) (said : Bool) (e : ℕ) → is_question (want c) ≡ true → after c (number_of said) ≡ Done e
+      → IsUnderWay code kinds.Container finding base v c m → FindOver base e (kept c m (number_of said)) v
+  rests_so base v c m said e due ends under = go c.stage refl due
+    where
+      go : (stage : FindStage) → c.stage ≡ stage → is_question (find_asks code.size c.capacity stage) ≡ true → FindOver base e (kept c m (number_of said)) v
+      go (finds.LoadsCell index found) is due = absurd (cc)
+      go (finds.LoadsCount index found) is due = absurd (cc)
+      go (finds.LoadsWord index found count at) is due = absurd (cc)
+      go (finds.ChecksCount index found count) is due = absurd (cc)
+      go (finds.Asks index found) is due =
+          let room_same : (n : ℕ) → kept c m n ≡ m = λ n. ap (λ stage. find_keeps with_word stage m n) is in
+          subst (λ k. FindOver base e k v) (sym (room_same (number_of said)))
+          (inr (record {
+            asking = c;
+            before = under;
+            asks = ap (λ stage. is_question (find_asks code.size c.capacity stage)) is;
+            said = said;
+            goes = ends;
+            keeps = room_same (number_of said);
+          }))
+
+  ended_step : (base : View T) (e : ℕ) (m : R) (w : View T) → Ends code kinds.Container finding base e m w → FindOver base e m w
+  ended_step base e m w h = inl h
+
+  -- each step of a find keeps the rule of the table
+  pub container_find_keeps : KeepsRule (λ (z : View T). z.capacity) (AtAsked code kinds.Container after kept finding) FindOver
+      (λ key. container_words code key + 1) (λ key. key) (λ key. IsMachine code kinds.Container key) want after kept
+  container_find_keeps =
+      keeps_said code kinds.Container tt container_effects (plain_effects code) (container_words code) (containers_owe code) want after kept finding
+      (plain_acts code finding (λ c m. tt)) find_call FindOver ended_step rests_so
+
+  -- a find that has asked goes on from the answer
+  pub container_find_hears : (base v : View T) (c d : Finding T R) (m : R) (said : Bool) → is_question (want c) ≡ true
+      → after c (number_of said) ≡ GoOn d → AtAsked code kinds.Container after kept finding base v c m
+      → AtAsked code kinds.Container after kept finding base v d (kept c m (number_of said))
+  container_find_hears =
+      hears_said code kinds.Container tt container_effects (plain_effects code) (container_words code) (containers_owe code) want after kept finding
+      (plain_acts code finding (λ c m. tt)) find_call FindOver ended_step rests_so
+
+  -- or has ended with it
+  pub container_find_ends : (base v : View T) (c : Finding T R) (m : R) (said : Bool) (e : ℕ) → is_question (want c) ≡ true
+      → after c (number_of said) ≡ Done e → AtAsked code kinds.Container after kept finding base v c m → FindOver base e (kept c m (number_of said)) v
+  container_find_ends =
+      ends_said code kinds.Container tt container_effects (plain_effects code) (container_words code) (containers_owe code) want after kept finding
+      (plain_acts code finding (λ c m. tt)) find_call FindOver ended_step rests_so
+
+  -- in a room of zeros in which a value fits
+  pub container_find_first : (v : View T) (m : R) → room m ≡ fresh_cell → v.going ≡ None → v.other ≡ [] → 0 < v.share.part → 0 < v.capacity → owner < empty
+      → AtAsked code kinds.Container after kept finding v v (first_find v.capacity) m
+  container_find_first v m zeros idle alone any some fits =
+      let named : nat_lt owner empty ≡ true = grind (arith, nat_tests) in
+      let flies : flights.Container (find_of v.capacity owner) ≡ finding.flight (first_find v.capacity) m =
+      ap (λ x. flights.Container (calls.Find (record { call = call_at v.capacity (finds.LoadsCell 0 0); given = owner; room = x }))) (sym zeros)
+      in
+      inl (inl (record {
+        is = refl;
+        idle = idle;
+        fresh = alone;
+        standing = (refl, some);
+        some = any;
+        first = container_first code v finding (Find owner) (first_find v.capacity) m refl (λ o p h. h) named flies ((opening_of kinds.Container).kept v.capacity);
+        starts = container_starts code v finding (Find owner) (first_find v.capacity) m refl (λ o p h. h) named flies;
+        wrote = λ p. record { number = 0; is = refl; copied = refl };
+      }))

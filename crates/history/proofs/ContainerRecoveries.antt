@@ -504,24 +504,27 @@ module _ {T R : Type 0} (code : Coding T) (law : IsCoding code) (words_in : R �
   recover_call : IsAskingOf code kinds.Container (plain_effects code) (container_words code) want after kept recovering
   recover_call =
       record {
-        steps =
+        asking =
             record {
-              same_want = λ c m. refl;
-              same_after = λ capacity c m n h. same_after_so capacity c m n h;
-              hears = λ c m a n e. recover_hears_so code.size with_word c given m c.stage a n e;
-              stays = λ capacity c d n h e. stands_so capacity c d n h e;
-              asks = λ capacity c h still. asks_so capacity c h still;
-              past = λ capacity c d n k h e. refl;
-              finds = λ c m n small t. tt;
-              leaves = λ c a n t e. absurd (cc);
-              tells = λ capacity p from c d m n es h wrote e new. (goes_so capacity p c m n es (GoOn d) h (wrote new) e).1;
-              tells_all = λ capacity p from c end m n es h skip wrote e new. goes_so capacity p c m n es (Done end) h (wrote new) e;
+                steps =
+                    record {
+                      same_want = λ c m. refl;
+                      same_after = λ capacity c m n h. same_after_so capacity c m n h;
+                      hears = λ c m a n e. recover_hears_so code.size with_word c given m c.stage a n e;
+                      stays = λ capacity c d n h e. stands_so capacity c d n h e;
+                      asks = λ capacity c h still. asks_so capacity c h still;
+                      past = λ capacity c d n k h e. refl;
+                      finds = λ c m n small t. tt;
+                      leaves = λ c a n t e. absurd (cc);
+                      tells = λ capacity p from c d m n es h wrote e new. (goes_so capacity p c m n es (GoOn d) h (wrote new) e).1;
+                      tells_all = λ capacity p from c end m n es h skip wrote e still new. goes_so capacity p c m n es (Done end) h (wrote new) e;
+                    };
+                never = λ c n. refl;
+                same_call = λ c d m k e. ap (recovery_of c) e;
+                same_room = λ capacity p from c m k es e wrote new. subst (λ v. RecoveredAt capacity p given c.stage v es) (same_value c m k e) (wrote new);
+                first = λ n c m e. first_so n c m (is_owner given.owner) e;
+                one = λ c d n due e. subst (AnswersOn code.size c given) e (answers_on code.size c given c.stage n due);
             };
-        never = λ c n. refl;
-        same_call = λ c d m k e. ap (recovery_of c) e;
-        same_room = λ capacity p from c m k es e wrote new. subst (λ v. RecoveredAt capacity p given c.stage v es) (same_value c m k e) (wrote new);
-        first = λ n c m e. first_so n c m (is_owner given.owner) e;
-        one = λ c d n due e. subst (AnswersOn code.size c given) e (answers_on code.size c given c.stage n due);
         lasts = λ c end n due e. subst (AnswersOn code.size c given) e (answers_on code.size c given c.stage n due);
       }
     where
