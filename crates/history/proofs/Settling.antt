@@ -290,7 +290,7 @@ module _ {T : Type 0} (code : Coding T) (kind : Kind) (decides : MayDecide kind)
 
     -- it may begin on a pass with no call under way, or with one that rests
     pub begins_idle : (v : View T) (c : C) (m : M) → Begins v.capacity c → v.going ≡ None → v.other ≡ [] → 0 < v.share.part → Rested v v c m
-    begins_idle v c m begins idle fresh any = inl (record { from = v; settled = inl refl; stage = first v c m begins idle fresh any })
+    begins_idle v c m begins idle fresh any = inl (record { from = v; settled = inl (refl, idle); stage = first v c m begins idle fresh any })
 
     pub begins_rested : (v : View T) (c : C) (m : M) → Begins v.capacity c → IsResting code v → Rested v v c m
     begins_rested v c m begins resting = inr (record { is = refl; resting = resting; first = begins })
