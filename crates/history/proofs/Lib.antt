@@ -51,3 +51,4 @@ pub mod Holders
 pub mod OverflowHolders
 pub mod Settling
 pub mod ContainerFinds
+pub mod ContainerRests
