@@ -28,6 +28,7 @@ pub mod Containers
 pub mod ContainerCalls
 pub mod ContainerAdds
 pub mod ContainerRecoveries
+pub mod ContainerLooks
 pub mod Finds
 pub mod Rooms
 pub mod Values

@@ -13,6 +13,7 @@ pub mod Value
 pub mod ValueQueue
 pub mod ValueOpened
 pub mod ContainerRecovery
+pub mod ContainerLooks
 pub mod Views
 pub mod Passes
 pub mod Finds

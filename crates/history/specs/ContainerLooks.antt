@@ -1,0 +1,67 @@
+-- A look of a state at its container as a call of the model: where it stands, and what it has written there. It goes on from
+-- the state that its party has in the machine.
+use Rattle.std.specs.Prelude.{◌≡◌, ℕ, ◌<◌, Bool, true, false, Some, None, IfSome, List, []}
+use Rattle.steps.specs.Container.State.{Numbers, Showing}
+use Rattle.steps.specs.declared.container.look.Look.{Look as Looking}
+use Rattle.steps.specs.declared.container.look.LookStage as looks
+use Rattle.steps.specs.declared.container.state.ContainerState.{ContainerState}
+use Rattle.model.specs.declared.event.Event.{Event}
+use Rattle.model.specs.declared.event.Start.TheVariants.{Container}
+use Rattle.model.specs.declared.families.Flight as flights
+use Rattle.model.specs.declared.families.Kept.{Kept}
+use Rattle.model.specs.declared.families.container.ContainerStart.{ContainerStart}
+use Rattle.model.specs.declared.families.container.ContainerStart.TheVariants.{GetState, UpdateState}
+use Rattle.model.specs.declared.families.container.calls.ContainerFlight.TheVariants as calls
+use Rattle.model.specs.declared.families.container.calls.LookOf.{LookOf}
+use Rattle.model.specs.declared.families.container.calls.LookOf.TheVariants as which_looks
+use Rattle.model.specs.Families.Container.Calls.{looked}
+use Rattle.model.specs.Families.Container.Looks.{state_in}
+use Rattle.history.specs.ContainerFind.{HasCopied}
+use Rattle.history.specs.Stages.{Calling}
+
+-- on a container of this capacity, whose values have so many words
+abbrev pub LookIn : ℕ → ℕ → looks.LookStage → Type 0
+LookIn size capacity looks.TheVariants.LoadsChange = Unit {0}
+LookIn size capacity (looks.TheVariants.LoadsCount index) = index < capacity
+LookIn size capacity (looks.TheVariants.LoadsWord index count at) = (index < capacity) × (at < size)
+LookIn size capacity (looks.TheVariants.ChecksCount index count) = index < capacity
+
+module _ {T : Type 0} where
+  abbrev pub look_start : LookOf → ContainerStart T
+  look_start which_looks.GetState = GetState
+  look_start which_looks.UpdateState = UpdateState
+
+  -- what the state had seen when the look began, and what it shows by now
+  abbrev pub state_of_look : ℕ → Numbers → Showing T → ContainerState T
+  state_of_look capacity seen shown =
+      record { container = 0; capacity = capacity; seen = seen; shown = shown }
+
+  -- the machine has it so for the party
+  abbrev pub HasState : Kept T → ℕ → ContainerState T → Type 0
+  HasState kept p state = state_in kept p ≡ Some state
+
+  -- what it has written at this stage
+  abbrev pub LookedAt : ℕ → looks.LookStage → List (Event T) → Type 0
+  LookedAt p looks.TheVariants.LoadsChange es = es ≡ []
+  LookedAt p (looks.TheVariants.LoadsCount index) es = HasCopied p index es
+  LookedAt p (looks.TheVariants.LoadsWord index count at) es = HasCopied p index es
+  LookedAt p (looks.TheVariants.ChecksCount index count) es = HasCopied p index es
+
+  -- and in all: nothing where nothing had changed
+  abbrev pub HasLookedAll : ℕ → ℕ → Bool → List (Event T) → Type 0
+  HasLookedAll capacity p true es = HasCopied p capacity es
+  HasLookedAll capacity p false es = es ≡ []
+
+  abbrev pub looks_at : ℕ → LookOf → ℕ → Numbers → Calling T (Looking T) (Showing T) Bool
+  looks_at size which cells seen =
+      record {
+        start = Container (look_start which);
+        by = λ was p. IfSome was (λ q. q ≡ p);
+        stands = λ capacity c. (c.capacity ≡ capacity) × LookIn size capacity c.stage;
+        flight = λ c m. flights.TheVariants.Container (calls.Look which c);
+        answer = λ changed m. looked which (state_of_look cells seen m) changed;
+        skips = λ c n. false;
+        left = λ e. ⊥;
+        wrote = λ capacity p from c m es. from ≡ None → LookedAt p c.stage es;
+        wrote_all = λ capacity p from changed m es. from ≡ None → HasLookedAll capacity p changed es;
+      }
