@@ -20,6 +20,7 @@ use Rattle.model.specs.Families.{opening_of, want_of, after_of, goes_of}
 use Rattle.model.specs.Rows.{first_row}
 use Rattle.model.specs.Step.{answer_in}
 use Rattle.model.specs.Turns.{after_turn, events_of, ending_of}
+use Rattle.model.specs.Families.Container.Looks.{state_in}
 use Rattle.model.specs.World.{World, Trace, capacity_error}
 use Rattle.model.specs.World as worlds
 use Rattle.queue_laws.proofs.Queues.Knows.{IsFreshCall}
@@ -30,7 +31,7 @@ use Rattle.history.specs.Known.{owned, events_by}
 use Rattle.history.specs.Stages.{Calling, Starts, rows_as}
 use Rattle.history.specs.Views.{first_view}
 use Rattle.history.proofs.Reached.{reached_as_opening, fresh_as_opening}
-use Rattle.history.proofs.Calls.{call_then}
+use Rattle.history.proofs.Calls.{call_then, stateless_none}
 use Rattle.history.proofs.Known.{known_alone, by_mine, AreOf}
 use Rattle.history.proofs.Steps.{settle}
 use Rattle.history.proofs.Turns.{KeptLaws, MachineLaws, kept_laws, goes_on_alike, Between, begun, begun_at, gone, goes_to, told, own_told}
@@ -98,7 +99,7 @@ module _ {T : Type 0} (code : Coding T) (kind : Kind) (capacity size : ℕ) (eff
 
   -- a pass that has made these events
   abbrev pub maker : List (Event T) → View T
-  maker es = record { capacity = capacity; party = Some 0; share = all_shares; seen = es; other = []; made = es; going = None }
+  maker es = record { capacity = capacity; party = Some 0; share = all_shares; seen = es; other = []; made = es; going = None; state = None }
 
   pub sums : (words : List ℕ) (es : List (Event T)) (going : Option (Start T × Flight T)) → (h : Here words es going) → (f : Event T → ℕ) → sum_by f (maker es).made ≡ sum_by (owned same_seat 0 f) h.u.events
   sums words es going h f = (let all = h.between.made_own (first_view capacity) refl f in omega arith)
@@ -166,6 +167,8 @@ module _ {T : Type 0} (code : Coding T) (kind : Kind) (capacity size : ℕ) (eff
   opens_so words es h =
       let first : View T = first_view capacity in
       subst (λ v. IsMachine code kind capacity (opening words [] v))
-      (ap (λ zs. record { capacity = capacity; party = Some 0; share = all_shares; seen = zs; other = []; made = es; going = call_in h.u.world 0 }) h.events
-      ∙ ap (λ o. record { capacity = capacity; party = Some 0; share = all_shares; seen = es; other = []; made = es; going = o }) h.there)
+      (ap (λ zs. record { capacity = capacity; party = Some 0; share = all_shares; seen = zs; other = []; made = es; going = call_in h.u.world 0; state = state_in h.u.world.kept 0 }) h.events
+      ∙ (ap (λ o. record { capacity = capacity; party = Some 0; share = all_shares; seen = es; other = []; made = es; going = o; state = state_in h.u.world.kept 0 }) h.there
+      ∙ ap (λ z. record { capacity = capacity; party = Some 0; share = all_shares; seen = es; other = []; made = es; going = None; state = z })
+      (stateless_none h.u.world.kept 0 (laws.stateless h.u h.between.run))))
       (settle code kind capacity 0 0 same_seat words (alone words) first es h.u refl (omega arith) h.between)

@@ -1,11 +1,14 @@
 -- Where the calls of a machine stand after a turn.
-use Rattle.std.proofs.Common.{◌≡◌, ◌≢◌, ℕ, zero, suc, ◌<◌, Bool, Option, Some, None, List, [], ◌∷◌, ◌++◌, length, get_or, set, refl, ap, ◌∙◌, arith}
+use Rattle.std.proofs.Common.{◌≡◌, ◌≢◌, ℕ, zero, suc, ◌+◌, ◌<◌, ◌==◌, Bool, false, Option, Some, None, List, [], ◌∷◌, ◌++◌, length, get_or, set, refl, ap, ◌∙◌, arith}
+use Rattle.std.proofs.lemmas.Bool.Decides.{nat_tests}
 use Rattle.steps.specs.declared.ask.Ask.{Ask}
 use Rattle.steps.specs.declared.ask.After.{After}
 use Rattle.steps.specs.declared.ask.After.TheVariants.{GoOn, Done}
 use Rattle.model.specs.declared.event.Answer.{Answer}
 use Rattle.model.specs.declared.event.Event.{Event}
 use Rattle.model.specs.declared.event.Start.{Start}
+use Rattle.model.specs.declared.event.Start.TheVariants.{Container}
+use Rattle.model.specs.declared.families.container.ContainerStart.TheVariants.{GetState, UpdateState}
 use Rattle.model.specs.declared.families.Flight.{Flight}
 use Rattle.model.specs.declared.families.Flight as flights
 use Rattle.model.specs.declared.families.Kept.{Kept}
@@ -13,14 +16,23 @@ use Rattle.model.specs.declared.families.Kept as kepts
 use Rattle.model.specs.declared.party.Doing.{Doing}
 use Rattle.model.specs.declared.party.Doing.TheVariants.{Going, Over}
 use Rattle.model.specs.declared.party.Party.{Party}
+use Rattle.model.specs.declared.turn.Kind.{Kind}
+use Rattle.model.specs.declared.turn.Kind as kinds
+use Rattle.model.specs.declared.turn.Kind.TheVariants.{IndexQueue, Overflow, Queue, Atomic, Bits, Counts, Indices, Robust, Loan}
+use Rattle.model.specs.declared.turn.Turn.TheVariants.{Begin, Next}
 use Rattle.model.specs.Coding.{Coding}
-use Rattle.model.specs.Families.{want_of, after_of, goes_of, ask_of}
+use Rattle.model.specs.Families.{opening_of, want_of, after_of, goes_of, ask_of}
+use Rattle.model.specs.Families.Container.Keeping.{is_look_of}
+use Rattle.model.specs.Families.Container.Looks.{state_in}
 use Rattle.model.specs.Parties.{party_of, doing_of, flight_of}
 use Rattle.model.specs.Step.{Step, answer_in}
 use Rattle.model.specs.Turns.{after_begin, after_next, after_answer, after_decision, after_step, party_after, party_at_begin, step_count, change_of, number_of, step_in, events_of_next, events_of_decision, events_of_step, events_of_answer, ending_of, old_of, ask_of_doing}
 use Rattle.model.specs.World.{World, flight_in}
 use Rattle.model.proofs.Parties.{party_put_same, party_put_other}
 use Rattle.history.specs.History.{call_at, call_of, call_in}
+
+other_number : (p q : ℕ) → q ≢ p → (p == q) ≡ false
+other_number p q ne = grind (arith, nat_tests)
 
 module _ {T : Type 0} where
   -- ---- the party of a call under way
@@ -95,6 +107,32 @@ module _ {T : Type 0} where
   goes_alike code p (flights.TheVariants.Container flight) n (kepts.TheVariants.Container dead states) none = absurd none
   goes_alike code p (flights.TheVariants.Loan flight) n (kepts.TheVariants.Loan book) none = absurd none
   goes_alike code p flight n kept none = refl
+
+  -- no party has a state then
+  pub stateless_none : (kept : Kept T) (p : ℕ) → IsStateless kept → state_in kept p ≡ None
+  stateless_none (kepts.TheVariants.Container dead states) p none = absurd none
+  stateless_none kept p none = refl
+
+  pub opens_without : (kind : Kind) (capacity p : ℕ) → state_in {T = T} ((opening_of kind).kept capacity) p ≡ None
+  opens_without IndexQueue capacity p = refl
+  opens_without Overflow capacity p = refl
+  opens_without Queue capacity p = refl
+  opens_without Atomic capacity p = refl
+  opens_without Bits capacity p = refl
+  opens_without Counts capacity p = refl
+  opens_without Indices capacity p = refl
+  opens_without Robust capacity p = refl
+  opens_without kinds.TheVariants.Container capacity p = refl
+  opens_without Loan capacity p = refl
+
+  -- a turn of another party is no look of this one's
+  pub look_begin : (w : World T) (p q : ℕ) (start : Start T) → q ≢ p → is_look_of w q (Begin p start) ≡ false
+  look_begin w p q (Container GetState) ne = other_number p q ne
+  look_begin w p q (Container UpdateState) ne = other_number p q ne
+  look_begin w p q start ne = refl
+
+  pub look_next : (w : World T) (p q : ℕ) → q ≢ p → is_look_of w q (Next p) ≡ false
+  look_next w p q ne = rw (other_number p q ne) refl
 
   -- ---- the own call
 

@@ -24,27 +24,21 @@ use Rattle.model.specs.declared.families.Kept.TheVariants as kepts
 use Rattle.model.specs.declared.families.container.ContainerStart.{ContainerStart}
 use Rattle.model.specs.declared.families.container.calls.ContainerFlight.TheVariants as calls
 use Rattle.model.specs.declared.families.container.calls.LookOf.{LookOf}
-use Rattle.model.specs.declared.turn.Turn.{Turn}
 use Rattle.model.specs.Coding.{Coding}
 use Rattle.model.specs.Families.{goes_of, step_of}
 use Rattle.model.specs.Families.Container.Calls.{look_came, settled_if}
-use Rattle.model.specs.Families.Container.Keeping.{is_look_of}
-use Rattle.model.specs.Families.Container.Looks.{state_in}
 use Rattle.model.specs.Families.Container.Steps.{look_effects, look_effects_of}
 use Rattle.model.specs.Step.{as_call}
-use Rattle.model.specs.Turns.{after_turn}
-use Rattle.model.specs.World.{World, Trace}
-use Rattle.robust_laws.specs.Open.{open_refusal}
+use Rattle.model.specs.World.{World}
 use Rattle.container_laws.proofs.Core.{data_within}
 use Rattle.container_laws.proofs.Looks.{written_same}
-use Rattle.container_laws.proofs.OpenRuns.{reached_open_tells}
 use Rattle.lock_free_sp.specs.Driver.{answered}
 use Rattle.history.specs.ContainerFind.{HasCopied}
 use Rattle.history.specs.ContainerLooks.{LookIn, state_of_look, HasState, LookedAt, HasLookedAll, looks_at}
 use Rattle.history.specs.Stages.{Calling}
 use Rattle.history.proofs.CallsIn.{AsksFor}
 use Rattle.history.proofs.ContainerCalls.{change_low, count_low}
-use Rattle.history.proofs.Containers.{IsOn, container_effects}
+use Rattle.history.proofs.Containers.{container_effects}
 use Rattle.history.proofs.Drives.{goes}
 use Rattle.history.proofs.RobustParts.{found_of}
 
@@ -146,8 +140,3 @@ module _ {T : Type 0} (code : Coding T) (which : LookOf) (capacity : ℕ) (seen 
       → container_effects w p (flights.Container (calls.Look which c)) n ≡ look_effects p (value_in code.value_of code.size m.copy) c.stage n ++ []
   look_writes_so c m n w coded has =
       ap (λ o. look_effects_of w.coding p c.stage n o ++ []) has ∙ ap (λ (z : Coding T). look_effects p (value_in z.value_of z.size m.copy) c.stage n ++ []) coded
-
--- a turn that is no look of a party leaves its state
-pub state_stays : {T : Type 0} (code : Coding T) (capacity : ℕ) (t : Trace T) (r : IsOn code capacity t) (turn : Turn T) → open_refusal t.world turn ≡ None
-    → (q : ℕ) → is_look_of t.world q turn ≡ false → state_in (after_turn t turn).world.kept q ≡ state_in t.world.kept q
-state_stays code capacity t r turn e q none = (reached_open_tells t r.of_kind r.reached turn e).states.moves q none

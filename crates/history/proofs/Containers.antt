@@ -18,10 +18,12 @@ use Rattle.model.specs.declared.families.container.calls.ContainerFlight.{Contai
 use Rattle.model.specs.declared.families.container.calls.ContainerFlight.TheVariants as calls
 use Rattle.model.specs.declared.party.Party.{Party}
 use Rattle.model.specs.declared.turn.Kind.TheVariants as kinds
+use Rattle.model.specs.declared.turn.Turn.{Turn}
 use Rattle.model.specs.declared.turn.Turn.TheVariants.{Next}
 use Rattle.model.specs.Coding.{Coding}
 use Rattle.model.specs.Families.{first_of, step_of, beside_of, goes_of, after_of, going_rows}
 use Rattle.model.specs.Families.Container.Calls.{first}
+use Rattle.model.specs.Families.Container.Keeping.{is_look_of}
 use Rattle.model.specs.Families.Container.Looks.{state_in}
 use Rattle.model.specs.Families.Container.Opening.{names_owner}
 use Rattle.model.specs.Families.Container.Reading.{Act, acts_of}
@@ -29,16 +31,17 @@ use Rattle.model.specs.Families.Container.Steps.{effects, questions}
 use Rattle.model.specs.Families.Indices.Robust.Dead.{has_died}
 use Rattle.model.specs.Families.Indices.Robust.Reading.{Deed, deeds_of}
 use Rattle.model.specs.Rows.{first_row}
-use Rattle.model.specs.Turns.{step_in}
+use Rattle.model.specs.Turns.{step_in, after_turn}
 use Rattle.model.specs.World.{World, Trace}
 use Rattle.model.proofs.Frame as frame
 use Rattle.model.proofs.Scenes.{stands_there}
 use Rattle.robust_laws.specs.Gone.{Word}
+use Rattle.robust_laws.specs.Open.{open_refusal}
 use Rattle.robust_laws.proofs.Alive.{AllLive}
 use Rattle.container_laws.specs.Open.{IsOpenContainer}
 use Rattle.container_laws.proofs.Invariant.{ContainerNow, Fit, FlightAt, family_by}
 use Rattle.container_laws.proofs.Living.{has_not_died, step_is_free}
-use Rattle.container_laws.proofs.OpenRuns.{reached_open_sound, reached_open_lives, reached_open_wide, reached_open_kept}
+use Rattle.container_laws.proofs.OpenRuns.{reached_open_sound, reached_open_lives, reached_open_wide, reached_open_kept, reached_open_tells}
 use Rattle.container_laws.proofs.Sound.{kept_is}
 use Rattle.container_laws.proofs.Terms.{Terms}
 use Rattle.container_laws.proofs.Written.{all_effects}
@@ -192,8 +195,13 @@ module _ {T : Type 0} (code : Coding T) (capacity : ℕ) where
             here.x.start flight s.fit mine));
       }
 
+  states_stay : (t : Trace T) (r : IsOn t) (turn : Turn T) → open_refusal t.world turn ≡ None → (q : ℕ) → is_look_of t.world q turn ≡ false
+      → state_in (after_turn t turn).world.kept q ≡ state_in t.world.kept q
+  states_stay t r turn free q none = (reached_open_tells t r.of_kind r.reached turn free).states.moves q none
+
   pub containers_owe : KeptLaws code kinds.Container capacity (container_words code capacity) container_effects
-  containers_owe = record { size = container_size; steps_on = steps_on }
+  containers_owe =
+      record { size = container_size; steps_on = steps_on; states = λ t turn run next free q none. states_stay t run turn free q none }
 
 -- ---- which party may begin a call
 

@@ -1,5 +1,5 @@
 -- What a begin and a step of a reached machine leave, where a table stands at its words.
-use Rattle.std.proofs.Common.{Bool, ◌≡◌, ◌≢◌, inl, inr, ℕ, ◌+◌, ◌<◌, ◌≤◌, ⊎_elim, Option, Some, None, IfSome, List, [], ◌∷◌, ◌++◌, length, slice_index, slice_set, refl, sym, ap, subst, ◌∙◌, append_assoc, append-nil, arith, sum_by}
+use Rattle.std.proofs.Common.{Bool, false, ◌≡◌, ◌≢◌, inl, inr, ℕ, ◌+◌, ◌<◌, ◌≤◌, ⊎_elim, Option, Some, None, IfSome, List, [], ◌∷◌, ◌++◌, length, slice_index, slice_set, refl, sym, ap, subst, ◌∙◌, append_assoc, append-nil, arith, sum_by}
 use Rattle.std.proofs.lemmas.Bool.{cases_eq}
 use Rattle.std.proofs.lemmas.List.Sums.{sum_by-append}
 use mathlib.Core.Option.{some}
@@ -21,6 +21,8 @@ use Rattle.model.specs.declared.turn.Turn.{Turn}
 use Rattle.model.specs.declared.turn.Turn.TheVariants.{Begin, Next, Decide}
 use Rattle.model.specs.Coding.{Coding}
 use Rattle.model.specs.Families.{first_of, going_rows, want_of, after_of, goes_of, ask_of}
+use Rattle.model.specs.Families.Container.Keeping.{is_look_of}
+use Rattle.model.specs.Families.Container.Looks.{state_in}
 use Rattle.model.specs.Parties.{party_of}
 use Rattle.model.specs.Promises.Turns.{ask_in}
 use Rattle.model.specs.Refusals.{call_refusal}
@@ -40,7 +42,7 @@ use Rattle.history.specs.History.{IsBeginning, IsRun, IsMachine, Fits, HasSeenOf
 use Rattle.history.specs.Stages.{rows_as}
 use Rattle.history.proofs.Known.{by_more, by_same, by_other, by_mine, by_twice, by_apart, owned_none, owned_one, owned_whole, late_none, none_late, late_more, AreOf, sum_first}
 use Rattle.history.proofs.Reached.{refusal_as, begin_as, next_as, reached_as_more, fresh_as_more}
-use Rattle.history.proofs.Calls.{IsStateless, goes_alike, stands, flight_is, no_flight, next_other, begin_other, decision_other, begin_own, call_then, moved, heard_going, heard_events, get_left, set_left, Moved}
+use Rattle.history.proofs.Calls.{IsStateless, goes_alike, stateless_none, look_begin, look_next, stands, flight_is, no_flight, next_other, begin_other, decision_other, begin_own, call_then, moved, heard_going, heard_events, get_left, set_left, Moved}
 
 -- what is wanted, where it is a word or nothing
 abbrev pub want_for : Option Ask → Want (Unit {0})
@@ -76,7 +78,8 @@ module _ {T : Type 0} where
 
   -- a turn of another party keeps what a seat knows: where it writes for the seat's call, the seat has still to see it
   module _ (kind : Kind) (owner : ℕ → ℕ) (u w : Trace T) (es : List (Event T)) (j : ℕ) (v : View T) (f : Fits owner u j v) (same : u.world.kind ≡ kind) (same' : w.world.kind ≡ kind) (more : w.events ≡ u.events ++ es)
-      (beside : (q : ℕ) → owner q ≡ j → IsLate kind (call_in u.world q) (events_by q es)) (apart : (q : ℕ) → owner q ≡ j → call_in w.world q ≡ call_in u.world q) where
+      (beside : (q : ℕ) → owner q ≡ j → IsLate kind (call_in u.world q) (events_by q es)) (apart : (q : ℕ) → owner q ≡ j → call_in w.world q ≡ call_in u.world q)
+      (held : (q : ℕ) → owner q ≡ j → state_in w.world.kept q ≡ state_in u.world.kept q) where
     -- a party with no call under way has nothing written for it
     quiet : (q : ℕ) → owner q ≡ j → call_in u.world q ≡ None → events_by q es ≡ []
     quiet q of_j none = late_none kind (events_by q es) (subst (λ o. IsLate kind o (events_by q es)) none (beside q of_j))
@@ -121,6 +124,7 @@ module _ {T : Type 0} where
           self = f.self;
           going = λ q of_j is. apart q of_j ∙ f.going q of_j is;
           idle = λ q of_j ne. apart q of_j ∙ f.idle q of_j ne;
+          stated = λ q of_j is. held q of_j ∙ f.stated q of_j is;
           party = f.party;
           late = f.late ++ by_party v.party es;
           waits = subst (λ k. IsLate k v.going (f.late ++ by_party v.party es)) (sym same') (waits_on v.party refl);
@@ -151,6 +155,11 @@ module _ {T : Type 0} where
       pub size : (t : Trace T) → IsRun code kind capacity t → length t.world.words ≡ words
       pub steps_on : (t : Trace T) → IsRun code kind capacity t → (p : ℕ) (start : Start T) (flight : Flight T) → call_in t.world p ≡ Some (start, flight) → StepsOn t p flight
 
+      -- a turn that is no look of a party leaves its state
+      pub states : (t : Trace T) (turn : Turn T) → IsRun code kind capacity t → IsRun code kind capacity (after_turn t turn)
+          → refusal_as kind t.world turn ≡ None → (q : ℕ) → is_look_of t.world q turn ≡ false
+          → state_in (after_turn t turn).world.kept q ≡ state_in t.world.kept q
+
     -- of one whose calls do not
     pub record MachineLaws : Type 0 where
       pub size : (t : Trace T) → IsRun code kind capacity t → length t.world.words ≡ words
@@ -158,7 +167,14 @@ module _ {T : Type 0} where
       pub stateless : (t : Trace T) → IsRun code kind capacity t → IsStateless t.world.kept
 
     pub kept_laws : MachineLaws → KeptLaws
-    kept_laws laws = record { size = laws.size; steps_on = laws.steps_on }
+    kept_laws laws =
+        record {
+          size = laws.size;
+          steps_on = laws.steps_on;
+          states = λ t turn run next free q none.
+              stateless_none (after_turn t turn).world.kept q (laws.stateless (after_turn t turn) next)
+              ∙ sym (stateless_none t.world.kept q (laws.stateless t run));
+        }
 
     pub goes_on_alike : MachineLaws → (t : Trace T) → IsRun code kind capacity t → (p : ℕ) (flight : Flight T) (n : ℕ)
         → goes_of code p flight n t.world.kept ≡ after_of code flight n
@@ -266,14 +282,16 @@ module _ {T : Type 0} where
       turned : (words' : List ℕ) (turn : Turn T) → refusal_as kind u.world turn ≡ None → IsFreshTurn u turn
           → words' ≡ (after_turn u turn).world.words ++ 0 ∷ [] → sum_by (λ e. of_none (whose e)) (events_of u.world turn) ≡ 0
           → ((q : ℕ) → q ≢ p → IsLate kind (call_in u.world q) (events_by q (events_of u.world turn)))
-          → ((j : ℕ) → j ≢ p → call_in (after_turn u turn).world j ≡ call_in u.world j) → Between owner (record { words = words'; homes = s.homes; views = s.views }) id p (gained ++ events_by p (events_of u.world turn)) (after_turn u turn)
-      turned words' turn free fresh_turn same someone beside apart =
+          → ((j : ℕ) → j ≢ p → call_in (after_turn u turn).world j ≡ call_in u.world j)
+          → ((q : ℕ) → q ≢ p → is_look_of u.world q turn ≡ false) → Between owner (record { words = words'; homes = s.homes; views = s.views }) id p (gained ++ events_by p (events_of u.world turn)) (after_turn u turn)
+      turned words' turn free fresh_turn same someone beside apart no_look =
           let es = events_of u.world turn in
           let run = run_more u turn free fresh_turn b.run in
           record {
             run = run;
             words = same;
-            others = λ j v ne at. still_fits kind owner u (after_turn u turn) es j v (b.others j v ne at) b.run.of_kind run.of_kind refl (λ q of_j. beside q (not_mine j q ne of_j)) (λ q of_j. apart q (not_mine j q ne of_j));
+            others = λ j v ne at. still_fits kind owner u (after_turn u turn) es j v (b.others j v ne at) b.run.of_kind run.of_kind refl (λ q of_j. beside q (not_mine j q ne of_j)) (λ q of_j. apart q (not_mine j q ne of_j))
+                (λ q of_j. laws.states u turn b.run run free q (no_look q (not_mine j q ne of_j)));
             mine = b.mine;
             self = b.self;
             idle = λ q of_id ne. apart q ne ∙ b.idle q of_id ne;
@@ -316,6 +334,7 @@ module _ {T : Type 0} where
             (b.words ∙ ap (λ ws. ws ++ 0 ∷ []) (sym (writes_one_word u.world (Begin p start)))) refl
             (λ q ne. subst (λ zs. IsLate kind (call_in u.world q) zs) (sym (by_other p q (Begun p start ∷ []) ne (refl, tt)))
             (none_late kind (call_in u.world q))) (λ j ne. begin_other u.world p j start ne (first_of u.world.kind u.world.capacity start u.world.kept))
+            (λ q ne. look_begin u.world p q start ne)
 
         pub begun : Between owner s id p (gained ++ Begun p start ∷ []) (after_turn u (Begin p start))
         begun = subst (λ zs. Between owner s id p (gained ++ zs) (after_turn u (Begin p start))) (by_mine p (Begun p start ∷ []) (refl, tt)) begins
@@ -424,7 +443,7 @@ module _ {T : Type 0} where
 
         pub gone : Between owner (record { words = words_after s.words ask; homes = s.homes; views = s.views }) id p (gained ++ events_by p (events_of u.world (Next p))) (after_turn u (Next p))
         gone = turned (words_after s.words ask) (Next p) (next_as kind u.world p goes_free) fresh_now words_then someone beside
-            (λ j ne. next_other u.world p j ne (party_of p u.world.latest))
+            (λ j ne. next_other u.world p j ne (party_of p u.world.latest)) (λ q ne. look_next u.world p q ne)
 
       -- ---- it is handed an answer to its question, and goes on without a word, or ends
 
@@ -470,8 +489,8 @@ module _ {T : Type 0} where
 
         pub decided : Between owner s id p (gained ++ events_by p (events_of u.world (Decide p said))) (after_turn u (Decide p said))
         decided =
-            turned s.words (Decide p said) free tt (b.words ∙ ap (λ ws. ws ++ 0 ∷ []) (sym (writes_one_word u.world (Decide p said)))) heard_someone heard_beside
-            (λ j ne. decision_other u.world p j said ne (party_of p u.world.latest))
+            turned s.words (Decide p said) free tt (b.words ∙ ap (λ ws. ws ++ 0 ∷ []) (sym (writes_one_word u.world (Decide p said))))
+            heard_someone heard_beside (λ j ne. decision_other u.world p j said ne (party_of p u.world.latest)) (λ q ne. refl)
 
         pub decided_at : call_in (after_turn u (Decide p said)).world p ≡ call_then start next
         decided_at =

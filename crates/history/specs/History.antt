@@ -19,6 +19,7 @@ use Rattle.model.specs.declared.party.Party.{Party}
 use Rattle.model.specs.declared.turn.Kind.{Kind}
 use Rattle.model.specs.declared.turn.Kind as kinds
 use Rattle.model.specs.Coding.{Coding}
+use Rattle.model.specs.Families.Container.Looks.{state_in}
 use Rattle.model.specs.Parties.{party_of}
 use Rattle.model.specs.Turns.{IsReachedOn}
 use Rattle.model.specs.World.{World, Trace}
@@ -82,6 +83,7 @@ module _ {T : Type 0} where
     pub self : 0 < v.share.part → owner j ≡ j
     pub going : (p : ℕ) → owner p ≡ j → v.party ≡ Some p → call_in t.world p ≡ v.going
     pub idle : (p : ℕ) → owner p ≡ j → v.party ≢ Some p → call_in t.world p ≡ None
+    pub stated : (p : ℕ) → owner p ≡ j → v.party ≡ Some p → state_in t.world.kept p ≡ v.state
     pub party : IfSome v.party (λ p. owner p ≡ j)
     pub late : List (Event T)
     pub waits : IsLate t.world.kind v.going late
