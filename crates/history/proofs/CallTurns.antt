@@ -12,15 +12,17 @@ use Rattle.model.specs.declared.event.Event.{Event}
 use Rattle.model.specs.declared.event.Event.TheVariants.{Begun, Finished}
 use Rattle.model.specs.declared.event.Start.{Start}
 use Rattle.model.specs.declared.families.Flight.{Flight}
+use Rattle.model.specs.declared.families.Kept.{Kept}
 use Rattle.model.specs.declared.turn.Kind.{Kind}
 use Rattle.model.specs.declared.turn.Turn.{Turn}
 use Rattle.model.specs.declared.turn.Turn.TheVariants.{Begin, Next}
 use Rattle.model.specs.Coding.{Coding}
-use Rattle.model.specs.Families.{first_of, want_of, goes_of, ask_of}
+use Rattle.model.specs.Families.{first_of, kept_after_begin, want_of, goes_of, ask_of}
+use Rattle.model.specs.Families.Container.Looks.{state_in}
 use Rattle.model.specs.Rows.{first_row}
 use Rattle.model.specs.Step.{answer_in}
 use Rattle.model.specs.Reading.{span_of, own_after, Open}
-use Rattle.model.specs.Turns.{after_turn, events_of, ending_of, words_after, old_of}
+use Rattle.model.specs.Turns.{after_turn, events_of, ending_of, words_after, old_of, step_in}
 use Rattle.model.specs.World.{World, Trace}
 use Rattle.lock_free_sp.specs.Shares.{IsAll}
 use Rattle.history.specs.declared.view.View.{View}
@@ -29,8 +31,8 @@ use Rattle.history.specs.History.{IsRun, IsMachine, Fits, IsLate, IsOfParties, c
 use Rattle.history.specs.Stages.{Calling, Since, opened, Starts, IsUnderWay, At, Ends, rows_as}
 use Rattle.queue_laws.proofs.Queues.Knows.{IsFreshCall}
 use Rattle.history.proofs.Known.{known_whole, by_more, nil_right, idle_seat, late_none, none_late}
-use Rattle.history.proofs.Calls.{call_then}
-use Rattle.history.proofs.Turns.{KeptLaws, Between, want_for, at_ask, at_first, begun, begun_at, gone, goes_to, told as turn_told, own_told, found_old, made_between}
+use Rattle.history.proofs.Calls.{stands, call_then}
+use Rattle.history.proofs.Turns.{KeptLaws, Between, want_for, at_ask, at_first, begun, begun_at, begun_kept, gone, kept_then, goes_to, told as turn_told, own_told, found_old, made_between}
 use Rattle.history.proofs.Steps.{view_after}
 use Rattle.history.proofs.CallsIn.{no_rest, same_rest, none_after, regroup, Prior, span_since}
 use Rattle.history.proofs.CallsIn.{Met}
@@ -68,6 +70,13 @@ module _ {T C M E : Type 0} (code : Coding T) (kind : Kind) (effects : World T �
     pub waits : IsLate kind (Some (call.start, call.flight c m)) late
     pub prior : Prior p call.start (wrote ++ late) base events made
 
+  -- what is kept where it has just begun
+  pub record Began (key p : ℕ) (v : View T) (now : Kept T) : Type 0 where
+    pub t : Trace T
+    pub run : IsRun code kind key t
+    pub kept : now ≡ kept_after_begin code key call.start p t.world.kept
+    pub stated : v.party ≡ Some p → state_in t.world.kept p ≡ v.state
+
   -- the seat goes on as this one of its parties
   pub record Ready (s : State (Unit {0}) (View T)) (v : View T) (key id : ℕ) (c : C) (m : M) : Type 0 where
     pub p : ℕ
@@ -78,6 +87,8 @@ module _ {T C M E : Type 0} (code : Coding T) (kind : Kind) (effects : World T �
     pub there : call_in u.world p ≡ Some (call.start, call.flight c m)
     pub by : (base : View T) → Stage base v c m → call.by base.party p
     pub prior : (base : View T) → Stage base v c m → Told_by p c m base u.events (v.made ++ gained)
+    pub began : v.going ≡ None → Began key p v u.world.kept
+    pub held : v.going ≡ Some (call.start, call.flight c m) → state_in u.world.kept p ≡ v.state
 
   module _ (s : State (Unit {0}) (View T)) (v : View T) (key id : ℕ) (c : C) (m : M) (r : IsMachine code kind key s) (at : get_elem? s.views id ≡ some v) (known : v.capacity ≡ key) where
     here : Fits r.owner r.trace id v
@@ -206,6 +217,13 @@ module _ {T C M E : Type 0} (code : Coding T) (kind : Kind) (effects : World T �
           there = begun_at code kind key (size_of key) effects (laws key) r.owner s id p [] r.trace before call.start (call.flight c m) (idle p starts.mine) is_first may;
           by = λ base' stage. first_by p (subst (λ (z : View T). call.by z.party p) (sym first.is) starts.by) base' none stage;
           prior = λ base' stage. first_prior p starts.mine base' none stage;
+          began = λ none'. record {
+            t = r.trace;
+            run = r.run;
+            kept = begun_kept code kind key (size_of key) effects (laws key) r.owner s id p [] r.trace before call.start (call.flight c m) (idle p starts.mine) is_first may;
+            stated = λ is. here.stated p starts.mine is;
+          };
+          held = λ has. (let no : ◌≡◌ {A = Option (Start T × Flight T)} None (Some (call.start, call.flight c m)) = sym none ∙ has in absurd (cc));
         }
     ready base (inr under) =
         let p = under.party in
@@ -219,6 +237,8 @@ module _ {T C M E : Type 0} (code : Coding T) (kind : Kind) (effects : World T �
           there = here.going p mine under.mine ∙ under.going;
           by = λ base' stage. later_by p under.mine base' under.going stage;
           prior = λ base' stage. later_prior p mine under.mine base' under.going stage;
+          began = λ none. (let no : ◌≡◌ {A = Option (Start T × Flight T)} None (Some (call.start, call.flight c m)) = sym none ∙ under.going in absurd (cc));
+          held = λ has. here.stated p mine under.mine;
         }
 
   -- the call is later by what a turn of its party wrote, and by its end
@@ -264,6 +284,9 @@ module _ {T C M E : Type 0} (code : Coding T) (kind : Kind) (effects : World T �
 
     pub next_between : Between code kind key y.owner (record { words = words_after s.words ask; homes = s.homes; views = s.views }) id y.p then_gained then_trace
     next_between = gone code kind key (size_of key) effects (laws key) y.owner s id y.p y.gained y.u y.between call.start flight_now ask low y.there asks_it finds
+
+    pub kept_now : then_trace.world.kept ≡ (step_in y.u.world y.p (stands y.u.world y.p call.start flight_now y.there).x flight_now found).kept
+    kept_now = kept_then code kind key (size_of key) effects (laws key) y.owner s id y.p y.gained y.u y.between call.start flight_now ask low y.there asks_it finds
 
     going_then : call_in then_trace.world y.p ≡ call_then call.start (comes_now)
     going_then = goes_to code kind key (size_of key) effects (laws key) y.owner s id y.p y.gained y.u y.between call.start flight_now ask low y.there asks_it finds

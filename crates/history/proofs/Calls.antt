@@ -21,7 +21,7 @@ use Rattle.model.specs.declared.turn.Kind as kinds
 use Rattle.model.specs.declared.turn.Kind.TheVariants.{IndexQueue, Overflow, Queue, Atomic, Bits, Counts, Indices, Robust, Loan}
 use Rattle.model.specs.declared.turn.Turn.TheVariants.{Begin, Next}
 use Rattle.model.specs.Coding.{Coding}
-use Rattle.model.specs.Families.{opening_of, want_of, after_of, goes_of, ask_of}
+use Rattle.model.specs.Families.{opening_of, kept_after_begin, want_of, after_of, goes_of, ask_of}
 use Rattle.model.specs.Families.Container.Keeping.{is_look_of}
 use Rattle.model.specs.Families.Container.Looks.{state_in}
 use Rattle.model.specs.Parties.{party_of, doing_of, flight_of}
@@ -135,6 +135,16 @@ module _ {T : Type 0} where
   look_next w p q ne = rw (other_number p q ne) refl
 
   -- ---- the own call
+
+  -- what is kept once it has begun, and once it has gone on
+  pub begin_kept : (w : World T) (p : ℕ) (start : Start T) (flight : Flight T) (o : Option (Flight T)) → o ≡ Some flight
+      → (after_begin w p start o).kept ≡ kept_after_begin w.coding w.capacity start p w.kept
+  begin_kept w p start flight None e = absurd (cc)
+  begin_kept w p start flight (Some f) e = refl
+
+  pub next_kept : (w : World T) (p : ℕ) (start : Start T) (flight : Flight T) (h : Stands w p start flight)
+      → (after_next w p (party_of p w.latest)).kept ≡ (step_in w p h.x flight (old_of w.words (ask_of (want_of w.coding flight)))).kept
+  next_kept w p start flight h = rw (h.found, h.doing) refl
 
   -- where it stands once it has gone on
   abbrev pub call_then : Start T → After (Flight T) (Answer T) → Option (Start T × Flight T)

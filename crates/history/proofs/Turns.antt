@@ -20,7 +20,7 @@ use Rattle.model.specs.declared.turn.Kind.{Kind}
 use Rattle.model.specs.declared.turn.Turn.{Turn}
 use Rattle.model.specs.declared.turn.Turn.TheVariants.{Begin, Next, Decide}
 use Rattle.model.specs.Coding.{Coding}
-use Rattle.model.specs.Families.{first_of, going_rows, want_of, after_of, goes_of, ask_of}
+use Rattle.model.specs.Families.{first_of, kept_after_begin, going_rows, want_of, after_of, goes_of, ask_of}
 use Rattle.model.specs.Families.Container.Keeping.{is_look_of}
 use Rattle.model.specs.Families.Container.Looks.{state_in}
 use Rattle.model.specs.Parties.{party_of}
@@ -42,7 +42,7 @@ use Rattle.history.specs.History.{IsBeginning, IsRun, IsMachine, Fits, HasSeenOf
 use Rattle.history.specs.Stages.{rows_as}
 use Rattle.history.proofs.Known.{by_more, by_same, by_other, by_mine, by_twice, by_apart, owned_none, owned_one, owned_whole, late_none, none_late, late_more, AreOf, sum_first}
 use Rattle.history.proofs.Reached.{refusal_as, begin_as, next_as, reached_as_more, fresh_as_more}
-use Rattle.history.proofs.Calls.{IsStateless, goes_alike, stateless_none, look_begin, look_next, stands, flight_is, no_flight, next_other, begin_other, decision_other, begin_own, call_then, moved, heard_going, heard_events, get_left, set_left, Moved}
+use Rattle.history.proofs.Calls.{IsStateless, goes_alike, stateless_none, look_begin, look_next, stands, flight_is, no_flight, next_other, begin_other, decision_other, begin_own, begin_kept, next_kept, call_then, moved, heard_going, heard_events, get_left, set_left, Moved}
 
 -- what is wanted, where it is a word or nothing
 abbrev pub want_for : Option Ask → Want (Unit {0})
@@ -342,6 +342,11 @@ module _ {T : Type 0} where
         pub begun_at : call_in (after_turn u (Begin p start)).world p ≡ Some (start, flight)
         begun_at = begin_own u.world p start flight (first_of u.world.kind u.world.capacity start u.world.kept) first_here
 
+        pub begun_kept : (after_turn u (Begin p start)).world.kept ≡ kept_after_begin code capacity start p u.world.kept
+        begun_kept =
+            begin_kept u.world p start flight (first_of u.world.kind u.world.capacity start u.world.kept) first_here
+            ∙ (ap (λ z. kept_after_begin z u.world.capacity start p u.world.kept) b.run.coded ∙ ap (λ n. kept_after_begin code n start p u.world.kept) b.run.sized)
+
       -- ---- it goes on, at a word or at none
 
       module _ (start : Start T) (flight : Flight T) (ask : Option Ask) (low : IfSome ask (λ a. a.word < words)) (at : call_in u.world p ≡ Some (start, flight)) (asks : want_of code flight ≡ want_for ask) (finds : IsFreshCall (at_ask s.words ask) flight) where
@@ -403,6 +408,12 @@ module _ {T : Type 0} where
             its_step.events
             ∙ (ap (λ z. effects u.world p flight (old_of u.world.words (ask_of (want_of u.world.coding flight))) ++ ending_of p start (answer_in (goes_of z p flight (old_of u.world.words (ask_of (want_of u.world.coding flight))) u.world.kept))) b.run.coded
             ∙ ap (λ n. effects u.world p flight n ++ ending_of p start (answer_in (goes_then n))) found_old)
+
+        -- and what is kept then
+        pub kept_then : (after_turn u (Next p)).world.kept ≡ (step_in u.world p (stands u.world p start flight at).x flight found).kept
+        kept_then =
+            next_kept u.world p start flight (stands u.world p start flight at)
+            ∙ ap (λ n. (step_in u.world p (stands u.world p start flight at).x flight n).kept) found_old
 
         ends_own : AreOf p (ending_of p start (answer_in (goes_then found)))
         ends_own = ending_of_own p start (answer_in (goes_then found))
