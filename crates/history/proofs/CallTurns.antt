@@ -89,6 +89,7 @@ module _ {T C M E : Type 0} (code : Coding T) (kind : Kind) (effects : World T �
     pub prior : (base : View T) → Stage base v c m → Told_by p c m base u.events (v.made ++ gained)
     pub began : v.going ≡ None → Began key p v u.world.kept
     pub held : v.going ≡ Some (call.start, call.flight c m) → state_in u.world.kept p ≡ v.state
+    pub as_party : v.going ≡ Some (call.start, call.flight c m) → v.party ≡ Some p
 
   module _ (s : State (Unit {0}) (View T)) (v : View T) (key id : ℕ) (c : C) (m : M) (r : IsMachine code kind key s) (at : get_elem? s.views id ≡ some v) (known : v.capacity ≡ key) where
     here : Fits r.owner r.trace id v
@@ -224,6 +225,7 @@ module _ {T C M E : Type 0} (code : Coding T) (kind : Kind) (effects : World T �
             stated = λ is. here.stated p starts.mine is;
           };
           held = λ has. (let no : ◌≡◌ {A = Option (Start T × Flight T)} None (Some (call.start, call.flight c m)) = sym none ∙ has in absurd (cc));
+          as_party = λ has. (let no : ◌≡◌ {A = Option (Start T × Flight T)} None (Some (call.start, call.flight c m)) = sym none ∙ has in absurd (cc));
         }
     ready base (inr under) =
         let p = under.party in
@@ -239,6 +241,7 @@ module _ {T C M E : Type 0} (code : Coding T) (kind : Kind) (effects : World T �
           prior = λ base' stage. later_prior p mine under.mine base' under.going stage;
           began = λ none. (let no : ◌≡◌ {A = Option (Start T × Flight T)} None (Some (call.start, call.flight c m)) = sym none ∙ under.going in absurd (cc));
           held = λ has. here.stated p mine under.mine;
+          as_party = λ has. under.mine;
         }
 
   -- the call is later by what a turn of its party wrote, and by its end

@@ -44,13 +44,13 @@ use Rattle.history.proofs.RobustParts.{found_of}
 
 -- ---- what it asks for
 
-look_words : (size capacity : ℕ) (stage : LookStage) → LookIn size capacity stage → AsksFor (total_words capacity size) (look_asks size capacity stage)
+pub look_words : (size capacity : ℕ) (stage : LookStage) → LookIn size capacity stage → AsksFor (total_words capacity size) (look_asks size capacity stage)
 look_words size capacity looks.LoadsChange h = (_, change_low capacity size, refl)
 look_words size capacity (looks.LoadsCount index) h = (_, count_low capacity size index h, refl)
 look_words size capacity (looks.LoadsWord index count at) h = (_, data_within capacity size index at h.0 h.1, refl)
 look_words size capacity (looks.ChecksCount index count) h = (_, count_low capacity size index h, refl)
 
-look_found : (size capacity : ℕ) (stage : LookStage) (a : Ask) (n : ℕ) → look_asks size capacity stage ≡ wants.Ask a
+pub look_found : (size capacity : ℕ) (stage : LookStage) (a : Ask) (n : ℕ) → look_asks size capacity stage ≡ wants.Ask a
     → answered a.op n ≡ n
 look_found size capacity looks.LoadsChange a n e = found_of _ a n refl e
 look_found size capacity (looks.LoadsCount index) a n e = found_of _ a n refl e
@@ -64,7 +64,7 @@ module _ {T : Type 0} (size : ℕ) (some : 0 < size) (which : LookOf) (capacity 
   abbrev looking : Calling T (Looking T) (Showing T) Bool
   looking = looks_at size which cells seen
 
-  abbrev LookGoes : List (Event T) → After (Looking T) Bool → Type 0
+  abbrev pub LookGoes : List (Event T) → After (Looking T) Bool → Type 0
   LookGoes es (GoOn d) = looking.stands capacity d × LookedAt p d.stage es
   LookGoes es (Done changed) = HasLookedAll capacity p changed es
 
@@ -85,7 +85,7 @@ module _ {T : Type 0} (size : ℕ) (some : 0 < size) (which : LookOf) (capacity 
   finds index count low es h =
       by_test (LookGoes es) (is_even count) _ _ (λ t. next_to index low es (inl h)) (λ t. ((same, (low, some)), h))
 
-  looks_so : (value : T) (stage : LookStage) (k : ℕ) (es : List (Event T)) → LookIn size capacity stage → LookedAt p stage es
+  pub looks_so : (value : T) (stage : LookStage) (k : ℕ) (es : List (Event T)) → LookIn size capacity stage → LookedAt p stage es
       → LookGoes (es ++ look_effects p value stage k) (look_takes size c stage seen k)
   looks_so value looks.LoadsChange k es h at =
       quiet es (look_takes size c looks.LoadsChange seen k)

@@ -72,7 +72,7 @@ module _ {T : Type 0} where
   plain_effects code p (flights.TheVariants.Container flight) old = effects code p None flight old ++ questions p flight old
   plain_effects code p flight old = []
 
-  effects_of_party : (code : Coding T) (kept : Kept T) (p : ℕ) (flight : Flight T) (n : ℕ) → AreOf p (kept_effects code kept p flight n)
+  pub effects_of_party : (code : Coding T) (kept : Kept T) (p : ℕ) (flight : Flight T) (n : ℕ) → AreOf p (kept_effects code kept p flight n)
   effects_of_party code kept p (flights.TheVariants.Container flight) n = effects_own p _ (all_effects (Next p) p refl code (state_in kept p) flight n)
   effects_of_party code kept p flight n = tt
 

@@ -29,6 +29,7 @@ pub mod ContainerCalls
 pub mod ContainerAdds
 pub mod ContainerRecoveries
 pub mod ContainerLooks
+pub mod StateLooks
 pub mod Finds
 pub mod Rooms
 pub mod Values

@@ -1,7 +1,8 @@
 -- A look of a state at its container as a call of the model: where it stands, and what it has written there. It goes on from
 -- the state that its party has in the machine.
-use Rattle.std.specs.Prelude.{◌≡◌, ℕ, ◌<◌, Bool, true, false, Some, None, IfSome, List, []}
-use Rattle.steps.specs.Container.State.{Numbers, Showing}
+use Rattle.std.specs.Prelude.{◌≡◌, ◌⊎◌, ℕ, ◌<◌, Bool, true, false, Some, None, IfSome, List, []}
+use Rattle.steps.specs.Container.State.{Numbers, Showing, no_numbers, shows_nothing}
+use Rattle.steps.specs.declared.ask.After.TheVariants.{Done}
 use Rattle.steps.specs.declared.container.look.Look.{Look as Looking}
 use Rattle.steps.specs.declared.container.look.LookStage as looks
 use Rattle.steps.specs.declared.container.state.ContainerState.{ContainerState}
@@ -14,10 +15,13 @@ use Rattle.model.specs.declared.families.container.ContainerStart.TheVariants.{G
 use Rattle.model.specs.declared.families.container.calls.ContainerFlight.TheVariants as calls
 use Rattle.model.specs.declared.families.container.calls.LookOf.{LookOf}
 use Rattle.model.specs.declared.families.container.calls.LookOf.TheVariants as which_looks
-use Rattle.model.specs.Families.Container.Calls.{looked}
+use Rattle.model.specs.declared.turn.Kind.TheVariants as kinds
+use Rattle.model.specs.Coding.{Coding}
+use Rattle.model.specs.Families.Container.Calls.{looked, settled_if}
 use Rattle.model.specs.Families.Container.Looks.{state_in}
+use Rattle.history.specs.declared.view.View.{View}
 use Rattle.history.specs.ContainerFind.{HasCopied}
-use Rattle.history.specs.Stages.{Calling}
+use Rattle.history.specs.Stages.{Calling, IsFirst, IsUnderWay, Ends}
 
 -- on a container of this capacity, whose values have so many words
 abbrev pub LookIn : ℕ → ℕ → looks.LookStage → Type 0
@@ -65,3 +69,30 @@ module _ {T : Type 0} where
         wrote = λ capacity p from c m es. from ≡ None → LookedAt p c.stage es;
         wrote_all = λ capacity p from changed m es. from ≡ None → HasLookedAll capacity p changed es;
       }
+
+-- ---- what is known of it
+
+module _ {T : Type 0} (code : Coding T) (which : LookOf) (cells : ℕ) (seen : Numbers) where
+  abbrev pub looking : Calling T (Looking T) (Showing T) Bool
+  looking = looks_at code.size which cells seen
+
+  -- the state with which it begins: a new one, or that of the pass's party
+  abbrev pub BeginsWith : LookOf → View T → Showing T → Type 0
+  BeginsWith which_looks.GetState base m =
+      (seen ≡ no_numbers cells) × (m ≡ shows_nothing code.value_of code.size cells)
+  BeginsWith which_looks.UpdateState base m =
+      (p : ℕ) × (base.party ≡ Some p) × (base.state ≡ Some (state_of_look cells seen m))
+
+  -- it is about to begin, or under way, from the state that its party has
+  abbrev pub StateLooks : View T → View T → Looking T → Showing T → Type 0
+  StateLooks base v c m =
+      (base.capacity ≡ cells)
+      × ((IsFirst code kinds.Container looking base v c m × BeginsWith which base m)
+      ⊎ (IsUnderWay code kinds.Container looking base v c m
+      × (v.state ≡ Some (state_of_look cells seen m))))
+
+  -- it has ended, and its party has the state that it left
+  abbrev pub StateLooked : View T → Bool → Showing T → View T → Type 0
+  StateLooked base changed m w =
+      Ends code kinds.Container looking base changed m w
+      × (w.state ≡ Some (settled_if (Done changed) (state_of_look cells seen m)))
