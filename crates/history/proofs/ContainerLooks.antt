@@ -71,17 +71,17 @@ module _ {T : Type 0} (size : ℕ) (some : 0 < size) (which : LookOf) (capacity 
   quiet : (es : List (Event T)) (r : After (Looking T) Bool) → LookGoes es r → LookGoes (es ++ []) r
   quiet es r h = subst (λ zs. LookGoes zs r) (sym (append-nil es)) h
 
-  comes_to : (index : ℕ) → index ≤ capacity → (es : List (Event T)) → HasCopied p index es → LookGoes es (look_comes_to c index)
+  comes_to : (index : ℕ) → index ≤ capacity → (es : List (Event T)) → HasCopied p 0 index es → LookGoes es (look_comes_to c index)
   comes_to index low es h =
       by_test (LookGoes es) (nat_lt index c.capacity) _ _
       (λ t. (let below : index < c.capacity = grind (arith, nat_tests) in ((same, omega arith), h)))
-      (λ t. (let past : c.capacity ≤ index = grind (arith, nat_tests) in let last : index ≡ capacity = omega arith in subst (λ i. HasCopied p i es) last h))
+      (λ t. (let past : c.capacity ≤ index = grind (arith, nat_tests) in let last : index ≡ capacity = omega arith in subst (λ i. HasCopied p 0 i es) last h))
 
-  next_to : (index : ℕ) → index < capacity → (es : List (Event T)) → HasCopied p (suc index) es → LookGoes es (look_comes_to c (index + 1))
+  next_to : (index : ℕ) → index < capacity → (es : List (Event T)) → HasCopied p 0 (suc index) es → LookGoes es (look_comes_to c (index + 1))
   next_to index low es h =
-      (let next : suc index ≡ index + 1 = omega arith in comes_to (index + 1) (omega arith) es (subst (λ i. HasCopied p i es) next h))
+      (let next : suc index ≡ index + 1 = omega arith in comes_to (index + 1) (omega arith) es (subst (λ i. HasCopied p 0 i es) next h))
 
-  finds : (index count : ℕ) → index < capacity → (es : List (Event T)) → HasCopied p index es → LookGoes es (look_finds c index count)
+  finds : (index count : ℕ) → index < capacity → (es : List (Event T)) → HasCopied p 0 index es → LookGoes es (look_finds c index count)
   finds index count low es h =
       by_test (LookGoes es) (is_even count) _ _ (λ t. next_to index low es (inl h)) (λ t. ((same, (low, some)), h))
 
@@ -102,7 +102,7 @@ module _ {T : Type 0} (size : ℕ) (some : 0 < size) (which : LookOf) (capacity 
     where
       go : (b : Bool) → (k == count) ≡ b → LookGoes (es ++ look_effects p value (looks.ChecksCount index count) k)
           (look_takes size c (looks.ChecksCount index count) seen k)
-      go true e = rw e (next_to index h (es ++ Copied p index value ∷ []) (inr (value, record { before = es; copied = at; is = refl })))
+      go true e = rw e (next_to index h (es ++ Copied p index value ∷ []) (inr (es, value, at, (let same : index ≡ 0 + index = omega arith in ap (λ n. es ++ Copied p n value ∷ []) same))))
       go false e = rw e (quiet es (look_finds c index k) (finds index k h es at))
 
 -- ---- the state that the machine has for its party

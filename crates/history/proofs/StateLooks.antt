@@ -99,7 +99,7 @@ module _ {T : Type 0} (code : Coding T) (law : IsCoding code) (which : LookOf) (
 
   -- ---- where it goes on, and what it has written then
 
-  none_copied : (p index : ℕ) → HasCopied {T = T} p index []
+  none_copied : (p index : ℕ) → HasCopied {T = T} p 0 index []
   none_copied p zero = refl
   none_copied p (suc index) = inl (none_copied p index)
 

@@ -47,13 +47,13 @@ module _ {T : Type 0} where
   -- what it has written at this stage
   abbrev pub LookedAt : ℕ → looks.LookStage → List (Event T) → Type 0
   LookedAt p looks.TheVariants.LoadsChange es = es ≡ []
-  LookedAt p (looks.TheVariants.LoadsCount index) es = HasCopied p index es
-  LookedAt p (looks.TheVariants.LoadsWord index count at) es = HasCopied p index es
-  LookedAt p (looks.TheVariants.ChecksCount index count) es = HasCopied p index es
+  LookedAt p (looks.TheVariants.LoadsCount index) es = HasCopied p 0 index es
+  LookedAt p (looks.TheVariants.LoadsWord index count at) es = HasCopied p 0 index es
+  LookedAt p (looks.TheVariants.ChecksCount index count) es = HasCopied p 0 index es
 
   -- and in all: nothing where nothing had changed
   abbrev pub HasLookedAll : ℕ → ℕ → Bool → List (Event T) → Type 0
-  HasLookedAll capacity p true es = HasCopied p capacity es
+  HasLookedAll capacity p true es = HasCopied p 0 capacity es
   HasLookedAll capacity p false es = es ≡ []
 
   abbrev pub looks_at : ℕ → LookOf → ℕ → Numbers → Calling T (Looking T) (Showing T) Bool
