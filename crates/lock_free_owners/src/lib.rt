@@ -4,7 +4,5 @@
 //! `lock_free` hands these modules on under their own paths.
 #![tactic(auto)]
 
-mod container;
 pub mod laws;
 pub mod mpmc;
-mod robust;
