@@ -171,7 +171,7 @@ module _ {T : Type 0} (code : Coding T) where
 
       -- at a moment of the call the lock was not there, nor before it
       pub open_since : HeldOnce p IsUnlocked answered.before → is_locked base.seen ≡ false
-          unfolding answered
+      unfolding answered
       open_since once =
           let c = made_call in
           let covered = covers p (Container start) c.during (from.seen ++ c.others) once.part once.rest once.is once.within in
@@ -273,6 +273,7 @@ module _ {T : Type 0} (code : Coding T) where
     gives mode = record { index = index; owner = owner; mode = mode }
 
     released_so : (mode : ReleaseMode) (state : ReleaseState) → RemoveEnds code (gives mode) base (Ok state) tt w → HasReleased state mode base w
+    unfolding removed_answered answered
     released_so LockIfLastIndex states.Locked ends =
         (let a = removed_answered base w (gives LockIfLastIndex) (Ok states.Locked) ends in (lock_stays (last_of a) a.right, refl))
     released_so LockIfLastIndex states.Unlocked ends =

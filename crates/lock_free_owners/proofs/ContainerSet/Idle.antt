@@ -63,10 +63,9 @@ module _ {T : Type 0} (code : Coding T) (v : View T) (fresh : v.other ≡ []) (s
   rests idle = by_party v.party v.going refl refl idle
 
 -- with none under way it is between two
-module _ {T : Type 0} where
-  none_rests : (party : Option ℕ) → may_rest {T = T} party None ≡ true
-  none_rests None = refl
-  none_rests (Some p) = refl
+none_rests : (T : Type 0) (party : Option ℕ) → may_rest {T = T} party None ≡ true
+none_rests T None = refl
+none_rests T (Some p) = refl
 
-  pub idle_none : (v : View T) → v.going ≡ None → IsIdle v
-  idle_none v none = ap (may_rest v.party) none ∙ none_rests v.party
+pub idle_none : {T : Type 0} (v : View T) → v.going ≡ None → IsIdle v
+idle_none {T} v none = ap (may_rest v.party) none ∙ none_rests T v.party

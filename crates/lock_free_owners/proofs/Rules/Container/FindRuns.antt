@@ -19,7 +19,7 @@ use Rattle.model.specs.Coding.{Coding}
 use Rattle.lock_free_owners.specs.Container.Bare.{Still}
 use Rattle.lock_free_owners.specs.Container.Visits.{FindStage, FindStands, FindEnds}
 use Rattle.lock_free_owners.proofs.Rules.Container.Bare.{Stays, still_tells, leaves, unchanged}
-use Rattle.lock_free_owners.proofs.Rules.Container.Places.{cell_fits, count_fits, element_fits, some_in, two_more}
+use Rattle.lock_free_owners.proofs.Rules.Container.Places.{cell_fits, count_fits, element_fits}
 
 module _ {T R : Type 0} where
   -- a find goes on only at an index below the capacity

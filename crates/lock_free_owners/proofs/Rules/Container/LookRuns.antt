@@ -18,7 +18,7 @@ use Rattle.model.specs.declared.turn.Kind.TheVariants as kinds
 use Rattle.model.specs.Coding.{Coding}
 use Rattle.lock_free_owners.specs.Container.Bare.{Still, LookStage, LookStands, LookEnds}
 use Rattle.lock_free_owners.proofs.Rules.Container.Bare.{Stays, still_tells, leaves, unchanged}
-use Rattle.lock_free_owners.proofs.Rules.Container.Places.{change_fits, count_fits, element_fits, some_in, two_more}
+use Rattle.lock_free_owners.proofs.Rules.Container.Places.{change_fits, count_fits, element_fits}
 
 module _ {T : Type 0} (code : Coding T) (value_of : List ℕ → T) (size : ℕ) (some_words : 1 ≤ size) (seen : Numbers) (v : View T) (c : Look T) (same : c.capacity ≡ v.capacity) (room : Showing T) (cap words slots id : ℕ) (sized : words ≡ total_words cap size + 1) (known : v.capacity ≡ cap) where
   abbrev after : Look T → ℕ → After (Look T) Bool

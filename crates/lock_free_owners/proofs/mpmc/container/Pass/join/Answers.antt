@@ -4,7 +4,8 @@ use Rattle.atomic_table.specs.Table.{Me, Allows}
 use Rattle.model.specs.Coding.{Coding, coding_of}
 use Rattle.model.specs.declared.turn.Kind.TheVariants as kinds
 use Rattle.history.specs.declared.view.View.{View}
-use Rattle.history.specs.History.{IsMachine}
+use Rattle.lock_free_sp.specs.Shares.{IsAll}
+use Rattle.history.specs.History.{IsMachine, IsHistory}
 use Rattle.history.specs.Settled.{SettledFrom}
 use Rattle.history.specs.Views.{joined_view, Looks}
 use Rattle.lock_free_sp.proofs.Shares.{positive}
@@ -78,4 +79,43 @@ load-requires-2 g c =
     )
 
 pub returns-clause-joined : goal.returns-clause-joined
-returns-clause-joined g c = ?joined
+returns-clause-joined g c =
+    let code : Coding g.row.T.Denot = coding_of g.T.Words.WORDS g.T.Words.words_of g.T.Words.value_of in
+    let w = joined_view c.args.self.now.token.seated.seat.me.0 c.load.new.seat.me.0 in
+    let me : c.join_seat.new.seat.me ≡ (w, []) = search rules in
+    let seen : Looks code kinds.Container w.capacity w c.load-2.new.seat.me.0 =
+    subst (λ (m : Me (Unit {0}) (View g.row.T.Denot)). Looks code kinds.Container m.0.capacity m.0 c.load-2.new.seat.me.0) me c.load-2.ensures.2.0
+    in
+    record {
+      from = c.load.new.seat.me.0;
+      settled = c.load.ensures.2.0;
+      joined = record {
+        made = seen.made;
+        party = seen.party;
+        share = seen.share;
+        ours = seen.mine;
+        others = seen.theirs;
+        whole = λ all. seen.whole (subst IsAll seen.share all);
+      };
+    }
+
+pub returns-clause-history : goal.returns-clause-history
+returns-clause-history g c =
+    let code : Coding g.row.T.Denot = coding_of g.T.Words.WORDS g.T.Words.words_of g.T.Words.value_of in
+    let mine = c.args.self.now.token in
+    let w = joined_view mine.seated.seat.me.0 c.load.new.seat.me.0 in
+    let me : c.join_seat.new.seat.me ≡ (w, []) = search rules in
+    let seen : Looks code kinds.Container w.capacity w c.load-2.new.seat.me.0 =
+    subst (λ (m : Me (Unit {0}) (View g.row.T.Denot)). Looks code kinds.Container m.0.capacity m.0 c.load-2.new.seat.me.0) me c.load-2.ensures.2.0
+    in
+    subst (λ n. IsHistory code kinds.Container n c.load-2.new.seat.me.0.seen) mine.known seen.history
+
+pub returns-clause-all : goal.returns-clause-all
+returns-clause-all g c whole =
+    let code : Coding g.row.T.Denot = coding_of g.T.Words.WORDS g.T.Words.words_of g.T.Words.value_of in
+    let w = joined_view c.args.self.now.token.seated.seat.me.0 c.load.new.seat.me.0 in
+    let me : c.join_seat.new.seat.me ≡ (w, []) = search rules in
+    let seen : Looks code kinds.Container w.capacity w c.load-2.new.seat.me.0 =
+    subst (λ (m : Me (Unit {0}) (View g.row.T.Denot)). Looks code kinds.Container m.0.capacity m.0 c.load-2.new.seat.me.0) me c.load-2.ensures.2.0
+    in
+    seen.all (subst IsAll seen.share whole)
