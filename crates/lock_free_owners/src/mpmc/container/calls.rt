@@ -23,9 +23,10 @@ use steps::indices::robust::release::GiveBack;
 use steps::words::Words;
 
 impl<T: Words> Container<T> {
-    /// Adds `value` for `owner`, at the lowest index that it finds without an owner: the handle that names it.
-    /// `OutOfSpace` where each index had an owner when the call came to it, or the generation counter is at its end (no
-    /// clause says so); then nothing has changed. `IsLocked` where the container is locked, which leaves the lock seen.
+    /// Adds `value` for `owner`, at the lowest index that it finds without an owner: one that had none when the call
+    /// filled it, and that nobody held when it was granted, where nobody acts for an owner who is gone nor gives back what
+    /// is not his. It answers the handle that names it. `OutOfSpace` where each index had an owner at a moment of the call,
+    /// or the generation counter is at its end; then nothing has changed. `IsLocked` where the container is locked.
     ///
     /// A pass that has seen the lock gets `IsLocked`. A call that meets the lock only after it has given the index its
     /// owner answers `IsLocked` too: the index keeps that owner, and `value` is placed nowhere; what an earlier owner's
@@ -66,15 +67,14 @@ impl<T: Words> Container<T> {
     }
 
     /// Removes the value that `handle` names. `ContainerHandleNotOwnedByContainer` where the handle is of another
-    /// container, where its index is not below the capacity (both without an atomic step), or where its owner does not
-    /// have the index (no clause says so); then nothing has changed.
+    /// container, where its index is not below the capacity (both without an atomic step, and no call of the history), or
+    /// where its owner does not have the index; then nothing has changed.
     ///
     /// In mode `Default` the answer is `Unlocked`, also where the container is locked. In mode `LockIfLastIndex` the
     /// container is locked where no index has an owner by then, unless the generation counter is at its end, where
-    /// nothing locks any more; `Locked` says that it is locked, by this call or an earlier one, and leaves the lock
-    /// seen. A pass that has seen the lock gets no `Unlocked` in that mode. In mode `Default` at most 6 atomic steps
-    /// where nobody else steps in between, in mode `LockIfLastIndex` at most 9 more than the capacity; else it may try
-    /// again for as long as others step. After `remove` of the Rust crate.
+    /// nothing locks any more; `Locked` says that it is locked, by this call or an earlier one. A pass that has seen the
+    /// lock gets no `Unlocked` in that mode. In mode `Default` at most 6 atomic steps where nobody else steps in between,
+    /// in mode `LockIfLastIndex` at most 9 more than the capacity; else it may try again for as long as others step. After `remove` of the Rust crate.
     pub fn remove(
         &self,
         rt: &impl Wait,
@@ -110,8 +110,8 @@ impl<T: Words> Container<T> {
     }
 
     /// Puts `value` in the place of the one that `handle` names. `ContainerHandleNotOwnedByContainer` where the handle is
-    /// of another container, where its index is not below the capacity (both without an atomic step), or where its owner
-    /// does not have the index (no clause says so); then nothing has changed.
+    /// of another container, where its index is not below the capacity (both without an atomic step, and no call of the
+    /// history), or where its owner does not have the index; then nothing has changed.
     ///
     /// From its third step, which hides the value that stood there, to the last but one, behind the new value's words,
     /// the index shows no value. At most 5 + `T::WORDS` atomic steps. This project's own.
@@ -147,9 +147,9 @@ impl<T: Words> Container<T> {
             .drive::<Replace<T>, Replaces>(call, &given, &mut ())
     }
 
-    /// How many indices have an owner: as many as had one when the call came to them, where the generation counter did
-    /// not move meanwhile (no clause says so). At most the capacity, and 0 where the container is locked: so where the
-    /// pass has seen the lock.
+    /// How many indices have an owner: some number of which each that had one through the whole call is among them, and
+    /// none that had one at no moment of it; at most the capacity, and 0 where the container is locked: so where the pass
+    /// has seen the lock.
     ///
     /// At most 2 atomic steps more than the capacity where nobody else steps in between; else it may try again for as
     /// long as others step. Where the generation counter is at its end the number is that of one pass over the indices,
@@ -176,8 +176,8 @@ impl<T: Words> Container<T> {
         count_all::<T, WhetherNone>(&mut pass.token.seated, rt, pass.token.capacity) == 0
     }
 
-    /// Whether the container is locked. True leaves the lock seen, and is the answer to each pass that has seen it. One
-    /// atomic step. After `is_locked` of the Rust crate.
+    /// Whether the container is locked. True is the answer to each pass that has seen it. One atomic step. After
+    /// `is_locked` of the Rust crate.
     pub fn is_locked(&self, pass: &mut Pass<T>) -> bool
         requires { IsPassOf self.now pass.old }
         ensures goes_on { GoesOn pass.old pass.new }
