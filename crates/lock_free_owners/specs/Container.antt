@@ -1,8 +1,9 @@
 pub mod Names
-pub mod Calls
+pub mod Idle
+pub mod Told
+pub mod Turns
+pub mod Bare
 pub mod Callable
-pub mod Stages
 pub mod Visits
 pub mod Questions
-pub mod Recovery
 pub mod Handles

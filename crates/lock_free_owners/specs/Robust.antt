@@ -1,6 +1,3 @@
-pub mod Views
-pub mod Kept
-pub mod Calls
 pub mod Stages
 pub mod Callable
 pub mod Told

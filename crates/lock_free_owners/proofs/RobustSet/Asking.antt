@@ -27,7 +27,6 @@ use Rattle.model.specs.declared.turn.Kind.TheVariants as kinds
 use Rattle.model.specs.Coding.{one_word}
 use Rattle.model.specs.Families.{is_question}
 use Rattle.model.specs.Families.Indices.Reading.{is_locked}
-use Rattle.model.specs.Moments.{BeginsNone}
 use Rattle.model.specs.Reading.{Each}
 use Rattle.model.specs.Turns.{number_of}
 use Rattle.robust_laws.specs.Gone.{Word, AsksBy}
@@ -37,25 +36,8 @@ use Rattle.history.specs.Robust.{recovers_owned, RecoverIn, RecoveredAt}
 use Rattle.history.specs.Stages.{Since, opened, IsUnderWay, IsFirst}
 use Rattle.history.proofs.Robusts.{is_open_set}
 use Rattle.lock_free_owners.specs.Robust.Turns.{RecoverAt}
-use Rattle.lock_free_owners.proofs.RobustSet.Events.{find_own, not_locked}
+use Rattle.lock_free_owners.proofs.RobustSet.Events.{find_own, not_locked, covers}
 use Rattle.lock_free_owners.proofs.Rules.Robust.Recovering.{Knows}
-
--- ---- a moment of a call comes after what stood before its begin
-
-module _ (p : ℕ) (start : Start ℕ) (since : List (Event ℕ)) where
-  none_begun : (before : List (Event ℕ)) → BeginsNone p (before ++ Begun p start ∷ since) → ⊥
-  none_begun [] h = h.0 refl
-  none_begun (Begun q other ∷ before) h = none_begun before h.1
-  none_begun (e ∷ before) h = none_begun before h
-
-  covers : (before part rest : List (Event ℕ)) → before ++ Begun p start ∷ since ≡ part ++ rest → BeginsNone p rest → IsBeginning before part
-  covers [] part rest is none = record { rest = part; is = refl }
-  covers (e ∷ before) [] rest is none = absurd (none_begun (e ∷ before) (subst (BeginsNone p) (sym is) none))
-  covers (e ∷ before) (x ∷ part) rest is none =
-      let same : e ≡ x = cc in
-      let more : before ++ Begun p start ∷ since ≡ part ++ rest = cc in
-      let longer = covers before part rest more none in
-      record { rest = longer.rest; is = ap (λ z. z ∷ part) (sym same) ∙ ap (λ zs. e ∷ zs) longer.is }
 
 -- ---- which stage asks
 

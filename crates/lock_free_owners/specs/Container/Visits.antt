@@ -8,11 +8,11 @@ use Rattle.steps.specs.declared.enums.CallbackProgression.{CallbackProgression}
 use Rattle.steps.specs.declared.container.handle.ContainerHandle.{ContainerHandle}
 use Rattle.steps.specs.declared.container.find.Find.{Find}
 use Rattle.steps.specs.declared.container.find.FindStage as finds
-use Rattle.lock_free_owners.specs.declared.robust.view.View.{View}
+use Rattle.history.specs.declared.view.View.{View}
 use Rattle.lock_free_owners.specs.Robust.Stages.{says}
 
 -- how many it has come to is at most how many cells it has loaded
-abbrev pub FindStage : ℕ → View → finds.FindStage → Type 0
+abbrev pub FindStage : {T : Type 0} → ℕ → View T → finds.FindStage → Type 0
 FindStage size v (finds.TheVariants.LoadsCell index found) =
     (index < v.capacity) × (found ≤ index)
 FindStage size v (finds.TheVariants.LoadsCount index found) =
@@ -23,10 +23,10 @@ FindStage size v (finds.TheVariants.ChecksCount index found count) =
     (index < v.capacity) × (found ≤ index + 1)
 FindStage size v (finds.TheVariants.Asks index found) = (index < v.capacity) × (found ≤ index + 1)
 
-abbrev pub FindStands : {T R : Type 0} → ℕ → View → Find T R → Type 0
+abbrev pub FindStands : {T R : Type 0} → ℕ → View T → Find T R → Type 0
 FindStands size v call = (call.capacity ≡ v.capacity) × FindStage size v call.stage
 
-abbrev pub FindEnds : {R : Type 0} → View → ℕ → R → View → Type 0
+abbrev pub FindEnds : {T R : Type 0} → View T → ℕ → R → View T → Type 0
 FindEnds base found room w = w ≡ base
 
 -- the handle of a value of this owner

@@ -1,93 +1,15 @@
--- What is known at each stage of a call on the robust index set of a container, and how the call ends:
--- of the view with which it began, and the view now; and how the closures of a recovery are called.
+-- The steps of a find and of a recovery between which their closures are called, and how these are called.
 use Rattle.std.specs.Prelude.{◌≡◌, ℕ, ◌<◌, ◌≤◌, Bool, true, false, if◌then◌else◌}
-use Rattle.steps.specs.Indices.Robust.Parts.{empty, locked, greatest}
+use Rattle.steps.specs.Indices.Robust.Parts.{empty}
 use Rattle.steps.specs.Indices.Robust.Recover.{recover_after}
 use Rattle.steps.specs.declared.ask.After.{After}
 use Rattle.steps.specs.declared.ask.After.TheVariants.{GoOn, Done}
 use Rattle.steps.specs.declared.enums.CallbackProgression.{CallbackProgression}
 use Rattle.steps.specs.declared.enums.CallbackProgression.TheVariants.{Continue, Stop}
 use Rattle.steps.specs.declared.indices.enums.ReleaseMode.{ReleaseMode}
-use Rattle.steps.specs.declared.indices.enums.ReleaseMode.TheVariants.{LockIfLastIndex}
 use Rattle.steps.specs.declared.indices.enums.ReleaseState.{ReleaseState}
-use Rattle.steps.specs.declared.indices.robust.parts.Raise as raises
-use Rattle.steps.specs.declared.indices.robust.parts.Count as counts
-use Rattle.steps.specs.declared.indices.robust.parts.Lock as locks
-use Rattle.steps.specs.declared.indices.robust.acquire.AcquireStage as acquires
-use Rattle.steps.specs.declared.indices.robust.release.ReleaseStage as releases
 use Rattle.steps.specs.declared.indices.robust.recover.Recover.{Recover}
 use Rattle.steps.specs.declared.indices.robust.recover.RecoverStage as recovers
-use Rattle.steps.specs.declared.indices.robust.looks.BorrowedIndices.{BorrowedIndices}
-use Rattle.steps.specs.declared.indices.robust.looks.IsLocked.{IsLocked}
-use Rattle.lock_free_owners.specs.declared.robust.view.View.{View}
-use Rattle.lock_free_owners.specs.Robust.Calls.{FoundOpen, FoundLocked, WasCounted}
-
--- until its end a call leaves what is known
-module _ {C M : Type 0} where
-  abbrev pub At : (View → C → Type 0) → View → View → C → M → Type 0
-  At stands base v call room = (v ≡ base) × stands v call
-
--- ---- the parts
-
--- the counter that a raise exchanges is neither that of a locked set nor at its end
-abbrev pub RaiseStands : raises.Raise → Type 0
-RaiseStands raises.TheVariants.LoadsCounter = Unit {0}
-RaiseStands (raises.TheVariants.ExchangesCounter counter) = counter < greatest
-
--- a count goes on only from a counter that does not say locked
-abbrev pub CountStands : View → counts.Count → Type 0
-CountStands v counts.TheVariants.LoadsCounter = Unit {0}
-CountStands v (counts.TheVariants.LoadsCell counter index filled) =
-    (v.locked ≡ false) × (counter < locked) × (index < v.capacity) × (filled ≤ index)
-CountStands v (counts.TheVariants.ExchangesCounter counter filled) =
-    (v.locked ≡ false) × (counter < greatest) × (filled ≤ v.capacity)
-
-abbrev pub LockStands : View → locks.Lock → Type 0
-LockStands v (locks.TheVariants.Counts count) = CountStands v count
-LockStands v (locks.TheVariants.ExchangesCounter counter) = v.locked ≡ false
-
--- ---- acquire
-
-abbrev pub AcquireStage : View → acquires.AcquireStage → Type 0
-AcquireStage v acquires.TheVariants.LoadsCounter = Unit {0}
-AcquireStage v (acquires.TheVariants.FillsCell counter index) =
-    (v.locked ≡ false) × (counter < greatest) × (index < v.capacity)
-AcquireStage v (acquires.TheVariants.ChecksCounter counter) =
-    (v.locked ≡ false) × (counter < greatest)
-AcquireStage v (acquires.TheVariants.Raises index raise) =
-    (v.locked ≡ false) × (index < v.capacity) × RaiseStands raise
-
--- ---- release
-
--- it locks in the mode for that alone
-abbrev pub ReleaseStage : ReleaseMode → View → releases.ReleaseStage → Type 0
-ReleaseStage mode v releases.TheVariants.EmptiesCell = Unit {0}
-ReleaseStage mode v (releases.TheVariants.Raises raise) = RaiseStands raise
-ReleaseStage mode v (releases.TheVariants.Locks lock) =
-    (mode ≡ LockIfLastIndex) × LockStands v lock
-
--- ---- looks
-
-abbrev pub BorrowedStands : View → BorrowedIndices → Type 0
-BorrowedStands v call = (call.capacity ≡ v.capacity) × CountStands v call.count
-
--- the number tells nothing of the lock, so that the view stays where it is 0
-abbrev pub BorrowedEnds : View → ℕ → Unit {0} → View → Type 0
-BorrowedEnds base n room w = (w ≡ base) × WasCounted base n
-
--- how a step of it ends
-abbrev pub BorrowedGoes : View → After BorrowedIndices ℕ → Type 0
-BorrowedGoes v (GoOn d) = BorrowedStands v d
-BorrowedGoes v (Done n) = WasCounted v n
-
-abbrev pub LookStands : View → IsLocked → Type 0
-LookStands v call = Unit {0}
-
-abbrev pub LookEnds : View → Bool → Unit {0} → View → Type 0
-LookEnds base true room w = FoundLocked base w
-LookEnds base false room w = FoundOpen base w
-
--- ---- the steps of a find and of a recovery between which their closures are called
 
 abbrev pub says : CallbackProgression → ℕ
 says Continue = 1

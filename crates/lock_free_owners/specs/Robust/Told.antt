@@ -64,35 +64,36 @@ HasCounted number = HasMade BorrowedIndices (Number number) (λ by es. es ≡ []
 abbrev pub HasLooked : Bool → View ℕ → View ℕ → Type 0
 HasLooked locked = HasMade IsLocked (Truth locked) (λ by es. es ≡ [])
 
--- what was so of the history when the call wrote this event
-pub record WroteAt (event : ℕ → Event ℕ) (Before : ℕ → List (Event ℕ) → Type 0)
-    (old new : View ℕ) : Type 0 where
-  pub by : ℕ
-  pub before : List (Event ℕ)
-  pub after : List (Event ℕ)
-  pub is : new.seen ≡ before ++ event by ∷ after
-  pub since : IsBeginning old.seen before
-  pub held : Before by before
+module _ {T : Type 0} where
+  -- what was so of the history when the call wrote this event
+  pub record WroteAt (event : ℕ → Event T) (Before : ℕ → List (Event T) → Type 0)
+      (old new : View T) : Type 0 where
+    pub by : ℕ
+    pub before : List (Event T)
+    pub after : List (Event T)
+    pub is : new.seen ≡ before ++ event by ∷ after
+    pub since : IsBeginning old.seen before
+    pub held : Before by before
 
--- the index had no owner then, and the set was not locked at some moment of the call
-abbrev pub WasFilled : ℕ → ℕ → View ℕ → View ℕ → Type 0
-WasFilled index owner old new =
-    WroteAt (λ by. Filled by index owner)
-    (λ by before. (index < old.capacity) × (filled_of index before ≡ None)
-    × HeldOnce by IsUnlocked before) old new
+  -- the index had no owner then, and the set was not locked at some moment of the call
+  abbrev pub WasFilled : ℕ → ℕ → View T → View T → Type 0
+  WasFilled index owner old new =
+      WroteAt (λ by. Filled by index owner)
+      (λ by before. (index < old.capacity) × (filled_of index before ≡ None)
+      × HeldOnce by IsUnlocked before) old new
 
--- the set was not locked then, and nobody held the index, where nobody acts for an owner who is gone
--- nor gives back what is not his
-abbrev pub WasGranted : ℕ → ℕ → View ℕ → View ℕ → Type 0
-WasGranted index owner old new =
-    WroteAt (λ by. Granted by index owner)
-    (λ by before. IsUnlocked before
-    × (IsProper new.seen → IsHonest new.seen → holder_of index before ≡ None)) old new
+  -- the set was not locked then, and nobody held the index, where nobody acts for an owner who is gone
+  -- nor gives back what is not his
+  abbrev pub WasGranted : ℕ → ℕ → View T → View T → Type 0
+  WasGranted index owner old new =
+      WroteAt (λ by. Granted by index owner)
+      (λ by before. IsUnlocked before
+      × (IsProper new.seen → IsHonest new.seen → holder_of index before ≡ None)) old new
 
--- the index had this owner then
-abbrev pub WasFreed : ℕ → ℕ → View ℕ → View ℕ → Type 0
-WasFreed index owner =
-    WroteAt (λ by. FreedOf by index owner) (λ by before. filled_of index before ≡ Some owner)
+  -- the index had this owner then
+  abbrev pub WasFreed : ℕ → ℕ → View T → View T → Type 0
+  WasFreed index owner =
+      WroteAt (λ by. FreedOf by index owner) (λ by before. filled_of index before ≡ Some owner)
 
 -- a set with this history may have its counter at its end
 pub record IsWorn (capacity : ℕ) (events : List (Event ℕ)) : Type 0 where
@@ -128,16 +129,17 @@ pub record WasRefused (owner : ℕ) (failure : UniqueIndexSetAcquireFailure) (ol
   pub unlocked : failure ≡ failures.OutOfIndices → is_locked old.seen ≡ false
   pub locked : failure ≡ failures.IsLocked → is_locked new.seen ≡ true
 
--- a release: Locked in mode LockIfLastIndex alone, and there wherever the lock was seen
-abbrev pub HasReleased : ReleaseState → ReleaseMode → View ℕ → View ℕ → Type 0
-HasReleased states.Locked mode old new = (is_locked new.seen ≡ true) × (mode ≡ LockIfLastIndex)
-HasReleased states.Unlocked mode old new = mode ≡ LockIfLastIndex → is_locked old.seen ≡ false
+module _ {T : Type 0} where
+  -- a release: Locked in mode LockIfLastIndex alone, and there wherever the lock was seen
+  abbrev pub HasReleased : ReleaseState → ReleaseMode → View T → View T → Type 0
+  HasReleased states.Locked mode old new = (is_locked new.seen ≡ true) × (mode ≡ LockIfLastIndex)
+  HasReleased states.Unlocked mode old new = mode ≡ LockIfLastIndex → is_locked old.seen ≡ false
 
--- an answer that the set is locked, or is not
-abbrev pub FoundLock : Bool → View ℕ → View ℕ → Type 0
-FoundLock true old new = is_locked new.seen ≡ true
-FoundLock false old new = is_locked old.seen ≡ false
+  -- an answer that the set is locked, or is not
+  abbrev pub FoundLock : Bool → View T → View T → Type 0
+  FoundLock true old new = is_locked new.seen ≡ true
+  FoundLock false old new = is_locked old.seen ≡ false
 
-abbrev pub FoundState : ReleaseState → View ℕ → View ℕ → Type 0
-FoundState states.Locked = FoundLock true
-FoundState states.Unlocked = FoundLock false
+  abbrev pub FoundState : ReleaseState → View T → View T → Type 0
+  FoundState states.Locked = FoundLock true
+  FoundState states.Unlocked = FoundLock false

@@ -35,16 +35,16 @@ IsBoard s =
     ((table_of s).words ≡ size (seen s).capacity + 1) × (key_of s ≡ (seen s).capacity)
 
 -- of a call that stands so, and ends so
-module _ {C E : Type 0} (at : View ℕ → View ℕ → C → Unit {0} → Type 0)
-    (ends : View ℕ → E → Unit {0} → View ℕ → Type 0) where
+module _ {T C E : Type 0} (at : View T → View T → C → Unit {0} → Type 0)
+    (ends : View T → E → Unit {0} → View T → Type 0) where
   -- it may take a turn
-  abbrev pub Stands : View ℕ → C → Type 0
-  Stands v call = (base : View ℕ) × at base v call tt
+  abbrev pub Stands : View T → C → Type 0
+  Stands v call = (base : View T) × at base v call tt
 
   -- how it has gone on since
-  abbrev pub Goes : View ℕ → C → After C E → View ℕ → Type 0
+  abbrev pub Goes : View T → C → After C E → View T → Type 0
   Goes v call after w =
-      (base : View ℕ) → at base v call tt → Next (λ (z : View ℕ). z.capacity) at ends base after tt w
+      (base : View T) → at base v call tt → Next (λ (z : View T). z.capacity) at ends base after tt w
 
 -- ---- acquire
 

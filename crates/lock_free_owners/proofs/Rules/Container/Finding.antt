@@ -16,7 +16,7 @@ use Rattle.steps.specs.declared.container.find.FindStage as finds
 use Rattle.steps.specs.Indices.Robust.Parts.{one_more}
 use Rattle.steps.specs.Container.Layout.{is_even}
 use Rattle.steps.specs.Container.Find.{at_find, find_comes_to, find_takes, find_after}
-use Rattle.lock_free_owners.specs.declared.robust.view.View.{View}
+use Rattle.history.specs.declared.view.View.{View}
 use Rattle.lock_free_sp.specs.Callable.{Ascends}
 use Rattle.lock_free_owners.specs.Robust.Stages.{says}
 use Rattle.lock_free_owners.specs.Container.Callable.{Visit, VisitsAscend, goes_on, TakesVisits, HasFound}
@@ -167,7 +167,7 @@ module _ {T F : Type 0} (step : F → T → ContainerHandle → CallbackProgress
         }
 
     -- the closure may be called at the index that it has come to
-    pub may_ask : {pre : F → T → ContainerHandle → Type 0} → TakesVisits pre step mine f → (v : View) → v.capacity ≡ cap → (stage : finds.FindStage) → FindStage size v stage → (p : F) → SoFar stage p → FindAsks pre owner id stage p
+    pub may_ask : {pre : F → T → ContainerHandle → Type 0} → TakesVisits pre step mine f → (v : View T) → v.capacity ≡ cap → (stage : finds.FindStage) → FindStage size v stage → (p : F) → SoFar stage p → FindAsks pre owner id stage p
     may_ask takes v same (finds.TheVariants.LoadsCell index found) at p so = tt
     may_ask takes v same (finds.TheVariants.LoadsCount index found) at p so = tt
     may_ask takes v same (finds.TheVariants.LoadsWord index found count place) at p so = tt
@@ -201,7 +201,7 @@ module _ {T F : Type 0} (step : F → T → ContainerHandle → CallbackProgress
       went c stage is p q a goes m =
           subst (Onward a) (sym m.0) (subst (λ z. Onward z p) (ap (λ s. find_takes size c s owner m.1.0) (sym is) ∙ sym m.1.1) (goes m.1.0))
 
-      by_stage : (c : Find T R) (stage : finds.FindStage) → c.stage ≡ stage → (v : View) → v.capacity ≡ cap → cap < 2 ^ 32 → FindStage size v stage
+      by_stage : (c : Find T R) (stage : finds.FindStage) → c.stage ≡ stage → (v : View T) → v.capacity ≡ cap → cap < 2 ^ 32 → FindStage size v stage
           → (p q : F) (a : After (Find T R) ℕ) → SoFar stage p → FindMoves step size id c owner stage p a q → Onward a q
       by_stage c (finds.TheVariants.LoadsCell index found) is v same small at p q a so m =
           went c (finds.TheVariants.LoadsCell index found) is p q a
@@ -226,7 +226,7 @@ module _ {T F : Type 0} (step : F → T → ContainerHandle → CallbackProgress
       by_stage c (finds.TheVariants.Asks index found) is v same small at p q a so m =
           subst (λ z. Onward z q) (ap (λ s. find_takes size c s owner (says m.1)) (sym is) ∙ sym m.3) (asked c index found m.0 m.1 p q (let l = at.0 in omega arith) m.2 so)
 
-      pub onward : (c : Find T R) (v : View) → v.capacity ≡ cap → cap < 2 ^ 32 → FindStands size v c → (p q : F) (a : After (Find T R) ℕ) → SoFar c.stage p → FindMoves step size id c owner c.stage p a q → Onward a q
+      pub onward : (c : Find T R) (v : View T) → v.capacity ≡ cap → cap < 2 ^ 32 → FindStands size v c → (p q : F) (a : After (Find T R) ℕ) → SoFar c.stage p → FindMoves step size id c owner c.stage p a q → Onward a q
       onward c v same small at = by_stage c c.stage refl v same small at.1
 
       -- whatever it did with the closure, it went on as its table says

@@ -2,8 +2,8 @@
 ghost use Rattle.std.specs.Prelude.{◌≡◌, ◌↔◌, IsTrue, IsFalse, IfOk};
 ghost use Rattle.lock_free_owners.specs.Container.Names.{view, container_of, IsPassOf, IsStateOf, IsLeft};
 
+use super::drives::Looks;
 use super::{Container, ContainerState, ContainerStateError, Pass};
-use crate::container::drives::Looks;
 use std::sync::Wait;
 use steps::ask::After;
 use steps::container::look::Look;

@@ -5,8 +5,8 @@ ghost use Rattle.lock_free_owners.specs.Container.Callable.{TakesVisits, HasFoun
 ghost use Rattle.lock_free_owners.specs.Container.Visits.{FindStands, FindAsks, FindMoves};
 ghost use Rattle.lock_free_owners.specs.Container.Names.{view, container_of, capacity_of, IsPassOf, IsHandleFor};
 
+use super::drives::Finds;
 use super::{CallbackProgression, Container, ContainerHandle, OwnerId, Pass};
-use crate::container::drives::Finds;
 use steps::ask::After;
 use steps::container::find::{Find, FindStage};
 use steps::copied::Copied;

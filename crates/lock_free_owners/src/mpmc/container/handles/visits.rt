@@ -1,15 +1,11 @@
 //! The calls by a handle that come to the values of an owner.
-ghost use Rattle.std.specs.Prelude.{◌≡◌, false};
-ghost use Rattle.lock_free_owners.specs.Robust.Calls.{HasRecovered};
+ghost use Rattle.std.specs.Prelude.{◌≡◌};
 ghost use Rattle.lock_free_owners.specs.Container.Callable.{TakesVisits, HasFound};
-ghost use Rattle.lock_free_owners.specs.Container.Questions.{TakesValues, HasAsked};
 ghost use Rattle.lock_free_owners.specs.Container.Names.{capacity_of, IsHandleFor};
 ghost use Rattle.lock_free_owners.specs.Container.Handles.{container_in, knows};
 
 use super::Handle;
 use crate::mpmc::container::{CallbackProgression, ContainerHandle, OwnerId};
-use std::sync::Wait;
-use steps::indices::enums::{ReleaseMode, ReleaseState};
 use steps::words::Words;
 
 impl<'a, T: Words> Handle<'a, T> {
@@ -27,24 +23,5 @@ impl<'a, T: Words> Handle<'a, T> {
             (capacity_of (container_in self.old)) (IsHandleFor (container_in self.old) owner) visit result last }
     {
         self.container.find(owner, visit, &mut self.pass)
-    }
-
-    /// As `Container::recover`.
-    pub fn recover<F: FnMut(T) -> bool>(
-        &mut self,
-        rt: &impl Wait,
-        owner: OwnerId,
-        predicate: F,
-        mode: ReleaseMode,
-    ) -> ReleaseState
-        requires { (knows self.old).locked ≡ false → TakesValues F.pre
-            (λ p x b q. F.step p x b q) (capacity_of (container_in self.old)) predicate }
-        ensures container { container_in self.new ≡ container_in self.old }
-        ensures recovered { HasRecovered result (knows self.old) (knows self.new) }
-        ensures asked { (last : F) × HasAsked (λ p x b q. F.step p x b q)
-            (capacity_of (container_in self.old)) (knows self.old).locked predicate last }
-    {
-        self.container
-            .recover(rt, owner, predicate, mode, &mut self.pass)
     }
 }

@@ -12,7 +12,7 @@ pub loop-next-init : goal.loop-next-init
 loop-next-init g c =
     let here = c.args.self.now in
     let mine = c.args.pass.now in
-    let some = mine.token.some in
+    let some = mine.token.places in
     let known = mine.token.known in (
       refl,
       refl,
