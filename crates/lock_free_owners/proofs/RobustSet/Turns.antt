@@ -1,15 +1,12 @@
 -- Between two turns of a call: how it has gone on, and where the loops of its own lead.
-use Rattle.std.proofs.Common.{◌≡◌, ℕ, ◌+◌, ◌<◌, ◌≤◌, ◌==◌, nat_lt, if◌then◌else◌, sym, ap, subst, ◌∙◌, arith}
+use Rattle.std.proofs.Common.{◌≡◌, ℕ, ◌+◌, ◌<◌, ◌==◌, nat_lt, if◌then◌else◌, sym, ap, subst, ◌∙◌, arith}
 use Rattle.std.proofs.lemmas.Bool.Decides.{nat_tests}
 use Rattle.steps.specs.Indices.Robust.Acquire.{Acquired, at_acquire, acquire_tries, acquire_after}
 use Rattle.steps.specs.Indices.Robust.Looks.{borrowed_counted, borrowed_after}
 use Rattle.steps.specs.Indices.Robust.Parts.{empty, greatest, one_more, count_comes_to}
-use Rattle.steps.specs.Indices.Robust.Recover.{at_recover, recover_comes_to, recover_after}
 use Rattle.steps.specs.Picks.{by_test}
 use Rattle.steps.specs.declared.ask.After.{After}
 use Rattle.steps.specs.declared.ask.After.TheVariants.{GoOn, Done}
-use Rattle.steps.specs.declared.indices.enums.ReleaseMode.{ReleaseMode}
-use Rattle.steps.specs.declared.indices.enums.ReleaseState.{ReleaseState}
 use Rattle.steps.specs.declared.indices.robust.acquire.Acquire.{Acquire}
 use Rattle.steps.specs.declared.indices.robust.acquire.AcquireStage.{AcquireStage}
 use Rattle.steps.specs.declared.indices.robust.acquire.AcquireStage.TheVariants as acquires
@@ -20,11 +17,9 @@ use Rattle.steps.specs.declared.indices.robust.parts.Counted.{Counted}
 use Rattle.steps.specs.declared.indices.robust.parts.Counted.TheVariants as ends
 use Rattle.steps.specs.declared.indices.robust.parts.Raise.TheVariants as raises
 use Rattle.steps.specs.declared.indices.robust.recover.Recover.{Recover}
-use Rattle.steps.specs.declared.indices.robust.recover.RecoverStage.{RecoverStage}
 use Rattle.steps.specs.declared.indices.robust.recover.RecoverStage.TheVariants as recovers
 use Rattle.lock_free_sp.specs.Driver.{Next}
 use Rattle.history.specs.declared.view.View.{View}
-use Rattle.lock_free_owners.specs.Robust.Stages.{HasPassed}
 use Rattle.lock_free_owners.specs.Robust.Turns.{Goes}
 
 module _ {T C E : Type 0} (at : View T → View T → C → Unit {0} → Type 0) (ends : View T → E → Unit {0} → View T → Type 0) where
@@ -100,39 +95,7 @@ module _ (capacity counter cell filled : ℕ) where
   pub loads_next : (k other index found : ℕ) (d : BorrowedIndices) → borrowed_after (loads cell filled) k ≡ GoOn d → LoadsNext other index found d
   loads_next k other index found d = comes_next (if k == empty then filled else one_more filled) other index found d
 
--- ---- and a load of a cell by a recovery, which never ends there
+-- ---- a recovery that has come to a cell
 
-module _ (capacity cell : ℕ) (mode : ReleaseMode) where
-  abbrev pub passes : ℕ → Recover
-  passes index = record { capacity = capacity; stage = recovers.LoadsCell index }
-
-  abbrev PassesNext : ℕ → Recover → Type 0
-  PassesNext index d = d.stage ≡ recovers.LoadsCell index → (d ≡ passes index) × (cell < index) × (index < capacity)
-
-  pub passes_next : (k index : ℕ) (d : Recover) → recover_after (passes cell) mode k ≡ GoOn d → PassesNext index d
-  passes_next k index d =
-      by_test (λ (a : After Recover ReleaseState). a ≡ GoOn d → PassesNext index d) (k == empty)
-      (recover_comes_to (passes cell) (cell + 1)) (GoOn (at_recover (passes cell) (recovers.Asks cell k)))
-      (λ t. by_test (λ (stage : RecoverStage). ◌≡◌ {A = After Recover ReleaseState} (GoOn (at_recover (passes cell) stage)) (GoOn d) → PassesNext index d)
-      (nat_lt (cell + 1) capacity) (recovers.LoadsCell (cell + 1)) recovers.LoadsCounterAgain
-      (λ u e is. (
-      let same : passes (cell + 1) ≡ d = cc in
-      let stage : recovers.LoadsCell (cell + 1) ≡ recovers.LoadsCell index = ap (λ (z : Recover). z.stage) same ∙ is in
-      let next : cell + 1 ≡ index = cc in
-      let low : cell + 1 < capacity = grind (arith, nat_tests) in
-      (sym same ∙ ap passes next, omega arith, omega arith)))
-      (λ u e is. (
-      let same : at_recover (passes cell) recovers.LoadsCounterAgain ≡ d = cc in
-      let stage : recovers.LoadsCounterAgain ≡ recovers.LoadsCell index = ap (λ (z : Recover). z.stage) same ∙ is in
-      absurd (cc))))
-      (λ t e is. (
-      let same : at_recover (passes cell) (recovers.Asks cell k) ≡ d = cc in
-      let stage : recovers.Asks cell k ≡ recovers.LoadsCell index = ap (λ (z : Recover). z.stage) same ∙ is in
-      absurd (cc)))
-
-  pub passes_on : (first k : ℕ) → first ≤ cell → HasPassed first (recover_after (passes cell) mode k)
-  passes_on first k up =
-      by_test (HasPassed first) (k == empty) (recover_comes_to (passes cell) (cell + 1)) (GoOn (at_recover (passes cell) (recovers.Asks cell k)))
-      (λ t. by_test (λ (stage : RecoverStage). HasPassed first (GoOn (at_recover (passes cell) stage)))
-      (nat_lt (cell + 1) capacity) (recovers.LoadsCell (cell + 1)) recovers.LoadsCounterAgain (λ u. omega arith) (λ u. tt))
-      (λ t. up)
+abbrev pub passes : ℕ → ℕ → Recover
+passes capacity index = record { capacity = capacity; stage = recovers.LoadsCell index }

@@ -1,11 +1,19 @@
 //! The recovery on a set: it frees the indices of dead owners. The loads of cells have a loop of their own.
-ghost use Rattle.std.specs.Prelude.{◌≡◌, ℕ, false, None, IsTrue, IsFalse};
+ghost use Rattle.std.specs.Prelude.{◌≡◌, ◌+◌, ◌<◌, ℕ, false, None, IsTrue, IsFalse};
+ghost use Rattle.steps.specs.Indices.Robust.Parts.{empty};
 ghost use Rattle.steps.specs.Indices.Robust.Recover.{first_recover, recover_after};
+ghost use Rattle.steps.specs.declared.ask.After.TheVariants.{GoOn};
+ghost use Rattle.steps.specs.declared.ask.Op.TheVariants.{Load};
+ghost use Rattle.steps.specs.declared.indices.enums.ReleaseMode.{ReleaseMode as Mode};
 ghost use Rattle.steps.specs.declared.indices.robust.recover.RecoverStage.TheVariants as stages;
 ghost use Rattle.model.specs.declared.event.Answer.TheVariants.{State};
 ghost use Rattle.model.specs.declared.families.indices.robust.RobustStart.TheVariants as starts;
+ghost use Rattle.model.specs.declared.turn.Kind.TheVariants as kinds;
+ghost use Rattle.model.specs.Coding.{one_word};
 ghost use Rattle.model.specs.Families.Indices.Reading.{is_locked};
-ghost use Rattle.lock_free_sp.specs.Seats.{seen, IsSame};
+ghost use Rattle.history.specs.History.{IsMachine};
+ghost use Rattle.lock_free_sp.specs.Driver.{OwesAsk};
+ghost use Rattle.lock_free_sp.specs.Seats.{seen, table_of, key_of, IsSame};
 ghost use Rattle.lock_free_owners.specs.Robust.Callable.{TakesQuestions, TakesFreed, HasVisited};
 ghost use Rattle.lock_free_owners.specs.Robust.Stages.{HasPassed, PassesCells, LooksAgain, RecoverAsks, RecoverMoves, has_freed};
 ghost use Rattle.lock_free_owners.specs.Robust.Told.{HasRecovered, Answered, FoundState};
@@ -15,9 +23,14 @@ ghost use Rattle.lock_free_owners.specs.RobustUniqueIndexSet.{view, history, cap
 use super::drives::Recovers;
 use super::rule::Seat;
 use super::{OwnerId, Pass, RobustUniqueIndexSet};
+use history::view::View;
+use lock_free_sp::driver::drive::Says;
+use lock_free_sp::driver::rule::Tells;
+use std::marker::Brand;
 use std::sync::Wait;
 use steps::ask::After;
 use steps::indices::enums::{ReleaseMode, ReleaseState};
+use steps::indices::robust::parts::{EMPTY, FIRST_CELL};
 use steps::indices::robust::recover::{Recover, RecoverStage};
 use steps::routine::Routine;
 
@@ -34,8 +47,43 @@ fn step_recover(seat: &mut Seat, call: Recover, mode: ReleaseMode) -> After<Reco
     seat.step::<Recover, Recovers>(call, &mode, &mut ())
 }
 
+/// Loads a cell, for a call that has come to it. What that tells is picked where it is called.
+#[inline(always)]
+fn load_for<M: Tells<View<u64>>>(
+    seat: &mut Seat,
+    _capacity: u32,
+    cell: usize,
+    _mode: ReleaseMode,
+) -> u64
+    requires within { cell < _capacity }
+    requires owes { OwesAsk (IsMachine one_word kinds.Robust (key_of seat.old)) (table_of seat.old).words
+        (table_of seat.old).slots seat.old.seat.id M.told (1 + cell) Load seat.old.seat.me }
+    ensures same { IsSame seat.old seat.new }
+    ensures told { M.told (seen seat.old) result (seen seat.new) }
+{
+    let table = &seat.table;
+    table
+        .shared
+        .load::<Says<M>>(&mut seat.seat, FIRST_CELL + cell)
+}
+
+/// Takes the step of a call that has come to this cell, but for what the call makes of what it finds there. An index is a
+/// `usize` here, so that no turn of a loop has to widen it.
+#[inline(always)]
+fn load_cell(seat: &mut Seat, capacity: u32, cell: usize, mode: ReleaseMode) -> u64
+    requires board { IsBoard seat.old }
+    requires within { cell < capacity }
+    requires at { RecoverStands mode (seen seat.old) (record { capacity = capacity; stage = stages.LoadsCell cell }) }
+    ensures same { IsSame seat.old seat.new }
+    ensures board { IsBoard seat.new }
+    ensures goes { RecoverGoes mode (seen seat.old) (record { capacity = capacity; stage = stages.LoadsCell cell })
+        (recover_after (record { capacity = capacity; stage = stages.LoadsCell cell }) mode result) (seen seat.new) }
+{
+    load_for::<Brand>(seat, capacity, cell, mode)
+}
+
 /// Takes the steps of the call that load cells, from this one on, past those without an owner. Their loop keeps the index
-/// alone.
+/// alone, and makes a call of it where it ends.
 #[inline(always)]
 fn pass_over(
     seat: &mut Seat,
@@ -51,19 +99,31 @@ fn pass_over(
     ensures goes { RecoverGoes mode (seen seat.old) (record { capacity = capacity; stage = stages.LoadsCell first })
         result (seen seat.new) }
 {
-    let mut cell = first;
+    let mut cell = first as usize;
     'cells: loop {
-        match step_recover(seat, at_cell(capacity, cell), mode) {
-            After::GoOn(next) => {
-                let stage = next.stage;
-                match stage {
-                    RecoverStage::LoadsCell { index } => cell = index,
-                    _ => return After::GoOn(next),
-                }
-            }
-            After::Done(state) => return After::Done(state),
+        let found = load_cell(seat, capacity, cell, mode);
+        if found != EMPTY {
+            let here = at_cell(capacity, cell as u32);
+            return here.take(&mode, &mut (), found);
+        }
+        cell = passed_next(capacity, cell);
+        if cell >= capacity as usize {
+            let last = at_cell(capacity, capacity - 1);
+            return last.take(&mode, &mut (), found);
         }
     }
+}
+
+/// The cell behind an empty one, to which a recovery goes on if there is one.
+#[inline(always)]
+fn passed_next(capacity: u32, cell: usize) -> usize
+    requires { cell < capacity }
+    ensures next { result ≡ cell + 1 }
+    ensures after { result < capacity → (mode : Mode)
+        → recover_after (record { capacity = capacity; stage = stages.LoadsCell cell }) mode empty
+        ≡ GoOn (record { capacity = capacity; stage = stages.LoadsCell result }) }
+{
+    cell + 1
 }
 
 /// Takes the steps of a call that has come to its first cell, and leaves any other call.
