@@ -24,7 +24,7 @@ use Rattle.history.specs.declared.view.View.{View}
 use Rattle.history.specs.Container.{adds_value, removes_value, replaces_value, counts_values, sees_lock}
 use Rattle.history.specs.History.{IsMachine}
 use Rattle.history.specs.Settled.{SettledFrom, IsResting}
-use Rattle.history.specs.Stages.{Calling, At, Ends}
+use Rattle.history.specs.Stages.{Calling, At}
 use Rattle.history.proofs.CallsIn.{AsksFor}
 use Rattle.history.proofs.Containers.{container_words}
 use Rattle.history.proofs.ContainerAdds.{container_add_keeps, container_add_first, container_replace_keeps, container_replace_first}

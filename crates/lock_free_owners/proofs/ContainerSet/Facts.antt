@@ -34,7 +34,7 @@ use Rattle.history.specs.Container.{adds_value, removes_value, replaces_value, c
 use Rattle.history.specs.History.{IsHistory, Called, IsBeginning}
 use Rattle.history.specs.Passes.{Goes}
 use Rattle.history.specs.Settled.{SettledFrom}
-use Rattle.history.specs.Stages.{Calling, Ends, opened}
+use Rattle.history.specs.Stages.{Calling, opened}
 use Rattle.history.proofs.Called.{called}
 use Rattle.lock_free_owners.specs.Robust.Told.{WroteAt, WasFilled, WasGranted, WasFreed, HasReleased, FoundLock}
 use Rattle.lock_free_owners.specs.Container.Told.{IsSound, HasMade, HasAdded, HasRemoved, HasReplaced, HasCounted, HasTested, HasLooked, Answered, WasNotAdded}

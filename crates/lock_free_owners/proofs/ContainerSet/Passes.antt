@@ -1,5 +1,5 @@
 -- What a split and a join leave of a pass.
-use Rattle.std.proofs.Common.{◌≡◌, inl, inr, ℕ, ◌<◌, None, [], refl, sym, ap, subst, ◌∙◌}
+use Rattle.std.proofs.Common.{◌≡◌, inl, inr, ◌<◌, None, [], sym, ap, subst, ◌∙◌}
 use Rattle.model.specs.declared.turn.Kind.TheVariants as kinds
 use Rattle.model.specs.Coding.{Coding}
 use Rattle.history.specs.declared.view.View.{View}

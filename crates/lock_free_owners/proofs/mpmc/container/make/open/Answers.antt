@@ -1,4 +1,4 @@
-use Rattle.std.proofs.Common.{◌≡◌, ◌+◌, ◌*◌, ◌-◌, [], ◌∷◌, ◌++◌, take, length, rules, refl, ap, ◌∙◌, arith, length-append}
+use Rattle.std.proofs.Common.{◌≡◌, ◌+◌, ◌*◌, ◌-◌, [], ◌∷◌, ◌++◌, take, length, rules, ap, ◌∙◌, arith}
 use Rattle.std.proofs.lemmas.List.{take_all, length-replicate}
 use Rattle.std.specs.Prelude.{vec_len, replicate}
 use Rattle.steps.specs.Container.Layout.{total_words}
