@@ -77,7 +77,7 @@ module _ {T : Type 0} (code : Coding T) where
         subst (λ d. At code kinds.Container (adds_value code.size given) v v d m) (sym b.0) (container_add_first code law given v m idle alone any b.1)
 
     pub add_keeps : Keeps code (AddAt code given) (AddEnds code given) (λ c. add_want code.words_of code.size c given) (λ c n. add_after code.size c n)
-    (λ c m n. m)
+        (λ c m n. m)
     add_keeps = rested_keeps code (adds_value code.size given) (λ c. add_want code.words_of code.size c given) (λ c m. refl) (BeginsAdd given) add_asks
         (λ c n. add_after code.size c n) (λ c m n. m) (container_add_keeps code law given) add_first
 
