@@ -19,7 +19,6 @@ pub use Rattle.atomic_table.specs.Seated.{TableId}
 pub use Rattle.model.specs.declared.event.Event
 pub use Rattle.history.specs.declared.view as HistoryView
 pub use Rattle.lock_free_queues.specs.declared.spsc.ring as QueueEnds
-pub use Rattle.lock_free_owners.specs.declared.robust.view as RobustView
 pub use Rattle.lock_free.specs.declared.spsc.loan.places.Place
 pub use Rattle.lock_free_sp.specs.declared.share.Share
 pub use Rattle.steps.specs.declared.enums.UniqueIndexCreationError

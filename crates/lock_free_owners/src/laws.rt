@@ -4,6 +4,8 @@ ghost use Rattle.std.specs.Prelude.{ℕ, List};
 ghost use Rattle.model.specs.declared.event.Event.{Event};
 ghost use Rattle.model.specs.declared.turn.Kind.TheVariants as kinds;
 ghost use Rattle.model.specs.Coding.{Coding, one_word};
+ghost use Rattle.model.specs.Families.Container.Promises.{IsProperRun, IsContained};
+ghost use Rattle.container_laws.specs.Open.{IsFaithfulRun};
 ghost use Rattle.history.specs.History.{IsHistory};
 ghost use Rattle.lock_free_owners.specs.Robust.Told.{IsSound};
 ghost use Rattle.lock_free_owners.specs.Container.Told as containers;
@@ -21,4 +23,13 @@ pub fn histories_are_sound()
 pub fn container_histories_are_sound<T>()
     ensures { (code : Coding T) (capacity : ℕ) (events : List (Event T))
         → IsHistory code kinds.Container capacity events → containers.IsSound code capacity events }
+{}
+
+/// And what stands in it: where a remove that frees, and a replace, is begun as it may be, and nobody takes a step for an
+/// owner who is gone, in so few turns that no number of an element has come round, each add and replace that succeeded has
+/// placed its value, and what is copied stands there, whole.
+pub fn container_histories_are_contained<T>()
+    ensures { (code : Coding T) (capacity : ℕ) (events : List (Event T))
+        → (h : IsHistory code kinds.Container capacity events)
+        → IsProperRun h.trace → IsFaithfulRun h.trace h.run.reached → IsContained h.trace }
 {}

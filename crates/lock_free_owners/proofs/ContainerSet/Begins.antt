@@ -24,7 +24,7 @@ use Rattle.history.specs.declared.view.View.{View}
 use Rattle.history.specs.Container.{adds_value, removes_value, replaces_value, counts_values, sees_lock}
 use Rattle.history.specs.History.{IsMachine}
 use Rattle.history.specs.Settled.{SettledFrom, IsResting}
-use Rattle.history.specs.Stages.{Calling, At, Ends}
+use Rattle.history.specs.Stages.{Calling, At}
 use Rattle.history.proofs.CallsIn.{AsksFor}
 use Rattle.history.proofs.Containers.{container_words}
 use Rattle.history.proofs.ContainerAdds.{container_add_keeps, container_add_first, container_replace_keeps, container_replace_first}
@@ -76,7 +76,8 @@ module _ {T : Type 0} (code : Coding T) where
     add_first v c m b idle alone any =
         subst (λ d. At code kinds.Container (adds_value code.size given) v v d m) (sym b.0) (container_add_first code law given v m idle alone any b.1)
 
-    pub add_keeps : Keeps code (AddAt code given) (AddEnds code given) (λ c. add_want code.words_of code.size c given) (λ c n. add_after code.size c n) (λ c m n. m)
+    pub add_keeps : Keeps code (AddAt code given) (AddEnds code given) (λ c. add_want code.words_of code.size c given) (λ c n. add_after code.size c n)
+        (λ c m n. m)
     add_keeps = rested_keeps code (adds_value code.size given) (λ c. add_want code.words_of code.size c given) (λ c m. refl) (BeginsAdd given) add_asks
         (λ c n. add_after code.size c n) (λ c m n. m) (container_add_keeps code law given) add_first
 
@@ -113,7 +114,6 @@ module _ {T : Type 0} (code : Coding T) where
   -- ---- replace
 
   module _ (law : IsCoding code) (given : Replacement T) where
-
     replace_asks : (capacity : ℕ) (c : Replacing T) → BeginsReplace given capacity c
         → AsksFor (container_words code capacity) (replace_want code.words_of code.size c given)
     replace_asks capacity c b =

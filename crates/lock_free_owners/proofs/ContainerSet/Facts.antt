@@ -34,7 +34,7 @@ use Rattle.history.specs.Container.{adds_value, removes_value, replaces_value, c
 use Rattle.history.specs.History.{IsHistory, Called, IsBeginning}
 use Rattle.history.specs.Passes.{Goes}
 use Rattle.history.specs.Settled.{SettledFrom}
-use Rattle.history.specs.Stages.{Calling, Ends, opened}
+use Rattle.history.specs.Stages.{Calling, opened}
 use Rattle.history.proofs.Called.{called}
 use Rattle.lock_free_owners.specs.Robust.Told.{WroteAt, WasFilled, WasGranted, WasFreed, HasReleased, FoundLock}
 use Rattle.lock_free_owners.specs.Container.Told.{IsSound, HasMade, HasAdded, HasRemoved, HasReplaced, HasCounted, HasTested, HasLooked, Answered, WasNotAdded}
@@ -66,7 +66,8 @@ module _ {T : Type 0} (code : Coding T) where
 
   -- ---- what any call leaves
 
-  module _ {C E : Type 0} (begins : ℕ → C → Type 0) (call : Calling T C (Unit {0}) E) (base w : View T) (e : E) (ends : CallEnds code begins call base e tt w) where
+  module _ {C E : Type 0} (begins : ℕ → C → Type 0) (call : Calling T C (Unit {0}) E) (base w : View T) (e : E)
+      (ends : CallEnds code begins call base e tt w) where
     abbrev from : View T
     from = ends.from
 
@@ -240,7 +241,8 @@ module _ {T : Type 0} (code : Coding T) where
         made (BeginsRemove given) (removes_value given) base w answer ends (Remove given.index given.owner given.mode) refl (removed answer) refl
         (λ by es. container.HasRemoved by given answer es) (ends.over.tells (settled_idle base ends.from ends.settled))
 
-    pub removed_answered : (answer : Removed) → RemoveEnds code given base answer tt w → Answered code (Remove given.index given.owner given.mode) (removed answer) base w
+    pub removed_answered : (answer : Removed) → RemoveEnds code given base answer tt w
+        → Answered code (Remove given.index given.owner given.mode) (removed answer) base w
     removed_answered answer ends =
         answered (BeginsRemove given) (removes_value given) base w answer ends (Remove given.index given.owner given.mode) refl (removed answer) refl
 
@@ -278,8 +280,8 @@ module _ {T : Type 0} (code : Coding T) where
         (let a = removed_answered base w (gives LockIfLastIndex) (Ok states.Locked) ends in (lock_stays (last_of a) a.right, refl))
     released_so LockIfLastIndex states.Unlocked ends =
         λ same. open_since (BeginsRemove (gives LockIfLastIndex)) (removes_value (gives LockIfLastIndex)) base w (Ok states.Unlocked) ends
-            (Remove index owner LockIfLastIndex) refl (removed (Ok states.Unlocked)) refl
-            (removed_answered base w (gives LockIfLastIndex) (Ok states.Unlocked) ends).right.0
+        (Remove index owner LockIfLastIndex) refl (removed (Ok states.Unlocked)) refl
+        (removed_answered base w (gives LockIfLastIndex) (Ok states.Unlocked) ends).right.0
     released_so Default states.Locked ends =
         (let no = (has_removed base w (gives Default) (Ok states.Locked) ends).tells.1.0 in absurd (cc))
     released_so Default states.Unlocked ends = λ same. absurd (cc)
@@ -298,7 +300,8 @@ module _ {T : Type 0} (code : Coding T) where
 
     pub replaced_answered : Answered code (Replace given.index given.value given.owner) (replaced answer) base w
     replaced_answered =
-        answered (BeginsReplace given) (replaces_value code.size given) base w answer ends (Replace given.index given.value given.owner) refl (replaced answer) refl
+        answered (BeginsReplace given) (replaces_value code.size given) base w answer ends (Replace given.index given.value given.owner) refl
+        (replaced answer) refl
 
   -- ---- add
 

@@ -1,5 +1,5 @@
 -- A pass between two of its calls has none under way, or its last one rests.
-use Rattle.std.proofs.Common.{◌≡◌, ◌⊎◌, inl, inr, ℕ, ◌<◌, Bool, true, false, true≢false, Option, Some, None, List, [], refl, sym, ap, subst, ◌∙◌}
+use Rattle.std.proofs.Common.{◌≡◌, ◌⊎◌, inl, inr, ℕ, ◌<◌, true, false, true≢false, Option, Some, None, [], refl, sym, ap, ◌∙◌}
 use Rattle.steps.specs.declared.ask.After.TheVariants.{Done}
 use Rattle.steps.specs.declared.container.find.FindStage.{FindStage}
 use Rattle.steps.specs.declared.container.find.FindStage as finds
@@ -12,7 +12,7 @@ use Rattle.model.specs.declared.families.Kept as kepts
 use Rattle.model.specs.declared.families.container.calls.ContainerFlight.{ContainerFlight}
 use Rattle.model.specs.declared.families.container.calls.ContainerFlight as calls
 use Rattle.model.specs.Coding.{Coding}
-use Rattle.model.specs.Families.{goes_of, want_of, is_question}
+use Rattle.model.specs.Families.{goes_of}
 use Rattle.model.specs.Turns.{number_of}
 use Rattle.history.specs.declared.view.View.{View}
 use Rattle.history.specs.Settled.{IsResting}

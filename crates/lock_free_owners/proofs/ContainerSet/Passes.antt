@@ -1,5 +1,5 @@
 -- What a split and a join leave of a pass.
-use Rattle.std.proofs.Common.{◌≡◌, inl, inr, ℕ, ◌<◌, None, [], refl, sym, ap, subst, ◌∙◌}
+use Rattle.std.proofs.Common.{◌≡◌, inl, inr, ◌<◌, None, [], sym, ap, subst, ◌∙◌}
 use Rattle.model.specs.declared.turn.Kind.TheVariants as kinds
 use Rattle.model.specs.Coding.{Coding}
 use Rattle.history.specs.declared.view.View.{View}
@@ -13,7 +13,8 @@ pub record Settled {T : Type 0} (v w : View T) : Type 0 where
   pub part : 0 < w.share.part
   pub parts : 0 < w.share.parts
 
-pub settled : {T : Type 0} (code : Coding T) (v w : View T) → v.other ≡ [] → 0 < v.share.part → 0 < v.share.parts → SettledFrom code kinds.Container v w → Settled v w
+pub settled : {T : Type 0} (code : Coding T) (v w : View T) → v.other ≡ [] → 0 < v.share.part → 0 < v.share.parts → SettledFrom code kinds.Container v w
+    → Settled v w
 settled code v w alone part parts (inl same) =
     record {
       idle = ap (λ (z : View _). z.going) same.0 ∙ same.1;

@@ -22,7 +22,8 @@ use Rattle.history.proofs.Containers.{is_open_container}
 use Rattle.lock_free_owners.specs.Container.Told.{IsSound}
 
 module _ {T : Type 0} {worn other : Type 0} (may : worn → other) where
-  since_each : (mode : ReleaseMode) (p owner : ℕ) (events : List (Event T)) → FilledSinceEachBy worn mode p owner events → FilledSinceEachBy other mode p owner events
+  since_each : (mode : ReleaseMode) (p owner : ℕ) (events : List (Event T)) → FilledSinceEachBy worn mode p owner events
+      → FilledSinceEachBy other mode p owner events
   since_each LockIfLastIndex p owner events h = λ index freed. ⊎_elim (λ x. inl (may x)) (λ x. inr x) (h index freed)
   since_each Default p owner events h = tt
 

@@ -1,5 +1,5 @@
 -- Where a recovery asks about an index, or has been told to free it, the set was not locked when it began.
-use Rattle.std.proofs.Common.{◌≡◌, inl, inr, ℕ, ◌+◌, ◌==◌, nat_lt, Bool, true, false, Option, Some, None, List, [], ◌∷◌, ◌++◌, refl, sym, ap, subst, ◌∙◌, append_assoc}
+use Rattle.std.proofs.Common.{◌≡◌, inl, inr, ℕ, ◌+◌, ◌==◌, nat_lt, Bool, true, false, Option, Some, None, List, [], ◌∷◌, ◌++◌, sym, ap, subst, ◌∙◌, append_assoc}
 use Rattle.steps.specs.Indices.Robust.Parts.{raise_want, lock_want}
 use Rattle.steps.specs.Indices.Robust.Recover.{at_recover, recover_asks, recover_comes_to, recover_takes}
 use Rattle.steps.specs.Picks.{by_test}
@@ -17,7 +17,6 @@ use Rattle.steps.specs.declared.indices.robust.recover.RecoverStage.{RecoverStag
 use Rattle.steps.specs.declared.indices.robust.recover.RecoverStage.TheVariants as recovers
 use Rattle.model.specs.declared.event.Event.{Event}
 use Rattle.model.specs.declared.event.Event.TheVariants.{Begun, Asked}
-use Rattle.model.specs.declared.event.Start.{Start}
 use Rattle.model.specs.declared.event.Start.TheVariants.{Robust}
 use Rattle.model.specs.declared.families.Flight.{Flight}
 use Rattle.model.specs.declared.families.Flight.TheVariants as flights
@@ -31,7 +30,7 @@ use Rattle.model.specs.Reading.{Each}
 use Rattle.model.specs.Turns.{number_of}
 use Rattle.robust_laws.specs.Gone.{Word, AsksBy}
 use Rattle.history.specs.declared.view.View.{View}
-use Rattle.history.specs.History.{IsHistory, IsBeginning}
+use Rattle.history.specs.History.{IsHistory}
 use Rattle.history.specs.Robust.{recovers_owned, RecoverIn, RecoveredAt}
 use Rattle.history.specs.Stages.{Since, opened, IsUnderWay, IsFirst}
 use Rattle.history.proofs.Robusts.{is_open_set}

@@ -1,8 +1,8 @@
 -- A step of a container's table that leaves each word as it is may leave what its seat knows.
-use Rattle.std.proofs.Common.{◌≡◌, ℕ, zero, suc, ◌+◌, List, [], ◌∷◌, ◌++◌, set, slice_index, refl, sym, ap, subst, ◌∙◌}
+use Rattle.std.proofs.Common.{◌≡◌, ℕ, zero, suc, List, [], ◌∷◌, set, slice_index, refl, sym, ap, subst, ◌∙◌}
 use mathlib.Core.Option.{some, some-injective}
 use lib.ListN.{get_elem?}
-use Rattle.atomic_table.specs.Table.{State, Allows, keeps}
+use Rattle.atomic_table.specs.Table.{Allows, keeps}
 use Rattle.steps.specs.Ask.{written}
 use Rattle.steps.specs.Picks.{by_eq}
 use Rattle.steps.specs.declared.ask.After.{After}

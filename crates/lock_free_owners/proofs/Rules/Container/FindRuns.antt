@@ -1,5 +1,5 @@
 -- A find keeps the rule of a container at each of its stages.
-use Rattle.std.proofs.Common.{◌≡◌, ℕ, ◌+◌, ◌*◌, ◌<◌, ◌≤◌, nat_lt, Bool, false, [], refl, sym, subst, ◌∙◌, arith}
+use Rattle.std.proofs.Common.{◌≡◌, ℕ, ◌+◌, ◌<◌, ◌≤◌, nat_lt, [], refl, sym, subst, ◌∙◌, arith}
 use Rattle.std.proofs.lemmas.Bool.Decides.{nat_tests}
 use Rattle.steps.specs.Ask.{written}
 use Rattle.steps.specs.Picks.{by_test, by_eq}
@@ -44,7 +44,8 @@ module _ {T R : Type 0} where
         (λ t. comes (index + 1) found at.1)
         (λ t. (same, (at.0, at.1, omega arith)))
     takes_stands (finds.TheVariants.LoadsWord index found count place) owner k at =
-        by_test (StillStands size v) (nat_lt (place + 1) size) (GoOn (at_find c (finds.TheVariants.LoadsWord index found count (place + 1)))) (GoOn (at_find c (finds.TheVariants.ChecksCount index found count)))
+        by_test (StillStands size v) (nat_lt (place + 1) size) (GoOn (at_find c (finds.TheVariants.LoadsWord index found count (place + 1))))
+        (GoOn (at_find c (finds.TheVariants.ChecksCount index found count)))
         (λ t. (same, (at.0, at.1, (let l : place + 1 < size = grind (arith, nat_tests) in l))))
         (λ t. (same, (at.0, at.1)))
     takes_stands (finds.TheVariants.ChecksCount index found count) owner k at =
@@ -57,7 +58,8 @@ module _ {T R : Type 0} where
   pub still_stands : (size : ℕ) → 1 ≤ size → (v : View T) (c : Find T R) (owner k : ℕ) → FindStands size v c → StillStands size v (find_after size c owner k)
   still_stands size some_words v c owner k at = takes_stands size some_words v c at.0 c.stage owner k at.1
 
-  module _ (code : Coding T) (with_word : R → ℕ → ℕ → R) (size : ℕ) (some_words : 1 ≤ size) (owner : ℕ) (v : View T) (c : Find T R) (same : c.capacity ≡ v.capacity) (room : R) (cap words slots id : ℕ) (sized : words ≡ total_words cap size + 1) (known : v.capacity ≡ cap) where
+  module _ (code : Coding T) (with_word : R → ℕ → ℕ → R) (size : ℕ) (some_words : 1 ≤ size) (owner : ℕ) (v : View T) (c : Find T R)
+      (same : c.capacity ≡ v.capacity) (room : R) (cap words slots id : ℕ) (sized : words ≡ total_words cap size + 1) (known : v.capacity ≡ cap) where
     abbrev after : Find T R → ℕ → After (Find T R) ℕ
     after d k = find_after size d owner k
 
@@ -73,12 +75,12 @@ module _ {T R : Type 0} where
     full : words ≡ total_words c.capacity size + 1
     full = subst (λ z. words ≡ total_words z size + 1) (sym (same ∙ known)) sized
 
-
     here : (a : After (Find T R) ℕ) → StillStands size v a → Here a
     here (GoOn d) at n = (refl, at)
     here (Done found) at n = refl
 
-    stage_owes : (stage : finds.FindStage) → ((k : ℕ) → Here (after c k)) → FindStage size v stage → Owes (IsMachine code kinds.Container cap) words slots id Says (find_asks size c.capacity stage) (v, [])
+    stage_owes : (stage : finds.FindStage) → ((k : ℕ) → Here (after c k)) → FindStage size v stage
+        → Owes (IsMachine code kinds.Container cap) words slots id Says (find_asks size c.capacity stage) (v, [])
     stage_owes (finds.TheVariants.LoadsCell index found) goes at = (
       cell_fits c.capacity size words full index (let l = at.0 in omega arith),
       leaves code cap slots id v (cell_word index) (λ x. x) (λ k. refl) Says (λ k. says k (goes k)),
@@ -98,12 +100,15 @@ module _ {T R : Type 0} where
     stage_owes (finds.TheVariants.Asks index found) goes at = says 0 (goes 0)
 
 pub find_rule : {T R : Type 0} (code : Coding T) (with_word : R → ℕ → ℕ → R) (size : ℕ) → 1 ≤ size → (owner : ℕ)
-    → KeepsRule (λ (z : View T). z.capacity) (Still (FindStands size)) FindEnds (λ key. total_words key size + 1) (λ key. key) (λ key. IsMachine code kinds.Container key) (λ (c : Find T R). find_want size c) (λ c k. find_after size c owner k) (find_kept with_word)
+    → KeepsRule (λ (z : View T). z.capacity) (Still (FindStands size)) FindEnds (λ key. total_words key size + 1) (λ key. key)
+    (λ key. IsMachine code kinds.Container key) (λ (c : Find T R). find_want size c) (λ c k. find_after size c owner k) (find_kept with_word)
 find_rule code with_word size some_words owner base v c room key words slots id sized known at =
     stage_owes code with_word size some_words owner v c at.1.0 room key words slots id sized known c.stage
-    (λ k. here code with_word size some_words owner v c at.1.0 room key words slots id sized known (find_after size c owner k) (still_stands size some_words v c owner k at.1)) at.1.1
+    (λ k. here code with_word size some_words owner v c at.1.0 room key words slots id sized known (find_after size c owner k)
+    (still_stands size some_words v c owner k at.1)) at.1.1
 
 -- the view stays
-pub find_leaves : {T R : Type 0} (size : ℕ) (v w : View T) (a : After (Find T R) ℕ) (room : R) → Next (λ (z : View T). z.capacity) (Still (FindStands size)) FindEnds v a room w → w ≡ v
+pub find_leaves : {T R : Type 0} (size : ℕ) (v w : View T) (a : After (Find T R) ℕ) (room : R)
+    → Next (λ (z : View T). z.capacity) (Still (FindStands size)) FindEnds v a room w → w ≡ v
 find_leaves size v w (GoOn d) room h = h.0
 find_leaves size v w (Done n) room h = h

@@ -1,5 +1,5 @@
 -- A look of a state keeps the rule of a container at each of its stages.
-use Rattle.std.proofs.Common.{◌≡◌, ℕ, ◌+◌, ◌*◌, ◌<◌, ◌≤◌, nat_lt, Bool, true, false, List, [], slice_index_or, refl, sym, subst, ◌∙◌, arith}
+use Rattle.std.proofs.Common.{◌≡◌, ℕ, ◌+◌, ◌<◌, ◌≤◌, nat_lt, Bool, true, false, List, [], slice_index_or, refl, sym, subst, ◌∙◌, arith}
 use Rattle.std.proofs.lemmas.Bool.Decides.{nat_tests}
 use Rattle.steps.specs.Ask.{written}
 use Rattle.steps.specs.Picks.{by_test, by_eq}
@@ -20,7 +20,8 @@ use Rattle.lock_free_owners.specs.Container.Bare.{Still, LookStage, LookStands, 
 use Rattle.lock_free_owners.proofs.Rules.Container.Bare.{Stays, still_tells, leaves, unchanged}
 use Rattle.lock_free_owners.proofs.Rules.Container.Places.{change_fits, count_fits, element_fits}
 
-module _ {T : Type 0} (code : Coding T) (value_of : List ℕ → T) (size : ℕ) (some_words : 1 ≤ size) (seen : Numbers) (v : View T) (c : Look T) (same : c.capacity ≡ v.capacity) (room : Showing T) (cap words slots id : ℕ) (sized : words ≡ total_words cap size + 1) (known : v.capacity ≡ cap) where
+module _ {T : Type 0} (code : Coding T) (value_of : List ℕ → T) (size : ℕ) (some_words : 1 ≤ size) (seen : Numbers) (v : View T) (c : Look T)
+    (same : c.capacity ≡ v.capacity) (room : Showing T) (cap words slots id : ℕ) (sized : words ≡ total_words cap size + 1) (known : v.capacity ≡ cap) where
   abbrev after : Look T → ℕ → After (Look T) Bool
   after d k = look_after size d seen k
 
@@ -36,7 +37,6 @@ module _ {T : Type 0} (code : Coding T) (value_of : List ℕ → T) (size : ℕ)
   full : words ≡ total_words c.capacity size + 1
   full = subst (λ z. words ≡ total_words z size + 1) (sym (same ∙ known)) sized
 
-
   -- the next element, or the end
   comes : (index : ℕ) → Here (look_comes_to c index)
   comes index =
@@ -50,7 +50,8 @@ module _ {T : Type 0} (code : Coding T) (value_of : List ℕ → T) (size : ℕ)
       (λ t. comes (index + 1))
       (λ t n. (refl, (same, (within, omega arith))))
 
-  stage_owes : (stage : looks.LookStage) → ((k : ℕ) → look_takes size c stage seen k ≡ look_after size c seen k) → LookStage size v stage → Owes (IsMachine code kinds.Container cap) words slots id Says (look_asks size c.capacity stage) (v, [])
+  stage_owes : (stage : looks.LookStage) → ((k : ℕ) → look_takes size c stage seen k ≡ look_after size c seen k) → LookStage size v stage
+      → Owes (IsMachine code kinds.Container cap) words slots id Says (look_asks size c.capacity stage) (v, [])
   stage_owes looks.TheVariants.LoadsChange is at = (
     change_fits c.capacity size words full,
     leaves code cap slots id v (change_word c.capacity) (λ x. x) (λ k. refl) Says
@@ -61,13 +62,15 @@ module _ {T : Type 0} (code : Coding T) (value_of : List ℕ → T) (size : ℕ)
     count_fits c.capacity size words full index (let l = at in omega arith),
     leaves code cap slots id v (count_word c.capacity index) (λ x. x) (λ k. refl) Says
         (λ k. says k (subst Here (is k)
-        (by_eq Here k (slice_index_or seen.counts index 0) (look_comes_to c (index + 1)) (look_finds c index k) (λ e. comes (index + 1)) (λ ne. finds index k at)))),
+        (by_eq Here k (slice_index_or seen.counts index 0) (look_comes_to c (index + 1)) (look_finds c index k) (λ e. comes (index + 1))
+        (λ ne. finds index k at)))),
   )
   stage_owes (looks.TheVariants.LoadsWord index count place) is at = (
     element_fits c.capacity size words full index place (let l = at.0 in omega arith) at.1,
     leaves code cap slots id v (element_word c.capacity size index place) (λ x. x) (λ k. refl) Says
         (λ k. says k (subst Here (is k)
-        (by_test Here (nat_lt (place + 1) size) (at_look c (looks.TheVariants.LoadsWord index count (place + 1))) (at_look c (looks.TheVariants.ChecksCount index count))
+        (by_test Here (nat_lt (place + 1) size) (at_look c (looks.TheVariants.LoadsWord index count (place + 1)))
+        (at_look c (looks.TheVariants.ChecksCount index count))
         (λ t n. (refl, (same, (at.0, (let l : place + 1 < size = grind (arith, nat_tests) in l)))))
         (λ t n. (refl, (same, at.0)))))),
   )
@@ -79,11 +82,13 @@ module _ {T : Type 0} (code : Coding T) (value_of : List ℕ → T) (size : ℕ)
   )
 
 pub state_rule : {T : Type 0} (code : Coding T) (value_of : List ℕ → T) (size : ℕ) → 1 ≤ size → (seen : Numbers)
-    → KeepsRule (λ (z : View T). z.capacity) (Still (LookStands size)) LookEnds (λ key. total_words key size + 1) (λ key. key) (λ key. IsMachine code kinds.Container key) (λ (c : Look T). look_want size c) (λ c k. look_after size c seen k) (look_kept value_of size)
+    → KeepsRule (λ (z : View T). z.capacity) (Still (LookStands size)) LookEnds (λ key. total_words key size + 1) (λ key. key)
+    (λ key. IsMachine code kinds.Container key) (λ (c : Look T). look_want size c) (λ c k. look_after size c seen k) (look_kept value_of size)
 state_rule code value_of size some_words seen base v c room key words slots id sized known at =
     stage_owes code value_of size some_words seen v c at.1.0 room key words slots id sized known c.stage (λ k. refl) at.1.1
 
 -- the view stays
-pub look_leaves : {T : Type 0} (size : ℕ) (v w : View T) (a : After (Look T) Bool) (room : Showing T) → Next (λ (z : View T). z.capacity) (Still (LookStands size)) LookEnds v a room w → w ≡ v
+pub look_leaves : {T : Type 0} (size : ℕ) (v w : View T) (a : After (Look T) Bool) (room : Showing T)
+    → Next (λ (z : View T). z.capacity) (Still (LookStands size)) LookEnds v a room w → w ≡ v
 look_leaves size v w (GoOn d) room h = h.0
 look_leaves size v w (Done n) room h = h

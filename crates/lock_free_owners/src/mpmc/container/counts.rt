@@ -17,7 +17,10 @@ use steps::words::Words;
 
 /// Takes one step of the call.
 #[inline(always)]
-fn step_count<T: Words, W: Counting>(seat: &mut Seat<T>, call: BorrowedIndices) -> After<BorrowedIndices, usize>
+fn step_count<T: Words, W: Counting>(
+    seat: &mut Seat<T>,
+    call: BorrowedIndices,
+) -> After<BorrowedIndices, usize>
     requires board { IsBoard T.WORDS seat.old }
     requires at { CountStands (coding_of T.WORDS T.words_of T.value_of) W.which (seen seat.old) call }
     ensures same { IsSame seat.old seat.new }
@@ -74,7 +77,10 @@ fn count_cells<T: Words, W: Counting>(
 
 /// Takes steps of the call.
 #[inline(always)]
-fn count_next<T: Words, W: Counting>(seat: &mut Seat<T>, call: BorrowedIndices) -> After<BorrowedIndices, usize>
+fn count_next<T: Words, W: Counting>(
+    seat: &mut Seat<T>,
+    call: BorrowedIndices,
+) -> After<BorrowedIndices, usize>
     requires board { IsBoard T.WORDS seat.old }
     requires at { CountStands (coding_of T.WORDS T.words_of T.value_of) W.which (seen seat.old) call }
     ensures same { IsSame seat.old seat.new }
@@ -94,7 +100,11 @@ fn count_next<T: Words, W: Counting>(seat: &mut Seat<T>, call: BorrowedIndices) 
 
 /// Takes all steps of the call.
 #[inline(always)]
-pub(crate) fn count_all<T: Words, W: Counting>(seat: &mut Seat<T>, rt: &impl Wait, capacity: u32) -> usize
+pub(crate) fn count_all<T: Words, W: Counting>(
+    seat: &mut Seat<T>,
+    rt: &impl Wait,
+    capacity: u32,
+) -> usize
     requires board { IsBoard T.WORDS seat.old }
     requires at { CountAt (coding_of T.WORDS T.words_of T.value_of) W.which (seen seat.old) (seen seat.old) (first_borrowed capacity) tt }
     ensures same { IsSame seat.old seat.new }

@@ -4,8 +4,8 @@ ghost use Rattle.steps.specs.declared.enums.UniqueIndexCreationError.TheVariants
 ghost use Rattle.history.specs.Views.{first_view};
 ghost use Rattle.lock_free_owners.specs.Container.Names.{view, number_of, capacity_of, IsPassOf, container_refusal};
 
-use super::{Container, Pass};
 use super::token::Held;
+use super::{Container, Pass};
 use atomic_table::Table;
 use lock_free_sp::driver::seated::Seated;
 use std::alloc::{AllocError, Global};

@@ -1,4 +1,4 @@
-use Rattle.std.proofs.Common.{rules, inl, subst}
+use Rattle.std.proofs.Common.{rules, subst}
 use Rattle.model.specs.Coding.{Coding, coding_of}
 use Rattle.model.specs.declared.turn.Kind.TheVariants as kinds
 use Rattle.lock_free_sp.specs.Seats.{seen}

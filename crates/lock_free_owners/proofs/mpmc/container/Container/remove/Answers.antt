@@ -1,4 +1,4 @@
-use Rattle.std.proofs.Common.{◌≡◌, ◌<◌, rules, sym, ap, subst, ◌∙◌, arith}
+use Rattle.std.proofs.Common.{◌<◌, rules, sym, ap, subst, ◌∙◌, arith}
 use Rattle.steps.specs.Container.Remove.{first_remove}
 use Rattle.steps.specs.declared.indices.robust.release.GiveBack.{GiveBack}
 use Rattle.model.specs.Coding.{Coding, coding_of}

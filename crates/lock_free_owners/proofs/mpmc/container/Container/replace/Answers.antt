@@ -1,4 +1,4 @@
-use Rattle.std.proofs.Common.{◌≡◌, ◌<◌, rules, sym, ap, subst, ◌∙◌, arith}
+use Rattle.std.proofs.Common.{◌<◌, rules, sym, ap, subst, ◌∙◌, arith}
 use Rattle.steps.specs.Container.Replace.{first_replace}
 use Rattle.steps.specs.declared.container.replace.Replacement.{Replacement}
 use Rattle.model.specs.Coding.{Coding, IsCoding, coding_of}

@@ -1,4 +1,4 @@
-use Rattle.std.proofs.Common.{◌≡◌, inl, inr, ⊎_elim, ◌<◌, rules, subst, arith}
+use Rattle.std.proofs.Common.{◌≡◌, ◌<◌, rules, subst, arith}
 use Rattle.atomic_table.specs.Seated.{TableId}
 use Rattle.model.specs.Coding.{coding_of}
 use Rattle.model.specs.declared.turn.Kind.TheVariants as kinds

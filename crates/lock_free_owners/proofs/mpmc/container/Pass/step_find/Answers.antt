@@ -10,7 +10,9 @@ pub step-requires-clause-rule : goal.step-requires-clause-rule
 step-requires-clause-rule g c = find_rule (coding_of g.T.Words.WORDS g.T.Words.words_of g.T.Words.value_of) _ g.T.Words.WORDS g.met.T.Words.some c.args.owner
 
 pub returns-clause-view : goal.returns-clause-view
-returns-clause-view g c = find_leaves g.T.Words.WORDS (seen c.args.self.now.token.seated) (seen c.step.new.self) c.step.result _ (c.step.ensures.told (seen c.args.self.now.token.seated) (refl, c.requires))
+returns-clause-view g c =
+    find_leaves g.T.Words.WORDS (seen c.args.self.now.token.seated) (seen c.step.new.self) c.step.result _
+    (c.step.ensures.told (seen c.args.self.now.token.seated) (refl, c.requires))
 
 pub invariant_of-self-clause-idle : goal.invariant_of-self-clause-idle
 invariant_of-self-clause-idle g c =

@@ -1,4 +1,4 @@
-use Rattle.std.proofs.Common.{ℕ, ◌-◌}
+use Rattle.std.proofs.Common.{◌-◌}
 use Rattle.steps.specs.declared.indices.robust.parts.Count.TheVariants as stages
 use Rattle.history.specs.declared.view.View.{View}
 use Rattle.model.specs.Coding.{coding_of}

@@ -1,4 +1,4 @@
-use Rattle.std.proofs.Common.{◌≡◌, ◌+◌, ◌*◌, ◌-◌, [], ◌∷◌, ◌++◌, take, length, rules, refl, ap, ◌∙◌, arith, length-append}
+use Rattle.std.proofs.Common.{◌≡◌, ◌+◌, ◌*◌, ◌-◌, [], ◌∷◌, ◌++◌, take, length, rules, ap, ◌∙◌, arith}
 use Rattle.std.proofs.lemmas.List.{take_all, length-replicate}
 use Rattle.std.specs.Prelude.{vec_len, replicate}
 use Rattle.steps.specs.Container.Layout.{total_words}
@@ -23,7 +23,8 @@ of_words-requires g c =
     let cells : c.resize.new.self.items ≡ 0 ∷ replicate capacity empty =
     c.in_ok-resize.ensures.items
     ∙ (ap (λ ws. take (1 + capacity) ws ++ replicate (1 + capacity - vec_len pushed) empty) first
-    ∙ (ap (λ ws. ws ++ replicate (1 + capacity - vec_len pushed) empty) (take_all (1 + capacity) (0 ∷ []) (omega arith)) ∙ ap (λ n. 0 ∷ replicate n empty) left))
+    ∙
+    (ap (λ ws. ws ++ replicate (1 + capacity - vec_len pushed) empty) (take_all (1 + capacity) (0 ∷ []) (omega arith)) ∙ ap (λ n. 0 ∷ replicate n empty) left))
     in
     let many = c.in_ok-resize.ensures.len in
     let long = length-replicate capacity empty in
