@@ -25,7 +25,7 @@ use Rattle.model.specs.World.{World, Trace}
 use Rattle.lock_free_sp.specs.Shares.{IsAll}
 use Rattle.history.specs.declared.view.View.{View}
 use Rattle.history.specs.Known.{events_by, by_party, owned}
-use Rattle.history.specs.History.{IsRun, IsMachine, Fits, IsLate, call_in}
+use Rattle.history.specs.History.{IsRun, IsMachine, Fits, IsLate, IsOfParties, call_in}
 use Rattle.history.specs.Stages.{Calling, Since, opened, Starts, IsUnderWay, At, Ends, rows_as}
 use Rattle.queue_laws.proofs.Queues.Knows.{IsFreshCall}
 use Rattle.history.proofs.Known.{known_whole, by_more, nil_right, idle_seat, late_none, none_late}
@@ -302,6 +302,15 @@ module _ {T C M E : Type 0} (code : Coding T) (kind : Kind) (effects : World T �
         in
         since_turn y.p id (Next y.p) y.u v base y.gained wrote effs last prior told_now own_now
 
+    -- who has the whole has made all of it
+    all_then : (base : View T) → Stage base v c m → IsAll base.share → (f : Event T → ℕ) → sum_by f view_then.seen ≡ sum_by f view_then.made
+    all_then base stage all f =
+        made_between code kind key y.owner id y.p then_gained then_trace (record { words = words_after s.words ask; homes = s.homes; views = s.views }) next_between v at
+        (subst IsAll (sym (same_share base v c m stage)) all) f
+
+    parties_then : IsOfParties view_then
+    parties_then = record { owner = y.owner; seat = id; sums = λ f. sum_by-append f v.made then_gained ∙ next_between.made_own v at f }
+
     -- the call goes on
     pub goes_then : (base : View T) (stage : Stage base v c m) (d : C) (m' : M) → comes_now ≡ GoOn (call.flight d m') → call.stands base.capacity d → ((n : ℕ) → call.skips d n ≡ false)
         → ((es late : List (Event T)) → call.wrote base.capacity y.p base.going c m es → IsLate kind (Some (call.start, flight_now)) late → Met code kind base.capacity call.start flight_now y.p base.going (es ++ late) found y.u → call.wrote base.capacity y.p base.going d m' ((es ++ late) ++ mine_now)) → IsUnderWay code kind call base view_then d m'
@@ -322,6 +331,8 @@ module _ {T C M E : Type 0} (code : Coding T) (kind : Kind) (effects : World T �
           tells = tells before.wrote before.late before.tells before.waits (met base stage);
           since = since_then base (before.wrote ++ before.late) [] before.prior (ap (λ (a : After (Flight T) (Answer T)). ending_of y.p call.start (answer_in a)) afters);
           history = record { trace = then_trace; run = run_then base stage; is = refl };
+          all = all_then base stage;
+          parties = parties_then;
         }
 
     -- the call ends
@@ -341,6 +352,6 @@ module _ {T C M E : Type 0} (code : Coding T) (kind : Kind) (effects : World T �
           tells = tells before.wrote before.late before.tells before.waits (met base stage);
           since = since_then base (before.wrote ++ before.late) (Finished y.p call.start (call.answer end m') ∷ []) before.prior (ap (λ (a : After (Flight T) (Answer T)). ending_of y.p call.start (answer_in a)) afters);
           history = record { trace = then_trace; run = run_then base stage; is = refl };
-          all = λ all f. made_between code kind key y.owner id y.p then_gained then_trace (record { words = words_after s.words ask; homes = s.homes; views = s.views }) next_between v at (subst IsAll (sym (same_share base v c m stage)) all) f;
-          parties = record { owner = y.owner; seat = id; sums = λ f. sum_by-append f v.made then_gained ∙ next_between.made_own v at f };
+          all = all_then base stage;
+          parties = parties_then;
         }

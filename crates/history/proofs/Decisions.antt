@@ -1,5 +1,6 @@
 -- Calls that put questions: the machine is handed an answer with the call's next step, as it is told of a begin with the first.
 use Rattle.std.proofs.Common.{Bool, true, false, ◌≡◌, inl, inr, ℕ, ◌+◌, ◌<◌, Option, Some, None, List, [], ◌++◌, slice_index, slice_set, set-set, refl, sym, ap, subst, ◌∙◌, append-nil, arith}
+use Rattle.std.proofs.lemmas.List.Sums.{sum_by-append}
 use mathlib.Core.Option.{some}
 use lib.ListN.{get_elem?}
 use Rattle.atomic_table.specs.Table.{State}
@@ -20,6 +21,7 @@ use Rattle.model.specs.Coding.{Coding}
 use Rattle.model.specs.Families.{opening_of, first_of, want_of, goes_of, is_question}
 use Rattle.model.specs.Turns.{after_turn, events_of, number_of}
 use Rattle.model.specs.World.{World, Trace}
+use Rattle.lock_free_sp.specs.Shares.{IsAll}
 use Rattle.lock_free_sp.specs.Driver.{answered, Owes, OwesAsk, Next as NextKnown, Told, KeepsRule}
 use Rattle.history.specs.declared.view.View.{View}
 use Rattle.history.specs.Known.{events_by}
@@ -28,7 +30,7 @@ use Rattle.history.specs.Stages.{Calling, Since, IsUnderWay, At, Ends, HasHeard,
 use Rattle.history.proofs.Known.{by_more, within}
 use Rattle.history.proofs.Reached.{MayDecide, refusal_as, decide_as}
 use Rattle.history.proofs.Calls.{stands, flight_is}
-use Rattle.history.proofs.Turns.{KeptLaws, Between, heard, decided, decided_at}
+use Rattle.history.proofs.Turns.{KeptLaws, Between, heard, decided, decided_at, made_between}
 use Rattle.history.proofs.Steps.{view_after, settle}
 use Rattle.history.proofs.CallsIn.{by_bool, goes, AsksFor, StepsOf, StepsThere, ActsAlone, written_alone, steps_alone}
 use Rattle.history.proofs.CallTurns.{still_stands, Ready, ready, Told_by, since_turn}
@@ -151,6 +153,8 @@ module _ {T C M E : Type 0} (code : Coding T) (kind : Kind) (decides : MayDecide
             tells = is_call.same_room base.capacity under.party base.going h.asking k.room h.room under.wrote same under.tells;
             since = under.since;
             history = under.history;
+            all = under.all;
+            parties = under.parties;
           })
 
       told_by : Told_by code kind effects size_of laws call y.p h.asking h.room base y.u.events (v.made ++ y.gained)
@@ -193,6 +197,8 @@ module _ {T C M E : Type 0} (code : Coding T) (kind : Kind) (decides : MayDecide
             tells = subst (λ zs. call.wrote base.capacity y.p base.going c m zs) (sym all_its_own) tells_then;
             since = since_then;
             history = record { trace = u_then; run = subst (λ i. IsRun code kind i u_then) (sym (sym k.before.capacity ∙ known)) between_heard.run; is = refl };
+            all = λ all f. made_between code kind key y.owner id y.p gained_then u_then s between_heard v at (subst IsAll (sym k.before.share) all) f;
+            parties = record { owner = y.owner; seat = id; sums = λ f. sum_by-append f v.made gained_then ∙ between_heard.made_own v at f };
           }
 
   -- ---- who is at a word, and who has heard an answer

@@ -109,6 +109,9 @@ module _ {T C M E : Type 0} (code : Coding T) (kind : Kind) (call : Calling T C 
     pub tells : call.wrote base.capacity party base.going c m wrote
     pub since : Since party call.start wrote [] base v
     pub history : IsHistory code kind base.capacity v.seen
+    -- who has the whole has made all of it
+    pub all : IsAll base.share → (f : Event T → ℕ) → sum_by f v.seen ≡ sum_by f v.made
+    pub parties : IsOfParties v
 
   abbrev pub At : View T → View T → C → M → Type 0
   At base v c m = IsFirst base v c m ⊎ IsUnderWay base v c m
