@@ -20,6 +20,7 @@ use Rattle.model.specs.declared.event.Answer.{Answer}
 use Rattle.model.specs.declared.event.Answer.TheVariants as answers
 use Rattle.model.specs.declared.event.Event.{Event}
 use Rattle.model.specs.declared.event.Event as events
+use Rattle.model.specs.declared.event.Start.TheVariants.{Container}
 use Rattle.model.specs.declared.families.Flight.{Flight}
 use Rattle.model.specs.declared.families.Flight.TheVariants as flights
 use Rattle.model.specs.declared.families.container.ContainerStart.TheVariants.{Find}
@@ -38,10 +39,10 @@ use Rattle.history.specs.declared.view.View.{View}
 use Rattle.history.specs.ContainerFind.{FindIn, came_from, HasCopied, HasCopiedBelow, HasCopiedLast, CopiedAt, finds_values}
 use Rattle.history.specs.History.{IsMachine}
 use Rattle.history.specs.Rooms.{room_of}
-use Rattle.history.specs.Settled.{EndsAsked}
+use Rattle.history.specs.Settled.{IsResting, RestsAt, EndsAsked}
 use Rattle.history.specs.Value.{value_of_room}
 use Rattle.history.proofs.CallsIn.{goes, AsksFor, StepsOf}
-use Rattle.history.proofs.Containers.{container_effects, plain_effects, container_words, containers_owe, plain_acts, container_first, container_starts}
+use Rattle.history.proofs.Containers.{container_effects, plain_effects, container_words, containers_owe, plain_acts, goes_plain, container_first, container_starts}
 use Rattle.history.proofs.Decisions.{IsAskingIn, keeps_said, hears_said, ends_said}
 use Rattle.history.proofs.RobustParts.{found_of}
 use Rattle.history.proofs.Rooms.{room_set, room_read}
@@ -417,3 +418,50 @@ module _ {T R : Type 0} (code : Coding T) (law : IsCoding code) (words_in : R �
         starts = container_starts code v finding (Find owner) (first_find v.capacity) m refl (λ o p h. h) named flies;
         wrote = λ p. record { number = 0; is = refl; copied = refl };
       }))
+
+  -- ---- where it rests
+
+  asked_at : (c : Finding T R) (said : Bool) (e : ℕ) (stage : FindStage) → is_question (find_asks code.size c.capacity stage) ≡ true
+      → find_takes code.size c stage owner (number_of said) ≡ Done e → (m : R)
+      → as_model (room m) (find_takes code.size (call_at c.capacity stage) stage owner (number_of false)) ≡ Done (answers.Number e)
+  asked_at c said e (finds.LoadsCell index found) due ends m = absurd (cc)
+  asked_at c said e (finds.LoadsCount index found) due ends m = absurd (cc)
+  asked_at c said e (finds.LoadsWord index found count at) due ends m = absurd (cc)
+  asked_at c said e (finds.ChecksCount index found count) due ends m = absurd (cc)
+  asked_at c false e (finds.Asks index found) due ends m = (let same : found ≡ e = cc in ap (λ n. Done (answers.Number n)) same)
+  asked_at c true e (finds.Asks index found) due ends m = go (nat_lt (index + 1) c.capacity) refl
+    where
+      go : (b : Bool) → nat_lt (index + 1) c.capacity ≡ b
+          → as_model (room m) (find_takes code.size (call_at c.capacity (finds.Asks index found)) (finds.Asks index found) owner (number_of false)) ≡ Done (answers.Number e)
+      go true t = (let no : ◌≡◌ {A = After (Finding T R) ℕ} (GoOn (record { capacity = c.capacity; stage = finds.LoadsCell (index + 1) found; of = record {} })) (Done e) = rw t at ends in absurd (cc))
+      go false t =
+          let over : ◌≡◌ {A = After (Finding T R) ℕ} (Done found) (Done e) = rw t at ends in
+          let same : found ≡ e = cc in
+          ap (λ n. Done (answers.Number n)) same
+
+  -- a no would end it, with the number that it has answered
+  pub find_rests : (base v : View T) (e : ℕ) (m : R) → RestsAt code kinds.Container after kept finding base v e m → IsResting code v
+  find_rests base v e m h =
+      let under = h.before in
+      record {
+        party = under.party;
+        mine = under.mine;
+        start = Container (Find owner);
+        flight = finding.flight h.asking m;
+        going = under.going;
+        asks = h.asks;
+        answer = answers.Number e;
+        ends = λ there.
+            goes_plain code under.party (finding.flight h.asking m) (number_of false) there tt
+            ∙ (ap (λ x. as_model x (find_takes code.size (call_at h.asking.capacity h.asking.stage) h.asking.stage owner (number_of false))) (asks_room h.asking.stage h.asks)
+            ∙ asked_at h.asking h.said e h.asking.stage h.asks h.goes m);
+        alone = under.alone;
+        some = under.some;
+      }
+    where
+      asks_room : (stage : FindStage) → is_question (find_asks code.size h.asking.capacity stage) ≡ true → find_keeps kept_at stage (room m) (number_of false) ≡ room m
+      asks_room (finds.LoadsCell index found) due = absurd (cc)
+      asks_room (finds.LoadsCount index found) due = absurd (cc)
+      asks_room (finds.LoadsWord index found count at) due = absurd (cc)
+      asks_room (finds.ChecksCount index found count) due = absurd (cc)
+      asks_room (finds.Asks index found) due = refl

@@ -102,7 +102,7 @@ module _ {T : Type 0} where
   plain_goes code p flight n kept plain = refl
 
   -- and goes on by itself
-  goes_plain : (code : Coding T) (p : ℕ) (flight : Flight T) (n : ℕ) (kept : Kept T) → IsPlain flight → goes_of code p flight n kept ≡ after_of code flight n
+  pub goes_plain : (code : Coding T) (p : ℕ) (flight : Flight T) (n : ℕ) (kept : Kept T) → IsPlain flight → goes_of code p flight n kept ≡ after_of code flight n
   goes_plain code p (flights.TheVariants.Container flight) n kept plain = plain_goes code p flight n kept plain
   goes_plain code p flight n kept plain = absurd plain
 
