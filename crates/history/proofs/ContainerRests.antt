@@ -126,45 +126,47 @@ module _ {T : Type 0} (code : Coding T) where
       → Allows (IsMachine code kinds.Container key) slots id (v, []) word (λ n. n) (λ found me. Settles code kinds.Container v me.0 × (me.1 ≡ []))
   container_settles = settles_at code kinds.Container tt container_effects (container_words code) (containers_owe code) never_late (ends_quiet code)
 
-  module _ {C M E : Type 0} (call : Calling T C M E) (want : C → Want (Unit {0})) (same_want : (c : C) (m : M) → want_of code (call.flight c m) ≡ want c)
-      (Begins : ℕ → C → Type 0) (asks : (capacity : ℕ) (c : C) → Begins capacity c → AsksFor (container_words code capacity) (want c)) where
-    at_word : (capacity : ℕ) (c : C) → Begins capacity c → is_question (want c) ≡ false
-    at_word capacity c begins = ap is_question (asks capacity c begins).2
+  module _ {C M E : Type 0} (call : Calling T C M E) (want : C → Want (Unit {0})) (same_want : (c : C) (m : M) → want_of code (call.flight c m) ≡ want c) where
+    module _ (Begins : ℕ → C → M → Type 0) (asks : (capacity : ℕ) (c : C) (m : M) → Begins capacity c m → AsksFor (container_words code capacity) (want c)) where
+      at_word : (capacity : ℕ) (c : C) (m : M) → Begins capacity c m → is_question (want c) ≡ false
+      at_word capacity c m begins = ap is_question (asks capacity c m begins).2
 
-    -- who rests has not begun the next
-    apart_at : (base v : View T) (c : C) (m : M) → IsResting code v → Begins v.capacity c → At code kinds.Container call base v c m → ⊥
-    apart_at base v c m h begins (inl first) =
-        let none : ◌≡◌ {A = Option (Start T × Flight T)} None (Some (h.start, h.flight)) = sym first.idle ∙ (ap (λ (z : View T). z.going) (sym first.is) ∙ h.going) in
-        absurd (cc)
-    apart_at base v c m h begins (inr under) =
-        let both : ◌≡◌ {A = Option (Start T × Flight T)} (Some (h.start, h.flight)) (Some (call.start, call.flight c m)) = sym h.going ∙ under.going in
-        let pair : ◌≡◌ {A = Start T × Flight T} (h.start, h.flight) (call.start, call.flight c m) = cc in
-        clash (is_question (want_of code (call.flight c m)))
-        (ap (λ (z : Start T × Flight T). is_question (want_of code z.1)) (sym pair) ∙ h.asks)
-        (ap is_question (same_want c m) ∙ at_word v.capacity c begins)
+      -- who rests has not begun the next
+      apart_at : (base v : View T) (c : C) (m : M) → IsResting code v → Begins v.capacity c m → At code kinds.Container call base v c m → ⊥
+      apart_at base v c m h begins (inl first) =
+          let none : ◌≡◌ {A = Option (Start T × Flight T)} None (Some (h.start, h.flight)) = sym first.idle ∙ (ap (λ (z : View T). z.going) (sym first.is) ∙ h.going) in
+          absurd (cc)
+      apart_at base v c m h begins (inr under) =
+          let both : ◌≡◌ {A = Option (Start T × Flight T)} (Some (h.start, h.flight)) (Some (call.start, call.flight c m)) = sym h.going ∙ under.going in
+          let pair : ◌≡◌ {A = Start T × Flight T} (h.start, h.flight) (call.start, call.flight c m) = cc in
+          clash (is_question (want_of code (call.flight c m)))
+          (ap (λ (z : Start T × Flight T). is_question (want_of code z.1)) (sym pair) ∙ h.asks)
+          (ap is_question (same_want c m) ∙ at_word v.capacity c m begins)
 
-    -- of a call that puts no question
-    module _ (after : C → ℕ → After C E) (kept : C → M → ℕ → M) (keeps : Keeps (At code kinds.Container call) (Ends code kinds.Container call) want after kept)
+      -- of a call that puts questions, of which no answer leads to where it begins
+      module _ (after : C → ℕ → After C E) (kept : C → M → ℕ → M) (Over : View T → E → M → View T → Type 0)
+          (never : (capacity : ℕ) (c d : C) (m : M) (n : ℕ) → is_question (want c) ≡ true → after c n ≡ GoOn d → Begins capacity d m → ⊥)
+          (keeps : Keeps (AtAsked code kinds.Container after kept call) Over want after kept)
+          (first : (v : View T) (c : C) (m : M) → Begins v.capacity c m → v.going ≡ None → v.other ≡ [] → 0 < v.share.part
+              → AtAsked code kinds.Container after kept call v v c m) where
+        apart_asked : (base v : View T) (c : C) (m : M) → IsResting code v → Begins v.capacity c m → AtAsked code kinds.Container after kept call base v c m → ⊥
+        apart_asked base v c m h begins (inl stage) = apart_at base v c m h begins stage
+        apart_asked base v c m h begins (inr k) =
+            never v.capacity k.asking c m (number_of k.said) (ap is_question (sym (same_want k.asking k.room)) ∙ k.asks) k.goes begins
+
+        pub rested_asks : Keeps (AtRested code kinds.Container Begins (AtAsked code kinds.Container after kept call) Over)
+            (EndsRested code kinds.Container Begins (AtAsked code kinds.Container after kept call) Over) want after kept
+        rested_asks =
+            keeps_rested code kinds.Container tt container_effects (container_words code) (containers_owe code) never_late (ends_quiet code) want after kept
+            (AtAsked code kinds.Container after kept call) Over keeps Begins asks first apart_asked
+
+    -- and of one that puts none, whatever is in its room where it begins
+    module _ (Begins : ℕ → C → Type 0) (asks : (capacity : ℕ) (c : C) → Begins capacity c → AsksFor (container_words code capacity) (want c))
+        (after : C → ℕ → After C E) (kept : C → M → ℕ → M) (keeps : Keeps (At code kinds.Container call) (Ends code kinds.Container call) want after kept)
         (first : (v : View T) (c : C) (m : M) → Begins v.capacity c → v.going ≡ None → v.other ≡ [] → 0 < v.share.part → At code kinds.Container call v v c m) where
-      pub rested_keeps : Keeps (AtRested code kinds.Container Begins (At code kinds.Container call) (Ends code kinds.Container call))
-          (EndsRested code kinds.Container Begins (At code kinds.Container call) (Ends code kinds.Container call)) want after kept
+      pub rested_keeps : Keeps (AtRested code kinds.Container (λ capacity c m. Begins capacity c) (At code kinds.Container call) (Ends code kinds.Container call))
+          (EndsRested code kinds.Container (λ capacity c m. Begins capacity c) (At code kinds.Container call) (Ends code kinds.Container call)) want after kept
       rested_keeps =
           keeps_rested code kinds.Container tt container_effects (container_words code) (containers_owe code) never_late (ends_quiet code) want after kept
-          (At code kinds.Container call) (Ends code kinds.Container call) keeps Begins asks first apart_at
-
-    -- and of one that puts some, of which no answer leads to where it begins
-    module _ (after : C → ℕ → After C E) (kept : C → M → ℕ → M) (Over : View T → E → M → View T → Type 0)
-        (never : (capacity : ℕ) (c d : C) (n : ℕ) → is_question (want c) ≡ true → after c n ≡ GoOn d → Begins capacity d → ⊥)
-        (keeps : Keeps (AtAsked code kinds.Container after kept call) Over want after kept)
-        (first : (v : View T) (c : C) (m : M) → Begins v.capacity c → v.going ≡ None → v.other ≡ [] → 0 < v.share.part
-            → AtAsked code kinds.Container after kept call v v c m) where
-      apart_asked : (base v : View T) (c : C) (m : M) → IsResting code v → Begins v.capacity c → AtAsked code kinds.Container after kept call base v c m → ⊥
-      apart_asked base v c m h begins (inl stage) = apart_at base v c m h begins stage
-      apart_asked base v c m h begins (inr k) =
-          never v.capacity k.asking c (number_of k.said) (ap is_question (sym (same_want k.asking k.room)) ∙ k.asks) k.goes begins
-
-      pub rested_asks : Keeps (AtRested code kinds.Container Begins (AtAsked code kinds.Container after kept call) Over)
-          (EndsRested code kinds.Container Begins (AtAsked code kinds.Container after kept call) Over) want after kept
-      rested_asks =
-          keeps_rested code kinds.Container tt container_effects (container_words code) (containers_owe code) never_late (ends_quiet code) want after kept
-          (AtAsked code kinds.Container after kept call) Over keeps Begins asks first apart_asked
+          (At code kinds.Container call) (Ends code kinds.Container call) keeps (λ capacity c m. Begins capacity c) (λ capacity c m begins. asks capacity c begins) first
+          (apart_at (λ capacity c m. Begins capacity c) (λ capacity c m begins. asks capacity c begins))

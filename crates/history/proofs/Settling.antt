@@ -178,9 +178,9 @@ module _ {T : Type 0} (code : Coding T) (kind : Kind) (decides : MayDecide kind)
   module _ {C M E : Type 0} (want : C → Want (Unit {0})) (after : C → ℕ → After C E) (kept : C → M → ℕ → M)
       (Stage : View T → View T → C → M → Type 0) (Over : View T → E → M → View T → Type 0)
       (keeps : KeepsRule (λ (z : View T). z.capacity) Stage Over (λ key. size_of key + 1) (λ key. key) (λ key. IsMachine code kind key) want after kept)
-      (Begins : ℕ → C → Type 0) (asks : (capacity : ℕ) (c : C) → Begins capacity c → AsksFor (size_of capacity) (want c))
-      (first : (v : View T) (c : C) (m : M) → Begins v.capacity c → v.going ≡ None → v.other ≡ [] → 0 < v.share.part → Stage v v c m)
-      (apart : (base v : View T) (c : C) (m : M) → IsResting code v → Begins v.capacity c → Stage base v c m → ⊥) where
+      (Begins : ℕ → C → M → Type 0) (asks : (capacity : ℕ) (c : C) (m : M) → Begins capacity c m → AsksFor (size_of capacity) (want c))
+      (first : (v : View T) (c : C) (m : M) → Begins v.capacity c m → v.going ≡ None → v.other ≡ [] → 0 < v.share.part → Stage v v c m)
+      (apart : (base v : View T) (c : C) (m : M) → IsResting code v → Begins v.capacity c m → Stage base v c m → ⊥) where
     abbrev pub Rested : View T → View T → C → M → Type 0
     Rested base v c m = AtRested code kind Begins Stage Over base v c m
 
@@ -199,10 +199,10 @@ module _ {T : Type 0} (code : Coding T) (kind : Kind) (decides : MayDecide kind)
     onward base from settled (GoOn d) m w h = inl (record { from = from; settled = settled; stage = h })
     onward base from settled (Done e) m w h = record { from = from; settled = settled; over = h }
 
-    never : {A : Type 0} (base other v : View T) (c : C) (m : M) → Stage base v c m → Waits code kind Begins Stage Over other v c → A
+    never : {A : Type 0} (base other v : View T) (c : C) (m : M) → Stage base v c m → Waits code kind Begins Stage Over other v c m → A
     never base other v c m stage waits =
         let resting = subst (λ z. IsResting code z) (sym waits.is) waits.resting in
-        let begins = subst (λ (z : View T). Begins z.capacity c) (sym waits.is) waits.first in
+        let begins = subst (λ (z : View T). Begins z.capacity c m) (sym waits.is) waits.first in
         absurd (apart base v c m resting begins stage)
 
     -- who has begun
@@ -222,9 +222,9 @@ module _ {T : Type 0} (code : Coding T) (kind : Kind) (decides : MayDecide kind)
 
     -- who has still to begin
     module _ (v : View T) (c : C) (m : M) (key words slots id : ℕ) (wide : words ≡ size_of key + 1) (known : v.capacity ≡ key) (h : IsResting code v)
-        (begins : Begins v.capacity c) where
+        (begins : Begins v.capacity c m) where
       word : AsksFor (size_of key) (want c)
-      word = asks key c (subst (λ n. Begins n c) known begins)
+      word = asks key c m (subst (λ n. Begins n c m) known begins)
 
       abbrev ask : Ask
       ask = word.0
@@ -283,14 +283,14 @@ module _ {T : Type 0} (code : Coding T) (kind : Kind) (decides : MayDecide kind)
         begun_keeps x.from v c m key words slots id x.stage (want c) (keeps x.from v c m key words slots id wide known x.stage)
     keeps_rested base₀ v c m key words slots id wide known (inr waits) =
         let resting = subst (λ z. IsResting code z) (sym waits.is) waits.resting in
-        let begins = subst (λ (z : View T). Begins z.capacity c) (sym waits.is) waits.first in
+        let begins = subst (λ (z : View T). Begins z.capacity c m) (sym waits.is) waits.first in
         subst (λ w. Owes (IsMachine code kind key) words slots id (ToldRested c m) w (v, []))
         (sym (word v c m key words slots id wide known resting begins).2)
         (first_keeps v c m key words slots id wide known resting begins)
 
     -- it may begin on a pass with no call under way, or with one that rests
-    pub begins_idle : (v : View T) (c : C) (m : M) → Begins v.capacity c → v.going ≡ None → v.other ≡ [] → 0 < v.share.part → Rested v v c m
+    pub begins_idle : (v : View T) (c : C) (m : M) → Begins v.capacity c m → v.going ≡ None → v.other ≡ [] → 0 < v.share.part → Rested v v c m
     begins_idle v c m begins idle fresh any = inl (record { from = v; settled = inl (refl, idle); stage = first v c m begins idle fresh any })
 
-    pub begins_rested : (v : View T) (c : C) (m : M) → Begins v.capacity c → IsResting code v → Rested v v c m
+    pub begins_rested : (v : View T) (c : C) (m : M) → Begins v.capacity c m → IsResting code v → Rested v v c m
     begins_rested v c m begins resting = inr (record { is = refl; resting = resting; first = begins })

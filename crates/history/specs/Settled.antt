@@ -57,13 +57,13 @@ module _ {T : Type 0} (code : Coding T) where
   SettledFrom kind old new = ((new ≡ old) × (old.going ≡ None)) ⊎ Settles kind old new
 
 -- of a call that stands so at each stage, and ends so, and that a pass may begin whose last one rests
-module _ {T C M E : Type 0} (code : Coding T) (kind : Kind) (begins : ℕ → C → Type 0)
+module _ {T C M E : Type 0} (code : Coding T) (kind : Kind) (begins : ℕ → C → M → Type 0)
     (at : View T → View T → C → M → Type 0) (ends : View T → E → M → View T → Type 0) where
   -- it has not begun
-  pub record Waits (base v : View T) (c : C) : Type 0 where
+  pub record Waits (base v : View T) (c : C) (m : M) : Type 0 where
     pub is : v ≡ base
     pub resting : IsResting code base
-    pub first : begins base.capacity c
+    pub first : begins base.capacity c m
 
   -- it stands so from where the one before it had ended
   pub record AtSettled (base v : View T) (c : C) (m : M) : Type 0 where
@@ -72,7 +72,7 @@ module _ {T C M E : Type 0} (code : Coding T) (kind : Kind) (begins : ℕ → C 
     pub stage : at from v c m
 
   abbrev pub AtRested : View T → View T → C → M → Type 0
-  AtRested base v c m = AtSettled base v c m ⊎ Waits base v c
+  AtRested base v c m = AtSettled base v c m ⊎ Waits base v c m
 
   pub record EndsRested (base : View T) (e : E) (m : M) (w : View T) : Type 0 where
     pub from : View T
