@@ -8,3 +8,4 @@ pub mod Began
 pub mod FindTurns
 pub mod Finds
 pub mod RecoverTurns
+pub mod Recoveries

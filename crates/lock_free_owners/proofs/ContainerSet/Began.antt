@@ -1,5 +1,5 @@
 -- What a call on a pass whose last one may rest leaves: of one that has ended, and of one that rests itself.
-use Rattle.std.proofs.Common.{◌≡◌, inl, inr, ℕ, None, List, [], ◌∷◌, ◌++◌, refl, sym, ap, subst, ◌∙◌, append_assoc, append-nil}
+use Rattle.std.proofs.Common.{◌≡◌, inl, inr, ℕ, false, None, List, [], ◌∷◌, ◌++◌, refl, sym, ap, subst, ◌∙◌, append_assoc, append-nil}
 use Rattle.model.specs.declared.event.Answer.{Answer}
 use Rattle.model.specs.declared.event.Event.{Event}
 use Rattle.model.specs.declared.event.Event.TheVariants.{Begun, Finished}
@@ -8,6 +8,9 @@ use Rattle.model.specs.declared.event.Start.TheVariants.{Container}
 use Rattle.model.specs.declared.families.container.ContainerStart.{ContainerStart}
 use Rattle.model.specs.declared.turn.Kind.TheVariants as kinds
 use Rattle.model.specs.Coding.{Coding}
+use Rattle.model.specs.Families.Indices.Reading.{is_locked}
+use Rattle.model.specs.Families.Indices.Robust.Promises.{IsUnlocked}
+use Rattle.model.specs.Moments.{HeldOnce}
 use Rattle.lock_free_sp.specs.Shares.{IsAll}
 use Rattle.history.specs.declared.view.View.{View}
 use Rattle.history.specs.History.{IsHistory, Called, IsBeginning}
@@ -17,6 +20,7 @@ use Rattle.history.specs.Stages.{Calling, IsUnderWay, Ends, Since, opened}
 use Rattle.history.proofs.Called.{called}
 use Rattle.lock_free_owners.specs.Container.Told.{Answered}
 use Rattle.lock_free_owners.proofs.ContainerSet.Sound.{sound_history}
+use Rattle.lock_free_owners.proofs.RobustSet.Events.{not_locked, covers}
 
 module _ {T : Type 0} (code : Coding T) (base from : View T) (settled : SettledFrom code kinds.Container base from) where
   -- ---- where it began
@@ -105,6 +109,15 @@ module _ {T : Type 0} (code : Coding T) (base from : View T) (settled : SettledF
               since = subst (IsBeginning base.seen) (sym (append_assoc from.seen c.others (begin ∷ c.during))) (later (c.others ++ begin ∷ c.during));
               right = (sound_history code base.capacity w.seen history_of).answers before [] end is_last;
             }
+
+        -- what was unlocked at a moment of the call was when it began
+        pub open_since : (P : List (Event T) → Type 0) → HeldOnce ended_answered.by (λ part. IsUnlocked part × P part) ended_answered.before
+            → is_locked base.seen ≡ false
+        unfolding ended_answered
+        open_since P once =
+            let c = ended_called in
+            let covered = covers ends.party (Container start) c.during (from.seen ++ c.others) once.part once.rest once.is once.within in
+            not_locked (from_since (c.others ++ covered.rest) once.part (covered.is ∙ append_assoc from.seen c.others covered.rest)) once.held.0
 
     -- ---- it is under way
 

@@ -72,7 +72,8 @@ module _ {T : Type 0} (code : Coding T) (law : IsCoding code) (owner : ℕ) wher
 
   -- ---- where it begins
 
-  begins_asks : (capacity : ℕ) (c : Find T (Kept 128)) (m : Kept 128) → BeginsFind owner capacity c m → AsksFor (container_words code capacity) (find_want code.size c)
+  begins_asks : (capacity : ℕ) (c : Find T (Kept 128)) (m : Kept 128) → BeginsFind owner capacity c m
+      → AsksFor (container_words code capacity) (find_want code.size c)
   begins_asks capacity c m b =
       let some = b.1 in
       subst (λ (d : Find T (Kept 128)). AsksFor (container_words code capacity) (find_want code.size d)) (sym b.0) (_, omega arith, refl)
@@ -81,7 +82,8 @@ module _ {T : Type 0} (code : Coding T) (law : IsCoding code) (owner : ℕ) wher
       → FindBegun code owner v v c m
   begins_first v c m b idle alone any =
       subst (λ (d : Find T (Kept 128)). FindBegun code owner v v d m) (sym b.0)
-      (container_find_first code law words_in kept_at put_in owner v m (ap (λ (x : Kept 128). room_of code.size (words_in x)) b.3 ∙ (fresh_room)) idle alone any b.1 b.2)
+      (container_find_first code law words_in kept_at put_in owner v m (ap (λ (x : Kept 128). room_of code.size (words_in x)) b.3 ∙
+          (fresh_room)) idle alone any b.1 b.2)
 
   -- no answer leads there
   abbrev IsLater : After (Find T (Kept 128)) ℕ → Type 0
@@ -97,7 +99,8 @@ module _ {T : Type 0} (code : Coding T) (law : IsCoding code) (owner : ℕ) wher
   answers_later c n (finds.Asks index found) due =
       by_test IsLater (n == 0) _ _ (λ t. tt) (λ t. by_test IsLater (nat_lt (index + 1) c.capacity) _ _ (λ u. (index, found, refl)) (λ u. tt))
 
-  never_first : (capacity : ℕ) (c d : Find T (Kept 128)) (m : Kept 128) (n : ℕ) → is_question (find_want code.size c) ≡ true → find_goes code owner c n ≡ GoOn d
+  never_first : (capacity : ℕ) (c d : Find T (Kept 128)) (m : Kept 128) (n : ℕ) → is_question (find_want code.size c) ≡ true
+      → find_goes code owner c n ≡ GoOn d
       → BeginsFind owner capacity d m → ⊥
   never_first capacity c d m n due goes b =
       let later = subst IsLater goes (answers_later c n c.stage due) in
@@ -229,7 +232,8 @@ module _ {T : Type 0} (code : Coding T) (law : IsCoding code) (owner : ℕ) wher
       rested_at index found is = (
         subst (λ n. index < n) (capacity_from code base from settled) (subst (λ stage. FindIn code.size from.capacity stage) is under.standing.1),
         copied_one under.party index (value_of_room code words_in m) under.wrote
-            (subst (λ z. CopiedAt under.party (came_from z) (value_of_room code words_in m) (finds.Asks index found) under.wrote) (idle_from code base from settled)
+            (subst (λ z. CopiedAt under.party (came_from z) (value_of_room code words_in m) (finds.Asks index found) under.wrote)
+                (idle_from code base from settled)
             (subst (λ stage. CopiedAt under.party (came_from from.going) (value_of_room code words_in m) stage under.wrote) is under.tells)),
       )
 

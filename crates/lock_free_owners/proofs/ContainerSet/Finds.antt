@@ -52,11 +52,13 @@ module _ {T F : Type 0} (code : Coding T) (step : F → T → ContainerHandle �
   Further w (GoOn d) m q = Searching w d m q
   Further w (Done n) m q = Over w n q
 
-  whole : base.capacity ≡ cap → (w : View T) (n : ℕ) (q : F) → IsLeft code base w → HasSearched code owner n base.capacity base w → HasFound step cap mine f n cap q → Over w n q
+  whole : base.capacity ≡ cap → (w : View T) (n : ℕ) (q : F) → IsLeft code base w → HasSearched code owner n base.capacity base w
+      → HasFound step cap mine f n cap q → Over w n q
   whole known w n q left searched found =
       record { left = left; bound = cap; searched = subst (λ b. HasSearched code owner n b base w) known searched; found = found }
 
-  module _ (law : IsCoding code) (small : cap < 2 ^ 32) (known : base.capacity ≡ cap) (v : View T) (c : Find T (Kept 128)) (m : Kept 128) (p : F) (h : Searching v c m p) where
+  module _ (law : IsCoding code) (small : cap < 2 ^ 32) (known : base.capacity ≡ cap) (v : View T) (c : Find T (Kept 128)) (m : Kept 128) (p : F)
+      (h : Searching v c m p) where
     stood : (k : ℕ) → StillStands code.size cap (find_goes code owner c k)
     stood k = (let some = law.some in still_stands code.size some cap c owner k h.stands)
 
@@ -85,7 +87,8 @@ module _ {T F : Type 0} (code : Coding T) (step : F → T → ContainerHandle �
       answered q said (GoOn d) goes stands so =
           record { at = heard_on code law owner base v c m index found is d said goes h.at; stands = stands; so_far = so }
       answered q said (Done n) goes stands found_all =
-          whole known v n q (answer_left code law owner base v c m index found is h.at n said goes) (answer_all code law owner base v c m index found is h.at n said goes) found_all
+          whole known v n q (answer_left code law owner base v c m index found is h.at n said goes)
+              (answer_all code law owner base v c m index found is h.at n said goes) found_all
 
       by_answer : (q : F) (answer : CallbackProgression) → step p (value_of_room code words_in m) (visits.named index owner id) answer q
           → Further v (find_goes code owner c (says answer)) m q
@@ -102,7 +105,8 @@ module _ {T F : Type 0} (code : Coding T) (step : F → T → ContainerHandle �
             left = answer_left code law owner base v c m index found is h.at found false goes;
             bound = index + 1;
             searched = answer_stops code law owner base v c m index found is h.at found false goes;
-            found = told_to_stop step cap mine f code.size owner id own index found (value_of_room code words_in m) p q at.0 hit (subst (λ z. Came z p) is h.so_far);
+            found = told_to_stop step cap mine f code.size owner id own index found (value_of_room code words_in m) p q at.0 hit (subst
+                (λ z. Came z p) is h.so_far);
           })
 
     -- ---- a turn
@@ -112,19 +116,23 @@ module _ {T F : Type 0} (code : Coding T) (step : F → T → ContainerHandle �
     turned (finds.LoadsCell index found) is w a left q turns moves =
         subst (λ (z : F). Further w a left z) (sym moves.0)
         (subst (λ r. Further w r left p) (sym moves.1.1)
-        (by_step (finds.LoadsCell index found) is tt w left moves.1.0 (subst (λ r. Next (λ (z : View T). z.capacity) (FindAt code owner) (FindEnds code owner) base r left w) moves.1.1 (turns base h.at))))
+        (by_step (finds.LoadsCell index found) is tt w left moves.1.0 (subst (λ r. Next (λ (z : View T). z.capacity) (FindAt code owner)
+            (FindEnds code owner) base r left w) moves.1.1 (turns base h.at))))
     turned (finds.LoadsCount index found) is w a left q turns moves =
         subst (λ (z : F). Further w a left z) (sym moves.0)
         (subst (λ r. Further w r left p) (sym moves.1.1)
-        (by_step (finds.LoadsCount index found) is tt w left moves.1.0 (subst (λ r. Next (λ (z : View T). z.capacity) (FindAt code owner) (FindEnds code owner) base r left w) moves.1.1 (turns base h.at))))
+        (by_step (finds.LoadsCount index found) is tt w left moves.1.0 (subst (λ r. Next (λ (z : View T). z.capacity) (FindAt code owner)
+            (FindEnds code owner) base r left w) moves.1.1 (turns base h.at))))
     turned (finds.LoadsWord index found count place) is w a left q turns moves =
         subst (λ (z : F). Further w a left z) (sym moves.0)
         (subst (λ r. Further w r left p) (sym moves.1.1)
-        (by_step (finds.LoadsWord index found count place) is tt w left moves.1.0 (subst (λ r. Next (λ (z : View T). z.capacity) (FindAt code owner) (FindEnds code owner) base r left w) moves.1.1 (turns base h.at))))
+        (by_step (finds.LoadsWord index found count place) is tt w left moves.1.0 (subst (λ r. Next (λ (z : View T). z.capacity) (FindAt code owner)
+            (FindEnds code owner) base r left w) moves.1.1 (turns base h.at))))
     turned (finds.ChecksCount index found count) is w a left q turns moves =
         subst (λ (z : F). Further w a left z) (sym moves.0)
         (subst (λ r. Further w r left p) (sym moves.1.1)
-        (by_step (finds.ChecksCount index found count) is tt w left moves.1.0 (subst (λ r. Next (λ (z : View T). z.capacity) (FindAt code owner) (FindEnds code owner) base r left w) moves.1.1 (turns base h.at))))
+        (by_step (finds.ChecksCount index found count) is tt w left moves.1.0 (subst (λ r. Next (λ (z : View T). z.capacity) (FindAt code owner)
+            (FindEnds code owner) base r left w) moves.1.1 (turns base h.at))))
     turned (finds.Asks index found) is w a left q turns moves =
         subst (λ (z : View T). Further z a left q) (sym turns.0)
         (subst (λ (x : Kept 128). Further v a x q) (sym turns.1)
@@ -137,7 +145,8 @@ module _ {T F : Type 0} (code : Coding T) (step : F → T → ContainerHandle �
     pub may_go : {pre : F → T → ContainerHandle → Type 0} → TakesVisits pre step mine f → FindAsks pre owner id c.stage (value_of_room code words_in m) p
     may_go takes = may_ask step cap mine f code.size owner id own takes code.size c.stage h.stands.1 (value_of_room code words_in m) p h.so_far
 
-  pub starts : (c : Find T (Kept 128)) (m : Kept 128) → c ≡ first_find cap → m ≡ fresh_cell → 0 < cap → FindAt code owner base base (first_find cap) fresh_cell
+  pub starts : (c : Find T (Kept 128)) (m : Kept 128) → c ≡ first_find cap → m ≡ fresh_cell → 0 < cap
+      → FindAt code owner base base (first_find cap) fresh_cell
       → Searching base c m f
   starts c m is fresh some at =
       subst (λ (z : Find T (Kept 128) × Kept 128). Searching base z.0 z.1 f) (λ i. (sym is i, sym fresh i))

@@ -14,7 +14,7 @@ use Rattle.steps.specs.declared.indices.enums.ReleaseState.{ReleaseState}
 use Rattle.steps.specs.declared.indices.enums.ReleaseState.TheVariants as states
 use Rattle.model.specs.declared.event.Answer.TheVariants.{State}
 use Rattle.model.specs.declared.event.Event.{Event}
-use Rattle.model.specs.declared.event.Event.TheVariants.{Begun, Copied, Asked}
+use Rattle.model.specs.declared.event.Event.TheVariants.{Begun, Copied, Asked, Finished}
 use Rattle.model.specs.declared.event.Start.TheVariants.{Container}
 use Rattle.model.specs.declared.families.container.ContainerStart.TheVariants as starts
 use Rattle.model.specs.declared.turn.Kind.TheVariants as kinds
@@ -48,12 +48,12 @@ use Rattle.lock_free_owners.specs.Container.RecoverTold.{HasRecovered}
 use Rattle.lock_free_owners.specs.Container.RecoverTurns.{BeginsRecover, recovering, recover_goes, RecoverBegun, RecoverAt, RecoverEnds}
 use Rattle.lock_free_owners.specs.Container.Told.{Answered}
 use Rattle.lock_free_owners.proofs.ContainerSet.Idle.{rests}
-use Rattle.lock_free_owners.proofs.ContainerSet.Began.{idle_from, capacity_from, share_from, seen_is, from_since, ended_goes, ended_called, ended_answered}
+use Rattle.lock_free_owners.proofs.ContainerSet.Began.{idle_from, capacity_from, share_from, seen_is, from_since, ended_goes, ended_called, ended_answered, open_since}
 use Rattle.lock_free_owners.proofs.ContainerSet.Sound.{sound_history}
 use Rattle.lock_free_owners.proofs.RobustSet.Events.{find_own, lock_stays, not_locked, covers}
 
 module _ {T : Type 0} (code : Coding T) (law : IsCoding code) (given : DeadOwner) where
-  put_in : (x : Kept 128) (at word : ℕ) → words_in (kept_at x at word) ≡ slice_set (words_in x) at word
+  pub put_in : (x : Kept 128) (at word : ℕ) → words_in (kept_at x at word) ≡ slice_set (words_in x) at word
   put_in x at word = refl
 
   fresh_room : room_of code.size (words_in fresh_cell) ≡ fresh_cell
@@ -66,11 +66,13 @@ module _ {T : Type 0} (code : Coding T) (law : IsCoding code) (given : DeadOwner
   begins_asks capacity c m b =
       subst (λ (d : Recover T (Kept 128)). AsksFor (container_words code capacity) (recover_want code.size d given)) (sym b.0) (_, omega arith, refl)
 
-  begins_first : (v : View T) (c : Recover T (Kept 128)) (m : Kept 128) → BeginsRecover given v.capacity c m → v.going ≡ None → v.other ≡ [] → 0 < v.share.part
+  begins_first : (v : View T) (c : Recover T (Kept 128)) (m : Kept 128) → BeginsRecover given v.capacity c m → v.going ≡ None → v.other ≡ []
+      → 0 < v.share.part
       → RecoverBegun code given v v c m
   begins_first v c m b idle alone any =
       subst (λ (d : Recover T (Kept 128)). RecoverBegun code given v v d m) (sym b.0)
-      (container_recover_first code law words_in kept_at put_in given v m (ap (λ (x : Kept 128). room_of code.size (words_in x)) b.2 ∙ (fresh_room ∙ sym b.2)) idle alone any b.1)
+      (container_recover_first code law words_in kept_at put_in given v m (ap (λ (x : Kept 128). room_of code.size
+          (words_in x)) b.2 ∙ fresh_room) idle alone any b.1)
 
   -- no answer leads there
   abbrev IsLater : After (Recover T (Kept 128)) ReleaseState → Type 0
@@ -104,7 +106,8 @@ module _ {T : Type 0} (code : Coding T) (law : IsCoding code) (given : DeadOwner
       let later = subst IsLater goes (answers_later c n c.stage due) in
       later (ap (λ (z : Recover T (Kept 128)). z.stage) b.0)
 
-  pub recover_keeps : Keeps code (RecoverAt code given) (RecoverEnds code given) (λ c. recover_want code.size c given) (recover_goes code given) (recover_kept kept_at)
+  pub recover_keeps : Keeps code (RecoverAt code given) (RecoverEnds code given) (λ c. recover_want code.size c given) (recover_goes code given)
+      (recover_kept kept_at)
   recover_keeps =
       rested_asks code (recovering code given) (λ c. recover_want code.size c given) (λ c m. refl) (BeginsRecover given) begins_asks
       (recover_goes code given) (recover_kept kept_at) _ never_first (container_recover_keeps code law words_in kept_at put_in given) begins_first
@@ -178,7 +181,8 @@ module _ {T : Type 0} (code : Coding T) (law : IsCoding code) (given : DeadOwner
           let begin : Event T = Begun p start in
           let others : List (Event T) = from.seen ++ under.since.others in
           let wrote : HasCome p given index (HasAsked (value_there code words_in m)) under.wrote
-          = subst (λ stage. RecoveredAt from.capacity p given stage (value_there code words_in m) under.wrote) is (under.tells (idle_from code base from settled)) in
+          = subst (λ stage. RecoveredAt from.capacity p given stage (value_there code words_in m) under.wrote) is (under.tells
+              (idle_from code base from settled)) in
           let question : Event T = Asked p index given.owner in
           let part = find_own p under.since.during (wrote.before ++ Copied p index (value_there code words_in m) ∷ []) [] question
           (under.since.during_own ∙ (wrote.is ∙ sym (append_assoc wrote.before (Copied p index (value_there code words_in m) ∷ []) (question ∷ [])))) in
@@ -210,9 +214,23 @@ module _ {T : Type 0} (code : Coding T) (law : IsCoding code) (given : DeadOwner
           wrote = ends.over.wrote;
           tells = subst (λ n. recovery.HasRecovered n ends.over.party given e ends.over.wrote) (capacity_from code base ends.from ends.settled)
               (ends.over.tells (idle_from code base ends.from ends.settled));
-          called = ended_called code base ends.from ends.settled (recovering code given) w e m ends.over (starts.Recover given.owner given.mode) refl (State e) refl;
+          called = ended_called code base ends.from ends.settled (recovering code given) w e m ends.over (starts.Recover given.owner given.mode) refl
+              (State e) refl;
         }
 
     pub recovered_answered : Answered code (starts.Recover given.owner given.mode) (State e) base w
     recovered_answered =
         ended_answered code base ends.from ends.settled (recovering code given) w e m ends.over (starts.Recover given.owner given.mode) refl (State e) refl
+
+  recovered_lock_so : (state : ReleaseState) (base w : View T) (m : Kept 128) (ends : RecoverEnds code given base state m w)
+      → FoundState state base w
+  recovered_lock_so states.Locked base w m ends =
+      let a = recovered_answered base w states.Locked m ends in
+      lock_stays (record { rest = Finished a.by (Container (starts.Recover given.owner given.mode)) (State states.Locked) ∷ []; is = a.is }) a.right
+  recovered_lock_so states.Unlocked base w m ends =
+      open_since code base ends.from ends.settled (recovering code given) w states.Unlocked m ends.over (starts.Recover given.owner given.mode) refl
+      (State states.Unlocked) refl _ (ended_answered code base ends.from ends.settled (recovering code given) w states.Unlocked m ends.over
+      (starts.Recover given.owner given.mode) refl (State states.Unlocked) refl).right.0
+
+  pub recovered_lock : (base w : View T) (state : ReleaseState) (m : Kept 128) → RecoverEnds code given base state m w → FoundState state base w
+  recovered_lock base w state m ends = recovered_lock_so state base w m ends

@@ -34,7 +34,8 @@ module _ {T R : Type 0} where
         (λ t. comes (index + 1) found at.1)
         (λ t. (same, (at.0, at.1, omega arith)))
     takes_stands (finds.TheVariants.LoadsWord index found count place) owner k at =
-        by_test (StillStands size capacity) (nat_lt (place + 1) size) (GoOn (at_find c (finds.TheVariants.LoadsWord index found count (place + 1)))) (GoOn (at_find c (finds.TheVariants.ChecksCount index found count)))
+        by_test (StillStands size capacity) (nat_lt (place + 1) size) (GoOn (at_find c (finds.TheVariants.LoadsWord index found count (place + 1))))
+            (GoOn (at_find c (finds.TheVariants.ChecksCount index found count)))
         (λ t. (same, (at.0, at.1, (let l : place + 1 < size = grind (arith, nat_tests) in l))))
         (λ t. (same, (at.0, at.1)))
     takes_stands (finds.TheVariants.ChecksCount index found count) owner k at =
@@ -44,5 +45,6 @@ module _ {T R : Type 0} where
     takes_stands (finds.TheVariants.Asks index found) owner k at =
         by_eq (StillStands size capacity) k 0 (Done found) (find_comes_to c (index + 1) found) (λ e. tt) (λ ne. comes (index + 1) found at.1)
 
-  pub still_stands : (size : ℕ) → 1 ≤ size → (capacity : ℕ) (c : Find T R) (owner k : ℕ) → FindStands size capacity c → StillStands size capacity (find_after size c owner k)
+  pub still_stands : (size : ℕ) → 1 ≤ size → (capacity : ℕ) (c : Find T R) (owner k : ℕ) → FindStands size capacity c
+      → StillStands size capacity (find_after size c owner k)
   still_stands size some_words capacity c owner k at = takes_stands size some_words capacity c at.0 c.stage owner k at.1

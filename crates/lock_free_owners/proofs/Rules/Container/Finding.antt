@@ -69,7 +69,8 @@ module _ {T F : Type 0} (step : F → T → ContainerHandle → CallbackProgress
   higher low xs h = All-weaker (λ (x : Visit T). x.handle.index < low) (λ (x : Visit T). x.handle.index < low + 1) (λ x l. omega arith) xs h
 
   wider : (indices : List ℕ) (index : ℕ) (xs : List (Visit T)) → Among indices xs → Among (indices ++ index ∷ []) xs
-  wider indices index xs h = All-weaker (λ (x : Visit T). Contains indices x.handle.index) (λ (x : Visit T). Contains (indices ++ index ∷ []) x.handle.index) (λ x i. Contains-append_left indices (index ∷ []) x.handle.index i) xs h
+  wider indices index xs h = All-weaker (λ (x : Visit T). Contains indices x.handle.index) (λ (x : Visit T). Contains
+      (indices ++ index ∷ []) x.handle.index) (λ x i. Contains-append_left indices (index ∷ []) x.handle.index i) xs h
 
   came_on : (low n : ℕ) (p : F) → Came low n p → Came (low + 1) n p
   came_on low n p h =
@@ -125,9 +126,11 @@ module _ {T F : Type 0} (step : F → T → ContainerHandle → CallbackProgress
     abbrev at_index : ℕ → T → Visit T
     at_index low value = record { value = value; handle = named low owner id }
 
-    ascend_more : (low : ℕ) (value : T) (xs : List (Visit T)) → low < cap → VisitsAscend mine xs → Below low xs → VisitsAscend mine (xs ++ at_index low value ∷ [])
+    ascend_more : (low : ℕ) (value : T) (xs : List (Visit T)) → low < cap → VisitsAscend mine xs → Below low xs
+        → VisitsAscend mine (xs ++ at_index low value ∷ [])
     ascend_more low value xs within h below =
-        (all_pairs_push (λ (x y : Visit T). x.handle.index < y.handle.index) xs (at_index low value) h.0 below, All-push (λ (x : Visit T). mine x.handle) xs (at_index low value) h.1 (own low within))
+        (all_pairs_push (λ (x y : Visit T). x.handle.index < y.handle.index) xs (at_index low value) h.0 below, All-push (λ
+            (x : Visit T). mine x.handle) xs (at_index low value) h.1 (own low within))
 
     -- an index whose value was handed over
     came_more : (low n : ℕ) (value : T) (p q : F) → low < cap → step p value (named low owner id) Continue q → Came low n p → Came (low + 1) (n + 1) q
@@ -143,11 +146,13 @@ module _ {T F : Type 0} (step : F → T → ContainerHandle → CallbackProgress
           visits = h.visits ++ x ∷ [];
           visits_ascend = ascend_more low value h.visits within h.visits_ascend h.visits_below;
           visits_below = All-push (λ (y : Visit T). y.handle.index < low + 1) h.visits x (higher low h.visits h.visits_below) (omega arith);
-          among = All-push (λ (y : Visit T). Contains (h.indices ++ low ∷ []) y.handle.index) h.visits x (wider h.indices low h.visits h.among) (Contains-push h.indices low);
+          among = All-push (λ (y : Visit T). Contains (h.indices ++ low ∷ []) y.handle.index) h.visits x (wider h.indices low h.visits h.among)
+              (Contains-push h.indices low);
           calls = FoldsTo-push (goes_on step) f h.visits p x q h.calls hit;
         }
 
-    found_last : (low n found : ℕ) (value : T) (p q : F) → low < cap → n + 1 ≡ found → step p value (named low owner id) Stop q → Came low n p → HasFound step cap mine f found (low + 1) q
+    found_last : (low n found : ℕ) (value : T) (p q : F) → low < cap → n + 1 ≡ found → step p value (named low owner id) Stop q → Came low n p
+        → HasFound step cap mine f found (low + 1) q
     found_last low n found value p q within more hit h =
         let longer = length-append h.indices (low ∷ []) in
         let count = h.count in
@@ -171,7 +176,8 @@ module _ {T F : Type 0} (step : F → T → ContainerHandle → CallbackProgress
         }
 
     -- the closure may be called at the index that it has come to
-    pub may_ask : {pre : F → T → ContainerHandle → Type 0} → TakesVisits pre step mine f → (size : ℕ) (stage : finds.FindStage) → FindStage size cap stage → (value : T) (p : F) → SoFar stage p → FindAsks pre owner id stage value p
+    pub may_ask : {pre : F → T → ContainerHandle → Type 0} → TakesVisits pre step mine f → (size : ℕ) (stage : finds.FindStage)
+        → FindStage size cap stage → (value : T) (p : F) → SoFar stage p → FindAsks pre owner id stage value p
     may_ask takes size (finds.TheVariants.LoadsCell index found) at value p so = tt
     may_ask takes size (finds.TheVariants.LoadsCount index found) at value p so = tt
     may_ask takes size (finds.TheVariants.LoadsWord index found count place) at value p so = tt
@@ -198,7 +204,8 @@ module _ {T F : Type 0} (step : F → T → ContainerHandle → CallbackProgress
 
         -- ---- what a step leaves, by what it did with the closure
 
-        pub quietly : cap < 2 ^ 32 → (stage : finds.FindStage) → IsQuiet stage → FindStage size cap stage → (p : F) (k : ℕ) → SoFar stage p → Onward (find_takes size c stage owner k) p
+        pub quietly : cap < 2 ^ 32 → (stage : finds.FindStage) → IsQuiet stage → FindStage size cap stage → (p : F) (k : ℕ) → SoFar stage p
+            → Onward (find_takes size c stage owner k) p
         quietly small (finds.TheVariants.LoadsCell index found) still at p k so =
             by_eq (λ a. Onward a p) k owner (GoOn (at_find c (finds.TheVariants.LoadsCount index (one_more found)))) (find_comes_to c (index + 1) found)
             (λ e. (found, (let l = at.0 in let few = at.1 in omega arith), so))
@@ -208,7 +215,8 @@ module _ {T F : Type 0} (step : F → T → ContainerHandle → CallbackProgress
             (λ t. passes index found p at.0 so)
             (λ t. so)
         quietly small (finds.TheVariants.LoadsWord index found count place) still at p k so =
-            by_test (λ a. Onward a p) (nat_lt (place + 1) size) (GoOn (at_find c (finds.TheVariants.LoadsWord index found count (place + 1)))) (GoOn (at_find c (finds.TheVariants.ChecksCount index found count)))
+            by_test (λ a. Onward a p) (nat_lt (place + 1) size) (GoOn (at_find c (finds.TheVariants.LoadsWord index found count (place + 1)))) (GoOn
+                (at_find c (finds.TheVariants.ChecksCount index found count)))
             (λ t. so)
             (λ t. so)
         quietly small (finds.TheVariants.ChecksCount index found count) still at p k so =

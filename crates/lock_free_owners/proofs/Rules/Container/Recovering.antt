@@ -100,8 +100,10 @@ module _ {T F : Type 0} (step : F → T → Bool → F → Type 0) (cap : ℕ) (
       record {
         asked = h.asked ++ a ∷ [];
         questions = FoldsTo-push (asks step) f h.asked p a q h.questions hit;
-        ascend = (all_pairs_push (λ (x y : Answered T). x.index < y.index) h.asked a h.ascend.0 h.below, All-push (λ (x : Answered T). x.index < cap) h.asked a h.ascend.1 within);
-        below = All-push (λ (x : Answered T). x.index < index + 1) h.asked a (All-weaker (λ (x : Answered T). x.index < index) (λ (x : Answered T). x.index < index + 1) (λ x l. omega arith) h.asked h.below) (omega arith);
+        ascend = (all_pairs_push (λ (x y : Answered T). x.index < y.index) h.asked a h.ascend.0 h.below, All-push (λ
+            (x : Answered T). x.index < cap) h.asked a h.ascend.1 within);
+        below = All-push (λ (x : Answered T). x.index < index + 1) h.asked a (All-weaker (λ (x : Answered T). x.index < index) (λ
+            (x : Answered T). x.index < index + 1) (λ x l. omega arith) h.asked h.below) (omega arith);
         few = omega arith;
         nothing = λ t. absurd (true≢false (sym t ∙ free));
       }
@@ -112,7 +114,8 @@ module _ {T F : Type 0} (step : F → T → Bool → F → Type 0) (cap : ℕ) (
   Knows stage = Unit {0}
 
   -- the closure may be asked about the value
-  pub may_ask : {pre : F → T → Type 0} (size : ℕ) (mode : ReleaseMode) → (shut ≡ false → TakesValues pre step cap f) → (stage : recovers.RecoverStage) → RecoverIn size cap mode stage → Knows stage
+  pub may_ask : {pre : F → T → Type 0} (size : ℕ) (mode : ReleaseMode) → (shut ≡ false → TakesValues pre step cap f) → (stage : recovers.RecoverStage)
+      → RecoverIn size cap mode stage → Knows stage
       → (value : T) (p : F) → SoFar stage p → RecoverAsks pre stage value p
   may_ask size mode takes recovers.TheVariants.LoadsCounter at free value p so = tt
   may_ask size mode takes (recovers.TheVariants.LoadsCell index) at free value p so = tt
@@ -141,11 +144,13 @@ module _ {T F : Type 0} (step : F → T → Bool → F → Type 0) (cap : ℕ) (
 
     sees_count : (index count : ℕ) (p : F) → Asked index p → Onward (recover_sees c index count) p
     sees_count index count p h =
-        by_test (λ stage. Onward (goes_to c stage) p) (is_even count) (recovers.TheVariants.EmptiesCell index count) (recovers.TheVariants.LoadsWord index count 0)
+        by_test (λ stage. Onward (goes_to c stage) p) (is_even count) (recovers.TheVariants.EmptiesCell index count)
+            (recovers.TheVariants.LoadsWord index count 0)
         (λ t. widen index (index + 1) p (omega arith) h)
         (λ t. h)
 
-    raised : (index : ℕ) (mode : ReleaseMode) (p : F) (a : After raises.Raise ReleaseState) → index < cap → Asked (index + 1) p → Onward (recover_raised c index mode a) p
+    raised : (index : ℕ) (mode : ReleaseMode) (p : F) (a : After raises.Raise ReleaseState) → index < cap → Asked (index + 1) p
+        → Onward (recover_raised c index mode a) p
     raised index mode p (GoOn raise) within h = h
     raised index mode p (Done Locked) within h = whole p (index + 1) (omega arith) h
     raised index LockIfLastIndex p (Done Unlocked) within h = h
@@ -155,7 +160,8 @@ module _ {T F : Type 0} (step : F → T → Bool → F → Type 0) (cap : ℕ) (
     locking index p (GoOn lock) within h = h
     locking index p (Done state) within h = comes (index + 1) p (omega arith) h
 
-    quietly : (stage : recovers.RecoverStage) → c.stage ≡ stage → (p q : F) (a : After (Recover T R) ReleaseState) → ((k : ℕ) → Onward (recover_takes size c stage given k) p)
+    quietly : (stage : recovers.RecoverStage) → c.stage ≡ stage → (p q : F) (a : After (Recover T R) ReleaseState) → ((k : ℕ)
+        → Onward (recover_takes size c stage given k) p)
         → (q ≡ p) × ((k : ℕ) × (a ≡ recover_after size c given k)) → Onward a q
     quietly stage is p q a goes m =
         subst (Onward a) (sym m.0) (subst (λ z. Onward z p) (ap (λ z. recover_takes size c z given m.1.0) (sym is) ∙ sym m.1.1) (goes m.1.0))
@@ -166,7 +172,8 @@ module _ {T F : Type 0} (step : F → T → Bool → F → Type 0) (cap : ℕ) (
     answered index count value false p q free within hit h = comes (index + 1) q (omega arith) (more index value false p q free within hit h)
 
     module _ (value : T) where
-      by_stage : (stage : recovers.RecoverStage) → c.stage ≡ stage → RecoverIn size cap given.mode stage → Knows stage → (p q : F) (a : After (Recover T R) ReleaseState) → SoFar stage p
+      by_stage : (stage : recovers.RecoverStage) → c.stage ≡ stage → RecoverIn size cap given.mode stage → Knows stage
+          → (p q : F) (a : After (Recover T R) ReleaseState) → SoFar stage p
           → RecoverMoves step size c given stage value p a q → Onward a q
       by_stage recovers.TheVariants.LoadsCounter is at free p q a so m =
           quietly recovers.TheVariants.LoadsCounter is p q a
@@ -182,15 +189,19 @@ module _ {T F : Type 0} (step : F → T → Bool → F → Type 0) (cap : ℕ) (
           quietly (recovers.TheVariants.LoadsCount index) is p q a (λ k. sees_count index k p so) m
       by_stage (recovers.TheVariants.LoadsWord index count place) is at free p q a so m =
           quietly (recovers.TheVariants.LoadsWord index count place) is p q a
-          (λ k. by_test (λ z. Onward z p) (nat_lt (place + 1) size) (goes_to c (recovers.TheVariants.LoadsWord index count (place + 1))) (goes_to c (recovers.TheVariants.ChecksCount index count)) (λ t. so) (λ t. so)) m
+          (λ k. by_test (λ z. Onward z p) (nat_lt (place + 1) size) (goes_to c (recovers.TheVariants.LoadsWord index count (place + 1))) (goes_to c
+              (recovers.TheVariants.ChecksCount index count)) (λ t. so) (λ t. so)) m
       by_stage (recovers.TheVariants.ChecksCount index count) is at free p q a so m =
           quietly (recovers.TheVariants.ChecksCount index count) is p q a
-          (λ k. by_eq (λ z. Onward z p) k count (goes_to c (recovers.TheVariants.Asks index count)) (recover_sees c index k) (λ e. so) (λ ne. sees_count index k p so)) m
+          (λ k. by_eq (λ z. Onward z p) k count (goes_to c (recovers.TheVariants.Asks index count)) (recover_sees c index k) (λ e. so)
+              (λ ne. sees_count index k p so)) m
       by_stage (recovers.TheVariants.Asks index count) is at free p q a so m =
-          subst (λ z. Onward z q) (ap (λ z. recover_takes size c z given (if m.0 then 1 else 0)) (sym is) ∙ sym m.2) (answered index count value m.0 p q free at.0 m.1 so)
+          subst (λ z. Onward z q) (ap (λ z. recover_takes size c z given (if m.0 then 1 else 0)) (sym is) ∙ sym m.2)
+              (answered index count value m.0 p q free at.0 m.1 so)
       by_stage (recovers.TheVariants.EmptiesCell index count) is at free p q a so m =
           quietly (recovers.TheVariants.EmptiesCell index count) is p q a
-          (λ k. by_eq (λ z. Onward z p) k given.owner (if is_even count then recover_raises c index else goes_to c (recovers.TheVariants.Hides index count)) (recover_comes_to c (index + 1))
+          (λ k. by_eq (λ z. Onward z p) k given.owner (if is_even count then recover_raises c index else goes_to c
+              (recovers.TheVariants.Hides index count)) (recover_comes_to c (index + 1))
           (λ e. by_test (λ z. Onward z p) (is_even count) (recover_raises c index) (goes_to c (recovers.TheVariants.Hides index count)) (λ t. so) (λ t. so))
           (λ ne. comes (index + 1) p (omega arith) so)) m
       by_stage (recovers.TheVariants.Hides index count) is at free p q a so m =

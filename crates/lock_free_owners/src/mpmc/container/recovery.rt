@@ -100,25 +100,27 @@ fn free_all<T: Words, F: FnMut(T) -> bool>(
     seat: &mut Seat<T>,
     rt: &impl Wait,
     capacity: u32,
-    given: DeadOwner,
+    owner: OwnerId,
+    mode: ReleaseMode,
     mut predicate: F,
 ) -> (ReleaseState, F)
     requires board { IsBoard T.WORDS seat.old }
     requires known { (seen seat.old).capacity ≡ capacity }
-    requires at { RecoverAt (coding_of T.WORDS T.words_of T.value_of) given (seen seat.old) (seen seat.old)
-        (first_recover capacity) fresh_cell }
+    requires at { RecoverAt (coding_of T.WORDS T.words_of T.value_of) (record { owner = owner; mode = mode })
+        (seen seat.old) (seen seat.old) (first_recover capacity) fresh_cell }
     requires questions { is_locked (seen seat.old).seen ≡ false → TakesValues F.pre
         (λ p x b q. F.step p x b q) capacity predicate }
     ensures same { IsSame seat.old seat.new }
     ensures board { IsBoard T.WORDS seat.new }
-    ensures ends { (room : _) × RecoverEnds (coding_of T.WORDS T.words_of T.value_of) given (seen seat.old)
-        result.0 room (seen seat.new) }
+    ensures ends { (room : _) × RecoverEnds (coding_of T.WORDS T.words_of T.value_of)
+        (record { owner = owner; mode = mode }) (seen seat.old) result.0 room (seen seat.new) }
     ensures asked { HasAsked (λ p x b q. F.step p x b q) capacity (is_locked (seen seat.old).seen)
         predicate result.1 }
 {
     let mut room = Copied { words: [0; 128] };
     let mut call = Recover::new(capacity);
     for _ in rt.forever() {
+        let given = DeadOwner { owner, mode };
         let (after, next_predicate) = recover_next(seat, call, given, &mut room, predicate);
         predicate = next_predicate;
         match after {
@@ -166,8 +168,14 @@ impl<T: Words> Container<T> {
         ensures asked { (last : F) × HasAsked (λ p x b q. F.step p x b q) (capacity_of self.now)
             (is_locked (history pass.old)) predicate last }
     {
-        let given = DeadOwner { owner, mode };
-        let (state, _) = free_all(&mut pass.token.seated, rt, pass.token.capacity, given, predicate);
+        let (state, _) = free_all(
+            &mut pass.token.seated,
+            rt,
+            pass.token.capacity,
+            owner,
+            mode,
+            predicate,
+        );
         state
     }
 }

@@ -12,7 +12,8 @@ loop-next-init g c =
     (
       (refl, refl, refl),
       c.requires.board,
-      starts code (λ p x h a q. given.F-step g p x h a q) c.args.capacity c.args.owner c.args.id (seen c.args.seat.now) c.args.visit c.new-call.result fresh_cell
+      starts code (λ p x h a q. given.F-step g p x h a q) c.args.capacity c.args.owner c.args.id
+          (seen c.args.seat.now) c.args.visit c.new-call.result fresh_cell
           c.new-call.ensures refl c.requires.places c.requires.at,
     )
 
@@ -41,7 +42,8 @@ loop-next-preserved g c =
       called.ensures.board,
       subst (λ a. Further code (λ p x h a q. given.F-step g p x h a q) c.args.capacity c.args.owner c.args.id (seen c.args.seat.now) c.args.visit
           (seen called.new.seat) a called.new.room called.result.1) c.in-GoOn.is
-          (further code (λ p x h a q. given.F-step g p x h a q) c.args.capacity c.args.owner c.args.id (seen c.args.seat.now) c.args.visit law small c.requires.known
+          (further code (λ p x h a q. given.F-step g p x h a q) c.args.capacity c.args.owner c.args.id
+              (seen c.args.seat.now) c.args.visit law small c.requires.known
           (seen c.loop-next.seat) c.loop-next.call c.loop-next.room c.loop-next.visit so_far.2
           (seen called.new.seat) called.result.0 called.new.room called.result.1 called.ensures.turns called.ensures.moves),
     )
@@ -57,7 +59,8 @@ returns-in-Done-clause-left g c =
     (seen called.new.seat) c.in-Done.found called.result.1
     = subst (λ a. Further code (λ p x h a q. given.F-step g p x h a q) c.args.capacity c.args.owner c.args.id (seen c.args.seat.now) c.args.visit
     (seen called.new.seat) a called.new.room called.result.1) c.in-Done.is
-    (further code (λ p x h a q. given.F-step g p x h a q) c.args.capacity c.args.owner c.args.id (seen c.args.seat.now) c.args.visit law small c.requires.known
+    (further code (λ p x h a q. given.F-step g p x h a q) c.args.capacity c.args.owner c.args.id
+        (seen c.args.seat.now) c.args.visit law small c.requires.known
     (seen c.loop-next.seat) c.loop-next.call c.loop-next.room c.loop-next.visit c.loop-next.invariant.2
     (seen called.new.seat) called.result.0 called.new.room called.result.1 called.ensures.turns called.ensures.moves) in
     over.left
@@ -73,7 +76,8 @@ returns-in-Done-clause-found g c =
     (seen called.new.seat) c.in-Done.found called.result.1
     = subst (λ a. Further code (λ p x h a q. given.F-step g p x h a q) c.args.capacity c.args.owner c.args.id (seen c.args.seat.now) c.args.visit
     (seen called.new.seat) a called.new.room called.result.1) c.in-Done.is
-    (further code (λ p x h a q. given.F-step g p x h a q) c.args.capacity c.args.owner c.args.id (seen c.args.seat.now) c.args.visit law small c.requires.known
+    (further code (λ p x h a q. given.F-step g p x h a q) c.args.capacity c.args.owner c.args.id
+        (seen c.args.seat.now) c.args.visit law small c.requires.known
     (seen c.loop-next.seat) c.loop-next.call c.loop-next.room c.loop-next.visit c.loop-next.invariant.2
     (seen called.new.seat) called.result.0 called.new.room called.result.1 called.ensures.turns called.ensures.moves) in
     (over.bound, over.searched, over.found)
