@@ -465,3 +465,9 @@ module _ {T R : Type 0} (code : Coding T) (law : IsCoding code) (words_in : R �
       asks_room (finds.LoadsWord index found count at) due = absurd (cc)
       asks_room (finds.ChecksCount index found count) due = absurd (cc)
       asks_room (finds.Asks index found) due = refl
+
+  -- as the party of the find, with its number
+  pub find_rests_so : (base v : View T) (e : ℕ) (m : R) (h : RestsAt code kinds.Container after kept finding base v e m)
+      → (r : IsResting code v) × (r.party ≡ h.before.party) × (r.start ≡ Container (Find owner)) × (r.answer ≡ answers.Number e)
+  unfolding find_rests
+  find_rests_so base v e m h = (find_rests base v e m h, refl, refl, refl)

@@ -501,7 +501,7 @@ module _ {T R : Type 0} (code : Coding T) (law : IsCoding code) (words_in : R �
   first_so capacity c m true e = ap (λ (z : Recovering T R). is_question (want z)) (sym (ap (λ (o : Option (Flight T)). begun_recovery c o) e))
   first_so capacity c m false e = absurd (cc)
 
-  recover_call : IsAskingOf code kinds.Container (plain_effects code) (container_words code) want after kept recovering
+  pub recover_call : IsAskingOf code kinds.Container (plain_effects code) (container_words code) want after kept recovering
   recover_call =
       record {
         asking =

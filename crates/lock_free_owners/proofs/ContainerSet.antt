@@ -4,3 +4,8 @@ pub mod Opens
 pub mod Sound
 pub mod Facts
 pub mod Passes
+pub mod Began
+pub mod FindTurns
+pub mod Finds
+pub mod RecoverTurns
+pub mod Recoveries

@@ -3,6 +3,10 @@ pub mod Idle
 pub mod Told
 pub mod Turns
 pub mod Bare
+pub mod FindTurns
+pub mod FindTold
+pub mod RecoverTurns
+pub mod RecoverTold
 pub mod Callable
 pub mod Visits
 pub mod Questions

@@ -3,3 +3,4 @@ pub mod Places
 pub mod LookRuns
 pub mod FindRuns
 pub mod Finding
+pub mod Recovering

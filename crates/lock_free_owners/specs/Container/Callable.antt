@@ -1,5 +1,5 @@
 -- What the closure of a find of a container is called with. T is the type of its values.
-use Rattle.std.specs.Prelude.{◌≡◌, ℕ, ◌<◌, ◌≤◌, ◌⊎◌, List, [], ◌∷◌, ◌++◌, length, All, AllPairs, Contains}
+use Rattle.std.specs.Prelude.{◌≡◌, ℕ, ◌+◌, ◌<◌, ◌≤◌, ◌⊎◌, List, [], ◌∷◌, ◌++◌, length, All, AllPairs, Contains}
 use Rattle.std.specs.List.{FoldsTo}
 use Rattle.steps.specs.declared.enums.CallbackProgression.{CallbackProgression}
 use Rattle.steps.specs.declared.enums.CallbackProgression.TheVariants.{Continue, Stop}
@@ -34,10 +34,11 @@ pub record TakesVisits {F T : Type 0} (pre : F → T → ContainerHandle → Typ
       → mine x.handle → pre now x.value x.handle
 
 -- a find came to n indices: to these, at some of which it called the closure, which was told to go
--- on at each but the last one, or at each; where it was told to stop it came to no further index
+-- on at each but the last one, or at each; where it was told to stop it came to no further index. It
+-- has come past all indices below the bound.
 pub record HasFound {F T : Type 0}
     (step : F → T → ContainerHandle → CallbackProgression → F → Type 0) (capacity : ℕ)
-    (mine : ContainerHandle → Type 0) (f : F) (n : ℕ) (last : F) : Type 0 where
+    (mine : ContainerHandle → Type 0) (f : F) (n bound : ℕ) (last : F) : Type 0 where
   pub indices : List ℕ
   pub ascend : Ascends capacity indices
   pub number : length indices ≡ n
@@ -46,7 +47,7 @@ pub record HasFound {F T : Type 0}
   pub among : All (λ (x : Visit T). Contains indices x.handle.index) visits
   pub now : F
   pub calls : FoldsTo (goes_on step) f visits now
-  pub ended : (now ≡ last)
-      ⊎ ((x : Visit T) × step now x.value x.handle Stop last
+  pub ended : ((now ≡ last) × (bound ≡ capacity))
+      ⊎ ((x : Visit T) × step now x.value x.handle Stop last × (bound ≡ x.handle.index + 1)
       × VisitsAscend mine (visits ++ x ∷ []) × Contains indices x.handle.index
       × All (λ i. i ≤ x.handle.index) indices)

@@ -23,6 +23,7 @@ mod handles;
 mod looks;
 mod make;
 mod passes;
+mod recovery;
 pub mod rule;
 pub mod token;
 mod visits;

@@ -1,5 +1,5 @@
 -- What the closure of a find on a container was called with so far.
-use Rattle.std.proofs.Common.{◌≡◌, ℕ, ◌+◌, ◌^◌, ◌<◌, ◌≤◌, nat_lt, inl, inr, List, [], ◌∷◌, ◌++◌, length, refl, sym, ap, ◌∙◌, subst, arith, length-append}
+use Rattle.std.proofs.Common.{◌≡◌, ℕ, ◌+◌, ◌^◌, ◌<◌, ◌≤◌, nat_lt, inl, inr, List, [], ◌∷◌, ◌++◌, length, refl, subst, arith, length-append}
 use Rattle.std.specs.Prelude.{Contains}
 use Rattle.std.specs.List.{All, FoldsTo}
 use Rattle.std.proofs.lemmas.Fn.{FoldsTo-push}
@@ -15,12 +15,10 @@ use Rattle.steps.specs.declared.container.find.Find.{Find}
 use Rattle.steps.specs.declared.container.find.FindStage as finds
 use Rattle.steps.specs.Indices.Robust.Parts.{one_more}
 use Rattle.steps.specs.Container.Layout.{is_even}
-use Rattle.steps.specs.Container.Find.{at_find, find_comes_to, find_takes, find_after}
-use Rattle.history.specs.declared.view.View.{View}
+use Rattle.steps.specs.Container.Find.{at_find, find_comes_to, find_takes}
 use Rattle.lock_free_sp.specs.Callable.{Ascends}
-use Rattle.lock_free_owners.specs.Robust.Stages.{says}
 use Rattle.lock_free_owners.specs.Container.Callable.{Visit, VisitsAscend, goes_on, TakesVisits, HasFound}
-use Rattle.lock_free_owners.specs.Container.Visits.{FindStage, FindStands, FindAsks, FindGoes, FindMoves, named}
+use Rattle.lock_free_owners.specs.Container.Visits.{FindStage, FindAsks, named}
 use Rattle.lock_free_owners.proofs.Rules.Robust.Finding.{ascend_push, below_push, below_more}
 
 module _ {T F : Type 0} (step : F → T → ContainerHandle → CallbackProgression → F → Type 0) (cap : ℕ) (mine : ContainerHandle → Type 0) (f : F) where
@@ -71,7 +69,8 @@ module _ {T F : Type 0} (step : F → T → ContainerHandle → CallbackProgress
   higher low xs h = All-weaker (λ (x : Visit T). x.handle.index < low) (λ (x : Visit T). x.handle.index < low + 1) (λ x l. omega arith) xs h
 
   wider : (indices : List ℕ) (index : ℕ) (xs : List (Visit T)) → Among indices xs → Among (indices ++ index ∷ []) xs
-  wider indices index xs h = All-weaker (λ (x : Visit T). Contains indices x.handle.index) (λ (x : Visit T). Contains (indices ++ index ∷ []) x.handle.index) (λ x i. Contains-append_left indices (index ∷ []) x.handle.index i) xs h
+  wider indices index xs h = All-weaker (λ (x : Visit T). Contains indices x.handle.index) (λ (x : Visit T). Contains
+      (indices ++ index ∷ []) x.handle.index) (λ x i. Contains-append_left indices (index ∷ []) x.handle.index i) xs h
 
   came_on : (low n : ℕ) (p : F) → Came low n p → Came (low + 1) n p
   came_on low n p h =
@@ -104,7 +103,7 @@ module _ {T F : Type 0} (step : F → T → ContainerHandle → CallbackProgress
         calls = h.calls;
       }
 
-  found_all : (low n : ℕ) (p : F) → Came low n p → HasFound step cap mine f n p
+  found_all : (low n : ℕ) (p : F) → Came low n p → HasFound step cap mine f n cap p
   found_all low n p h =
       record {
         indices = h.indices;
@@ -115,16 +114,23 @@ module _ {T F : Type 0} (step : F → T → ContainerHandle → CallbackProgress
         among = h.among;
         now = p;
         calls = h.calls;
-        ended = inl refl;
+        ended = inl (refl, refl);
       }
+
+  -- a step at a word, which leaves it
+  abbrev pub IsQuiet : finds.FindStage → Type 0
+  IsQuiet (finds.TheVariants.Asks index found) = ⊥
+  IsQuiet stage = Unit {0}
 
   module _ (size owner id : ℕ) (own : (index : ℕ) → index < cap → mine (named index owner id)) where
     abbrev at_index : ℕ → T → Visit T
     at_index low value = record { value = value; handle = named low owner id }
 
-    ascend_more : (low : ℕ) (value : T) (xs : List (Visit T)) → low < cap → VisitsAscend mine xs → Below low xs → VisitsAscend mine (xs ++ at_index low value ∷ [])
+    ascend_more : (low : ℕ) (value : T) (xs : List (Visit T)) → low < cap → VisitsAscend mine xs → Below low xs
+        → VisitsAscend mine (xs ++ at_index low value ∷ [])
     ascend_more low value xs within h below =
-        (all_pairs_push (λ (x y : Visit T). x.handle.index < y.handle.index) xs (at_index low value) h.0 below, All-push (λ (x : Visit T). mine x.handle) xs (at_index low value) h.1 (own low within))
+        (all_pairs_push (λ (x y : Visit T). x.handle.index < y.handle.index) xs (at_index low value) h.0 below, All-push (λ
+            (x : Visit T). mine x.handle) xs (at_index low value) h.1 (own low within))
 
     -- an index whose value was handed over
     came_more : (low n : ℕ) (value : T) (p q : F) → low < cap → step p value (named low owner id) Continue q → Came low n p → Came (low + 1) (n + 1) q
@@ -140,11 +146,13 @@ module _ {T F : Type 0} (step : F → T → ContainerHandle → CallbackProgress
           visits = h.visits ++ x ∷ [];
           visits_ascend = ascend_more low value h.visits within h.visits_ascend h.visits_below;
           visits_below = All-push (λ (y : Visit T). y.handle.index < low + 1) h.visits x (higher low h.visits h.visits_below) (omega arith);
-          among = All-push (λ (y : Visit T). Contains (h.indices ++ low ∷ []) y.handle.index) h.visits x (wider h.indices low h.visits h.among) (Contains-push h.indices low);
+          among = All-push (λ (y : Visit T). Contains (h.indices ++ low ∷ []) y.handle.index) h.visits x (wider h.indices low h.visits h.among)
+              (Contains-push h.indices low);
           calls = FoldsTo-push (goes_on step) f h.visits p x q h.calls hit;
         }
 
-    found_last : (low n found : ℕ) (value : T) (p q : F) → low < cap → n + 1 ≡ found → step p value (named low owner id) Stop q → Came low n p → HasFound step cap mine f found q
+    found_last : (low n found : ℕ) (value : T) (p q : F) → low < cap → n + 1 ≡ found → step p value (named low owner id) Stop q → Came low n p
+        → HasFound step cap mine f found (low + 1) q
     found_last low n found value p q within more hit h =
         let longer = length-append h.indices (low ∷ []) in
         let count = h.count in
@@ -160,6 +168,7 @@ module _ {T F : Type 0} (step : F → T → ContainerHandle → CallbackProgress
           ended = inr (
             at_index low value,
             hit,
+            refl,
             ascend_more low value h.visits within h.visits_ascend h.visits_below,
             Contains-push h.indices low,
             All-push (λ i. i ≤ low) h.indices low (All-weaker (λ i. i < low) (λ i. i ≤ low) (λ i l. omega arith) h.indices h.below) (omega arith),
@@ -167,75 +176,62 @@ module _ {T F : Type 0} (step : F → T → ContainerHandle → CallbackProgress
         }
 
     -- the closure may be called at the index that it has come to
-    pub may_ask : {pre : F → T → ContainerHandle → Type 0} → TakesVisits pre step mine f → (v : View T) → v.capacity ≡ cap → (stage : finds.FindStage) → FindStage size v stage → (p : F) → SoFar stage p → FindAsks pre owner id stage p
-    may_ask takes v same (finds.TheVariants.LoadsCell index found) at p so = tt
-    may_ask takes v same (finds.TheVariants.LoadsCount index found) at p so = tt
-    may_ask takes v same (finds.TheVariants.LoadsWord index found count place) at p so = tt
-    may_ask takes v same (finds.TheVariants.ChecksCount index found count) at p so = tt
-    may_ask takes v same (finds.TheVariants.Asks index found) at p so =
-        λ value. takes.at so.2.visits p (at_index index value) so.2.calls so.2.visits_ascend so.2.visits_below (own index (let l = at.0 in omega arith))
+    pub may_ask : {pre : F → T → ContainerHandle → Type 0} → TakesVisits pre step mine f → (size : ℕ) (stage : finds.FindStage)
+        → FindStage size cap stage → (value : T) (p : F) → SoFar stage p → FindAsks pre owner id stage value p
+    may_ask takes size (finds.TheVariants.LoadsCell index found) at value p so = tt
+    may_ask takes size (finds.TheVariants.LoadsCount index found) at value p so = tt
+    may_ask takes size (finds.TheVariants.LoadsWord index found count place) at value p so = tt
+    may_ask takes size (finds.TheVariants.ChecksCount index found count) at value p so = tt
+    may_ask takes size (finds.TheVariants.Asks index found) at value p so =
+        takes.at so.2.visits p (at_index index value) so.2.calls so.2.visits_ascend so.2.visits_below (own index at.0)
 
     module _ {R : Type 0} where
+      -- where no answer stops it, it has come past all of them at its end
       abbrev pub Onward : After (Find T R) ℕ → F → Type 0
       Onward (GoOn d) q = SoFar d.stage q
-      Onward (Done n) q = HasFound step cap mine f n q
+      Onward (Done n) q = HasFound step cap mine f n cap q
 
-      comes : (c : Find T R) (index found : ℕ) (q : F) → Came index found q → Onward (find_comes_to c index found) q
-      comes c index found q h =
-          by_test (λ a. Onward a q) (nat_lt index c.capacity) (GoOn (at_find c (finds.TheVariants.LoadsCell index found))) (Done found)
-          (λ t. h)
-          (λ t. found_all index found q h)
+      module _ (c : Find T R) where
+        comes : (index found : ℕ) (q : F) → Came index found q → Onward (find_comes_to c index found) q
+        comes index found q h =
+            by_test (λ a. Onward a q) (nat_lt index c.capacity) (GoOn (at_find c (finds.TheVariants.LoadsCell index found))) (Done found)
+            (λ t. h)
+            (λ t. found_all index found q h)
 
-      -- past an index that is counted
-      passes : (c : Find T R) (index found : ℕ) (p : F) → index < cap → Counted index found p → Onward (find_comes_to c (index + 1) found) p
-      passes c index found p within h = comes c (index + 1) found p (subst (λ z. Came (index + 1) z p) h.1 (came_by index h.0 p within h.2))
+        -- past an index that is counted
+        passes : (index found : ℕ) (p : F) → index < cap → Counted index found p → Onward (find_comes_to c (index + 1) found) p
+        passes index found p within h = comes (index + 1) found p (subst (λ z. Came (index + 1) z p) h.1 (came_by index h.0 p within h.2))
 
-      -- ---- what a step leaves, by what it did with the closure
+        -- ---- what a step leaves, by what it did with the closure
 
-      asked : (c : Find T R) (index found : ℕ) (value : T) (answer : CallbackProgression) (p q : F) → index < cap → step p value (named index owner id) answer q → Counted index found p
-          → Onward (find_takes size c (finds.TheVariants.Asks index found) owner (says answer)) q
-      asked c index found value Continue p q within hit h = comes c (index + 1) found q (subst (λ z. Came (index + 1) z q) h.1 (came_more index h.0 value p q within hit h.2))
-      asked c index found value Stop p q within hit h = found_last index h.0 found value p q within h.1 hit h.2
+        pub quietly : cap < 2 ^ 32 → (stage : finds.FindStage) → IsQuiet stage → FindStage size cap stage → (p : F) (k : ℕ) → SoFar stage p
+            → Onward (find_takes size c stage owner k) p
+        quietly small (finds.TheVariants.LoadsCell index found) still at p k so =
+            by_eq (λ a. Onward a p) k owner (GoOn (at_find c (finds.TheVariants.LoadsCount index (one_more found)))) (find_comes_to c (index + 1) found)
+            (λ e. (found, (let l = at.0 in let few = at.1 in omega arith), so))
+            (λ ne. comes (index + 1) found p (came_on index found p so))
+        quietly small (finds.TheVariants.LoadsCount index found) still at p k so =
+            by_test (λ a. Onward a p) (is_even k) (find_comes_to c (index + 1) found) (GoOn (at_find c (finds.TheVariants.LoadsWord index found k 0)))
+            (λ t. passes index found p at.0 so)
+            (λ t. so)
+        quietly small (finds.TheVariants.LoadsWord index found count place) still at p k so =
+            by_test (λ a. Onward a p) (nat_lt (place + 1) size) (GoOn (at_find c (finds.TheVariants.LoadsWord index found count (place + 1)))) (GoOn
+                (at_find c (finds.TheVariants.ChecksCount index found count)))
+            (λ t. so)
+            (λ t. so)
+        quietly small (finds.TheVariants.ChecksCount index found count) still at p k so =
+            by_eq (λ a. Onward a p) k count (GoOn (at_find c (finds.TheVariants.Asks index found))) (find_comes_to c (index + 1) found)
+            (λ e. so)
+            (λ ne. passes index found p at.0 so)
+        quietly small (finds.TheVariants.Asks index found) still at p k so = absurd still
 
-      went : (c : Find T R) (stage : finds.FindStage) → c.stage ≡ stage → (p q : F) (a : After (Find T R) ℕ) → ((k : ℕ) → Onward (find_takes size c stage owner k) p) → FindGoes size c owner p a q → Onward a q
-      went c stage is p q a goes m =
-          subst (Onward a) (sym m.0) (subst (λ z. Onward z p) (ap (λ s. find_takes size c s owner m.1.0) (sym is) ∙ sym m.1.1) (goes m.1.0))
+        -- it is told to go on
+        pub told_on : (index found : ℕ) (value : T) (p q : F) → index < cap → step p value (named index owner id) Continue q → Counted index found p
+            → Onward (find_comes_to c (index + 1) found) q
+        told_on index found value p q within hit h =
+            comes (index + 1) found q (subst (λ z. Came (index + 1) z q) h.1 (came_more index h.0 value p q within hit h.2))
 
-      by_stage : (c : Find T R) (stage : finds.FindStage) → c.stage ≡ stage → (v : View T) → v.capacity ≡ cap → cap < 2 ^ 32 → FindStage size v stage
-          → (p q : F) (a : After (Find T R) ℕ) → SoFar stage p → FindMoves step size id c owner stage p a q → Onward a q
-      by_stage c (finds.TheVariants.LoadsCell index found) is v same small at p q a so m =
-          went c (finds.TheVariants.LoadsCell index found) is p q a
-          (λ k. by_eq (λ a. Onward a p) k owner (GoOn (at_find c (finds.TheVariants.LoadsCount index (one_more found)))) (find_comes_to c (index + 1) found)
-          (λ e. (found, (let l = at.0 in let few = at.1 in omega arith), so))
-          (λ ne. comes c (index + 1) found p (came_on index found p so))) m
-      by_stage c (finds.TheVariants.LoadsCount index found) is v same small at p q a so m =
-          went c (finds.TheVariants.LoadsCount index found) is p q a
-          (λ k. by_test (λ a. Onward a p) (is_even k) (find_comes_to c (index + 1) found) (GoOn (at_find c (finds.TheVariants.LoadsWord index found k 0)))
-          (λ t. passes c index found p (let l = at.0 in omega arith) so)
-          (λ t. so)) m
-      by_stage c (finds.TheVariants.LoadsWord index found count place) is v same small at p q a so m =
-          went c (finds.TheVariants.LoadsWord index found count place) is p q a
-          (λ k. by_test (λ a. Onward a p) (nat_lt (place + 1) size) (GoOn (at_find c (finds.TheVariants.LoadsWord index found count (place + 1)))) (GoOn (at_find c (finds.TheVariants.ChecksCount index found count)))
-          (λ t. so)
-          (λ t. so)) m
-      by_stage c (finds.TheVariants.ChecksCount index found count) is v same small at p q a so m =
-          went c (finds.TheVariants.ChecksCount index found count) is p q a
-          (λ k. by_eq (λ a. Onward a p) k count (GoOn (at_find c (finds.TheVariants.Asks index found))) (find_comes_to c (index + 1) found)
-          (λ e. so)
-          (λ ne. passes c index found p (let l = at.0 in omega arith) so)) m
-      by_stage c (finds.TheVariants.Asks index found) is v same small at p q a so m =
-          subst (λ z. Onward z q) (ap (λ s. find_takes size c s owner (says m.1)) (sym is) ∙ sym m.3) (asked c index found m.0 m.1 p q (let l = at.0 in omega arith) m.2 so)
-
-      pub onward : (c : Find T R) (v : View T) → v.capacity ≡ cap → cap < 2 ^ 32 → FindStands size v c → (p q : F) (a : After (Find T R) ℕ) → SoFar c.stage p → FindMoves step size id c owner c.stage p a q → Onward a q
-      onward c v same small at = by_stage c c.stage refl v same small at.1
-
-      -- whatever it did with the closure, it went on as its table says
-      goes_at : (c : Find T R) (stage : finds.FindStage) (p q : F) (a : After (Find T R) ℕ) → FindMoves step size id c owner stage p a q → (k : ℕ) × (a ≡ find_after size c owner k)
-      goes_at c (finds.TheVariants.LoadsCell index found) p q a m = m.1
-      goes_at c (finds.TheVariants.LoadsCount index found) p q a m = m.1
-      goes_at c (finds.TheVariants.LoadsWord index found count place) p q a m = m.1
-      goes_at c (finds.TheVariants.ChecksCount index found count) p q a m = m.1
-      goes_at c (finds.TheVariants.Asks index found) p q a m = (says m.1, m.3)
-
-      pub goes_by : (c : Find T R) (p q : F) (a : After (Find T R) ℕ) → FindMoves step size id c owner c.stage p a q → (k : ℕ) × (a ≡ find_after size c owner k)
-      goes_by c = goes_at c c.stage
+    -- or to stop
+    pub told_to_stop : (index found : ℕ) (value : T) (p q : F) → index < cap → step p value (named index owner id) Stop q → Counted index found p
+        → HasFound step cap mine f found (index + 1) q
+    told_to_stop index found value p q within hit h = found_last index h.0 found value p q within h.1 hit h.2

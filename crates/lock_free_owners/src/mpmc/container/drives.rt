@@ -10,9 +10,10 @@ use std::marker::PhantomData;
 use steps::container::add::{Add, AddStage};
 use steps::container::find::Find;
 use steps::container::look::Look;
+use steps::container::recover::Recover;
 use steps::container::remove::Remove;
 use steps::container::replace::Replace;
-use steps::copied::Room;
+use steps::copied::Copied;
 use steps::indices::robust::acquire::AcquireStage;
 use steps::indices::robust::looks::{BorrowedIndices, IsLocked};
 use steps::words::Words;
@@ -120,16 +121,26 @@ impl<T: Words> Drives<View<T>, Look<T>> for Looks {
     ghost ends = { λ given. LookEnds };
 }
 
-/// Coming to the values of an owner. It leaves what is known.
+/// Coming to the values of an owner. An answer of its closure may end it, and then it rests.
 pub struct Finds;
 
-impl<T: Words, R: Room<T> + Drop> Drives<View<T>, Find<T, R>> for Finds {
-    ghost use Rattle.lock_free_owners.specs.Container.Bare.{Still};
-    ghost use Rattle.lock_free_owners.specs.Container.Visits.{FindStands, FindEnds};
+impl<T: Words> Drives<View<T>, Find<T, Copied>> for Finds {
+    ghost use Rattle.lock_free_owners.specs.Container.FindTurns.{FindAt, FindEnds};
 
-    ghost at = { λ given. Still (FindStands T.WORDS) };
+    ghost at = { FindAt (coding_of T.WORDS T.words_of T.value_of) };
 
-    ghost ends = { λ given. FindEnds };
+    ghost ends = { FindEnds (coding_of T.WORDS T.words_of T.value_of) };
+}
+
+/// Freeing the indices of a dead owner.
+pub struct Recovers;
+
+impl<T: Words> Drives<View<T>, Recover<T, Copied>> for Recovers {
+    ghost use Rattle.lock_free_owners.specs.Container.RecoverTurns.{RecoverAt, RecoverEnds};
+
+    ghost at = { RecoverAt (coding_of T.WORDS T.words_of T.value_of) };
+
+    ghost ends = { RecoverEnds (coding_of T.WORDS T.words_of T.value_of) };
 }
 
 /// The end of a call that rests, or a load that leaves what is known.

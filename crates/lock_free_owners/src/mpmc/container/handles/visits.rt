@@ -1,11 +1,23 @@
 //! The calls by a handle that come to the values of an owner.
-ghost use Rattle.std.specs.Prelude.{◌≡◌};
+ghost use Rattle.std.specs.Prelude.{◌≡◌, ℕ, false};
+ghost use Rattle.model.specs.declared.event.Answer.TheVariants.{State};
+ghost use Rattle.model.specs.declared.families.container.ContainerStart.TheVariants as starts;
+ghost use Rattle.model.specs.declared.turn.Kind.TheVariants as kinds;
+ghost use Rattle.model.specs.Families.Indices.Reading.{is_locked};
+ghost use Rattle.history.specs.Passes.{Goes};
+ghost use Rattle.lock_free_owners.specs.Robust.Told.{FoundState};
 ghost use Rattle.lock_free_owners.specs.Container.Callable.{TakesVisits, HasFound};
-ghost use Rattle.lock_free_owners.specs.Container.Names.{capacity_of, IsHandleFor};
-ghost use Rattle.lock_free_owners.specs.Container.Handles.{container_in, knows};
+ghost use Rattle.lock_free_owners.specs.Container.FindTold.{HasSearched};
+ghost use Rattle.lock_free_owners.specs.Container.Questions.{TakesValues, HasAsked};
+ghost use Rattle.lock_free_owners.specs.Container.RecoverTold.{HasRecovered};
+ghost use Rattle.lock_free_owners.specs.Container.Told.{Answered};
+ghost use Rattle.lock_free_owners.specs.Container.Names.{history, code_of, capacity_of, IsHandleFor, GoesOn};
+ghost use Rattle.lock_free_owners.specs.Container.Handles.{container_in, pass_in, knows};
 
 use super::Handle;
 use crate::mpmc::container::{CallbackProgression, ContainerHandle, OwnerId};
+use std::sync::Wait;
+use steps::indices::enums::{ReleaseMode, ReleaseState};
 use steps::words::Words;
 
 impl<'a, T: Words> Handle<'a, T> {
@@ -18,10 +30,37 @@ impl<'a, T: Words> Handle<'a, T> {
         requires { TakesVisits F.pre (λ p x h a q. F.step p x h a q)
             (IsHandleFor (container_in self.old) owner) visit }
         ensures container { container_in self.new ≡ container_in self.old }
-        ensures view { knows self.new ≡ knows self.old }
-        ensures found { (last : F) × HasFound (λ p x h a q. F.step p x h a q)
-            (capacity_of (container_in self.old)) (IsHandleFor (container_in self.old) owner) visit result last }
+        ensures goes { Goes (code_of (pass_in self.old)) kinds.Container (capacity_of (container_in self.old))
+            (knows self.old) (knows self.new) }
+        ensures found { (bound : ℕ) × (last : F)
+            × HasSearched (code_of (pass_in self.old)) owner result bound (knows self.old) (knows self.new)
+            × HasFound (λ p x h a q. F.step p x h a q) (capacity_of (container_in self.old))
+            (IsHandleFor (container_in self.old) owner) visit result bound last }
     {
         self.container.find(owner, visit, &mut self.pass)
+    }
+
+    /// As `Container::recover`.
+    pub fn recover<F: FnMut(T) -> bool>(
+        &mut self,
+        rt: &impl Wait,
+        owner: OwnerId,
+        predicate: F,
+        mode: ReleaseMode,
+    ) -> ReleaseState
+        requires { is_locked (history (pass_in self.old)) ≡ false → TakesValues F.pre
+            (λ p x b q. F.step p x b q) (capacity_of (container_in self.old)) predicate }
+        ensures container { container_in self.new ≡ container_in self.old }
+        ensures goes_on { GoesOn (pass_in self.old) (pass_in self.new) }
+        ensures recovered { HasRecovered (code_of (pass_in self.old)) (record { owner = owner; mode = mode }) result
+            (knows self.old) (knows self.new) }
+        ensures answered { Answered (code_of (pass_in self.old)) (starts.Recover owner mode) (State result)
+            (knows self.old) (knows self.new) }
+        ensures lock { FoundState result (knows self.old) (knows self.new) }
+        ensures asked { (last : F) × HasAsked (λ p x b q. F.step p x b q)
+            (capacity_of (container_in self.old)) (is_locked (history (pass_in self.old))) predicate last }
+    {
+        self.container
+            .recover(rt, owner, predicate, mode, &mut self.pass)
     }
 }
