@@ -1,6 +1,5 @@
 -- A find of a container between two turns, as a call of the history.
 use Rattle.std.proofs.Common.{◌≡◌, ◌⊎◌, inl, inr, ⊎_elim, ℕ, zero, suc, ◌+◌, ◌-◌, ◌<◌, ◌≤◌, ◌==◌, nat_lt, Bool, true, false, Option, Some, None, List, [], ◌∷◌, ◌++◌, slice_set, refl, sym, ap, subst, ◌∙◌, append-nil, arith}
-use Rattle.std.proofs.lemmas.Bool.Decides.{nat_tests}
 use Rattle.steps.specs.Container.Find.{first_find, find_asks, find_want, find_keeps as keeps_of, find_takes, find_kept}
 use Rattle.steps.specs.Indices.Robust.Parts.{empty}
 use Rattle.steps.specs.Picks.{by_test}
@@ -83,7 +82,7 @@ module _ {T : Type 0} (code : Coding T) (law : IsCoding code) (owner : ℕ) wher
   begins_first v c m b idle alone any =
       subst (λ (d : Find T (Kept 128)). FindBegun code owner v v d m) (sym b.0)
       (container_find_first code law words_in kept_at put_in owner v m (ap (λ (x : Kept 128). room_of code.size (words_in x)) b.3 ∙
-          (fresh_room)) idle alone any b.1 b.2)
+      (fresh_room)) idle alone any b.1 b.2)
 
   -- no answer leads there
   abbrev IsLater : After (Find T (Kept 128)) ℕ → Type 0
@@ -233,7 +232,7 @@ module _ {T : Type 0} (code : Coding T) (law : IsCoding code) (owner : ℕ) wher
         subst (λ n. index < n) (capacity_from code base from settled) (subst (λ stage. FindIn code.size from.capacity stage) is under.standing.1),
         copied_one under.party index (value_of_room code words_in m) under.wrote
             (subst (λ z. CopiedAt under.party (came_from z) (value_of_room code words_in m) (finds.Asks index found) under.wrote)
-                (idle_from code base from settled)
+            (idle_from code base from settled)
             (subst (λ stage. CopiedAt under.party (came_from from.going) (value_of_room code words_in m) stage under.wrote) is under.tells)),
       )
 

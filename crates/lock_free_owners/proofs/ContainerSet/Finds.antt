@@ -1,6 +1,6 @@
 -- A find of a container between two turns: where it stands on the history, and what its closure was called with.
-use Rattle.std.proofs.Common.{◌≡◌, ℕ, ◌+◌, ◌^◌, ◌<◌, ◌≤◌, nat_lt, Bool, true, false, refl, sym, ap, subst, ◌∙◌, arith}
-use Rattle.steps.specs.Container.Find.{first_find, find_comes_to, find_takes, find_kept}
+use Rattle.std.proofs.Common.{◌≡◌, ℕ, ◌+◌, ◌^◌, ◌<◌, Bool, true, false, refl, sym, ap, subst, arith}
+use Rattle.steps.specs.Container.Find.{first_find, find_takes}
 use Rattle.steps.specs.declared.ask.After.{After}
 use Rattle.steps.specs.declared.ask.After.TheVariants.{GoOn, Done}
 use Rattle.steps.specs.declared.container.find.Find.{Find}
@@ -88,7 +88,7 @@ module _ {T F : Type 0} (code : Coding T) (step : F → T → ContainerHandle �
           record { at = heard_on code law owner base v c m index found is d said goes h.at; stands = stands; so_far = so }
       answered q said (Done n) goes stands found_all =
           whole known v n q (answer_left code law owner base v c m index found is h.at n said goes)
-              (answer_all code law owner base v c m index found is h.at n said goes) found_all
+          (answer_all code law owner base v c m index found is h.at n said goes) found_all
 
       by_answer : (q : F) (answer : CallbackProgression) → step p (value_of_room code words_in m) (visits.named index owner id) answer q
           → Further v (find_goes code owner c (says answer)) m q
@@ -117,22 +117,22 @@ module _ {T F : Type 0} (code : Coding T) (step : F → T → ContainerHandle �
         subst (λ (z : F). Further w a left z) (sym moves.0)
         (subst (λ r. Further w r left p) (sym moves.1.1)
         (by_step (finds.LoadsCell index found) is tt w left moves.1.0 (subst (λ r. Next (λ (z : View T). z.capacity) (FindAt code owner)
-            (FindEnds code owner) base r left w) moves.1.1 (turns base h.at))))
+        (FindEnds code owner) base r left w) moves.1.1 (turns base h.at))))
     turned (finds.LoadsCount index found) is w a left q turns moves =
         subst (λ (z : F). Further w a left z) (sym moves.0)
         (subst (λ r. Further w r left p) (sym moves.1.1)
         (by_step (finds.LoadsCount index found) is tt w left moves.1.0 (subst (λ r. Next (λ (z : View T). z.capacity) (FindAt code owner)
-            (FindEnds code owner) base r left w) moves.1.1 (turns base h.at))))
+        (FindEnds code owner) base r left w) moves.1.1 (turns base h.at))))
     turned (finds.LoadsWord index found count place) is w a left q turns moves =
         subst (λ (z : F). Further w a left z) (sym moves.0)
         (subst (λ r. Further w r left p) (sym moves.1.1)
         (by_step (finds.LoadsWord index found count place) is tt w left moves.1.0 (subst (λ r. Next (λ (z : View T). z.capacity) (FindAt code owner)
-            (FindEnds code owner) base r left w) moves.1.1 (turns base h.at))))
+        (FindEnds code owner) base r left w) moves.1.1 (turns base h.at))))
     turned (finds.ChecksCount index found count) is w a left q turns moves =
         subst (λ (z : F). Further w a left z) (sym moves.0)
         (subst (λ r. Further w r left p) (sym moves.1.1)
         (by_step (finds.ChecksCount index found count) is tt w left moves.1.0 (subst (λ r. Next (λ (z : View T). z.capacity) (FindAt code owner)
-            (FindEnds code owner) base r left w) moves.1.1 (turns base h.at))))
+        (FindEnds code owner) base r left w) moves.1.1 (turns base h.at))))
     turned (finds.Asks index found) is w a left q turns moves =
         subst (λ (z : View T). Further z a left q) (sym turns.0)
         (subst (λ (x : Kept 128). Further v a x q) (sym turns.1)

@@ -1,6 +1,6 @@
 -- A recovery of a container between two turns, as a call of the history.
-use Rattle.std.proofs.Common.{◌≡◌, ◌⊎◌, inl, inr, ℕ, ◌+◌, ◌<◌, ◌==◌, nat_lt, Bool, true, false, None, List, [], ◌∷◌, ◌++◌, slice_set, refl, sym, ap, subst, ◌∙◌, append_assoc, append-nil, arith}
-use Rattle.steps.specs.Container.Recover.{first_recover, goes_to, recover_asks, recover_want, recover_keeps as keeps_of, recover_comes_to, recover_takes, recover_after, recover_kept}
+use Rattle.std.proofs.Common.{◌≡◌, ◌⊎◌, inl, inr, ℕ, ◌+◌, ◌<◌, ◌==◌, nat_lt, Bool, true, false, None, List, [], ◌∷◌, ◌++◌, slice_set, refl, sym, ap, subst, ◌∙◌, append_assoc, arith}
+use Rattle.steps.specs.Container.Recover.{first_recover, goes_to, recover_asks, recover_want, recover_keeps as keeps_of, recover_takes, recover_kept}
 use Rattle.steps.specs.Indices.Robust.Parts.{empty}
 use Rattle.steps.specs.Picks.{by_test}
 use Rattle.steps.specs.declared.ask.After.{After}
@@ -30,7 +30,6 @@ use Rattle.container_laws.specs.Gone.{AsksBy}
 use Rattle.history.specs.declared.view.View.{View}
 use Rattle.history.specs.ContainerRecovery.{RecoverIn, HasCome, HasAsked, RecoveredAt}
 use Rattle.history.specs.ContainerRecovery as recovery
-use Rattle.history.specs.History.{IsHistory, IsBeginning}
 use Rattle.history.specs.Passes.{Goes}
 use Rattle.history.specs.Rooms.{room_of}
 use Rattle.history.specs.Settled.{IsResting, SettledFrom}
@@ -48,7 +47,7 @@ use Rattle.lock_free_owners.specs.Container.RecoverTold.{HasRecovered}
 use Rattle.lock_free_owners.specs.Container.RecoverTurns.{BeginsRecover, recovering, recover_goes, RecoverBegun, RecoverAt, RecoverEnds}
 use Rattle.lock_free_owners.specs.Container.Told.{Answered}
 use Rattle.lock_free_owners.proofs.ContainerSet.Idle.{rests}
-use Rattle.lock_free_owners.proofs.ContainerSet.Began.{idle_from, capacity_from, share_from, seen_is, from_since, ended_goes, ended_called, ended_answered, open_since}
+use Rattle.lock_free_owners.proofs.ContainerSet.Began.{idle_from, capacity_from, seen_is, from_since, ended_goes, ended_called, ended_answered, open_since}
 use Rattle.lock_free_owners.proofs.ContainerSet.Sound.{sound_history}
 use Rattle.lock_free_owners.proofs.RobustSet.Events.{find_own, lock_stays, not_locked, covers}
 
@@ -72,7 +71,7 @@ module _ {T : Type 0} (code : Coding T) (law : IsCoding code) (given : DeadOwner
   begins_first v c m b idle alone any =
       subst (λ (d : Recover T (Kept 128)). RecoverBegun code given v v d m) (sym b.0)
       (container_recover_first code law words_in kept_at put_in given v m (ap (λ (x : Kept 128). room_of code.size
-          (words_in x)) b.2 ∙ fresh_room) idle alone any b.1)
+      (words_in x)) b.2 ∙ fresh_room) idle alone any b.1)
 
   -- no answer leads there
   abbrev IsLater : After (Recover T (Kept 128)) ReleaseState → Type 0
@@ -182,7 +181,7 @@ module _ {T : Type 0} (code : Coding T) (law : IsCoding code) (given : DeadOwner
           let others : List (Event T) = from.seen ++ under.since.others in
           let wrote : HasCome p given index (HasAsked (value_there code words_in m)) under.wrote
           = subst (λ stage. RecoveredAt from.capacity p given stage (value_there code words_in m) under.wrote) is (under.tells
-              (idle_from code base from settled)) in
+          (idle_from code base from settled)) in
           let question : Event T = Asked p index given.owner in
           let part = find_own p under.since.during (wrote.before ++ Copied p index (value_there code words_in m) ∷ []) [] question
           (under.since.during_own ∙ (wrote.is ∙ sym (append_assoc wrote.before (Copied p index (value_there code words_in m) ∷ []) (question ∷ [])))) in

@@ -1,5 +1,5 @@
--- What is known between two turns of a recovery of a container, whatever the view with which it began, and what a step
--- makes of its closure.
+-- What is known between two turns of a recovery of a container, whatever the view with which it
+-- began, and what a step makes of its closure.
 use Rattle.std.specs.Prelude.{◌≡◌, ℕ, ◌<◌, Bool, if◌then◌else◌}
 use Rattle.steps.specs.Container.Recover.{first_recover, recover_after, recover_kept}
 use Rattle.steps.specs.Indices.Robust.Parts.{empty}

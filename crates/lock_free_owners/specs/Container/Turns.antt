@@ -35,12 +35,12 @@ IsBoard size s =
 module _ {T C E : Type 0} (code : Coding T) (begins : ℕ → C → Type 0)
     (call : Calling T C (Unit {0}) E) where
   abbrev pub CallAt : View T → View T → C → Unit {0} → Type 0
-  CallAt = AtRested code kinds.Container (λ capacity c m. begins capacity c) (At code kinds.Container call)
-      (Ends code kinds.Container call)
+  CallAt = AtRested code kinds.Container (λ capacity c m. begins capacity c)
+      (At code kinds.Container call) (Ends code kinds.Container call)
 
   abbrev pub CallEnds : View T → E → Unit {0} → View T → Type 0
-  CallEnds = EndsRested code kinds.Container (λ capacity c m. begins capacity c) (At code kinds.Container call)
-      (Ends code kinds.Container call)
+  CallEnds = EndsRested code kinds.Container (λ capacity c m. begins capacity c)
+      (At code kinds.Container call) (Ends code kinds.Container call)
 
 -- ---- where each begins
 

@@ -36,13 +36,11 @@ IsNamed capacity owner id h = ((h.container ≡ id) × (h.index < capacity)) × 
 
 module _ {T F : Type 0} where
   -- what a step asks of the closure, which is handed the value in the room
-  abbrev pub FindAsks : (F → T → ContainerHandle → Type 0) → ℕ → ℕ → finds.FindStage → T → F → Type 0
-  FindAsks pre owner id (finds.TheVariants.LoadsCell index found) value f = Unit {0}
-  FindAsks pre owner id (finds.TheVariants.LoadsCount index found) value f = Unit {0}
-  FindAsks pre owner id (finds.TheVariants.LoadsWord index found count at) value f = Unit {0}
-  FindAsks pre owner id (finds.TheVariants.ChecksCount index found count) value f = Unit {0}
+  abbrev pub FindAsks : (F → T → ContainerHandle → Type 0) → ℕ → ℕ → finds.FindStage → T → F
+      → Type 0
   FindAsks pre owner id (finds.TheVariants.Asks index found) value f =
       pre f value (named index owner id)
+  FindAsks pre owner id stage value f = Unit {0}
 
 module _ {T R F : Type 0} where
   -- it goes on as its table says, and leaves the closure
@@ -53,14 +51,7 @@ module _ {T R F : Type 0} where
   -- how the call goes on, and what becomes of the closure
   abbrev pub FindMoves : (F → T → ContainerHandle → CallbackProgression → F → Type 0) → ℕ → ℕ
       → Find T R → ℕ → finds.FindStage → T → F → After (Find T R) ℕ → F → Type 0
-  FindMoves step size id call owner (finds.TheVariants.LoadsCell index found) value f after g =
-      FindGoes size call owner f after g
-  FindMoves step size id call owner (finds.TheVariants.LoadsCount index found) value f after g =
-      FindGoes size call owner f after g
-  FindMoves step size id call owner (finds.TheVariants.LoadsWord index found count at) value f after g =
-      FindGoes size call owner f after g
-  FindMoves step size id call owner (finds.TheVariants.ChecksCount index found count) value f after g =
-      FindGoes size call owner f after g
   FindMoves step size id call owner (finds.TheVariants.Asks index found) value f after g =
       (a : CallbackProgression) × step f value (named index owner id) a g
       × (after ≡ find_after size call owner (says a))
+  FindMoves step size id call owner stage value f after g = FindGoes size call owner f after g

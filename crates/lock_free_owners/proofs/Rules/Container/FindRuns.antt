@@ -35,7 +35,7 @@ module _ {T R : Type 0} where
         (λ t. (same, (at.0, at.1, omega arith)))
     takes_stands (finds.TheVariants.LoadsWord index found count place) owner k at =
         by_test (StillStands size capacity) (nat_lt (place + 1) size) (GoOn (at_find c (finds.TheVariants.LoadsWord index found count (place + 1))))
-            (GoOn (at_find c (finds.TheVariants.ChecksCount index found count)))
+        (GoOn (at_find c (finds.TheVariants.ChecksCount index found count)))
         (λ t. (same, (at.0, at.1, (let l : place + 1 < size = grind (arith, nat_tests) in l))))
         (λ t. (same, (at.0, at.1)))
     takes_stands (finds.TheVariants.ChecksCount index found count) owner k at =

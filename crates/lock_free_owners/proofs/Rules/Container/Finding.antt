@@ -128,9 +128,11 @@ module _ {T F : Type 0} (step : F → T → ContainerHandle → CallbackProgress
 
     ascend_more : (low : ℕ) (value : T) (xs : List (Visit T)) → low < cap → VisitsAscend mine xs → Below low xs
         → VisitsAscend mine (xs ++ at_index low value ∷ [])
-    ascend_more low value xs within h below =
-        (all_pairs_push (λ (x y : Visit T). x.handle.index < y.handle.index) xs (at_index low value) h.0 below, All-push (λ
-            (x : Visit T). mine x.handle) xs (at_index low value) h.1 (own low within))
+    ascend_more low value xs within h below = (
+      all_pairs_push (λ (x y : Visit T). x.handle.index < y.handle.index) xs (at_index low value) h.0 below,
+      All-push (λ
+          (x : Visit T). mine x.handle) xs (at_index low value) h.1 (own low within),
+    )
 
     -- an index whose value was handed over
     came_more : (low n : ℕ) (value : T) (p q : F) → low < cap → step p value (named low owner id) Continue q → Came low n p → Came (low + 1) (n + 1) q
@@ -216,7 +218,7 @@ module _ {T F : Type 0} (step : F → T → ContainerHandle → CallbackProgress
             (λ t. so)
         quietly small (finds.TheVariants.LoadsWord index found count place) still at p k so =
             by_test (λ a. Onward a p) (nat_lt (place + 1) size) (GoOn (at_find c (finds.TheVariants.LoadsWord index found count (place + 1)))) (GoOn
-                (at_find c (finds.TheVariants.ChecksCount index found count)))
+            (at_find c (finds.TheVariants.ChecksCount index found count)))
             (λ t. so)
             (λ t. so)
         quietly small (finds.TheVariants.ChecksCount index found count) still at p k so =

@@ -100,8 +100,11 @@ module _ {T F : Type 0} (step : F → T → Bool → F → Type 0) (cap : ℕ) (
       record {
         asked = h.asked ++ a ∷ [];
         questions = FoldsTo-push (asks step) f h.asked p a q h.questions hit;
-        ascend = (all_pairs_push (λ (x y : Answered T). x.index < y.index) h.asked a h.ascend.0 h.below, All-push (λ
-            (x : Answered T). x.index < cap) h.asked a h.ascend.1 within);
+        ascend = (
+          all_pairs_push (λ (x y : Answered T). x.index < y.index) h.asked a h.ascend.0 h.below,
+          All-push (λ
+              (x : Answered T). x.index < cap) h.asked a h.ascend.1 within,
+        );
         below = All-push (λ (x : Answered T). x.index < index + 1) h.asked a (All-weaker (λ (x : Answered T). x.index < index) (λ
             (x : Answered T). x.index < index + 1) (λ x l. omega arith) h.asked h.below) (omega arith);
         few = omega arith;
@@ -145,7 +148,7 @@ module _ {T F : Type 0} (step : F → T → Bool → F → Type 0) (cap : ℕ) (
     sees_count : (index count : ℕ) (p : F) → Asked index p → Onward (recover_sees c index count) p
     sees_count index count p h =
         by_test (λ stage. Onward (goes_to c stage) p) (is_even count) (recovers.TheVariants.EmptiesCell index count)
-            (recovers.TheVariants.LoadsWord index count 0)
+        (recovers.TheVariants.LoadsWord index count 0)
         (λ t. widen index (index + 1) p (omega arith) h)
         (λ t. h)
 
@@ -190,18 +193,18 @@ module _ {T F : Type 0} (step : F → T → Bool → F → Type 0) (cap : ℕ) (
       by_stage (recovers.TheVariants.LoadsWord index count place) is at free p q a so m =
           quietly (recovers.TheVariants.LoadsWord index count place) is p q a
           (λ k. by_test (λ z. Onward z p) (nat_lt (place + 1) size) (goes_to c (recovers.TheVariants.LoadsWord index count (place + 1))) (goes_to c
-              (recovers.TheVariants.ChecksCount index count)) (λ t. so) (λ t. so)) m
+          (recovers.TheVariants.ChecksCount index count)) (λ t. so) (λ t. so)) m
       by_stage (recovers.TheVariants.ChecksCount index count) is at free p q a so m =
           quietly (recovers.TheVariants.ChecksCount index count) is p q a
           (λ k. by_eq (λ z. Onward z p) k count (goes_to c (recovers.TheVariants.Asks index count)) (recover_sees c index k) (λ e. so)
-              (λ ne. sees_count index k p so)) m
+          (λ ne. sees_count index k p so)) m
       by_stage (recovers.TheVariants.Asks index count) is at free p q a so m =
           subst (λ z. Onward z q) (ap (λ z. recover_takes size c z given (if m.0 then 1 else 0)) (sym is) ∙ sym m.2)
-              (answered index count value m.0 p q free at.0 m.1 so)
+          (answered index count value m.0 p q free at.0 m.1 so)
       by_stage (recovers.TheVariants.EmptiesCell index count) is at free p q a so m =
           quietly (recovers.TheVariants.EmptiesCell index count) is p q a
           (λ k. by_eq (λ z. Onward z p) k given.owner (if is_even count then recover_raises c index else goes_to c
-              (recovers.TheVariants.Hides index count)) (recover_comes_to c (index + 1))
+          (recovers.TheVariants.Hides index count)) (recover_comes_to c (index + 1))
           (λ e. by_test (λ z. Onward z p) (is_even count) (recover_raises c index) (goes_to c (recovers.TheVariants.Hides index count)) (λ t. so) (λ t. so))
           (λ ne. comes (index + 1) p (omega arith) so)) m
       by_stage (recovers.TheVariants.Hides index count) is at free p q a so m =

@@ -125,6 +125,10 @@ impl<T: Words> Container<T> {
     /// it was copied, counts too, but `visit` is not called there. That it comes to each index that `owner` has through
     /// the whole call, up to the one on which it is told to stop, and that a copy is whole, is tested.
     ///
+    /// It is a call of the history, which says what it copied below the bound (that `visit` was called with just these
+    /// no clause says). A find that an answer ends, a `Stop` or the one at the last index, rests: its end is an event of
+    /// the history once the pass takes its next step, before anything else that the pass does.
+    ///
     /// It counts also the indices whose add met the lock, since they keep their owner. Each value may have been removed
     /// by the time that `visit` is called with it. Where a remove stopped before it hid the value, and the index was
     /// given to `owner`, it is the value of an earlier owner. At most 3 + `T::WORDS` atomic steps for each index. It
@@ -146,7 +150,13 @@ impl<T: Words> Container<T> {
             × HasFound (λ p x h a q. F.step p x h a q) (capacity_of self.now)
             (IsHandleFor self.now owner) visit result bound last }
     {
-        let (found, _) = find_all(&mut pass.token.seated, pass.token.capacity, owner, self.id, visit);
+        let (found, _) = find_all(
+            &mut pass.token.seated,
+            pass.token.capacity,
+            owner,
+            self.id,
+            visit,
+        );
         found
     }
 }

@@ -1,4 +1,4 @@
-use Rattle.std.proofs.Common.{◌≡◌, ◌<◌, rules, sym, ap, subst, ◌∙◌}
+use Rattle.std.proofs.Common.{◌<◌, rules, sym, ap, subst}
 use Rattle.steps.specs.Container.Find.{first_find}
 use Rattle.model.specs.Coding.{Coding, IsCoding, coding_of}
 use Rattle.model.specs.Families.Queues.Calls.{fresh_cell}

@@ -1,4 +1,4 @@
-use Rattle.std.proofs.Common.{◌≡◌, rules, sym, ap, subst}
+use Rattle.std.proofs.Common.{rules, sym, ap, subst}
 use Rattle.steps.specs.Container.Recover.{first_recover}
 use Rattle.steps.specs.declared.container.recover.DeadOwner.{DeadOwner}
 use Rattle.model.specs.Coding.{Coding, IsCoding, coding_of}
@@ -23,7 +23,7 @@ free_all-state-requires-clause-at g c =
     let v = seen mine.seated in
     let dead : DeadOwner = record { owner = c.args.owner; mode = c.args.mode } in
     subst (λ n. RecoverAt code dead v v (first_recover n) fresh_cell) mine.known (recover_begins code law dead v
-        (search rules) mine.idle mine.alone mine.some.0)
+    (search rules) mine.idle mine.alone mine.some.0)
 
 pub free_all-state-requires-clause-questions : goal.free_all-state-requires-clause-questions
 free_all-state-requires-clause-questions g c free =

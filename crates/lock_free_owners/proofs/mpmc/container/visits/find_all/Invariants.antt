@@ -1,4 +1,3 @@
-use Rattle.std.proofs.Common.{◌≡◌}
 use Rattle.steps.specs.Container.Find.{find_left}
 use Rattle.model.specs.Coding.{coding_of}
 use Rattle.lock_free_sp.specs.Seats.{seen, IsSame}
@@ -10,7 +9,7 @@ abbrev pub invariant-loop-next : goal.invariant-loop-next
 invariant-loop-next g l =
     IsSame l.fn.seat l.seat × IsBoard g.T.Words.WORDS l.seat
     × Searching (coding_of g.T.Words.WORDS g.T.Words.words_of g.T.Words.value_of)
-        (λ p x h a q. goal.F-step g p x h a q) l.fn.capacity l.fn.owner l.fn.id (seen l.fn.seat)
+    (λ p x h a q. goal.F-step g p x h a q) l.fn.capacity l.fn.owner l.fn.id (seen l.fn.seat)
     l.fn.visit (seen l.seat) l.call l.room l.visit
 
 abbrev pub decreases-loop-next : goal.decreases-loop-next
