@@ -1,0 +1,14 @@
+//! A bus: records go from one publisher to many subscribers, between threads, and nobody copies them.
+#![tactic(auto)]
+
+pub mod bus;
+pub mod error;
+mod holders;
+mod inlet;
+mod lane;
+mod pool;
+pub mod publisher;
+mod records;
+pub mod subscriber;
+#[cfg(test)]
+mod tests;
