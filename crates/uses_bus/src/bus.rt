@@ -2,15 +2,21 @@
 ghost use Rattle.std.specs.Prelude.{◌≡◌};
 ghost use Rattle.lock_free.specs.UniqueIndexSet.{made, IsPassOf};
 ghost use Rattle.lock_free.specs.Unique.Held.{HoldsNothing};
+ghost use Rattle.lock_free.specs.Container.Names.{IsPassOf as IsMemberOf};
 
 use crate::error::BusError;
 use crate::holders::{Holder, MOST_SUBSCRIBERS};
 use crate::lane::Lane;
+use crate::outlet::Outlet;
 use crate::pool::Pool;
 use crate::publisher::Publisher;
 use crate::records::Records;
+use crate::roll::Roll;
+use lock_free::mpmc::container;
+use lock_free::mpmc::container::Container;
 use lock_free::mpmc::unique_index_set::{Pass, UniqueIndexSet};
 use std::alloc::Global;
+use std::sync::Wait;
 
 /// How large a bus is.
 #[derive(Clone, Copy, Debug, PartialEq, Eq)]
@@ -31,6 +37,9 @@ pub struct Bus {
     set: UniqueIndexSet,
     records: Records,
     lanes: Vec<Lane>,
+    members: Container<u64>,
+    member: container::Pass<u64>,
+    ghost member_of: { IsMemberOf members member },
 }
 
 /// A lane for each subscriber.
@@ -45,6 +54,23 @@ fn make_lanes(alloc: Global, sizes: Sizes) -> Result<Vec<Lane>, BusError> {
     Ok(lanes)
 }
 
+/// The publisher's ends of the lanes.
+fn make_outlets(alloc: Global, lanes: &mut [Lane]) -> Result<Vec<Outlet<'_>>, BusError> {
+    let mut outlets = Vec::new(alloc);
+    for (place, lane) in lanes.iter_mut().enumerate() {
+        let Some(holder) = Holder::subscriber(place) else {
+            return Err(BusError::TooManySubscribers);
+        };
+        let Some(outlet) = lane.outlet(holder) else {
+            return Err(BusError::NoPass);
+        };
+        if outlets.push(outlet).is_err() {
+            return Err(BusError::NoMemory);
+        }
+    }
+    Ok(outlets)
+}
+
 impl Bus {
     /// A bus of which each slot is free, and the pass of its publisher.
     pub fn new(alloc: Global, sizes: Sizes) -> Result<(Bus, Pass), BusError> {
@@ -53,12 +79,15 @@ impl Bus {
         }
         let (set, pass) = UniqueIndexSet::new(alloc, sizes.slots)?;
         let lanes = make_lanes(alloc, sizes)?;
+        let (members, member) = Container::new(alloc, sizes.subscribers, 0)?;
         match Records::new(alloc, sizes.slots, sizes.words) {
             Ok(records) => Ok((
                 Bus {
                     set,
                     records,
                     lanes,
+                    members,
+                    member,
                 },
                 pass,
             )),
@@ -66,28 +95,28 @@ impl Bus {
         }
     }
 
-    /// The publisher.
-    pub fn publisher(&mut self, alloc: Global, pass: Pass) -> Result<Publisher<'_>, BusError> {
+    /// The publisher, with the pass that the bus was made with.
+    pub fn publisher(
+        &mut self,
+        rt: &impl Wait,
+        alloc: Global,
+        pass: Pass,
+    ) -> Result<Publisher<'_>, BusError> {
         let Bus {
             set,
             records,
             lanes,
+            members,
+            member,
         } = self;
+        let Some(member) = member.split() else {
+            return Err(BusError::NoPass);
+        };
+        let Some(roll) = Roll::new(rt, members.handle(member)) else {
+            return Err(BusError::NoMemory);
+        };
         let pool = Pool::new(alloc, set, pass)?;
-        let mut outlets = Vec::new(alloc);
-        let mut place = 0;
-        for lane in lanes.iter_mut() {
-            let Some(holder) = Holder::subscriber(place) else {
-                return Err(BusError::TooManySubscribers);
-            };
-            let Some(outlet) = lane.outlet(holder) else {
-                return Err(BusError::NoPass);
-            };
-            if outlets.push(outlet).is_err() {
-                return Err(BusError::NoMemory);
-            }
-            place += 1;
-        }
-        Ok(Publisher::of(pool, records, outlets))
+        let outlets = make_outlets(alloc, lanes)?;
+        Ok(Publisher::of(pool, records, outlets, roll))
     }
 }

@@ -4,11 +4,13 @@
 pub mod bus;
 pub mod error;
 mod holders;
-mod inlet;
 mod lane;
+pub mod news;
+mod outlet;
 mod pool;
 pub mod publisher;
 mod records;
+mod roll;
 pub mod subscriber;
 #[cfg(test)]
 mod tests;

@@ -1,9 +1,11 @@
 //! The end of a bus that writes records and publishes them.
 use crate::holders::Holder;
-use crate::lane::Outlet;
+use crate::outlet::Outlet;
 use crate::pool::Pool;
 use crate::records::Records;
-use crate::subscriber::Subscriber;
+use crate::roll::Roll;
+use crate::subscriber::Seat;
+use lock_free::mpmc::container::OwnerId;
 use lock_free::mpmc::unique_index_set::Pass;
 use lock_free::mpmc::unique_index_set_enums::UniqueIndexSetAcquireFailure;
 use std::sync::Wait;
@@ -21,12 +23,13 @@ impl Loan {
     }
 }
 
-/// The publisher, of which a bus has one. It knows who holds each slot.
+/// The publisher, of which a bus has one at a time. It knows who holds each slot.
 #[derive(Drop)]
 pub struct Publisher<'a> {
     pool: Pool<'a>,
     records: &'a Records,
     outlets: Vec<Outlet<'a>>,
+    roll: Roll<'a>,
 }
 
 impl<'a> Publisher<'a> {
@@ -34,22 +37,45 @@ impl<'a> Publisher<'a> {
         pool: Pool<'a>,
         records: &'a Records,
         outlets: Vec<Outlet<'a>>,
+        roll: Roll<'a>,
     ) -> Publisher<'a> {
         Publisher {
             pool,
             records,
             outlets,
+            roll,
         }
     }
 
-    /// Another subscriber, who gets what is published from now on. None where no place is free.
-    pub fn subscribe(&mut self) -> Option<Subscriber<'a>> {
-        for outlet in self.outlets.iter_mut() {
-            if let Some(inlet) = outlet.inlet() {
-                return Some(Subscriber::of(inlet, self.records));
+    /// A seat for a subscriber, who may take it in another thread. None where no place is free, or no further pass can be
+    /// counted.
+    pub fn seat(&mut self) -> Option<Seat<'a>> {
+        let member = self.roll.member()?;
+        for place in 0..self.outlets.len() {
+            if let Some(inlet) = self.outlets[place].inlet() {
+                return Some(Seat::of(inlet, self.records, member, place as u64));
             }
         }
         None
+    }
+
+    /// Looks who takes part. Who does gets what is published from now on; and where one has left, or a recovery has taken
+    /// him out, his place is free again, and all that he had comes back.
+    pub fn update(&mut self, rt: &impl Wait) {
+        let has_changed = self.roll.update(rt);
+        for place in 0..self.outlets.len() {
+            if !has_changed && !self.outlets[place].is_closed() {
+                continue;
+            }
+            let takes_part = self.roll.has(place as u64);
+            self.outlets[place].settle(rt, &mut self.pool, takes_part);
+        }
+    }
+
+    /// Takes an owner out who is dead, and then as `update`.
+    pub fn recover(&mut self, rt: &impl Wait, dead: OwnerId) {
+        self.roll.recover(rt, dead);
+        self.update(rt);
     }
 
     /// A free slot to write a record in. Refused is it where each slot is out.
@@ -63,12 +89,12 @@ impl<'a> Publisher<'a> {
         self.records.write(loan.slot, at, word)
     }
 
-    /// Publishes a record to each subscriber: to how many. The oldest record of one who is too slow comes back.
+    /// Publishes a record to each who takes part: to how many. The oldest record of one who is too slow comes back.
     pub fn publish(&mut self, loan: Loan) -> usize {
         let Loan { slot } = loan;
         let mut number = 0;
-        for outlet in self.outlets.iter_mut() {
-            if outlet.send(&mut self.pool, slot) {
+        for place in 0..self.outlets.len() {
+            if self.outlets[place].send(&mut self.pool, slot) {
                 number += 1;
             }
         }
@@ -82,13 +108,11 @@ impl<'a> Publisher<'a> {
         self.pool.put_back(slot as u64, Holder::publisher());
     }
 
-    /// Takes back what subscribers have given back: how many.
-    pub fn collect(&mut self) -> usize {
-        let mut number: usize = 0;
-        for outlet in self.outlets.iter_mut() {
-            number = number.saturating_add(outlet.take_back(&mut self.pool));
+    /// Takes back what subscribers have given back.
+    pub fn collect(&mut self) {
+        for place in 0..self.outlets.len() {
+            self.outlets[place].take_back(&mut self.pool);
         }
-        number
     }
 
     /// How many slots are not free.
@@ -102,6 +126,7 @@ impl<'a> Publisher<'a> {
             pool,
             records: _,
             outlets: _,
+            roll: _,
         } = self;
         pool.into_pass()
     }

@@ -1,7 +1,67 @@
 //! The end of a bus that receives records and reads them.
-use crate::inlet::Inlet;
+use crate::lane::Inlet;
 use crate::records::Records;
+use lock_free::mpmc::container::{
+    ContainerAddFailure, ContainerHandle, ContainerRemoveError, Handle, OwnerId,
+};
+use lock_free::mpmc::unique_index_set_enums::ReleaseMode;
 use std::sync::Wait;
+
+/// A place at a bus, which a subscriber takes.
+#[derive(Drop)]
+pub struct Seat<'a> {
+    inlet: Inlet<'a>,
+    records: &'a Records,
+    members: Handle<'a, u64>,
+    place: u64,
+}
+
+impl<'a> Seat<'a> {
+    pub(crate) fn of(
+        inlet: Inlet<'a>,
+        records: &'a Records,
+        members: Handle<'a, u64>,
+        place: u64,
+    ) -> Seat<'a> {
+        Seat {
+            inlet,
+            records,
+            members,
+            place,
+        }
+    }
+
+    /// Takes part as this owner, whom no other has. Else the seat comes back, with why.
+    pub fn join(
+        self,
+        rt: &impl Wait,
+        owner: OwnerId,
+    ) -> Result<Subscriber<'a>, (ContainerAddFailure, Seat<'a>)> {
+        let Seat {
+            inlet,
+            records,
+            mut members,
+            place,
+        } = self;
+        match members.add(rt, place, owner) {
+            Ok(record) => Ok(Subscriber {
+                inlet,
+                records,
+                members,
+                record,
+            }),
+            Err(failure) => Err((
+                failure,
+                Seat {
+                    inlet,
+                    records,
+                    members,
+                    place,
+                },
+            )),
+        }
+    }
+}
 
 /// A slot whose record a subscriber reads, until it gives it back.
 #[derive(Debug, Drop)]
@@ -16,18 +76,16 @@ impl Sample {
     }
 }
 
-/// A subscriber. Where it is dropped, what it had stays out until the publisher takes it back.
+/// A subscriber. Where it is dropped it is dead: what it had stays out until it is recovered.
 #[derive(Drop)]
 pub struct Subscriber<'a> {
     inlet: Inlet<'a>,
     records: &'a Records,
+    members: Handle<'a, u64>,
+    record: ContainerHandle,
 }
 
 impl<'a> Subscriber<'a> {
-    pub(crate) fn of(inlet: Inlet<'a>, records: &'a Records) -> Subscriber<'a> {
-        Subscriber { inlet, records }
-    }
-
     /// The oldest record that waits. None where none does.
     pub fn receive(&mut self, rt: &impl Wait) -> Option<Sample> {
         let number = self.inlet.receives.pop(rt)?;
@@ -45,9 +103,21 @@ impl<'a> Subscriber<'a> {
         self.records.read(sample.slot, at)
     }
 
-    /// Gives a record back.
+    /// Gives a record back: true, since there is room for each slot.
     pub fn give_back(&mut self, sample: Sample) -> bool {
         let Sample { slot } = sample;
         self.inlet.returns.push(slot as u64)
+    }
+
+    /// Takes part no more. What it had comes back once the publisher looks who takes part.
+    pub fn leave(self, rt: &impl Wait) -> Result<(), ContainerRemoveError> {
+        let Subscriber {
+            inlet: _,
+            records: _,
+            mut members,
+            record,
+        } = self;
+        members.remove(rt, record, ReleaseMode::Default)?;
+        Ok(())
     }
 }

@@ -1,0 +1,132 @@
+//! The publisher's end of a lane.
+use crate::holders::Holder;
+use crate::lane::Inlet;
+use crate::pool::Pool;
+use lock_free::spsc::{index_queue, safely_overflowing_index_queue as overflow};
+use std::sync::Wait;
+
+/// What the publisher knows of the subscriber of a lane.
+#[derive(Clone, Copy, Debug, PartialEq, Eq)]
+pub enum Tenancy {
+    /// Nobody has the other end.
+    Free,
+    /// Somebody was given the other end, and has not been seen to take part, or takes part no more.
+    Closed,
+    /// Somebody takes part.
+    Open,
+}
+
+/// The publisher's end of a lane, with handles for those who get the other end.
+#[derive(Drop)]
+pub struct Outlet<'a> {
+    holder: Holder,
+    tenancy: Tenancy,
+    sends: overflow::Producer<'a>,
+    takes: index_queue::Consumer<'a>,
+    submission: overflow::Handle<'a>,
+    completion: index_queue::Handle<'a>,
+}
+
+impl<'a> Outlet<'a> {
+    /// The end of a lane of these queues. None where another has it, or no further pass can be counted.
+    pub fn of(
+        holder: Holder,
+        mut submission: overflow::Handle<'a>,
+        mut completion: index_queue::Handle<'a>,
+    ) -> Option<Outlet<'a>> {
+        let sends = submission.split()?.acquire_producer().ok()?;
+        let takes = completion.split()?.acquire_consumer().ok()?;
+        Some(Outlet {
+            holder,
+            tenancy: Tenancy::Free,
+            sends,
+            takes,
+            submission,
+            completion,
+        })
+    }
+
+    /// The other end. None where somebody was given it, or no further pass can be counted.
+    pub fn inlet(&mut self) -> Option<Inlet<'a>> {
+        match self.tenancy {
+            Tenancy::Free => {}
+            Tenancy::Closed => return None,
+            Tenancy::Open => return None,
+        }
+        let receives = self.submission.split()?.acquire_consumer().ok()?;
+        let returns = self.completion.split()?.acquire_producer().ok()?;
+        self.tenancy = Tenancy::Closed;
+        Some(Inlet { receives, returns })
+    }
+
+    /// Sends a slot that somebody holds, which the subscriber holds from now on; where his queue is full he loses his
+    /// oldest. Whether he was sent it: one who takes part is.
+    pub fn send(&mut self, pool: &mut Pool<'_>, slot: u32) -> bool {
+        if self.tenancy != Tenancy::Open || !pool.lend(slot, self.holder) {
+            return false;
+        }
+        if let Some(oldest) = self.sends.push(slot as u64) {
+            pool.put_back(oldest, self.holder);
+        }
+        true
+    }
+
+    /// Takes back what the subscriber has given back: how many slots.
+    pub fn take_back(&mut self, pool: &mut Pool<'_>) -> usize {
+        let mut number = 0;
+        for _ in 0..pool.slots() {
+            let Some(back) = self.takes.pop() else {
+                break;
+            };
+            if pool.put_back(back, self.holder) {
+                number += 1;
+            }
+        }
+        number
+    }
+
+    /// Whether somebody has the other end who was not seen to take part.
+    pub fn is_closed(&self) -> bool {
+        self.tenancy == Tenancy::Closed
+    }
+
+    /// Sends from now on to one who takes part, and no more to one who does not; what he had comes back once he has not
+    /// even his end of the lane.
+    pub fn settle(&mut self, rt: &impl Wait, pool: &mut Pool<'_>, takes_part: bool) {
+        match self.tenancy {
+            Tenancy::Free => return,
+            Tenancy::Closed => {}
+            Tenancy::Open => {}
+        }
+        if takes_part {
+            self.tenancy = Tenancy::Open;
+        } else {
+            self.tenancy = Tenancy::Closed;
+            self.drain(rt, pool);
+        }
+    }
+
+    /// Takes back what waits for one who is gone, what he has given back, and what he had in hand: the lane is free for
+    /// another. Where he still has his end nothing changes.
+    fn drain(&mut self, rt: &impl Wait, pool: &mut Pool<'_>) {
+        let Some(handle) = self.submission.split() else {
+            return;
+        };
+        let Ok(mut receives) = handle.acquire_consumer() else {
+            return;
+        };
+        // no push is under way, so at most the capacity waits
+        for _ in 0..receives.capacity() {
+            if receives.pop(rt).is_none() {
+                break;
+            }
+        }
+        for _ in 0..pool.slots() {
+            if self.takes.pop().is_none() {
+                break;
+            }
+        }
+        pool.put_all_back(self.holder);
+        self.tenancy = Tenancy::Free;
+    }
+}
