@@ -1,8 +1,13 @@
 //! What the publisher and the subscribers of a bus share.
-ghost use Rattle.std.specs.Prelude.{◌≡◌};
-ghost use Rattle.lock_free.specs.UniqueIndexSet.{made, IsPassOf};
+ghost use Rattle.std.specs.Prelude.{◌≡◌, ◌-◌, ◌^◌, ◌<◌, None, IfOk, OnOk};
+ghost use Rattle.lock_free.specs.Container.Names as members;
+ghost use Rattle.lock_free.specs.Enums.{capacity_refusal};
+ghost use Rattle.lock_free.specs.Shares.{all_shares};
 ghost use Rattle.lock_free.specs.Unique.Held.{HoldsNothing};
-ghost use Rattle.lock_free.specs.Container.Names.{IsPassOf as IsMemberOf};
+ghost use Rattle.lock_free.specs.UniqueIndexSet.{capacity_of, made, set_of, share};
+ghost use Rattle.uses_bus.specs.Books.{AllFree};
+ghost use Rattle.uses_bus.specs.Ends as ends;
+ghost use Rattle.uses_bus.specs.Records as records;
 
 use crate::error::BusError;
 use crate::holders::{Holder, MOST_SUBSCRIBERS};
@@ -39,11 +44,15 @@ pub struct Bus {
     lanes: Vec<Lane>,
     members: Container<u64>,
     member: container::Pass<u64>,
-    ghost member_of: { IsMemberOf members member },
+    ghost of: { members.IsPassOf members member },
+    ghost sized: { records.slots_of records ≡ capacity_of set },
 }
 
 /// A lane for each subscriber.
-fn make_lanes(alloc: Global, sizes: Sizes) -> Result<Vec<Lane>, BusError> {
+fn make_lanes(alloc: Global, sizes: Sizes) -> Result<Vec<Lane>, BusError>
+    ensures { OnOk result (0 < sizes.subscribers
+        → capacity_refusal 0 (2 ^ 32 - 1) sizes.queue ≡ None) }
+{
     let mut lanes = Vec::new(alloc);
     for _ in 0..sizes.subscribers {
         let lane = Lane::new(alloc, sizes.slots, sizes.queue)?;
@@ -72,8 +81,19 @@ fn make_outlets(alloc: Global, lanes: &mut [Lane]) -> Result<Vec<Outlet<'_>>, Bu
 }
 
 impl Bus {
-    /// A bus of which each slot is free, and the pass of its publisher.
-    pub fn new(alloc: Global, sizes: Sizes) -> Result<(Bus, Pass), BusError> {
+    ghost use Rattle.uses_bus.specs.Bus.{slots_of, words_of, IsAdmitted, IsPassOf};
+
+    /// A bus of which each slot is free, and the pass of its publisher, which has the whole share of the slots.
+    ///
+    /// Refused are more than 63 subscribers (`TooManySubscribers`), what a part refuses (`Part`), and memory.
+    pub fn new(alloc: Global, sizes: Sizes) -> Result<(Bus, Pass), BusError>
+        ensures pass { IfOk result (λ r. IsPassOf r.0 r.1) }
+        ensures nothing { IfOk result (λ r. HoldsNothing (made r.1)) }
+        ensures share { IfOk result (λ r. share r.1 ≡ all_shares) }
+        ensures slots { IfOk result (λ r. slots_of r.0 ≡ sizes.slots) }
+        ensures words { IfOk result (λ r. words_of r.0 ≡ sizes.words) }
+        ensures admitted { OnOk result (IsAdmitted sizes) }
+    {
         if sizes.subscribers > MOST_SUBSCRIBERS {
             return Err(BusError::TooManySubscribers);
         }
@@ -101,7 +121,15 @@ impl Bus {
         rt: &impl Wait,
         alloc: Global,
         pass: Pass,
-    ) -> Result<Publisher<'_>, BusError> {
+    ) -> Result<Publisher<'_>, BusError>
+        requires pass { IsPassOf self.old pass }
+        requires nothing { HoldsNothing (made pass) }
+        ensures set { IfOk result (λ p. ends.set_in p ≡ set_of pass) }
+        ensures share { IfOk result (λ p. ends.share_in p ≡ share pass) }
+        ensures slots { IfOk result (λ p. ends.slots_of p ≡ slots_of self.old) }
+        ensures words { IfOk result (λ p. ends.words_of p ≡ words_of self.old) }
+        ensures free { IfOk result (λ p. AllFree (ends.table_of p)) }
+    {
         let Bus {
             set,
             records,

@@ -1,6 +1,7 @@
 //! The way between a publisher and one subscriber: slots go out by an overflowing queue, and come back by an index queue
 //! that has room for all of them.
-ghost use Rattle.lock_free_queues.specs.Queues.Rings.{IsPassOf};
+ghost use Rattle.std.specs.Prelude.{◌≡◌, IfSome};
+ghost use Rattle.lock_free.specs.Queues.Rings.{IsPassOf};
 
 use crate::holders::Holder;
 use crate::outlet::Outlet;
@@ -22,6 +23,8 @@ pub struct Lane {
 }
 
 impl Lane {
+    ghost use Rattle.uses_bus.specs.Ends.{holder_of};
+
     /// A lane for so many slots, of which so many wait at most.
     pub fn new(
         alloc: Global,
@@ -40,16 +43,18 @@ impl Lane {
 
     /// The publisher's end, for a subscriber who holds slots by this name. None where another has that end, or no further
     /// pass can be counted.
-    pub fn outlet(&mut self, holder: Holder) -> Option<Outlet<'_>> {
+    pub fn outlet(&mut self, holder: Holder) -> Option<Outlet<'_>>
+        ensures { IfSome result (λ o. holder_of o ≡ holder) }
+    {
         let Lane {
             submission,
             sending,
             completion,
             returning,
         } = self;
-        let sends = submission.handle(sending.split()?);
-        let takes = completion.handle(returning.split()?);
-        Outlet::of(holder, sends, takes)
+        let sends = sending.split()?;
+        let takes = returning.split()?;
+        Outlet::of(holder, submission.handle(sends), completion.handle(takes))
     }
 }
 

@@ -1,4 +1,8 @@
 //! The publisher's end of a lane.
+ghost use Rattle.std.specs.Prelude.{◌≡◌, ◌↔◌, IsTrue, IfSome};
+ghost use Rattle.uses_bus.specs.Books.{HasNone, KeepsOthers};
+ghost use Rattle.uses_bus.specs.Pools.{table_of, IsSame};
+
 use crate::holders::Holder;
 use crate::lane::Inlet;
 use crate::pool::Pool;
@@ -28,12 +32,16 @@ pub struct Outlet<'a> {
 }
 
 impl<'a> Outlet<'a> {
+    ghost use Rattle.uses_bus.specs.Ends.{holder_of};
+
     /// The end of a lane of these queues. None where another has it, or no further pass can be counted.
     pub fn of(
         holder: Holder,
         mut submission: overflow::Handle<'a>,
         mut completion: index_queue::Handle<'a>,
-    ) -> Option<Outlet<'a>> {
+    ) -> Option<Outlet<'a>>
+        ensures { IfSome result (λ o. holder_of o ≡ holder) }
+    {
         let sends = submission.split()?.acquire_producer().ok()?;
         let takes = completion.split()?.acquire_consumer().ok()?;
         Some(Outlet {
@@ -47,7 +55,9 @@ impl<'a> Outlet<'a> {
     }
 
     /// The other end. None where somebody was given it, or no further pass can be counted.
-    pub fn inlet(&mut self) -> Option<Inlet<'a>> {
+    pub fn inlet(&mut self) -> Option<Inlet<'a>>
+        ensures { holder_of self.new ≡ holder_of self.old }
+    {
         match self.tenancy {
             Tenancy::Free => {}
             Tenancy::Closed => return None,
@@ -61,7 +71,11 @@ impl<'a> Outlet<'a> {
 
     /// Sends a slot that somebody holds, which the subscriber holds from now on; where his queue is full he loses his
     /// oldest. Whether he was sent it: one who takes part is.
-    pub fn send(&mut self, pool: &mut Pool<'_>, slot: u32) -> bool {
+    pub fn send(&mut self, pool: &mut Pool<'_>, slot: u32) -> bool
+        ensures holder { holder_of self.new ≡ holder_of self.old }
+        ensures others { KeepsOthers (holder_of self.old) (table_of pool.old) (table_of pool.new) }
+        ensures pool { IsSame pool.old pool.new }
+    {
         if self.tenancy != Tenancy::Open || !pool.lend(slot, self.holder) {
             return false;
         }
@@ -71,18 +85,18 @@ impl<'a> Outlet<'a> {
         true
     }
 
-    /// Takes back what the subscriber has given back: how many slots.
-    pub fn take_back(&mut self, pool: &mut Pool<'_>) -> usize {
-        let mut number = 0;
+    /// Takes back what the subscriber has given back.
+    pub fn take_back(&mut self, pool: &mut Pool<'_>)
+        ensures holder { holder_of self.new ≡ holder_of self.old }
+        ensures others { KeepsOthers (holder_of self.old) (table_of pool.old) (table_of pool.new) }
+        ensures pool { IsSame pool.old pool.new }
+    {
         for _ in 0..pool.slots() {
             let Some(back) = self.takes.pop() else {
                 break;
             };
-            if pool.put_back(back, self.holder) {
-                number += 1;
-            }
+            pool.put_back(back, self.holder);
         }
-        number
     }
 
     /// Whether somebody has the other end who was not seen to take part.
@@ -92,7 +106,11 @@ impl<'a> Outlet<'a> {
 
     /// Sends from now on to one who takes part, and no more to one who does not; what he had comes back once he has not
     /// even his end of the lane.
-    pub fn settle(&mut self, rt: &impl Wait, pool: &mut Pool<'_>, takes_part: bool) {
+    pub fn settle(&mut self, rt: &impl Wait, pool: &mut Pool<'_>, takes_part: bool)
+        ensures holder { holder_of self.new ≡ holder_of self.old }
+        ensures others { KeepsOthers (holder_of self.old) (table_of pool.old) (table_of pool.new) }
+        ensures pool { IsSame pool.old pool.new }
+    {
         match self.tenancy {
             Tenancy::Free => return,
             Tenancy::Closed => {}
@@ -108,7 +126,11 @@ impl<'a> Outlet<'a> {
 
     /// Takes back what waits for one who is gone, what he has given back, and what he had in hand: the lane is free for
     /// another. Where he still has his end nothing changes.
-    fn drain(&mut self, rt: &impl Wait, pool: &mut Pool<'_>) {
+    fn drain(&mut self, rt: &impl Wait, pool: &mut Pool<'_>)
+        ensures holder { holder_of self.new ≡ holder_of self.old }
+        ensures others { KeepsOthers (holder_of self.old) (table_of pool.old) (table_of pool.new) }
+        ensures pool { IsSame pool.old pool.new }
+    {
         let Some(handle) = self.submission.split() else {
             return;
         };

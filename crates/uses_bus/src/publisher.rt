@@ -1,4 +1,12 @@
 //! The end of a bus that writes records and publishes them.
+ghost use Rattle.std.specs.Prelude.{◌≡◌, ◌<◌, ◌↔◌, false, length, IsTrue, IfOk, IfSome, OnErr};
+ghost use Rattle.lock_free.specs.Shares.{IsAll};
+ghost use Rattle.lock_free.specs.UniqueIndexSet.{set_of, share};
+ghost use Rattle.uses_bus.specs.Books.{holders_at, AllFree};
+ghost use Rattle.uses_bus.specs.Holders.{is_held};
+ghost use Rattle.uses_bus.specs.Pools as pools;
+ghost use Rattle.uses_bus.specs.Records as records;
+
 use crate::holders::Holder;
 use crate::outlet::Outlet;
 use crate::pool::Pool;
@@ -17,8 +25,12 @@ pub struct Loan {
 }
 
 impl Loan {
+    ghost use Rattle.uses_bus.specs.Ends.{loaned};
+
     /// The number of the slot.
-    pub fn slot(&self) -> u32 {
+    pub fn slot(&self) -> u32
+        ensures { result ≡ loaned self.now }
+    {
         self.slot
     }
 }
@@ -30,15 +42,22 @@ pub struct Publisher<'a> {
     records: &'a Records,
     outlets: Vec<Outlet<'a>>,
     roll: Roll<'a>,
+    ghost sized: { records.slots_of records.now ≡ pools.slots_of pool },
 }
 
 impl<'a> Publisher<'a> {
+    ghost use Rattle.uses_bus.specs.Ends.{loaned, set_in, share_in, slots_before, slots_of, table_of, words_before, words_of, IsSame};
+
     pub(crate) fn of(
         pool: Pool<'a>,
         records: &'a Records,
         outlets: Vec<Outlet<'a>>,
         roll: Roll<'a>,
-    ) -> Publisher<'a> {
+    ) -> Publisher<'a>
+        requires { records.slots_of records.now ≡ pools.slots_of pool }
+        ensures pool { result.pool ≡ pool.entry }
+        ensures records { result.records ≡ records.entry }
+    {
         Publisher {
             pool,
             records,
@@ -49,7 +68,12 @@ impl<'a> Publisher<'a> {
 
     /// A seat for a subscriber, who may take it in another thread. None where no place is free, or no further pass can be
     /// counted.
-    pub fn seat(&mut self) -> Option<Seat<'a>> {
+    pub fn seat(&mut self) -> Option<Seat<'a>>
+        ensures slots { IfSome result (λ s. slots_before s ≡ slots_of self.old) }
+        ensures words { IfSome result (λ s. words_before s ≡ words_of self.old) }
+        ensures table { table_of self.new ≡ table_of self.old }
+        ensures same { IsSame self.old self.new }
+    {
         let member = self.roll.member()?;
         for place in 0..self.outlets.len() {
             if let Some(inlet) = self.outlets[place].inlet() {
@@ -61,7 +85,9 @@ impl<'a> Publisher<'a> {
 
     /// Looks who takes part. Who does gets what is published from now on; and where one has left, or a recovery has taken
     /// him out, his place is free again, and all that he had comes back.
-    pub fn update(&mut self, rt: &impl Wait) {
+    pub fn update(&mut self, rt: &impl Wait)
+        ensures { IsSame self.old self.new }
+    {
         let has_changed = self.roll.update(rt);
         for place in 0..self.outlets.len() {
             if !has_changed && !self.outlets[place].is_closed() {
@@ -73,24 +99,36 @@ impl<'a> Publisher<'a> {
     }
 
     /// Takes an owner out who is dead, and then as `update`.
-    pub fn recover(&mut self, rt: &impl Wait, dead: OwnerId) {
+    pub fn recover(&mut self, rt: &impl Wait, dead: OwnerId)
+        ensures { IsSame self.old self.new }
+    {
         self.roll.recover(rt, dead);
         self.update(rt);
     }
 
     /// A free slot to write a record in. Refused is it where each slot is out.
-    pub fn loan(&mut self, rt: &impl Wait) -> Result<Loan, UniqueIndexSetAcquireFailure> {
+    pub fn loan(&mut self, rt: &impl Wait) -> Result<Loan, UniqueIndexSetAcquireFailure>
+        ensures within { IfOk result (λ l. loaned l < slots_of self.old) }
+        ensures free { IfOk result
+            (λ l. is_held (holders_at (table_of self.old) (loaned l)) ≡ false) }
+        ensures refused { OnErr result (table_of self.new ≡ table_of self.old) }
+        ensures same { IsSame self.old self.new }
+    {
         let slot = self.pool.take(rt, Holder::publisher())?;
         Ok(Loan { slot })
     }
 
     /// Writes a word of a record that is on loan: whether the record has one there.
-    pub fn write(&self, loan: &Loan, at: usize, word: u64) -> bool {
+    pub fn write(&self, loan: &Loan, at: usize, word: u64) -> bool
+        ensures { loaned loan.now < slots_of self.now → (IsTrue result ↔ (at < words_of self.now)) }
+    {
         self.records.write(loan.slot, at, word)
     }
 
     /// Publishes a record to each who takes part: to how many. The oldest record of one who is too slow comes back.
-    pub fn publish(&mut self, loan: Loan) -> usize {
+    pub fn publish(&mut self, loan: Loan) -> usize
+        ensures { IsSame self.old self.new }
+    {
         let Loan { slot } = loan;
         let mut number = 0;
         for place in 0..self.outlets.len() {
@@ -103,25 +141,43 @@ impl<'a> Publisher<'a> {
     }
 
     /// Gives a loan up: nobody gets its record.
-    pub fn give_up(&mut self, loan: Loan) {
+    pub fn give_up(&mut self, loan: Loan)
+        ensures { IsSame self.old self.new }
+    {
         let Loan { slot } = loan;
         self.pool.put_back(slot as u64, Holder::publisher());
     }
 
     /// Takes back what subscribers have given back.
-    pub fn collect(&mut self) {
+    pub fn collect(&mut self)
+        ensures { IsSame self.old self.new }
+    {
         for place in 0..self.outlets.len() {
             self.outlets[place].take_back(&mut self.pool);
         }
     }
 
-    /// How many slots are not free.
-    pub fn borrowed(&mut self) -> usize {
+    /// Whether nobody holds a slot.
+    pub fn is_free(&self) -> bool
+        ensures { IsTrue result ↔ AllFree (table_of self.now) }
+    {
+        self.pool.is_free()
+    }
+
+    /// How many slots are not free: none where nobody holds one, and nobody else has a share of the pool.
+    pub fn borrowed(&mut self) -> usize
+        ensures table { table_of self.new ≡ table_of self.old }
+        ensures none { IsAll (share_in self.old) → AllFree (table_of self.old) → result ≡ 0 }
+        ensures same { IsSame self.old self.new }
+    {
         self.pool.borrowed()
     }
 
     /// Hands the pass out.
-    pub fn finish(self) -> Pass {
+    pub fn finish(self) -> Pass
+        ensures set { set_of result ≡ set_in self.entry }
+        ensures share { share result ≡ share_in self.entry }
+    {
         let Publisher {
             pool,
             records: _,

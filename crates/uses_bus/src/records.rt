@@ -4,6 +4,8 @@
 //! Who holds the loan of a slot writes its words, and nobody reads them before it is published: so no word changes while a
 //! subscriber has the slot. That is the bus's concern, by who is handed which slot; here any thread may store and load any
 //! word, at any moment, which is safe, since a word changes as a whole.
+ghost use Rattle.std.specs.Prelude.{◌≡◌, ◌*◌, ◌<◌, ◌↔◌, vec_len, IsTrue, IsSome, IfOk};
+
 use std::alloc::{AllocError, Global};
 use std::sync::atomic::{AtomicU64, Ordering};
 
@@ -13,11 +15,17 @@ pub struct Records {
     cells: Vec<AtomicU64>,
     slots: usize,
     words: usize,
+    ghost sized: { vec_len cells ≡ slots * words },
 }
 
 impl Records {
+    ghost use Rattle.uses_bus.specs.Records.{slots_of, words_of};
+
     /// Records whose words are all 0.
-    pub fn new(alloc: Global, slots: usize, words: usize) -> Result<Records, AllocError> {
+    pub fn new(alloc: Global, slots: usize, words: usize) -> Result<Records, AllocError>
+        ensures slots { IfOk result (λ r. slots_of r ≡ slots) }
+        ensures words { IfOk result (λ r. words_of r ≡ words) }
+    {
         let Some(number) = slots.checked_mul(words) else {
             return Err(AllocError);
         };
@@ -33,17 +41,23 @@ impl Records {
     }
 
     /// How many words a record has.
-    pub fn words(&self) -> usize {
+    pub fn words(&self) -> usize
+        ensures { result ≡ words_of self.now }
+    {
         self.words
     }
 
     /// How many slots there are.
-    pub fn slots(&self) -> usize {
+    pub fn slots(&self) -> usize
+        ensures { result ≡ slots_of self.now }
+    {
         self.slots
     }
 
     /// The word at this place of a slot's record, or None where there is none.
-    fn cell(&self, slot: u32, at: usize) -> Option<&AtomicU64> {
+    fn cell(&self, slot: u32, at: usize) -> Option<&AtomicU64>
+        ensures { IsSome result ↔ ((slot < slots_of self.now) × (at < words_of self.now)) }
+    {
         if at >= self.words {
             return None;
         }
@@ -52,7 +66,9 @@ impl Records {
     }
 
     /// Writes a word of a slot's record: whether there is one.
-    pub fn write(&self, slot: u32, at: usize, word: u64) -> bool {
+    pub fn write(&self, slot: u32, at: usize, word: u64) -> bool
+        ensures { IsTrue result ↔ ((slot < slots_of self.now) × (at < words_of self.now)) }
+    {
         match self.cell(slot, at) {
             Some(cell) => {
                 cell.store(word, Ordering::SeqCst);
@@ -63,7 +79,9 @@ impl Records {
     }
 
     /// Reads a word of a slot's record, or None where there is none.
-    pub fn read(&self, slot: u32, at: usize) -> Option<u64> {
+    pub fn read(&self, slot: u32, at: usize) -> Option<u64>
+        ensures { IsSome result ↔ ((slot < slots_of self.now) × (at < words_of self.now)) }
+    {
         let cell = self.cell(slot, at)?;
         Some(cell.load(Ordering::SeqCst))
     }

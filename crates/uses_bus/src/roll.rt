@@ -1,7 +1,7 @@
 //! Who takes part in a bus: a container with a record for each subscriber, which is the place of its lane, at an index of
 //! its owner's.
+ghost use Rattle.lock_free.specs.Container.Handles.{container_in};
 ghost use Rattle.lock_free.specs.Container.Names.{IsStateOf};
-ghost use Rattle.lock_free_owners.specs.Container.Handles.{container_in};
 
 use lock_free::mpmc::container::{ContainerState, Handle, OwnerId};
 use lock_free::mpmc::unique_index_set_enums::ReleaseMode;

@@ -1,4 +1,9 @@
 //! The end of a bus that receives records and reads them.
+ghost use Rattle.std.specs.Prelude.{◌≡◌, ◌<◌, ◌↔◌, IsTrue, IsSome, IfOk, IfErr, IfSome};
+ghost use Rattle.lock_free.specs.Queues.Item.TheVariants.{Index};
+ghost use Rattle.lock_free.specs.Queues.Told.{HasPublished, HasTakenFirst};
+ghost use Rattle.uses_bus.specs.Records as records;
+
 use crate::lane::Inlet;
 use crate::records::Records;
 use lock_free::mpmc::container::{
@@ -17,12 +22,17 @@ pub struct Seat<'a> {
 }
 
 impl<'a> Seat<'a> {
+    ghost use Rattle.uses_bus.specs.Ends.{slots_at, slots_before, words_at, words_before};
+
     pub(crate) fn of(
         inlet: Inlet<'a>,
         records: &'a Records,
         members: Handle<'a, u64>,
         place: u64,
-    ) -> Seat<'a> {
+    ) -> Seat<'a>
+        ensures slots { slots_before result ≡ records.slots_of records.now }
+        ensures words { words_before result ≡ records.words_of records.now }
+    {
         Seat {
             inlet,
             records,
@@ -36,7 +46,12 @@ impl<'a> Seat<'a> {
         self,
         rt: &impl Wait,
         owner: OwnerId,
-    ) -> Result<Subscriber<'a>, (ContainerAddFailure, Seat<'a>)> {
+    ) -> Result<Subscriber<'a>, (ContainerAddFailure, Seat<'a>)>
+        ensures slots { IfOk result (λ s. slots_at s ≡ slots_before self.entry) }
+        ensures words { IfOk result (λ s. words_at s ≡ words_before self.entry) }
+        ensures back { IfErr result (λ e. (slots_before e.1 ≡ slots_before self.entry)
+            × (words_before e.1 ≡ words_before self.entry)) }
+    {
         let Seat {
             inlet,
             records,
@@ -70,8 +85,12 @@ pub struct Sample {
 }
 
 impl Sample {
+    ghost use Rattle.uses_bus.specs.Ends.{received};
+
     /// The number of the slot.
-    pub fn slot(&self) -> u32 {
+    pub fn slot(&self) -> u32
+        ensures { result ≡ received self.now }
+    {
         self.slot
     }
 }
@@ -86,8 +105,15 @@ pub struct Subscriber<'a> {
 }
 
 impl<'a> Subscriber<'a> {
+    ghost use Rattle.uses_bus.specs.Ends.{received, receives_view, returns_view, slots_at, words_at};
+
     /// The oldest record that waits. None where none does.
-    pub fn receive(&mut self, rt: &impl Wait) -> Option<Sample> {
+    pub fn receive(&mut self, rt: &impl Wait) -> Option<Sample>
+        ensures within { IfSome result (λ s. received s < slots_at self.old) }
+        ensures oldest { IfSome result
+            (λ s. HasTakenFirst (Index (received s)) (receives_view self.old) (receives_view self.new)) }
+        ensures same { (slots_at self.new ≡ slots_at self.old) × (words_at self.new ≡ words_at self.old) }
+    {
         let number = self.inlet.receives.pop(rt)?;
         if number < self.records.slots() as u64 {
             Some(Sample {
@@ -99,12 +125,19 @@ impl<'a> Subscriber<'a> {
     }
 
     /// Reads a word of a record that was received. None where the record has none there.
-    pub fn read(&self, sample: &Sample, at: usize) -> Option<u64> {
+    pub fn read(&self, sample: &Sample, at: usize) -> Option<u64>
+        ensures { received sample.now < slots_at self.now
+            → (IsSome result ↔ (at < words_at self.now)) }
+    {
         self.records.read(sample.slot, at)
     }
 
     /// Gives a record back: true, since there is room for each slot.
-    pub fn give_back(&mut self, sample: Sample) -> bool {
+    pub fn give_back(&mut self, sample: Sample) -> bool
+        ensures given { IsTrue result
+            → HasPublished (Index (received sample)) (returns_view self.old) (returns_view self.new) }
+        ensures same { (slots_at self.new ≡ slots_at self.old) × (words_at self.new ≡ words_at self.old) }
+    {
         let Sample { slot } = sample;
         self.inlet.returns.push(slot as u64)
     }

@@ -1,0 +1,36 @@
+-- The table of who holds each slot: what it says of a pass of the pool, and how it changes.
+use Rattle.std.specs.Prelude.{◌≡◌, ◌≢◌, ℕ, ◌+◌, ◌<◌, false, List, length, sum_by, slice_index_or, if◌then◌else◌}
+use Rattle.lock_free.specs.HistoryHeld.{claims, frees}
+use Rattle.lock_free.specs.HistoryView.View.{View}
+use Rattle.uses_bus.specs.declared.holders.Holder.{Holder}
+use Rattle.uses_bus.specs.declared.holders.Holders.{Holders}
+use Rattle.uses_bus.specs.Holders.{nobody, is_held, Has, SameBut}
+
+-- nobody past the end
+abbrev pub holders_at : List Holders → ℕ → Holders
+holders_at table slot = slice_index_or table slot nobody
+
+-- a pass holds exactly the slots that somebody holds, each once
+abbrev pub IsBookOf : View ℕ → List Holders → Type 0
+IsBookOf v table =
+    (slot : ℕ) → sum_by (claims slot) v.made
+    ≡ sum_by (frees slot) v.made + (if is_held (holders_at table slot) then 1 else 0)
+
+abbrev pub AllFree : List Holders → Type 0
+AllFree table = (slot : ℕ) → is_held (holders_at table slot) ≡ false
+
+abbrev pub HasSlot : List Holders → ℕ → Holder → Type 0
+HasSlot table slot holder = Has (holders_at table slot) holder
+
+abbrev pub HasNone : Holder → List Holders → Type 0
+HasNone holder table = (slot : ℕ) → ¬ HasSlot table slot holder
+
+-- what others hold stays
+abbrev pub KeepsOthers : Holder → List Holders → List Holders → Type 0
+KeepsOthers holder old new =
+    (slot : ℕ) → SameBut holder (holders_at old slot) (holders_at new slot)
+
+-- no slot but one changes, and that for one holder alone
+pub record ChangesAt (slot : ℕ) (holder : Holder) (old new : List Holders) : Type 0 where
+  pub elsewhere : (other : ℕ) → other ≢ slot → holders_at new other ≡ holders_at old other
+  pub here : SameBut holder (holders_at old slot) (holders_at new slot)

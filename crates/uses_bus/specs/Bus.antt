@@ -1,0 +1,27 @@
+-- What clauses see of a bus, and which sizes it may have.
+use Rattle.std.specs.Prelude.{◌≡◌, ℕ, ◌-◌, ◌^◌, ◌≤◌, None}
+use Rattle.lock_free.specs.Container.Names.{container_refusal}
+use Rattle.lock_free.specs.Enums.{capacity_refusal}
+use Rattle.lock_free.specs.UniqueIndexSet.{set_refusal}
+use Rattle.lock_free.specs.UniqueIndexSet as sets
+use Rattle.lock_free.specs.declared.mpmc.unique_index_set.Pass.{Pass}
+use Rattle.uses_bus.specs.declared.bus.Bus.{Bus}
+use Rattle.uses_bus.specs.declared.bus.Sizes.{Sizes}
+use Rattle.uses_bus.specs.Records as records
+
+abbrev pub slots_of : Bus → ℕ
+slots_of bus = sets.capacity_of bus.set
+
+abbrev pub words_of : Bus → ℕ
+words_of bus = records.words_of bus.records
+
+-- the pass is of the bus's slots
+abbrev pub IsPassOf : Bus → Pass → Type 0
+IsPassOf bus pass = sets.IsPassOf bus.set pass
+
+-- each part admits its capacity
+pub record IsAdmitted (sizes : Sizes) : Type 0 where
+  pub slots : set_refusal sizes.slots ≡ None
+  pub subscribers : container_refusal sizes.subscribers ≡ None
+  pub most : sizes.subscribers ≤ 63
+  pub queue : capacity_refusal 0 (2 ^ 32 - 1) sizes.queue ≡ None

@@ -1,0 +1,26 @@
+-- Who holds a slot, by bits.
+use Rattle.std.specs.Prelude.{◌≡◌, ◌≢◌, ℕ, ◌<◌, Bool, nat_lt}
+use Rattle.std.specs.Int.{bit_at}
+use Rattle.uses_bus.specs.declared.holders.Holder.{Holder}
+use Rattle.uses_bus.specs.declared.holders.Holders.{Holders}
+
+-- the bit of one who may hold slots
+abbrev pub bit_of : Holder → ℕ
+bit_of holder = holder.bit
+
+-- he is among those who hold a slot
+abbrev pub Has : Holders → Holder → Type 0
+Has holders holder = bit_at holders.bits holder.bit ≡ 1
+
+-- somebody holds the slot
+abbrev pub is_held : Holders → Bool
+is_held holders = nat_lt 0 holders.bits
+
+-- nobody holds it
+abbrev pub nobody : Holders
+nobody = record { bits = 0 }
+
+-- of all but one, each is among both or among neither
+abbrev pub SameBut : Holder → Holders → Holders → Type 0
+SameBut holder old new =
+    (i : ℕ) → i < 64 → i ≢ holder.bit → bit_at new.bits i ≡ bit_at old.bits i
