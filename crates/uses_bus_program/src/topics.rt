@@ -1,0 +1,185 @@
+//! Two buses, a topic each, with a publisher in a thread of its own; a third thread subscribes to both, and looks at a bus
+//! once it is told that the topic has news.
+use crate::error::RunError;
+use lock_free::mpmc::container::OwnerId;
+use std::alloc::Global;
+use std::sync::Wait;
+use std::thread::Threads;
+use std::{io, thread};
+use uses_bus::bus::{Bus, Sizes};
+use uses_bus::news::{Listener, News, Notifier};
+use uses_bus::publisher::Publisher;
+use uses_bus::subscriber::Subscriber;
+
+/// How many records each publisher publishes.
+const RECORDS: u64 = 1000;
+
+const WORDS: usize = 64;
+
+/// A queue is as long as the slots are many, so that nobody loses one.
+const SIZES: Sizes = Sizes {
+    slots: 16,
+    words: WORDS,
+    subscribers: 1,
+    queue: 16,
+};
+
+/// Publishes all records of a topic, and tells of each.
+fn publish_all(
+    rt: &impl Wait,
+    publisher: &mut Publisher<'_>,
+    mut notifier: Notifier<'_>,
+    topic: usize,
+) -> u64 {
+    let mut number = 0;
+    for _ in rt.forever() {
+        if number >= RECORDS {
+            break;
+        }
+        let Ok(loan) = publisher.loan(rt) else {
+            publisher.collect();
+            thread::yield_now();
+            continue;
+        };
+        for at in 0..WORDS {
+            publisher.write(&loan, at, number);
+        }
+        publisher.publish(loan);
+        notifier.notify(rt, topic);
+        number += 1;
+    }
+    number
+}
+
+/// Reads what waits at a topic: how many records, where each is whole and the next one. None where one is not.
+fn read_waiting(rt: &impl Wait, subscriber: &mut Subscriber<'_>, first: u64) -> Option<u64> {
+    let mut number = first;
+    for _ in 0..SIZES.queue {
+        let Some(sample) = subscriber.receive(rt) else {
+            break;
+        };
+        for at in 0..WORDS {
+            if subscriber.read(&sample, at)? != number {
+                return None;
+            }
+        }
+        subscriber.give_back(sample);
+        number = number.checked_add(1)?;
+    }
+    Some(number)
+}
+
+/// What came of each topic.
+#[derive(Clone, Copy)]
+struct Came {
+    first: u64,
+    second: u64,
+}
+
+/// Reads both topics as it is told of news, until all has come.
+fn listen(
+    rt: &impl Wait,
+    mut listener: Listener<'_>,
+    mut one: Subscriber<'_>,
+    mut other: Subscriber<'_>,
+) -> Option<Came> {
+    let (mut first, mut second) = (0, 0);
+    for _ in rt.forever() {
+        if first >= RECORDS && second >= RECORDS {
+            break;
+        }
+        match listener.next(rt) {
+            Some(0) => first = read_waiting(rt, &mut one, first)?,
+            Some(_) => second = read_waiting(rt, &mut other, second)?,
+            None => thread::yield_now(),
+        }
+    }
+    one.leave(rt).ok()?;
+    other.leave(rt).ok()?;
+    Some(Came { first, second })
+}
+
+/// One who takes part in a topic.
+fn subscribe<'a>(
+    rt: &impl Wait,
+    publisher: &mut Publisher<'a>,
+    owner: OwnerId,
+) -> Result<Subscriber<'a>, RunError> {
+    let Some(seat) = publisher.seat() else {
+        return Err(RunError::NoPlace);
+    };
+    let Ok(subscriber) = seat.join(rt, owner) else {
+        return Err(RunError::NotLetIn);
+    };
+    publisher.update(rt);
+    Ok(subscriber)
+}
+
+/// Runs all three threads: what came, or None where a record was torn or out of its order.
+fn side_by_side<R: Threads + Wait + Sync>(
+    rt: &R,
+    publishers: (&mut Publisher<'_>, &mut Publisher<'_>),
+    subscribers: (Subscriber<'_>, Subscriber<'_>),
+    notifiers: (Notifier<'_>, Notifier<'_>),
+    listener: Listener<'_>,
+) -> Option<Came> {
+    let (one, other) = publishers;
+    let (first, second) = subscribers;
+    let (tells, also) = notifiers;
+    let (_, came) = thread::join(
+        rt,
+        move || thread::join(
+            rt,
+            move || publish_all(rt, one, tells, 0),
+            move || publish_all(rt, other, also, 1),
+        ),
+        move || listen(rt, listener, first, second),
+    );
+    came
+}
+
+fn run<R: Threads + Wait + Print + Sync>(rt: &R, alloc: Global) -> Result<(), RunError> {
+    let (mut bus, pass) = Bus::new(alloc, SIZES)?;
+    let mut one = bus.publisher(rt, alloc, pass)?;
+    let (mut bus, pass) = Bus::new(alloc, SIZES)?;
+    let mut other = bus.publisher(rt, alloc, pass)?;
+    let mut news = News::new(alloc, 2)?;
+    let Some((mut notifier, listener)) = news.ends() else {
+        return Err(RunError::NoPlace);
+    };
+    let Some(also) = notifier.split() else {
+        return Err(RunError::NoPlace);
+    };
+    let first = subscribe(rt, &mut one, OwnerId::new(1)?)?;
+    let second = subscribe(rt, &mut other, OwnerId::new(1)?)?;
+    let came = side_by_side(
+        rt,
+        (&mut one, &mut other),
+        (first, second),
+        (notifier, also),
+        listener,
+    );
+    let Some(came) = came else {
+        return Err(RunError::Torn);
+    };
+    println!(rt;
+        "records that came whole and in order: {} and {}",
+        came.first, came.second
+    )?;
+    one.update(rt);
+    other.update(rt);
+    println!(rt;
+        "slots out in the end: {} and {}",
+        one.borrowed(),
+        other.borrowed()
+    )?;
+    Ok(())
+}
+
+pub fn report<R: Threads + Wait + Print + Sync>(rt: &R, alloc: Global) -> io::Result<()> {
+    println!(rt; "== three threads, two topics")?;
+    match run(rt, alloc) {
+        Ok(()) => Ok(()),
+        Err(error) => println!(rt; "{error}"),
+    }
+}
