@@ -1,5 +1,5 @@
 -- The table stays right.
-use Rattle.std.proofs.Common.{◌≡◌, ◌≢◌, ℕ, zero, suc, ◌+◌, ◌<◌, ◌==◌, Bool, true, false, true≢false, if◌then◌else◌, List, [], ◌∷◌, length, set, replicate, sum_by, get_or-set_same, get_or-set_other, subst, sym, refl, ap, ◌∙◌, ⊎_elim, arith}
+use Rattle.std.proofs.Common.{◌≡◌, ◌≢◌, ℕ, zero, suc, ◌+◌, ◌<◌, ◌==◌, Bool, true, false, nat_lt, true≢false, IsTrue, IsFalse, if◌then◌else◌, List, [], ◌∷◌, length, set, replicate, sum_by, get_or-set_same, get_or-set_other, subst, sym, refl, ap, ◌∙◌, ⊎_elim, arith}
 use Rattle.std.proofs.lemmas.Bool.{cases_eq}
 use Rattle.std.proofs.lemmas.Bool.Decides.{nat_tests}
 use Rattle.std.proofs.lemmas.Nat.Bits.{bit_at-zero}
@@ -30,6 +30,20 @@ has_within [] slot holder has = let none = bit_at-zero holder.bit in absurd (ome
 has_within (h ∷ table) zero holder has = omega arith
 has_within (h ∷ table) (suc slot) holder has = let lt = has_within table slot holder has in omega arith
 
+-- whom nobody is among
+pub free_is : (h : Holders) → is_held h ≡ false → h ≡ nobody
+free_is h free = ap (λ n. record { bits = n }) (none h.bits free)
+  where
+    none : (n : ℕ) → nat_lt 0 n ≡ false → n ≡ 0
+    none zero not = refl
+    none (suc n) not = absurd (let it : nat_lt 0 (suc n) ≡ true = grind (arith, nat_tests) in true≢false (sym it ∙ not))
+
+-- where no place within is held, none is
+pub all_free : (table : List Holders) → ((slot : ℕ) → slot < length table → is_held (holders_at table slot) ≡ false) → AllFree table
+all_free [] free slot = refl
+all_free (h ∷ table) free zero = free zero (omega arith)
+all_free (h ∷ table) free (suc slot) = all_free table (λ i lt. free (suc i) (omega arith)) slot
+
 pub free_at : (n slot : ℕ) → holders_at (replicate n nobody) slot ≡ nobody
 free_at zero slot = refl
 free_at (suc n) zero = refl
@@ -40,26 +54,26 @@ free_at (suc n) (suc slot) = free_at n slot
 module _ {v : View ℕ} {table : List Holders} (book : IsBookOf v table) where
   -- what is held can be given back
   pub held_out : (i : ℕ) → is_held (holders_at table i) ≡ true → Holds i v.made
-  held_out i held = book i ∙ ap (λ b. sum_by (frees i) v.made + counts b) held
+  held_out i held = book.held i ∙ ap (λ b. sum_by (frees i) v.made + counts b) held
 
   module _ (i : ℕ) (h : Holders) (lt : i < length table) where
     -- one place more or less is held, as one slot is out
     moved : (w : View ℕ) → ((j : ℕ) → sum_by (claims j) w.made + (sum_by (frees j) v.made + (if i == j then counts (is_held (holders_at table i)) else 0)) ≡ sum_by (claims j) v.made + (sum_by (frees j) w.made + (if i == j then counts (is_held h) else 0))) → IsBookOf w (set table i h)
-    moved w moves j = ⊎_elim here there (cases_eq j i)
+    moved w moves = record { held = λ j. ⊎_elim (here j) (there j) (cases_eq j i) }
       where
-        here : j ≡ i → sum_by (claims j) w.made ≡ sum_by (frees j) w.made + counts (is_held (holders_at (set table i h) j))
-        here e =
+        here : (j : ℕ) → j ≡ i → sum_by (claims j) w.made ≡ sum_by (frees j) w.made + counts (is_held (holders_at (set table i h) j))
+        here j e =
             let t : (i == i) ≡ true = grind (arith, nat_tests) in
             let m : sum_by (claims i) w.made + (sum_by (frees i) v.made + counts (is_held (holders_at table i))) ≡ sum_by (claims i) v.made + (sum_by (frees i) w.made + counts (is_held h)) = (let it = moves i in rw t at it) in
-            let was = book i in
+            let was = book.held i in
             let now : counts (is_held (holders_at (set table i h) i)) ≡ counts (is_held h) = ap (λ z. counts (is_held z)) (get_or-set_same table i h nobody lt) in
             subst (λ k. sum_by (claims k) w.made ≡ sum_by (frees k) w.made + counts (is_held (holders_at (set table i h) k))) (sym e) (omega arith)
 
-        there : j ≢ i → sum_by (claims j) w.made ≡ sum_by (frees j) w.made + counts (is_held (holders_at (set table i h) j))
-        there ne =
+        there : (j : ℕ) → j ≢ i → sum_by (claims j) w.made ≡ sum_by (frees j) w.made + counts (is_held (holders_at (set table i h) j))
+        there j ne =
             let t : (i == j) ≡ false = grind (arith, nat_tests) in
             let m : sum_by (claims j) w.made + (sum_by (frees j) v.made + 0) ≡ sum_by (claims j) v.made + (sum_by (frees j) w.made + 0) = (let it = moves j in rw t at it) in
-            let was = book j in
+            let was = book.held j in
             let now : counts (is_held (holders_at (set table i h) j)) ≡ counts (is_held (holders_at table j)) = ap (λ z. counts (is_held z)) (get_or-set_other table i j h nobody ne) in
             omega arith
 
@@ -104,7 +118,7 @@ module _ {v : View ℕ} {table : List Holders} (book : IsBookOf v table) where
       let b = m.freed in
       let t : (i == i) ≡ true = grind (arith, nat_tests) in
       let one_is : one_if i i ≡ 1 = rw t refl in
-      let was = book i in
+      let was = book.held i in
       go (is_held (holders_at table i)) (omega arith)
     where
       go : (b : Bool) → counts b ≡ 0 → b ≡ false
@@ -113,22 +127,21 @@ module _ {v : View ℕ} {table : List Holders} (book : IsBookOf v table) where
 
   -- a refused acquire leaves the book, and a count
   pub is_refused : (e : UniqueIndexSetAcquireFailure) (w : View ℕ) → WasRefused e v w → IsBookOf w table
-  is_refused e w refused j = let m = refused_moves v w j e refused.taken in let a = m.claimed in let b = m.freed in let was = book j in omega arith
+  is_refused e w refused = record { held = λ j. (let m = refused_moves v w j e refused.taken in let a = m.claimed in let b = m.freed in let was = book.held j in omega arith) }
 
   pub is_counted : (n : ℕ) (w : View ℕ) → HasCounted n v w → IsBookOf w table
-  is_counted n w counted j = let m = counted_moves v w j n counted in let a = m.claimed in let b = m.freed in let was = book j in omega arith
+  is_counted n w counted = record { held = λ j. (let m = counted_moves v w j n counted in let a = m.claimed in let b = m.freed in let was = book.held j in omega arith) }
 
   -- where nobody holds a slot the pass holds nothing
   pub holds_nothing : AllFree table → HoldsNothing v.made
-  holds_nothing free i = let was = book i in let none = ap counts (free i) in omega arith
+  holds_nothing free i = let was = book.held i in let none = ap counts (free i) in omega arith
 
 -- who holds nothing has a book of which nobody holds a slot
 pub book_opens : (v : View ℕ) (n : ℕ) → HoldsNothing v.made → IsBookOf v (replicate n nobody)
-book_opens v n none i =
-    let was = none i in
-    let free : is_held (holders_at (replicate n nobody) i) ≡ false = ap is_held (free_at n i) in
-    let z = ap counts free in
-    omega arith
+book_opens v n none =
+    record {
+      held = λ i. (let was = none i in let free : is_held (holders_at (replicate n nobody) i) ≡ false = ap is_held (free_at n i) in let z = ap counts free in omega arith);
+    }
 
 -- ---- changes
 
@@ -159,3 +172,13 @@ changes_keep slot holder old new changes other = ⊎_elim here there (cases_eq o
 
 pub keeps_both : (holder : Holder) (one two three : List Holders) → KeepsOthers holder one two → KeepsOthers holder two three → KeepsOthers holder one three
 keeps_both holder one two three first second slot i small ne = second slot i small ne ∙ first slot i small ne
+
+-- of a number that was given back, or not
+module _ (slot : ℕ) (holder : Holder) (old new : List Holders) where
+  pub back_elsewhere : (had : Bool) → (IsTrue had → ChangesAt slot holder old new) → (IsFalse had → new ≡ old) → (other : ℕ) → other ≢ slot → holders_at new other ≡ holders_at old other
+  back_elsewhere true changes refused other ne = (changes refl).elsewhere other ne
+  back_elsewhere false changes refused other ne = ap (λ table. holders_at table other) (refused refl)
+
+  pub back_keeps : (had : Bool) → (IsTrue had → ChangesAt slot holder old new) → (IsFalse had → new ≡ old) → KeepsOthers holder old new
+  back_keeps true changes refused = changes_keep slot holder old new (changes refl)
+  back_keeps false changes refused = subst (KeepsOthers holder old) (sym (refused refl)) (keeps_none holder old)

@@ -11,10 +11,9 @@ abbrev pub holders_at : List Holders → ℕ → Holders
 holders_at table slot = slice_index_or table slot nobody
 
 -- a pass holds exactly the slots that somebody holds, each once
-abbrev pub IsBookOf : View ℕ → List Holders → Type 0
-IsBookOf v table =
-    (slot : ℕ) → sum_by (claims slot) v.made
-    ≡ sum_by (frees slot) v.made + (if is_held (holders_at table slot) then 1 else 0)
+pub record IsBookOf (v : View ℕ) (table : List Holders) : Type 0 where
+  pub held : (slot : ℕ) → sum_by (claims slot) v.made
+      ≡ sum_by (frees slot) v.made + (if is_held (holders_at table slot) then 1 else 0)
 
 abbrev pub AllFree : List Holders → Type 0
 AllFree table = (slot : ℕ) → is_held (holders_at table slot) ≡ false

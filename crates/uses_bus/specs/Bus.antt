@@ -8,16 +8,17 @@ use Rattle.lock_free.specs.declared.mpmc.unique_index_set.Pass.{Pass}
 use Rattle.uses_bus.specs.declared.bus.Bus.{Bus}
 use Rattle.uses_bus.specs.declared.bus.Sizes.{Sizes}
 use Rattle.uses_bus.specs.Records as records
+use Rattle.uses_bus.specs.Stores.{records_in, set_in}
 
 abbrev pub slots_of : Bus → ℕ
-slots_of bus = sets.capacity_of bus.set
+slots_of bus = sets.capacity_of (set_in bus.store)
 
 abbrev pub words_of : Bus → ℕ
-words_of bus = records.words_of bus.records
+words_of bus = records.words_of (records_in bus.store)
 
 -- the pass is of the bus's slots
 abbrev pub IsPassOf : Bus → Pass → Type 0
-IsPassOf bus pass = sets.IsPassOf bus.set pass
+IsPassOf bus pass = sets.IsPassOf (set_in bus.store) pass
 
 -- each part admits its capacity
 pub record IsAdmitted (sizes : Sizes) : Type 0 where

@@ -2,6 +2,8 @@ pub mod Books
 pub mod Bus
 pub mod Ends
 pub mod Holders
+pub mod Lanes
 pub mod News
 pub mod Pools
 pub mod Records
+pub mod Stores

@@ -1,13 +1,11 @@
 //! What the publisher and the subscribers of a bus share.
 ghost use Rattle.std.specs.Prelude.{◌≡◌, ◌-◌, ◌^◌, ◌<◌, None, IfOk, OnOk};
-ghost use Rattle.lock_free.specs.Container.Names as members;
 ghost use Rattle.lock_free.specs.Enums.{capacity_refusal};
 ghost use Rattle.lock_free.specs.Shares.{all_shares};
 ghost use Rattle.lock_free.specs.Unique.Held.{HoldsNothing};
-ghost use Rattle.lock_free.specs.UniqueIndexSet.{capacity_of, made, set_of, share};
+ghost use Rattle.lock_free.specs.UniqueIndexSet.{made, set_of, share};
 ghost use Rattle.uses_bus.specs.Books.{AllFree};
 ghost use Rattle.uses_bus.specs.Ends as ends;
-ghost use Rattle.uses_bus.specs.Records as records;
 
 use crate::error::BusError;
 use crate::holders::{Holder, MOST_SUBSCRIBERS};
@@ -15,11 +13,9 @@ use crate::lane::Lane;
 use crate::outlet::Outlet;
 use crate::pool::Pool;
 use crate::publisher::Publisher;
-use crate::records::Records;
-use crate::roll::Roll;
-use lock_free::mpmc::container;
-use lock_free::mpmc::container::Container;
-use lock_free::mpmc::unique_index_set::{Pass, UniqueIndexSet};
+use crate::roll::{Members, Roll};
+use crate::store::Store;
+use lock_free::mpmc::unique_index_set::Pass;
 use std::alloc::Global;
 use std::sync::Wait;
 
@@ -39,13 +35,9 @@ pub struct Sizes {
 /// A bus, from one publisher to many subscribers.
 #[derive(Drop)]
 pub struct Bus {
-    set: UniqueIndexSet,
-    records: Records,
+    store: Store,
+    members: Members,
     lanes: Vec<Lane>,
-    members: Container<u64>,
-    member: container::Pass<u64>,
-    ghost of: { members.IsPassOf members member },
-    ghost sized: { records.slots_of records ≡ capacity_of set },
 }
 
 /// A lane for each subscriber.
@@ -97,22 +89,15 @@ impl Bus {
         if sizes.subscribers > MOST_SUBSCRIBERS {
             return Err(BusError::TooManySubscribers);
         }
-        let (set, pass) = UniqueIndexSet::new(alloc, sizes.slots)?;
+        let (store, pass) = Store::new(alloc, sizes.slots, sizes.words)?;
+        let members = Members::new(alloc, sizes.subscribers)?;
         let lanes = make_lanes(alloc, sizes)?;
-        let (members, member) = Container::new(alloc, sizes.subscribers, 0)?;
-        match Records::new(alloc, sizes.slots, sizes.words) {
-            Ok(records) => Ok((
-                Bus {
-                    set,
-                    records,
-                    lanes,
-                    members,
-                    member,
-                },
-                pass,
-            )),
-            Err(_) => Err(BusError::NoMemory),
-        }
+        let bus = Bus {
+            store,
+            members,
+            lanes,
+        };
+        Ok((bus, pass))
     }
 
     /// The publisher, with the pass that the bus was made with.
@@ -131,20 +116,19 @@ impl Bus {
         ensures free { IfOk result (λ p. AllFree (ends.table_of p)) }
     {
         let Bus {
-            set,
-            records,
-            lanes,
+            store,
             members,
-            member,
+            lanes,
         } = self;
-        let Some(member) = member.split() else {
+        let Some(member) = members.member() else {
             return Err(BusError::NoPass);
         };
-        let Some(roll) = Roll::new(rt, members.handle(member)) else {
+        let Some(roll) = Roll::new(rt, member) else {
             return Err(BusError::NoMemory);
         };
-        let pool = Pool::new(alloc, set, pass)?;
+        let store: &Store = store;
+        let pool = Pool::new(alloc, store.set(), pass)?;
         let outlets = make_outlets(alloc, lanes)?;
-        Ok(Publisher::of(pool, records, outlets, roll))
+        Ok(Publisher::of(pool, store.records(), outlets, roll))
     }
 }

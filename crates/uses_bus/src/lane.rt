@@ -1,7 +1,7 @@
 //! The way between a publisher and one subscriber: slots go out by an overflowing queue, and come back by an index queue
 //! that has room for all of them.
 ghost use Rattle.std.specs.Prelude.{◌≡◌, IfSome};
-ghost use Rattle.lock_free.specs.Queues.Rings.{IsPassOf};
+ghost use Rattle.lock_free.specs.Queues.Rings.{queue_of, IsPassOf};
 
 use crate::holders::Holder;
 use crate::outlet::Outlet;
@@ -24,6 +24,7 @@ pub struct Lane {
 
 impl Lane {
     ghost use Rattle.uses_bus.specs.Ends.{holder_of};
+    ghost use Rattle.uses_bus.specs.Lanes.{completion_of, submission_of};
 
     /// A lane for so many slots, of which so many wait at most.
     pub fn new(
@@ -46,15 +47,27 @@ impl Lane {
     pub fn outlet(&mut self, holder: Holder) -> Option<Outlet<'_>>
         ensures { IfSome result (λ o. holder_of o ≡ holder) }
     {
-        let Lane {
-            submission,
-            sending,
-            completion,
-            returning,
-        } = self;
-        let sends = sending.split()?;
-        let takes = returning.split()?;
-        Outlet::of(holder, submission.handle(sends), completion.handle(takes))
+        let sends = self.sending.split()?;
+        let takes = self.returning.split()?;
+        self.outlet_with(holder, sends, takes)
+    }
+
+    /// The same, with passes of the two queues.
+    fn outlet_with(
+        &self,
+        holder: Holder,
+        sends: overflow::Pass,
+        takes: index_queue::Pass,
+    ) -> Option<Outlet<'_>>
+        requires sends { queue_of sends ≡ submission_of self.now }
+        requires takes { queue_of takes ≡ completion_of self.now }
+        ensures { IfSome result (λ o. holder_of o ≡ holder) }
+    {
+        Outlet::of(
+            holder,
+            self.submission.handle(sends),
+            self.completion.handle(takes),
+        )
     }
 }
 

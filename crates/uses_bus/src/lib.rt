@@ -11,6 +11,7 @@ mod pool;
 pub mod publisher;
 mod records;
 mod roll;
+mod store;
 pub mod subscriber;
 #[cfg(test)]
 mod tests;

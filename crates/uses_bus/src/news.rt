@@ -18,7 +18,7 @@ pub struct News {
 }
 
 impl News {
-    ghost use Rattle.uses_bus.specs.News.{topics_heard, topics_of, topics_told};
+    ghost use Rattle.uses_bus.specs.News.{topics_heard, topics_of, topics_told, IsFlagPass};
 
     /// So many topics, none of which has news; up to 2^32 - 1. Refused as `BitSet::new`.
     pub fn new(alloc: Global, topics: usize) -> Result<News, UniqueIndexCreationError>
@@ -34,16 +34,25 @@ impl News {
         ensures told { IfSome result (λ e. topics_told e.0 ≡ topics_of self.old) }
         ensures heard { IfSome result (λ e. topics_heard e.1 ≡ topics_of self.old) }
     {
-        let News { flags, pass } = self;
-        let tells = pass.split()?;
-        let hears = pass.split()?;
+        let tells = self.pass.split()?;
+        let hears = self.pass.split()?;
+        Some(self.ends_with(tells, hears))
+    }
+
+    /// The same, with passes of the flags.
+    fn ends_with(&self, tells: Pass, hears: Pass) -> (Notifier<'_>, Listener<'_>)
+        requires tells { IsFlagPass self.now tells }
+        requires hears { IsFlagPass self.now hears }
+        ensures told { topics_told result.0 ≡ topics_of self.now }
+        ensures heard { topics_heard result.1 ≡ topics_of self.now }
+    {
         let notifier = Notifier {
-            flags: flags.handle(tells),
+            flags: self.flags.handle(tells),
         };
         let listener = Listener {
-            flags: flags.handle(hears),
+            flags: self.flags.handle(hears),
         };
-        Some((notifier, listener))
+        (notifier, listener)
     }
 }
 

@@ -130,7 +130,7 @@ impl<'a> Pool<'a> {
         ensures refused { IsFalse result → table_of self.new ≡ table_of self.old }
         ensures same { IsSame self.old self.new }
     {
-        if number >= self.table.len() as u64 || number > u32::MAX as u64 {
+        if number >= self.set.capacity() as u64 {
             return false;
         }
         let slot = number as u32;

@@ -1,11 +1,44 @@
 //! Who takes part in a bus: a container with a record for each subscriber, which is the place of its lane, at an index of
 //! its owner's.
+ghost use Rattle.std.specs.Prelude.{◌≡◌, None, OnOk};
 ghost use Rattle.lock_free.specs.Container.Handles.{container_in};
-ghost use Rattle.lock_free.specs.Container.Names.{IsStateOf};
+ghost use Rattle.lock_free.specs.Container.Names.{container_id, container_of, container_refusal, IsPassOf, IsStateOf};
 
-use lock_free::mpmc::container::{ContainerState, Handle, OwnerId};
-use lock_free::mpmc::unique_index_set_enums::ReleaseMode;
+use lock_free::mpmc::container::{Container, ContainerState, Handle, OwnerId, Pass};
+use lock_free::mpmc::unique_index_set_enums::{ReleaseMode, UniqueIndexCreationError};
+use std::alloc::Global;
 use std::sync::Wait;
+
+/// The container, with a pass from which those who take part get theirs.
+#[derive(Drop)]
+pub struct Members {
+    all: Container<u64>,
+    pass: Pass<u64>,
+    ghost of: { IsPassOf all pass },
+}
+
+impl Members {
+    /// Room for the records of so many subscribers, none of whom takes part.
+    pub fn new(alloc: Global, subscribers: usize) -> Result<Members, UniqueIndexCreationError>
+        ensures { OnOk result (container_refusal subscribers ≡ None) }
+    {
+        let (all, pass) = Container::new(alloc, subscribers, 0)?;
+        Ok(Members { all, pass })
+    }
+
+    /// A handle of the container. None where no further pass can be counted.
+    pub fn member(&mut self) -> Option<Handle<'_, u64>> {
+        let pass = self.pass.split()?;
+        Some(self.member_with(pass))
+    }
+
+    /// The same, with a pass of it.
+    fn member_with(&self, pass: Pass<u64>) -> Handle<'_, u64>
+        requires { container_of pass ≡ container_id (self.now).all }
+    {
+        self.all.handle(pass)
+    }
+}
 
 /// What the publisher has seen of the container.
 #[derive(Drop)]
