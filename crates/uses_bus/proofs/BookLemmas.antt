@@ -49,6 +49,10 @@ free_at zero slot = refl
 free_at (suc n) zero = refl
 free_at (suc n) (suc slot) = free_at n slot
 
+-- where nobody holds a slot, none is held
+pub all_nobody : (n : ℕ) → AllFree (replicate n nobody)
+all_nobody n slot = ap is_held (free_at n slot)
+
 -- ---- the book
 
 module _ {v : View ℕ} {table : List Holders} (book : IsBookOf v table) where

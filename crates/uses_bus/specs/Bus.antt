@@ -7,14 +7,14 @@ use Rattle.lock_free.specs.UniqueIndexSet as sets
 use Rattle.lock_free.specs.declared.mpmc.unique_index_set.Pass.{Pass}
 use Rattle.uses_bus.specs.declared.bus.Bus.{Bus}
 use Rattle.uses_bus.specs.declared.bus.Sizes.{Sizes}
-use Rattle.uses_bus.specs.Records as records
+use Rattle.uses_bus.specs.Records.{words_in}
 use Rattle.uses_bus.specs.Stores.{records_in, set_in}
 
 abbrev pub slots_of : Bus → ℕ
 slots_of bus = sets.capacity_of (set_in bus.store)
 
 abbrev pub words_of : Bus → ℕ
-words_of bus = records.words_of (records_in bus.store)
+words_of bus = words_in (records_in bus.store)
 
 -- the pass is of the bus's slots
 abbrev pub IsPassOf : Bus → Pass → Type 0

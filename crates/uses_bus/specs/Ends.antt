@@ -13,7 +13,7 @@ use Rattle.uses_bus.specs.declared.subscriber.Sample.{Sample}
 use Rattle.uses_bus.specs.declared.subscriber.Seat.{Seat}
 use Rattle.uses_bus.specs.declared.subscriber.Subscriber.{Subscriber}
 use Rattle.uses_bus.specs.Pools as pools
-use Rattle.uses_bus.specs.Records as records
+use Rattle.uses_bus.specs.Records.{slots_in, words_in}
 
 -- by whose name the subscriber of a lane holds slots
 abbrev pub holder_of : Outlet → Holder
@@ -34,7 +34,7 @@ slots_of p = pools.slots_of p.pool
 
 -- how many words a record has
 abbrev pub words_of : Publisher → ℕ
-words_of p = records.words_of p.records.now
+words_of p = words_in p.records.now
 
 -- of which set its pass is, and how much of the right to know the whole it has
 abbrev pub set_in : Publisher → SetId
@@ -55,17 +55,17 @@ abbrev pub received : Sample → ℕ
 received sample = sample.slot
 
 abbrev pub slots_at : Subscriber → ℕ
-slots_at s = records.slots_of s.records.now
+slots_at s = slots_in s.records.now
 
 abbrev pub words_at : Subscriber → ℕ
-words_at s = records.words_of s.records.now
+words_at s = words_in s.records.now
 
 -- how many slots and words the bus has at which it is a seat
 abbrev pub slots_before : Seat → ℕ
-slots_before s = records.slots_of s.records.now
+slots_before s = slots_in s.records.now
 
 abbrev pub words_before : Seat → ℕ
-words_before s = records.words_of s.records.now
+words_before s = words_in s.records.now
 
 -- what it knows of the queue that it receives from, and of the one by which it gives back
 abbrev pub receives_view : Subscriber → View ℕ

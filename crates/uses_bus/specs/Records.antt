@@ -2,8 +2,8 @@
 use Rattle.std.specs.Prelude.{ℕ}
 use Rattle.uses_bus.specs.declared.records.Records.{Records}
 
-abbrev pub slots_of : Records → ℕ
-slots_of records = records.slots
+abbrev pub slots_in : Records → ℕ
+slots_in records = records.slots
 
-abbrev pub words_of : Records → ℕ
-words_of records = records.words
+abbrev pub words_in : Records → ℕ
+words_in records = records.words

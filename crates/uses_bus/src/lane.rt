@@ -1,6 +1,7 @@
 //! The way between a publisher and one subscriber: slots go out by an overflowing queue, and come back by an index queue
 //! that has room for all of them.
-ghost use Rattle.std.specs.Prelude.{◌≡◌, IfSome};
+ghost use Rattle.std.specs.Prelude.{◌≡◌, ◌-◌, ◌^◌, None, IfSome, OnOk};
+ghost use Rattle.lock_free.specs.Enums.{capacity_refusal};
 ghost use Rattle.lock_free.specs.Queues.Rings.{queue_of, IsPassOf};
 
 use crate::holders::Holder;
@@ -27,11 +28,9 @@ impl Lane {
     ghost use Rattle.uses_bus.specs.Lanes.{completion_of, submission_of};
 
     /// A lane for so many slots, of which so many wait at most.
-    pub fn new(
-        alloc: Global,
-        slots: usize,
-        queue: usize,
-    ) -> Result<Lane, UniqueIndexCreationError> {
+    pub fn new(alloc: Global, slots: usize, queue: usize) -> Result<Lane, UniqueIndexCreationError>
+        ensures { OnOk result (capacity_refusal 0 (2 ^ 32 - 1) queue ≡ None) }
+    {
         let (submission, sending) = SafelyOverflowingIndexQueue::new(alloc, queue)?;
         let (completion, returning) = IndexQueue::new(alloc, slots)?;
         Ok(Lane {

@@ -6,6 +6,7 @@ ghost use Rattle.uses_bus.specs.Pools.{table_of, IsSame};
 use crate::holders::Holder;
 use crate::lane::Inlet;
 use crate::pool::Pool;
+use crate::roll::Roll;
 use lock_free::spsc::{index_queue, safely_overflowing_index_queue as overflow};
 use std::sync::Wait;
 
@@ -91,11 +92,12 @@ impl<'a> Outlet<'a> {
         ensures others { KeepsOthers (holder_of self.old) (table_of pool.old) (table_of pool.new) }
         ensures pool { IsSame pool.old pool.new }
     {
+        let holder = self.holder;
         for _ in 0..pool.slots() {
             let Some(back) = self.takes.pop() else {
                 break;
             };
-            pool.put_back(back, self.holder);
+            pool.put_back(back, holder);
         }
     }
 
@@ -134,21 +136,81 @@ impl<'a> Outlet<'a> {
         let Some(handle) = self.submission.split() else {
             return;
         };
-        let Ok(mut receives) = handle.acquire_consumer() else {
+        let Ok(receives) = handle.acquire_consumer() else {
             return;
         };
-        // no push is under way, so at most the capacity waits
-        for _ in 0..receives.capacity() {
-            if receives.pop(rt).is_none() {
-                break;
-            }
-        }
-        for _ in 0..pool.slots() {
+        discard(rt, receives);
+        self.discard_returned(pool.slots());
+        pool.put_all_back(self.holder);
+        self.tenancy = Tenancy::Free;
+    }
+
+    /// Takes out what was given back, at most so many.
+    fn discard_returned(&mut self, slots: u32)
+        ensures { holder_of self.new ≡ holder_of self.old }
+    {
+        for _ in 0..slots {
             if self.takes.pop().is_none() {
                 break;
             }
         }
-        pool.put_all_back(self.holder);
-        self.tenancy = Tenancy::Free;
+    }
+}
+
+/// Takes out what waits: no push is under way, so it is at most the capacity.
+fn discard(rt: &impl Wait, mut receives: overflow::Consumer<'_>) {
+    for _ in 0..receives.capacity() {
+        if receives.pop(rt).is_none() {
+            break;
+        }
+    }
+}
+
+/// The first other end that nobody has, and its place.
+pub fn free_inlet<'a>(outlets: &mut [Outlet<'a>]) -> Option<(Inlet<'a>, usize)> {
+    for place in 0..outlets.len() {
+        if let Some(inlet) = outlets[place].inlet() {
+            return Some((inlet, place));
+        }
+    }
+    None
+}
+
+/// Sends a slot to each who takes part: to how many.
+pub fn send_to_all(outlets: &mut [Outlet<'_>], pool: &mut Pool<'_>, slot: u32) -> usize
+    ensures { IsSame pool.old pool.new }
+{
+    let mut number: usize = 0;
+    for place in 0..outlets.len() {
+        if outlets[place].send(pool, slot) {
+            number = number.saturating_add(1);
+        }
+    }
+    number
+}
+
+/// Takes back what all subscribers have given back.
+pub fn take_all_back(outlets: &mut [Outlet<'_>], pool: &mut Pool<'_>)
+    ensures { IsSame pool.old pool.new }
+{
+    for place in 0..outlets.len() {
+        outlets[place].take_back(pool);
+    }
+}
+
+/// Settles each, by what the roll shows; where that has not changed, those alone of whom the other end is not free yet.
+pub fn settle_all(
+    rt: &impl Wait,
+    outlets: &mut [Outlet<'_>],
+    pool: &mut Pool<'_>,
+    roll: &Roll<'_>,
+    has_changed: bool,
+)
+    ensures { IsSame pool.old pool.new }
+{
+    for place in 0..outlets.len() {
+        if has_changed || outlets[place].is_closed() {
+            outlets[place].settle(rt, pool, roll.has(place as u64));
+        }
     }
 }

@@ -5,10 +5,10 @@ ghost use Rattle.lock_free.specs.UniqueIndexSet.{set_of, share};
 ghost use Rattle.uses_bus.specs.Books.{holders_at, AllFree};
 ghost use Rattle.uses_bus.specs.Holders.{is_held};
 ghost use Rattle.uses_bus.specs.Pools as pools;
-ghost use Rattle.uses_bus.specs.Records as records;
+ghost use Rattle.uses_bus.specs.Records.{slots_in};
 
 use crate::holders::Holder;
-use crate::outlet::Outlet;
+use crate::outlet::{Outlet, free_inlet, send_to_all, settle_all, take_all_back};
 use crate::pool::Pool;
 use crate::records::Records;
 use crate::roll::Roll;
@@ -42,7 +42,7 @@ pub struct Publisher<'a> {
     records: &'a Records,
     outlets: Vec<Outlet<'a>>,
     roll: Roll<'a>,
-    ghost sized: { records.slots_of records.now ≡ pools.slots_of pool },
+    ghost sized: { slots_in records.now ≡ pools.slots_of pool },
 }
 
 impl<'a> Publisher<'a> {
@@ -54,7 +54,7 @@ impl<'a> Publisher<'a> {
         outlets: Vec<Outlet<'a>>,
         roll: Roll<'a>,
     ) -> Publisher<'a>
-        requires { records.slots_of records.now ≡ pools.slots_of pool }
+        requires { slots_in records.now ≡ pools.slots_of pool }
         ensures pool { result.pool ≡ pool.entry }
         ensures records { result.records ≡ records.entry }
     {
@@ -75,12 +75,8 @@ impl<'a> Publisher<'a> {
         ensures same { IsSame self.old self.new }
     {
         let member = self.roll.member()?;
-        for place in 0..self.outlets.len() {
-            if let Some(inlet) = self.outlets[place].inlet() {
-                return Some(Seat::of(inlet, self.records, member, place as u64));
-            }
-        }
-        None
+        let (inlet, place) = free_inlet(self.outlets.as_mut_slice())?;
+        Some(Seat::of(inlet, self.records, member, place as u64))
     }
 
     /// Looks who takes part. Who does gets what is published from now on; and where one has left, or a recovery has taken
@@ -89,13 +85,13 @@ impl<'a> Publisher<'a> {
         ensures { IsSame self.old self.new }
     {
         let has_changed = self.roll.update(rt);
-        for place in 0..self.outlets.len() {
-            if !has_changed && !self.outlets[place].is_closed() {
-                continue;
-            }
-            let takes_part = self.roll.has(place as u64);
-            self.outlets[place].settle(rt, &mut self.pool, takes_part);
-        }
+        settle_all(
+            rt,
+            self.outlets.as_mut_slice(),
+            &mut self.pool,
+            &self.roll,
+            has_changed,
+        );
     }
 
     /// Takes an owner out who is dead, and then as `update`.
@@ -130,12 +126,7 @@ impl<'a> Publisher<'a> {
         ensures { IsSame self.old self.new }
     {
         let Loan { slot } = loan;
-        let mut number = 0;
-        for place in 0..self.outlets.len() {
-            if self.outlets[place].send(&mut self.pool, slot) {
-                number += 1;
-            }
-        }
+        let number = send_to_all(self.outlets.as_mut_slice(), &mut self.pool, slot);
         self.pool.put_back(slot as u64, Holder::publisher());
         number
     }
@@ -152,9 +143,7 @@ impl<'a> Publisher<'a> {
     pub fn collect(&mut self)
         ensures { IsSame self.old self.new }
     {
-        for place in 0..self.outlets.len() {
-            self.outlets[place].take_back(&mut self.pool);
-        }
+        take_all_back(self.outlets.as_mut_slice(), &mut self.pool);
     }
 
     /// Whether nobody holds a slot.

@@ -13,20 +13,20 @@ use std::sync::atomic::{AtomicU64, Ordering};
 #[derive(Drop)]
 pub struct Records {
     cells: Vec<AtomicU64>,
-    slots: usize,
+    slots: u32,
     words: usize,
     ghost sized: { vec_len cells ≡ slots * words },
 }
 
 impl Records {
-    ghost use Rattle.uses_bus.specs.Records.{slots_of, words_of};
+    ghost use Rattle.uses_bus.specs.Records.{slots_in, words_in};
 
     /// Records whose words are all 0.
-    pub fn new(alloc: Global, slots: usize, words: usize) -> Result<Records, AllocError>
-        ensures slots { IfOk result (λ r. slots_of r ≡ slots) }
-        ensures words { IfOk result (λ r. words_of r ≡ words) }
+    pub fn new(alloc: Global, slots: u32, words: usize) -> Result<Records, AllocError>
+        ensures slots { IfOk result (λ r. slots_in r ≡ slots) }
+        ensures words { IfOk result (λ r. words_in r ≡ words) }
     {
-        let Some(number) = slots.checked_mul(words) else {
+        let Some(number) = (slots as usize).checked_mul(words) else {
             return Err(AllocError);
         };
         let mut cells = Vec::with_capacity(alloc, number)?;
@@ -42,21 +42,21 @@ impl Records {
 
     /// How many words a record has.
     pub fn words(&self) -> usize
-        ensures { result ≡ words_of self.now }
+        ensures { result ≡ words_in self.now }
     {
         self.words
     }
 
     /// How many slots there are.
-    pub fn slots(&self) -> usize
-        ensures { result ≡ slots_of self.now }
+    pub fn slots(&self) -> u32
+        ensures { result ≡ slots_in self.now }
     {
         self.slots
     }
 
     /// The word at this place of a slot's record, or None where there is none.
     fn cell(&self, slot: u32, at: usize) -> Option<&AtomicU64>
-        ensures { IsSome result ↔ ((slot < slots_of self.now) × (at < words_of self.now)) }
+        ensures { IsSome result ↔ ((slot < slots_in self.now) × (at < words_in self.now)) }
     {
         if at >= self.words {
             return None;
@@ -67,7 +67,7 @@ impl Records {
 
     /// Writes a word of a slot's record: whether there is one.
     pub fn write(&self, slot: u32, at: usize, word: u64) -> bool
-        ensures { IsTrue result ↔ ((slot < slots_of self.now) × (at < words_of self.now)) }
+        ensures { IsTrue result ↔ ((slot < slots_in self.now) × (at < words_in self.now)) }
     {
         match self.cell(slot, at) {
             Some(cell) => {
@@ -80,7 +80,7 @@ impl Records {
 
     /// Reads a word of a slot's record, or None where there is none.
     pub fn read(&self, slot: u32, at: usize) -> Option<u64>
-        ensures { IsSome result ↔ ((slot < slots_of self.now) × (at < words_of self.now)) }
+        ensures { IsSome result ↔ ((slot < slots_in self.now) × (at < words_in self.now)) }
     {
         let cell = self.cell(slot, at)?;
         Some(cell.load(Ordering::SeqCst))

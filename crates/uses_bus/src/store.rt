@@ -3,7 +3,7 @@ ghost use Rattle.std.specs.Prelude.{◌≡◌, None, IfOk, OnOk};
 ghost use Rattle.lock_free.specs.Shares.{all_shares};
 ghost use Rattle.lock_free.specs.Unique.Held.{HoldsNothing};
 ghost use Rattle.lock_free.specs.UniqueIndexSet.{capacity_of, made, set_refusal, share, IsPassOf};
-ghost use Rattle.uses_bus.specs.Records.{slots_of, words_of};
+ghost use Rattle.uses_bus.specs.Records.{slots_in, words_in};
 
 use crate::error::BusError;
 use crate::records::Records;
@@ -15,7 +15,7 @@ use std::alloc::Global;
 pub struct Store {
     set: UniqueIndexSet,
     records: Records,
-    ghost sized: { slots_of records ≡ capacity_of set },
+    ghost sized: { slots_in records ≡ capacity_of set },
 }
 
 impl Store {
@@ -27,11 +27,11 @@ impl Store {
         ensures nothing { IfOk result (λ r. HoldsNothing (made r.1)) }
         ensures share { IfOk result (λ r. share r.1 ≡ all_shares) }
         ensures slots { IfOk result (λ r. capacity_of (set_in r.0) ≡ slots) }
-        ensures words { IfOk result (λ r. words_of (records_in r.0) ≡ words) }
+        ensures words { IfOk result (λ r. words_in (records_in r.0) ≡ words) }
         ensures admitted { OnOk result (set_refusal slots ≡ None) }
     {
         let (set, pass) = UniqueIndexSet::new(alloc, slots)?;
-        match Records::new(alloc, slots, words) {
+        match Records::new(alloc, set.capacity(), words) {
             Ok(records) => Ok((Store { set, records }, pass)),
             Err(_) => Err(BusError::NoMemory),
         }
@@ -47,7 +47,7 @@ impl Store {
     /// The records, of which there are as many as slots.
     pub fn records(&self) -> &Records
         ensures records { result.now ≡ records_in self.now }
-        ensures sized { slots_of result.now ≡ capacity_of (set_in self.now) }
+        ensures sized { slots_in result.now ≡ capacity_of (set_in self.now) }
     {
         &self.records
     }

@@ -2,7 +2,7 @@
 ghost use Rattle.std.specs.Prelude.{◌≡◌, ◌<◌, ◌↔◌, IsTrue, IsSome, IfOk, IfErr, IfSome};
 ghost use Rattle.lock_free.specs.Queues.Item.TheVariants.{Index};
 ghost use Rattle.lock_free.specs.Queues.Told.{HasPublished, HasTakenFirst};
-ghost use Rattle.uses_bus.specs.Records as records;
+ghost use Rattle.uses_bus.specs.Records.{slots_in, words_in};
 
 use crate::lane::Inlet;
 use crate::records::Records;
@@ -30,8 +30,8 @@ impl<'a> Seat<'a> {
         members: Handle<'a, u64>,
         place: u64,
     ) -> Seat<'a>
-        ensures slots { slots_before result ≡ records.slots_of records.now }
-        ensures words { words_before result ≡ records.words_of records.now }
+        ensures slots { slots_before result ≡ slots_in records.now }
+        ensures words { words_before result ≡ words_in records.now }
     {
         Seat {
             inlet,
