@@ -167,7 +167,7 @@ fn discard(rt: &impl Wait, mut receives: overflow::Consumer<'_>) {
 }
 
 /// The first other end that nobody has, and its place.
-pub fn free_inlet<'a>(outlets: &mut [Outlet<'a>]) -> Option<(Inlet<'a>, usize)> {
+pub fn free_inlet<'a>(outlets: &mut Vec<Outlet<'a>>) -> Option<(Inlet<'a>, usize)> {
     for place in 0..outlets.len() {
         if let Some(inlet) = outlets[place].inlet() {
             return Some((inlet, place));
@@ -177,7 +177,7 @@ pub fn free_inlet<'a>(outlets: &mut [Outlet<'a>]) -> Option<(Inlet<'a>, usize)> 
 }
 
 /// Sends a slot to each who takes part: to how many.
-pub fn send_to_all(outlets: &mut [Outlet<'_>], pool: &mut Pool<'_>, slot: u32) -> usize
+pub fn send_to_all(outlets: &mut Vec<Outlet<'_>>, pool: &mut Pool<'_>, slot: u32) -> usize
     ensures { IsSame pool.old pool.new }
 {
     let mut number: usize = 0;
@@ -190,7 +190,7 @@ pub fn send_to_all(outlets: &mut [Outlet<'_>], pool: &mut Pool<'_>, slot: u32) -
 }
 
 /// Takes back what all subscribers have given back.
-pub fn take_all_back(outlets: &mut [Outlet<'_>], pool: &mut Pool<'_>)
+pub fn take_all_back(outlets: &mut Vec<Outlet<'_>>, pool: &mut Pool<'_>)
     ensures { IsSame pool.old pool.new }
 {
     for place in 0..outlets.len() {
@@ -201,7 +201,7 @@ pub fn take_all_back(outlets: &mut [Outlet<'_>], pool: &mut Pool<'_>)
 /// Settles each, by what the roll shows; where that has not changed, those alone of whom the other end is not free yet.
 pub fn settle_all(
     rt: &impl Wait,
-    outlets: &mut [Outlet<'_>],
+    outlets: &mut Vec<Outlet<'_>>,
     pool: &mut Pool<'_>,
     roll: &Roll<'_>,
     has_changed: bool,

@@ -75,7 +75,7 @@ impl<'a> Publisher<'a> {
         ensures same { IsSame self.old self.new }
     {
         let member = self.roll.member()?;
-        let (inlet, place) = free_inlet(self.outlets.as_mut_slice())?;
+        let (inlet, place) = free_inlet(&mut self.outlets)?;
         Some(Seat::of(inlet, self.records, member, place as u64))
     }
 
@@ -87,7 +87,7 @@ impl<'a> Publisher<'a> {
         let has_changed = self.roll.update(rt);
         settle_all(
             rt,
-            self.outlets.as_mut_slice(),
+            &mut self.outlets,
             &mut self.pool,
             &self.roll,
             has_changed,
@@ -126,7 +126,7 @@ impl<'a> Publisher<'a> {
         ensures { IsSame self.old self.new }
     {
         let Loan { slot } = loan;
-        let number = send_to_all(self.outlets.as_mut_slice(), &mut self.pool, slot);
+        let number = send_to_all(&mut self.outlets, &mut self.pool, slot);
         self.pool.put_back(slot as u64, Holder::publisher());
         number
     }
@@ -143,7 +143,7 @@ impl<'a> Publisher<'a> {
     pub fn collect(&mut self)
         ensures { IsSame self.old self.new }
     {
-        take_all_back(self.outlets.as_mut_slice(), &mut self.pool);
+        take_all_back(&mut self.outlets, &mut self.pool);
     }
 
     /// Whether nobody holds a slot.

@@ -1,6 +1,6 @@
-use Rattle.std.proofs.Common.{◌≡◌, length}
+use Rattle.std.proofs.Common.{◌≡◌, vec_len}
 use Rattle.uses_bus.specs.Pools.{IsSame}
 use Rattle.uses_bus.proofs.outlet.send_to_all.Given as goal
 
 abbrev pub invariant-loop-place : goal.invariant-loop-place
-invariant-loop-place l = (l.place-end ≡ length l.outlets) × IsSame l.fn.pool l.pool
+invariant-loop-place l = (l.place-end ≡ vec_len l.outlets) × IsSame l.fn.pool l.pool
