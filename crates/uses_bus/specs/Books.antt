@@ -1,5 +1,5 @@
 -- The table of who holds each slot: what it says of a pass of the pool, and how it changes.
-use Rattle.std.specs.Prelude.{◌≡◌, ◌≢◌, ℕ, ◌+◌, ◌<◌, false, List, length, sum_by, slice_index_or, if◌then◌else◌}
+use Rattle.std.specs.Prelude.{◌≡◌, ◌≢◌, ℕ, ◌+◌, false, List, sum_by, slice_index_or, if◌then◌else◌}
 use Rattle.lock_free.specs.HistoryHeld.{claims, frees}
 use Rattle.lock_free.specs.HistoryView.View.{View}
 use Rattle.uses_bus.specs.declared.holders.Holder.{Holder}

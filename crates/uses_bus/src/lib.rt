@@ -13,5 +13,3 @@ mod records;
 mod roll;
 mod store;
 pub mod subscriber;
-#[cfg(test)]
-mod tests;

@@ -1,9 +1,5 @@
 //! A publisher and three subscribers side by side: one is slow, one dies with slots in hand, and one joins late.
-use super::limit::{ENOUGH, Limit, SECONDS};
-use crate::bus::{Bus, Sizes};
-use crate::news::{News, Notifier};
-use crate::publisher::{Loan, Publisher};
-use crate::subscriber::{Sample, Seat, Subscriber};
+use crate::limit::{ENOUGH, Limit, SECONDS};
 use lock_free::mpmc::container::OwnerId;
 use std::sync::Wait;
 use std::sync::atomic::{AtomicU64, Ordering};
@@ -11,6 +7,10 @@ use std::test::Fail;
 use std::thread;
 use std::thread::Threads;
 use std::time::Clock;
+use uses_bus::bus::{Bus, Sizes};
+use uses_bus::news::{News, Notifier};
+use uses_bus::publisher::{Loan, Publisher};
+use uses_bus::subscriber::{Sample, Seat, Subscriber};
 
 /// How many records are published, where there is time.
 const RECORDS: u64 = 100_000;

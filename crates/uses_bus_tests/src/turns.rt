@@ -1,11 +1,11 @@
 //! Turns in one thread.
-use crate::bus::{Bus, Sizes};
-use crate::news::News;
-use crate::publisher::Publisher;
-use crate::subscriber::Subscriber;
 use lock_free::mpmc::container::OwnerId;
 use std::sync::Wait;
 use std::test::Fail;
+use uses_bus::bus::{Bus, Sizes};
+use uses_bus::news::News;
+use uses_bus::publisher::Publisher;
+use uses_bus::subscriber::Subscriber;
 
 const SIZES: Sizes = Sizes {
     slots: 8,

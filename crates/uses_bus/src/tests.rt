@@ -1,4 +1,0 @@
-//! Turns in one thread, and threads side by side.
-mod limit;
-mod threads;
-mod turns;
