@@ -118,14 +118,14 @@ fn subscribe<'a>(
 /// Runs all three threads: what came, or None where a record was torn or out of its order.
 fn side_by_side<R: Threads + Wait + Sync>(
     rt: &R,
-    publishers: (&mut Publisher<'_>, &mut Publisher<'_>),
-    subscribers: (Subscriber<'_>, Subscriber<'_>),
-    notifiers: (Notifier<'_>, Notifier<'_>),
+    one: &mut Publisher<'_>,
+    other: &mut Publisher<'_>,
+    first: Subscriber<'_>,
+    second: Subscriber<'_>,
+    tells: Notifier<'_>,
+    also: Notifier<'_>,
     listener: Listener<'_>,
 ) -> Option<Came> {
-    let (one, other) = publishers;
-    let (first, second) = subscribers;
-    let (tells, also) = notifiers;
     let (_, came) = thread::join(
         rt,
         move || thread::join(
@@ -138,42 +138,63 @@ fn side_by_side<R: Threads + Wait + Sync>(
     came
 }
 
+/// Makes the ends of all, and runs the threads.
+fn talk<R: Threads + Wait + Sync>(
+    rt: &R,
+    news: &mut News,
+    one: &mut Publisher<'_>,
+    other: &mut Publisher<'_>,
+) -> Result<Came, RunError> {
+    let Some((mut tells, listener)) = news.ends() else {
+        return Err(RunError::NoPlace);
+    };
+    let Some(also) = tells.split() else {
+        return Err(RunError::NoPlace);
+    };
+    let first = subscribe(rt, one, OwnerId::new(1)?)?;
+    let second = subscribe(rt, other, OwnerId::new(1)?)?;
+    match side_by_side(rt, one, other, first, second, tells, also, listener) {
+        Some(came) => Ok(came),
+        None => Err(RunError::Torn),
+    }
+}
+
+/// Says how many slots are out, once all have left.
+fn tell(
+    rt: &(impl Wait + Print),
+    one: &mut Publisher<'_>,
+    other: &mut Publisher<'_>,
+) -> Result<(), RunError> {
+    one.update(rt);
+    other.update(rt);
+    let first = one.borrowed();
+    let second = other.borrowed();
+    println!(rt; "slots out in the end: {first} and {second}")?;
+    Ok(())
+}
+
+/// The same of a publisher of each topic.
+fn talk_and_tell<R: Threads + Wait + Print + Sync>(
+    rt: &R,
+    alloc: Global,
+    one: &mut Publisher<'_>,
+    other: &mut Publisher<'_>,
+) -> Result<(), RunError> {
+    let mut news = News::new(alloc, 2)?;
+    let came = talk(rt, &mut news, one, other)?;
+    println!(rt;
+        "records that came whole and in order: {} and {}",
+        came.first, came.second
+    )?;
+    tell(rt, one, other)
+}
+
 fn run<R: Threads + Wait + Print + Sync>(rt: &R, alloc: Global) -> Result<(), RunError> {
     let (mut bus, pass) = Bus::new(alloc, SIZES)?;
     let mut one = bus.publisher(rt, alloc, pass)?;
     let (mut bus, pass) = Bus::new(alloc, SIZES)?;
     let mut other = bus.publisher(rt, alloc, pass)?;
-    let mut news = News::new(alloc, 2)?;
-    let Some((mut notifier, listener)) = news.ends() else {
-        return Err(RunError::NoPlace);
-    };
-    let Some(also) = notifier.split() else {
-        return Err(RunError::NoPlace);
-    };
-    let first = subscribe(rt, &mut one, OwnerId::new(1)?)?;
-    let second = subscribe(rt, &mut other, OwnerId::new(1)?)?;
-    let came = side_by_side(
-        rt,
-        (&mut one, &mut other),
-        (first, second),
-        (notifier, also),
-        listener,
-    );
-    let Some(came) = came else {
-        return Err(RunError::Torn);
-    };
-    println!(rt;
-        "records that came whole and in order: {} and {}",
-        came.first, came.second
-    )?;
-    one.update(rt);
-    other.update(rt);
-    println!(rt;
-        "slots out in the end: {} and {}",
-        one.borrowed(),
-        other.borrowed()
-    )?;
-    Ok(())
+    talk_and_tell(rt, alloc, &mut one, &mut other)
 }
 
 pub fn report<R: Threads + Wait + Print + Sync>(rt: &R, alloc: Global) -> io::Result<()> {
