@@ -1,3 +1,5 @@
+mod Halves
+mod Leased
 pub mod Left
 mod Merging
 pub mod Rings

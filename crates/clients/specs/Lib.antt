@@ -1,4 +1,5 @@
 pub mod Bells
+pub mod Leases
 pub mod Overflow
 pub mod Readings
 pub mod Records

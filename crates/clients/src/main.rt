@@ -5,6 +5,7 @@
 
 mod bells;
 mod closing;
+mod leases;
 mod loans;
 mod pool;
 mod registry;
@@ -20,13 +21,14 @@ use std::thread::Threads;
 use std::{env, io};
 
 /// In the order in which all run.
-const NAMES: [&str; 9] = [
+const NAMES: [&str; 10] = [
     "relay",
     "relay_overflow",
     "relay_readings",
     "bells",
     "tallies",
     "pool",
+    "leases",
     "loans",
     "registry",
     "closing",
@@ -41,6 +43,7 @@ fn run<R: Threads + Wait + Print + Sync>(rt: &R, alloc: Global, name: &str) -> i
         "bells" => bells::report(rt, alloc)?,
         "tallies" => tallies::report(rt, alloc)?,
         "pool" => pool::report(rt, alloc)?,
+        "leases" => leases::report(rt, alloc)?,
         "loans" => loans::report(rt, alloc)?,
         "registry" => registry::report(rt, alloc)?,
         "closing" => closing::report(rt, alloc)?,
