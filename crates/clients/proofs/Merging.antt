@@ -11,8 +11,7 @@ use Rattle.lock_free.specs.Event.TheVariants.{Published, HandedOut, Acted, Finis
 use Rattle.lock_free.specs.HistoryKnown.{events_by}
 use Rattle.lock_free.specs.HistoryView.View.{View}
 use Rattle.lock_free.specs.History.{IsBeginning}
-use Rattle.lock_free.specs.Share.{Share}
-use Rattle.lock_free.specs.Shares.{half_of, both_of, IsAll, all_shares}
+use Rattle.lock_free.specs.Shares.{IsAll}
 use Rattle.lock_free.specs.Queues.Answer.TheVariants.{PoppedIndex}
 use Rattle.lock_free.specs.Queues.Item.{Item}
 use Rattle.lock_free.specs.Queues.Item.TheVariants.{Index}
@@ -31,7 +30,8 @@ use Rattle.lock_free.proofs.QueueSums.{done_added, done_replaced, done_popped, d
 use Rattle.lock_free.proofs.QueueWhole.{all_taken, nothing_more}
 use Rattle.clients.specs.Rows.{HasAdded}
 use Rattle.clients.specs.Overflow.{Merges, StandIn, by_pop, by_push, taken, TookOut, HasPushedAll, HasPushedUpTo, HasTaken, HasDrained}
-use Rattle.clients.proofs.Rows.{item, same_length, added_none, added_more, added_same, only_these}
+use Rattle.clients.proofs.Halves.{both_halves}
+use Rattle.clients.proofs.Rows.{item, same_length, same_numbers, added_none, added_more, added_same, only_these}
 
 -- ---- lists that stand in others
 
@@ -165,10 +165,6 @@ merged (HandedOut p x ∷ es) e = go (by_pop (events_by p es)) (by_push (events_
 merged (e ∷ es) k = merged es k
 
 -- numbers for items
-none_of : (xs : List ℕ) → map item xs ≡ [] → xs ≡ []
-none_of [] e = refl
-none_of (x ∷ xs) e = absurd (cc)
-
 first_of_items : (xs : List ℕ) (z : ℕ) (rest : List (Item ℕ)) → map item xs ≡ item z ∷ rest → (ws : List ℕ) × (xs ≡ z ∷ ws) × (rest ≡ map item ws)
 first_of_items [] z rest e = absurd (cc)
 first_of_items (x ∷ xs) z rest e =
@@ -178,7 +174,7 @@ first_of_items (x ∷ xs) z rest e =
     (xs, ap (λ w. w ∷ xs) same, sym more)
 
 numbers_merge : (xs ys zs : List ℕ) → Merges (map item xs) (map item ys) (map item zs) → Merges xs ys zs
-numbers_merge xs ys [] h = (none_of xs h.0, none_of ys h.1)
+numbers_merge xs ys [] h = (same_numbers xs [] h.0, same_numbers ys [] h.1)
 numbers_merge xs ys (z ∷ zs) (inl h) =
     let it = first_of_items xs z h.0 h.1 in
     inl (it.0, it.1, numbers_merge it.0 ys zs (subst (λ rest. Merges rest (map item ys) (map item zs)) it.2 h.2))
@@ -350,12 +346,7 @@ pushed_all c all n back role v w u past k goes h is =
 
 module _ (d n : ℕ) (role : Role) (all back came new : List ℕ) (v left right a b z k u : View ℕ) (fits : length all < 2 ^ 64 - 1) (opens : v ≡ first_view n) (cut : HasSplit v left right) (s : HasPushedUpTo all back left a) (r : HasTaken came right b) (h : HasJoined a b z) (none : MissesNothing z) (goes : GoesOn d z k) (acquired : HasAcquired role true z k) (drain : HasDrained came new k u) where
   whole : IsAll k.share
-  whole =
-      let start : v.share ≡ all_shares = ap (λ (t : View ℕ). t.share) opens in
-      subst IsAll (sym (goes.share ∙ (h.share ∙ ap (λ (t : Share × Share). both_of t.0 t.1) (λ i. (
-        (s.share ∙ (cut.share ∙ ap half_of start)) i,
-        (r.share ∙ (cut.right_share ∙ ap half_of start)) i,
-      ))))) refl
+  whole = both_halves v.share a.share b.share k.share (ap (λ (t : View ℕ). t.share) opens) (s.share ∙ cut.share) (r.share ∙ cut.right_share) (goes.share ∙ h.share)
 
   whole_there : IsAll u.share
   whole_there = subst IsAll (sym drain.popped.share) whole

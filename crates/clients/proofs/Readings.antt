@@ -1,15 +1,14 @@
 -- Values that were stored and seen, and what is known of them once the passes are joined.
 use Rattle.std.proofs.Common.{◌≡◌, ℕ, suc, true, ◌+◌, ◌<◌, ◌≤◌, List, [], ◌∷◌, ◌++◌, length, get_or, take, sym, refl, ap, subst, ◌∙◌, arith, append-nil, append_assoc, length-append, sum_by}
 use Rattle.std.specs.List.{All, Contains}
-use Rattle.std.proofs.lemmas.List.{take_more, take_all, get_or_append_left, get_or_push}
+use Rattle.std.proofs.lemmas.List.{take_more, take_all, get_or_append_left, get_or_push, nil_from_length}
 use Rattle.std.proofs.lemmas.List.Concat.{flat_map-append}
 use Rattle.std.proofs.lemmas.List.Elements.{All-push}
 use Rattle.std.proofs.lemmas.List.Sums.{sum_by-append}
 use Rattle.lock_free.specs.Event.{Event}
 use Rattle.lock_free.specs.HistoryView.View.{View}
 use Rattle.lock_free.specs.History.{IsBeginning}
-use Rattle.lock_free.specs.Share.{Share}
-use Rattle.lock_free.specs.Shares.{half_of, both_of, IsAll, all_shares}
+use Rattle.lock_free.specs.Shares.{IsAll}
 use Rattle.lock_free.specs.Value.Calls.{GoesOn, MissesNothing}
 use Rattle.lock_free.specs.Value.Opened.{opened_view}
 use Rattle.lock_free.specs.Value.Reading.{IsLast}
@@ -18,10 +17,7 @@ use Rattle.lock_free.specs.Value.Told.{HasAcquired, HasReleased, HasStored, HasL
 use Rattle.lock_free.proofs.ValueVersions.{count_is, newest}
 use Rattle.lock_free.specs.Coding.{Coding}
 use Rattle.clients.specs.Readings.{last_of, stores_in, HasWritten, HasRead}
-
-none_left : {A : Type 0} (xs : List A) → length xs ≡ 0 → xs ≡ []
-none_left [] e = refl
-none_left (x ∷ xs) e = absurd (omega arith)
+use Rattle.clients.proofs.Halves.{both_halves}
 
 last_here : {A : Type 0} (first x : A) (xs : List A) → last_of first (xs ++ x ∷ []) ≡ x
 last_here first x [] = refl
@@ -110,12 +106,7 @@ module _ {T : Type 0} where
   module _ (first : T) (all seen : List T) (v left right a b z : View T) (opens : v ≡ opened_view first 1) (cut : HasSplit v left right)
       (s : HasWritten all left a) (r : HasRead seen right b) (h : HasJoined a b z) (none : MissesNothing z) where
     whole : IsAll z.share
-    whole =
-        let start : v.share ≡ all_shares = ap (λ (t : View T). t.share) opens in
-        subst IsAll (sym (h.share ∙ ap (λ (t : Share × Share). both_of t.0 t.1) (λ i. (
-          (s.share ∙ (cut.share ∙ ap half_of start)) i,
-          (r.share ∙ (cut.right_share ∙ ap half_of start)) i,
-        )))) refl
+    whole = both_halves v.share a.share b.share z.share (ap (λ (t : View T). t.share) opens) (s.share ∙ cut.share) (r.share ∙ cut.right_share) h.share
 
     opened_with : stored left.seen ≡ first ∷ []
     opened_with = ap stored cut.seen ∙ ap (λ (t : View T). stored t.seen) opens
@@ -133,8 +124,8 @@ module _ {T : Type 0} where
         let size : length (stored z.seen) ≡ length (((first ∷ s.others) ++ all) ++ stored h.ours.rest) = ap length list in
         let one = length-append ((first ∷ s.others) ++ all) (stored h.ours.rest) in
         let two = length-append (first ∷ s.others) all in
-        let no_others : s.others ≡ [] = none_left s.others (omega arith) in
-        let no_rest : stored h.ours.rest ≡ [] = none_left (stored h.ours.rest) (omega arith) in
+        let no_others : s.others ≡ [] = nil_from_length s.others (omega arith) in
+        let no_rest : stored h.ours.rest ≡ [] = nil_from_length (stored h.ours.rest) (omega arith) in
         list ∙ (ap (λ ys. ((first ∷ s.others) ++ all) ++ ys) no_rest ∙ (append-nil ((first ∷ s.others) ++ all) ∙ ap (λ ys. (first ∷ ys) ++ all) no_others))
 
     pub all_seen : All (Contains (first ∷ all)) seen

@@ -7,24 +7,13 @@ use Rattle.std.proofs.lemmas.List.Elements.{All-push, All-weaker}
 use Rattle.lock_free.specs.Event.{Event}
 use Rattle.lock_free.specs.HistoryView.View.{View}
 use Rattle.lock_free.specs.History.{IsBeginning}
-use Rattle.lock_free.specs.Share.{Share}
-use Rattle.lock_free.specs.Shares.{all_shares, half_of, both_of, IsAll}
 use Rattle.lock_free.specs.Sums.{is_set_of, is_clear_of, sets, clears}
 use Rattle.lock_free.specs.Bits.Told.{HasSet, StoodOnce, HasReset}
 use Rattle.lock_free.proofs.Sums.{sum_grows, seen_begins}
 use Rattle.lock_free.proofs.Bits.Sums.{set_adds, set_adds_none, was_set, reset_adds, reset_adds_none}
 use Rattle.clients.specs.Bells.{times, WereSet, HasRung, BothRung, HearsMore}
 
--- the shares of a pass that was split twice make the whole
-pub split_twice : (first left third mine other : Share) → first ≡ all_shares → left ≡ half_of first → third ≡ half_of first → mine ≡ half_of left → other ≡ half_of left → IsAll (both_of (both_of mine other) third)
-split_twice first left third mine other all l t m o =
-    let half = l ∙ ap half_of all in
-    let p = m ∙ ap half_of half in
-    let q = o ∙ ap half_of half in
-    let s = t ∙ ap half_of all in
-    subst IsAll (λ i. both_of (both_of (sym p i) (sym q i)) (sym s i)) refl
-
-times_push : (bell b : ℕ) (xs : List ℕ) → times bell (xs ++ b ∷ []) ≡ times bell xs + cond (b == bell) 1 0
+pub times_push : (bell b : ℕ) (xs : List ℕ) → times bell (xs ++ b ∷ []) ≡ times bell xs + cond (b == bell) 1 0
 times_push bell b xs = sum_by_push (λ x. cond (x == bell) 1 0) xs b
 
 -- ---- a set

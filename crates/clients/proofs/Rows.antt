@@ -1,18 +1,17 @@
 -- Numbers that were pushed and popped, and what is known of them once the passes are joined.
 use Rattle.std.proofs.Common.{◌≡◌, ◌≢◌, ◌⊎◌, inl, inr, ℕ, suc, ◌+◌, ◌<◌, ◌≤◌, Bool, true, false, true≢false, List, [], ◌∷◌, ◌++◌, length, map, get_or, take, sym, refl, ap, subst, ◌∙◌, arith, append-nil, append_assoc, length-append, sum_by}
 use mathlib.Core.List.{map-append}
-use Rattle.std.specs.Prelude.{Some, None, Option, Result, Ok, Err, IfOk, IfSome, IfNone, MatchResult, is_ok, is_some, not}
+use Rattle.std.specs.Prelude.{Some, None, Option, Result, Ok, Err, IfOk, IfSome, IfNone, MatchBool, MatchResult, is_ok, is_some, not}
 use Rattle.std.specs.Option.{option_map}
 use Rattle.std.specs.List.{flat_map}
-use Rattle.std.proofs.lemmas.List.{take_more, take_all}
+use Rattle.std.proofs.lemmas.List.{take_more, take_all, nil_from_length}
 use Rattle.std.proofs.lemmas.List.Concat.{flat_map-append}
 use Rattle.std.proofs.lemmas.List.Sums.{sum_by-append}
 use Rattle.lock_free.specs.Coding.{one_word}
 use Rattle.lock_free.specs.Event.{Event}
 use Rattle.lock_free.specs.HistoryView.View.{View}
 use Rattle.lock_free.specs.History.{IsBeginning}
-use Rattle.lock_free.specs.Share.{Share}
-use Rattle.lock_free.specs.Shares.{half_of, both_of, IsAll, all_shares}
+use Rattle.lock_free.specs.Shares.{IsAll}
 use Rattle.lock_free.specs.Queues.Calls.{GoesOn, HasHistory, MissesNothing}
 use Rattle.lock_free.specs.Queues.Item.{Item}
 use Rattle.lock_free.specs.Queues.Item.TheVariants.{Index}
@@ -27,10 +26,7 @@ use Rattle.lock_free.proofs.QueuePromises.{sound}
 use Rattle.lock_free.proofs.QueueSums.{done_pushed, done_refused, done_popped, done_none, done_acquired, done_released, done_then, whole_counted}
 use Rattle.lock_free.proofs.QueueWhole.{all_taken, nothing_more}
 use Rattle.clients.specs.Rows.{HasAdded, HasSent, HasReceived}
-
-none_left : {A : Type 0} (xs : List A) → length xs ≡ 0 → xs ≡ []
-none_left [] e = refl
-none_left (x ∷ xs) e = absurd (omega arith)
+use Rattle.clients.proofs.Halves.{both_halves}
 
 -- the number as an item of a queue
 abbrev pub item : ℕ → Item ℕ
@@ -92,8 +88,8 @@ module _ (tells : Event ℕ → List (Item ℕ)) where
       let one = length-append (k.others ++ map Index xs) rest in
       let two = length-append k.others (map Index xs) in
       let same = same_length xs in
-      let no_others : k.others ≡ [] = none_left k.others (omega arith) in
-      let no_rest : rest ≡ [] = none_left rest (omega arith) in
+      let no_others : k.others ≡ [] = nil_from_length k.others (omega arith) in
+      let no_rest : rest ≡ [] = nil_from_length rest (omega arith) in
       list ∙ (ap (λ ys. (k.others ++ map Index xs) ++ ys) no_rest ∙ (append-nil (k.others ++ map Index xs) ∙ ap (λ ys. ys ++ map Index xs) no_others))
 
 -- ---- the sender
@@ -157,14 +153,21 @@ same_numbers (x ∷ xs) (y ∷ ys) e =
     let same : x ≡ y = cc in
     ap (λ ws. x ∷ ws) (same_numbers xs ys more) ∙ ap (λ w. w ∷ ys) same
 
-module _ (c n : ℕ) (all xs : List ℕ) (v left right a b z : View ℕ) (opens : v ≡ first_view n) (cut : HasSplit v left right) (s : HasSent all left a) (r : HasReceived xs right b) (h : HasJoined a b z) (history : HasHistory c z) (none : MissesNothing z) where
+-- of the two passes that a first one was split into one sent, the other received, and they are joined
+pub record Relayed (c n : ℕ) (all xs : List ℕ) (v left right a b z : View ℕ) : Type 0 where
+  pub opens : v ≡ first_view n
+  pub cut : HasSplit v left right
+  pub sent : HasSent all left a
+  pub received : HasReceived xs right b
+  pub joined : HasJoined a b z
+  pub history : HasHistory c z
+  pub none : MissesNothing z
+
+module _ {c n : ℕ} {all xs : List ℕ} {v left right a b z : View ℕ} (relayed : Relayed c n all xs v left right a b z) where
+  open relayed use {opens as opens, cut as cut, sent as s, received as r, joined as h, history as history, none as none}
+
   pub whole : IsAll z.share
-  whole =
-      let start : v.share ≡ all_shares = ap (λ (t : View ℕ). t.share) opens in
-      subst IsAll (sym (h.share ∙ ap (λ (t : Share × Share). both_of t.0 t.1) (λ i. (
-        (s.share ∙ (cut.share ∙ ap half_of start)) i,
-        (r.share ∙ (cut.right_share ∙ ap half_of start)) i,
-      )))) refl
+  whole = both_halves v.share a.share b.share z.share (ap (λ (t : View ℕ). t.share) opens) (s.share ∙ cut.share) (r.share ∙ cut.right_share) h.share
 
   fresh_left : left.seen ≡ []
   fresh_left = cut.seen ∙ ap (λ (t : View ℕ). t.seen) opens
@@ -172,26 +175,19 @@ module _ (c n : ℕ) (all xs : List ℕ) (v left right a b z : View ℕ) (opens 
   fresh_right : right.seen ≡ []
   fresh_right = cut.right_seen ∙ ap (λ (t : View ℕ). t.seen) opens
 
-  -- nobody else pushed, or popped, anything
-  pushed_these : length (published z.seen) ≡ length all
-  pushed_these =
-      let counted = (whole_counted z whole none).0 in
-      let both : sum_by puts z.made ≡ sum_by puts a.made + sum_by puts b.made = ap (sum_by puts) h.made ∙ sum_by-append puts a.made b.made in
-      let mine : sum_by puts left.made ≡ 0 = ap (sum_by puts) cut.made ∙ ap (λ (t : View ℕ). sum_by puts t.made) opens in
-      let theirs : sum_by puts right.made ≡ 0 = ap (sum_by puts) cut.right_made in
-      let sent = s.done.puts_more in
-      let received = r.done.puts_more in
+  made_by_both : (f : Event ℕ → ℕ) (p q : ℕ) → sum_by f a.made ≡ sum_by f left.made + p → sum_by f b.made ≡ sum_by f right.made + q → sum_by f z.made ≡ p + q
+  made_by_both f p q sent received =
+      let both : sum_by f z.made ≡ sum_by f a.made + sum_by f b.made = ap (sum_by f) h.made ∙ sum_by-append f a.made b.made in
+      let mine : sum_by f left.made ≡ 0 = ap (sum_by f) cut.made ∙ ap (λ (t : View ℕ). sum_by f t.made) opens in
+      let theirs : sum_by f right.made ≡ 0 = ap (sum_by f) cut.right_made in
       omega arith
 
+  -- nobody else pushed, or popped, anything
+  pushed_these : length (published z.seen) ≡ length all
+  pushed_these = let made = made_by_both puts (length all) 0 s.done.puts_more r.done.puts_more in let counted = (whole_counted z whole none).0 in omega arith
+
   popped_these : length (handed_out z.seen) ≡ length xs
-  popped_these =
-      let counted = (whole_counted z whole none).1 in
-      let both : sum_by gets z.made ≡ sum_by gets a.made + sum_by gets b.made = ap (sum_by gets) h.made ∙ sum_by-append gets a.made b.made in
-      let mine : sum_by gets left.made ≡ 0 = ap (sum_by gets) cut.made ∙ ap (λ (t : View ℕ). sum_by gets t.made) opens in
-      let theirs : sum_by gets right.made ≡ 0 = ap (sum_by gets) cut.right_made in
-      let sent = s.done.gets_more in
-      let received = r.done.gets_more in
-      omega arith
+  popped_these = let made = made_by_both gets 0 (length xs) s.done.gets_more r.done.gets_more in let counted = (whole_counted z whole none).1 in omega arith
 
   pub all_published : published z.seen ≡ map Index all
   all_published = only_these publishes all (length all) 0 left a z.seen (ap published fresh_left) s h.ours pushed_these
@@ -256,10 +252,8 @@ module _ (c n : ℕ) (all xs : List ℕ) (v left right a b z : View ℕ) (opens 
         omega arith
 
     -- by what the pop answered
-    pub came_where_none : (answer : Option ℕ) (none_left_there : Bool) → is_some answer ≡ not none_left_there → none_left_there ≡ true → HasPopped (option_map Index answer) k u → IfNone answer (WasEmpty k u) → xs ≡ all
-    came_where_none None t is yes_none popping empty = came_all popping empty
-    came_where_none (Some x) t is yes_none popping empty = absurd (true≢false (is ∙ ap not yes_none))
-
-    pub came_where_some : (answer : Option ℕ) (none_left_there : Bool) → is_some answer ≡ not none_left_there → none_left_there ≡ false → HasPopped (option_map Index answer) k u → IfSome answer (λ x. HasTakenOut (Index x) k u) → length xs < length all
-    came_where_some None t is no_none popping took = absurd (true≢false (sym (is ∙ ap not no_none)))
-    came_where_some (Some x) t is no_none popping took = came_less x popping took
+    pub came_where : (answer : Option ℕ) (emptied : Bool) → is_some answer ≡ not emptied → HasPopped (option_map Index answer) k u → IfNone answer (WasEmpty k u) → IfSome answer (λ x. HasTakenOut (Index x) k u) → MatchBool emptied (xs ≡ all) (length xs < length all)
+    came_where None true is popping empty took = came_all popping empty
+    came_where None false is popping empty took = absurd (true≢false (sym is))
+    came_where (Some x) true is popping empty took = absurd (true≢false is)
+    came_where (Some x) false is popping empty took = came_less x popping took

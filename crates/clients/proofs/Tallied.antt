@@ -2,27 +2,14 @@
 use Rattle.std.proofs.Common.{◌≡◌, ◌==◌, ℕ, ◌+◌, ◌-◌, ◌%◌, ◌^◌, ◌<◌, ◌≤◌, cond, List, [], ◌∷◌, ◌++◌, length, get_or, take, refl, sym, ap, subst, ◌∙◌, arith, mod-eq_of_lt, ⊎_elim, zero, suc, length-append}
 use Rattle.std.proofs.lemmas.Bool.{cases_lt}
 use Rattle.std.proofs.lemmas.List.{take_more}
-use Rattle.std.proofs.lemmas.List.Sums.{sum_by_push, sum_by-append, count_by-le-length}
+use Rattle.std.proofs.lemmas.List.Sums.{sum_by-append, count_by-le-length}
 use Rattle.lock_free.specs.Event.{Event}
 use Rattle.lock_free.specs.HistoryView.View.{View}
-use Rattle.lock_free.specs.Share.{Share}
-use Rattle.lock_free.specs.Shares.{all_shares, half_of, both_of, IsAll}
 use Rattle.lock_free.specs.Sums.{is_count_of, take_of, counts, takes}
 use Rattle.lock_free.specs.Counts.Told.{HasCounted}
 use Rattle.lock_free.proofs.Counts.Sums.{count_adds}
 use Rattle.clients.specs.Tallies.{times, CountsThese, BothCount}
-
--- the shares of a pass that was split twice make the whole
-pub split_twice : (first left third mine other : Share) → first ≡ all_shares → left ≡ half_of first → third ≡ half_of first → mine ≡ half_of left → other ≡ half_of left → IsAll (both_of (both_of mine other) third)
-split_twice first left third mine other all l t m o =
-    let half = l ∙ ap half_of all in
-    let p = m ∙ ap half_of half in
-    let q = o ∙ ap half_of half in
-    let s = t ∙ ap half_of all in
-    subst IsAll (λ i. both_of (both_of (sym p i) (sym q i)) (sym s i)) refl
-
-times_push : (bell b : ℕ) (xs : List ℕ) → times bell (xs ++ b ∷ []) ≡ times bell xs + cond (b == bell) 1 0
-times_push bell b xs = sum_by_push (λ x. cond (x == bell) 1 0) xs b
+use Rattle.clients.proofs.Rings.{times_push}
 
 pub none_counted : (events : List (Event ℕ)) → events ≡ [] → CountsThese [] events
 none_counted events e = subst (CountsThese []) (sym e) (record { counted = λ bell. refl; taken = λ bell. refl })

@@ -1,11 +1,8 @@
 -- How often a bell stands in a list, and what threads have counted in the history of their set.
-use Rattle.std.specs.Prelude.{◌≡◌, ℕ, ◌+◌, ◌==◌, List}
-use Rattle.std.specs.List.{count_by}
+use Rattle.std.specs.Prelude.{◌≡◌, ℕ, ◌+◌, List}
 use Rattle.lock_free.specs.Sums.{counts, takes}
 use Rattle.lock_free.specs.Event.{Event}
-
-abbrev pub times : ℕ → List ℕ → ℕ
-times bell bells = count_by (λ b. b == bell) bells
+pub use Rattle.clients.specs.Bells.{times}
 
 -- who made these events counted just these places, and took nothing out
 pub record CountsThese (bells : List ℕ) (events : List (Event ℕ)) : Type 0 where

@@ -1,24 +1,27 @@
-use Rattle.std.proofs.Common.{rules, ◌≡◌, [], sym, ap, subst, ◌∙◌}
-use Rattle.lock_free.specs.Share.{Share}
+use Rattle.std.proofs.Common.{rules, ◌≡◌, [], ◌∙◌}
 use Rattle.lock_free.specs.Shares.{all_shares, half_of, both_of, IsAll}
 use Rattle.lock_free.specs.Bits.Calls.{history, made, share}
 use Rattle.clients.specs.Bells.{WereSet, BothRung, HearsMore}
-use Rattle.clients.proofs.Rings.{split_twice, all_heard, none_lost, rang_still}
+use Rattle.clients.proofs.Halves.{half_and_quarters}
+use Rattle.clients.proofs.Rings.{all_heard, none_lost, rang_still}
+use Rattle.clients.proofs.bells.ring_bells.Given.{Over}
+use Rattle.clients.proofs.bells.ring_bells.Goals.{After-join}
 use Rattle.clients.proofs.bells.ring_bells.Goals as goal
 
-pub hear_rest-requires : goal.hear_rest-requires
-hear_rest-requires g c =
+whole : (g : Over) (c : After-join g) → IsAll (share c.join.new.self)
+whole g c =
     let opened = c.in-Ok.mine in
-    let p = c.in_ok-pass in
-    let h = c.in_ok-listener in
     let first : share opened ≡ all_shares = search rules in
     let half : share c.split.new.self ≡ half_of (share opened) = search rules in
     let third : share c.in_ok-ears.ears ≡ half_of (share opened) = search rules in
     let mine : share c.split-2.new.self ≡ half_of (share c.split.new.self) = search rules in
     let other : share c.in_ok-other.other ≡ half_of (share c.split.new.self) = search rules in
-    let x : share p.pass ≡ both_of (share c.split-2.new.self) (share c.in_ok-other.other) = search rules in
-    let y : share h.listener ≡ share c.in_ok-ears.ears = search rules in
-    (search rules, subst IsAll (sym (c.join.ensures.joined.share ∙ ap (λ (z : Share × Share). both_of z.0 z.1) (λ i. (x i, y i)))) (split_twice _ _ _ _ _ first half third mine other), c.join.ensures.all)
+    let x : share c.in_ok-pass.pass ≡ both_of (share c.split-2.new.self) (share c.in_ok-other.other) = search rules in
+    let y : share c.in_ok-listener.listener ≡ share c.in_ok-ears.ears = search rules in
+    half_and_quarters _ _ _ _ _ _ _ first half (y ∙ third) mine other x c.join.ensures.joined.share
+
+pub hear_rest-requires : goal.hear_rest-requires
+hear_rest-requires g c = (search rules, whole g (goal.at.hear_rest-requires g c).After-join, c.join.ensures.all)
 
 pub returns-clause-same : goal.returns-clause-same
 returns-clause-same g c =
@@ -31,21 +34,14 @@ returns-clause-same g c =
 
 pub returns-clause-all : goal.returns-clause-all
 returns-clause-all g c =
-    let opened = c.in-Ok.mine in
     let p = c.in_ok-pass in
     let h = c.in_ok-listener in
-    let first : share opened ≡ all_shares = search rules in
-    let half : share c.split.new.self ≡ half_of (share opened) = search rules in
-    let third : share c.in_ok-ears.ears ≡ half_of (share opened) = search rules in
-    let mine : share c.split-2.new.self ≡ half_of (share c.split.new.self) = search rules in
-    let other : share c.in_ok-other.other ≡ half_of (share c.split.new.self) = search rules in
-    let x : share p.pass ≡ both_of (share c.split-2.new.self) (share c.in_ok-other.other) = search rules in
-    let y : share h.listener ≡ share c.in_ok-ears.ears = search rules in
     let rang : BothRung p.began.0.items p.began.1.items (made p.pass) = search rules in
     let fresh : made c.in_ok-ears.ears ≡ [] = search rules in
     let listens : HearsMore [] h.heard.items (made c.in_ok-ears.ears) (made h.listener) = search rules in
+    let all = c.join.ensures.all (whole g (goal.at.returns-clause-all g c).After-join) in
     let one : WereSet c.args.first.now (history p.pass) = search rules in
     let two : WereSet c.args.second.now (history p.pass) = search rules in (
-      none_lost p.began.0.items p.began.1.items h.heard.items c.in_ok-left.left.items (made p.pass) (made c.in_ok-ears.ears) (made h.listener) (made c.join.new.self) rang fresh listens c.join.ensures.joined.made c.in_ok-left.ensures c.args.first.now (history c.join.new.self) (c.join.ensures.all (subst IsAll (sym (c.join.ensures.joined.share ∙ ap (λ (z : Share × Share). both_of z.0 z.1) (λ i. (x i, y i)))) (split_twice _ _ _ _ _ first half third mine other))) (rang_still c.args.first.now (history p.pass) (history c.join.new.self) c.join.ensures.joined.ours one),
-      none_lost p.began.0.items p.began.1.items h.heard.items c.in_ok-left.left.items (made p.pass) (made c.in_ok-ears.ears) (made h.listener) (made c.join.new.self) rang fresh listens c.join.ensures.joined.made c.in_ok-left.ensures c.args.second.now (history c.join.new.self) (c.join.ensures.all (subst IsAll (sym (c.join.ensures.joined.share ∙ ap (λ (z : Share × Share). both_of z.0 z.1) (λ i. (x i, y i)))) (split_twice _ _ _ _ _ first half third mine other))) (rang_still c.args.second.now (history p.pass) (history c.join.new.self) c.join.ensures.joined.ours two),
+      none_lost p.began.0.items p.began.1.items h.heard.items c.in_ok-left.left.items (made p.pass) (made c.in_ok-ears.ears) (made h.listener) (made c.join.new.self) rang fresh listens c.join.ensures.joined.made c.in_ok-left.ensures c.args.first.now (history c.join.new.self) all (rang_still c.args.first.now (history p.pass) (history c.join.new.self) c.join.ensures.joined.ours one),
+      none_lost p.began.0.items p.began.1.items h.heard.items c.in_ok-left.left.items (made p.pass) (made c.in_ok-ears.ears) (made h.listener) (made c.join.new.self) rang fresh listens c.join.ensures.joined.made c.in_ok-left.ensures c.args.second.now (history c.join.new.self) all (rang_still c.args.second.now (history p.pass) (history c.join.new.self) c.join.ensures.joined.ours two),
     )

@@ -35,7 +35,17 @@ returns c =
     let got : HasReceived (x ∷ []) (view c.in_ok-other.other) t₁ = gets_one _ [] x _ t t₁ none c.pop.ensures.goes told (said_of_some _ c.pop.result x is c.pop.ensures.popped) in
     let received = received_all _ (x ∷ []) roles.Consumer _ t₁ _ got c.release.ensures.goes c.release.ensures.released c.release.ensures.list in
     let closed : Closes Index 4 (view c.join.new.self) c.in_ok-list.list = search rules in
-    let r = left _ 4 _ _ _ _ _ (view c.join.new.self) x c.in_ok-list.list first cut sent received c.join.ensures.joined c.join.ensures.history c.join.ensures.all closed in (
+    let r = left _ 4 _ _ _ _ _ (view c.join.new.self) x c.in_ok-list.list
+        (record {
+          opens = first;
+          cut = cut;
+          sent = sent;
+          received = received;
+          joined = c.join.ensures.joined;
+          history = c.join.ensures.history;
+          none = c.join.ensures.all;
+        })
+        closed in (
       r.0,
       c.pop-first.ensures.answer ∙ r.1,
       c.pop-second.ensures.answer ∙ (ap front c.pop-first.ensures.list ∙ r.2),

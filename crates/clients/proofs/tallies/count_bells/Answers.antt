@@ -1,15 +1,17 @@
-use Rattle.std.proofs.Common.{rules, ◌≡◌, ℕ, ◌+◌, ◌-◌, ◌%◌, ◌^◌, ◌<◌, ◌≤◌, cond, [], length, sym, ap, subst, ◌∙◌, arith}
-use Rattle.lock_free.specs.Share.{Share}
+use Rattle.std.proofs.Common.{rules, ◌≡◌, ℕ, ◌+◌, ◌-◌, ◌%◌, ◌^◌, ◌<◌, ◌≤◌, cond, [], length, ◌∙◌, arith}
 use Rattle.lock_free.specs.Shares.{all_shares, half_of, both_of, IsAll}
 use Rattle.lock_free.specs.Counts.Calls.{history, made, share}
 use Rattle.lock_free.specs.Sums.{is_count_of, take_of, counts, takes}
 use Rattle.lock_free.proofs.Counts.Sums.{takes_within}
 use Rattle.clients.specs.Tallies.{times, CountsNone, BothCount}
-use Rattle.clients.proofs.Tallied.{split_twice, adds_up, fewer}
+use Rattle.clients.proofs.Halves.{half_and_quarters}
+use Rattle.clients.proofs.Tallied.{adds_up, fewer}
+use Rattle.clients.proofs.tallies.count_bells.Given.{Over}
+use Rattle.clients.proofs.tallies.count_bells.Goals.{After-join}
 use Rattle.clients.proofs.tallies.count_bells.Goals as goal
 
-pub read_counts-requires-clause-whole : goal.read_counts-requires-clause-whole
-read_counts-requires-clause-whole g c =
+whole : (g : Over) (c : After-join g) → IsAll (share c.join.new.self)
+whole g c =
     let first : share c.in_ok-opened.opened.1 ≡ all_shares = search rules in
     let half : share c.split.new.self ≡ half_of (share c.in_ok-opened.opened.1) = search rules in
     let third : share c.in_ok-taker.taker ≡ half_of (share c.in_ok-opened.opened.1) = search rules in
@@ -17,20 +19,16 @@ read_counts-requires-clause-whole g c =
     let other : share c.in_ok-other.other ≡ half_of (share c.split.new.self) = search rules in
     let x : share c.in_ok-pass.pass ≡ both_of (share c.split-2.new.self) (share c.in_ok-other.other) = search rules in
     let y : share c.join-rung.result.1 ≡ share c.in_ok-taker.taker = search rules in
-    subst IsAll (sym (c.join.ensures.joined.share ∙ ap (λ (z : Share × Share). both_of z.0 z.1) (λ i. (x i, y i)))) (split_twice _ _ _ _ _ first half third mine other)
+    half_and_quarters _ _ _ _ _ _ _ first half (y ∙ third) mine other x c.join.ensures.joined.share
+
+pub read_counts-requires-clause-whole : goal.read_counts-requires-clause-whole
+read_counts-requires-clause-whole g c = whole g (goal.at.read_counts-requires-clause-whole g c).After-join
 
 pub returns : goal.returns
 returns g c bell lt =
     let rung = c.in_ok-pass.pass in
     let joined = c.join.new.self in
-    let first : share c.in_ok-opened.opened.1 ≡ all_shares = search rules in
-    let half : share c.split.new.self ≡ half_of (share c.in_ok-opened.opened.1) = search rules in
-    let third : share c.in_ok-taker.taker ≡ half_of (share c.in_ok-opened.opened.1) = search rules in
-    let mine : share c.split-2.new.self ≡ half_of (share c.split.new.self) = search rules in
-    let other : share c.in_ok-other.other ≡ half_of (share c.split.new.self) = search rules in
-    let x : share c.in_ok-pass.pass ≡ both_of (share c.split-2.new.self) (share c.in_ok-other.other) = search rules in
-    let y : share c.join-rung.result.1 ≡ share c.in_ok-taker.taker = search rules in
-    let all = c.join.ensures.all (subst IsAll (sym (c.join.ensures.joined.share ∙ ap (λ (z : Share × Share). both_of z.0 z.1) (λ i. (x i, y i)))) (split_twice _ _ _ _ _ first half third mine other)) in
+    let all = c.join.ensures.all (whole g (goal.at.returns g c).After-join) in
     let rang : BothCount c.args.first.now c.args.second.now (made rung) = search rules in
     let fresh : made c.in_ok-taker.taker ≡ [] = search rules in
     let never : CountsNone (made c.in_ok-taker.taker) (made c.join-rung.result.1) = search rules in
