@@ -6,4 +6,3 @@ pub mod Turns
 pub mod Asking
 pub mod Finding
 pub mod Recoveries
-pub mod Findings

@@ -1,5 +1,5 @@
 -- What is known of whole calls on a set.
-use Rattle.std.proofs.Common.{◌≡◌, inl, inr, ⊎_elim, ℕ, ◌<◌, ◌≤◌, Bool, true, false, true≢false, None, Ok, Err, IfOk, IfErr, OnOk, List, [], ◌∷◌, ◌++◌, refl, sym, ap, subst, ◌∙◌, append_assoc, append-nil, arith}
+use Rattle.std.proofs.Common.{◌≡◌, ⊎_elim, ℕ, ◌<◌, ◌≤◌, Bool, true, false, true≢false, None, Ok, Err, IfOk, IfErr, OnOk, List, [], ◌∷◌, ◌++◌, refl, sym, ap, subst, ◌∙◌, append_assoc, arith}
 use Rattle.steps.specs.Indices.Robust.Acquire.{Acquired}
 use Rattle.steps.specs.Indices.Robust.Release.{Released}
 use Rattle.steps.specs.declared.indices.enums.ReleaseMode.{ReleaseMode}
@@ -23,11 +23,11 @@ use Rattle.model.specs.Families.Indices.Robust.Calls.{acquire_answer, release_an
 use Rattle.robust_laws.proofs.Counting.{count_most}
 use Rattle.lock_free_sp.specs.Shares.{IsAll}
 use Rattle.history.specs.declared.view.View.{View}
-use Rattle.history.specs.Finds.{HasLooked as Looked}
 use Rattle.history.specs.History.{IsHistory, Called, IsBeginning}
-use Rattle.history.specs.Passes.{Goes, MissesNothing}
+use Rattle.history.specs.Passes.{Goes}
 use Rattle.history.specs.Robust.{takes_owned, gives_owned, recovers_owned, counts_owned, looks_owned}
 use Rattle.history.specs.Stages.{Calling, Ends, opened}
+use Rattle.history.specs.Views.{Looks}
 use Rattle.history.proofs.Called.{called}
 use Rattle.lock_free_owners.specs.Robust.Told.{HasTaken, HasGiven, HasRecovered, HasCounted, HasLooked, WroteAt, WasFilled, WasGranted, WasFreed, IsSound, Answered, WasRefused, HasReleased, FoundLock, FoundState}
 use Rattle.lock_free_owners.proofs.RobustSet.Sound.{sound_history}
@@ -281,10 +281,6 @@ module _ (base w : View ℕ) (m : Unit {0}) (idle : base.going ≡ None) where
 
 -- ---- find
 
-pub found_goes : (owner : ℕ) (base w : View ℕ) → Looked one_word owner base w → IsHistory one_word kinds.Robust base.capacity base.seen
-    → MissesNothing base → Goes one_word kinds.Robust base.capacity base w
-found_goes owner base w (inl same) history all =
-    subst (λ (z : View ℕ). Goes one_word kinds.Robust base.capacity base z) (sym same)
-    (record { share = refl; since = record { rest = []; is = sym (append-nil base.seen) }; history = history; all = all })
-found_goes owner base w (inr looks) history all =
+pub looks_goes : (capacity : ℕ) (base w : View ℕ) → Looks one_word kinds.Robust capacity base w → Goes one_word kinds.Robust capacity base w
+looks_goes capacity base w looks =
     record { share = looks.share; since = looks.mine; history = looks.history; all = λ whole. looks.all (subst IsAll looks.share whole) }

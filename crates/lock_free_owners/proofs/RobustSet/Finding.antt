@@ -1,17 +1,217 @@
--- What a find knows of the index that it has come to.
-use Rattle.std.proofs.Common.{ℕ, arith}
+-- A find between two turns: one list of indices, with which its closure was called, and of which it tells what the
+-- history said.
+use Rattle.std.proofs.Common.{◌≡◌, ◌≢◌, ◌⊎◌, inl, inr, ℕ, ◌+◌, ◌^◌, ◌<◌, ◌≤◌, nat_lt, Some, List, [], ◌∷◌, ◌++◌, length, refl, sym, ap, ◌∙◌, subst, length-append, arith}
+use Rattle.std.specs.List.{All}
+use Rattle.std.proofs.lemmas.Bool.Decides.{nat_tests}
+use Rattle.std.proofs.lemmas.Fn.{FoldsTo-push}
+use Rattle.std.proofs.lemmas.List.Elements.{All-nil}
+use Rattle.steps.specs.Picks.{by_test, by_eq}
+use Rattle.steps.specs.declared.ask.After.{After}
+use Rattle.steps.specs.declared.ask.After.TheVariants.{GoOn, Done}
+use Rattle.steps.specs.declared.enums.CallbackProgression.{CallbackProgression}
+use Rattle.steps.specs.declared.enums.CallbackProgression.TheVariants.{Continue, Stop}
 use Rattle.steps.specs.declared.indices.robust.find.Find.{Find}
 use Rattle.steps.specs.declared.indices.robust.find.FindStage.{FindStage}
 use Rattle.steps.specs.declared.indices.robust.find.FindStage.TheVariants as finds
+use Rattle.steps.specs.Indices.Robust.Parts.{cell_word, empty, one_more}
+use Rattle.steps.specs.Indices.Robust.Find.{at_find, first_find, find_comes_to, find_takes}
+use Rattle.model.specs.declared.event.Event.{Event}
+use Rattle.model.specs.declared.turn.Kind.TheVariants as kinds
 use Rattle.model.specs.Coding.{one_word}
-use Rattle.robust_laws.proofs.Counting.{count_most}
+use Rattle.model.specs.Families.Indices.Robust.Reading.{filled_of}
+use Rattle.lock_free_sp.specs.Callable.{Ascends, TakesPlaces}
 use Rattle.history.specs.declared.view.View.{View}
-use Rattle.history.specs.Finds.{FindsAt, FoundAt}
-use Rattle.lock_free_owners.proofs.Rules.Robust.Finding.{FindIn}
+use Rattle.history.specs.Finds.{WereOwned}
+use Rattle.history.specs.History.{IsBeginning}
+use Rattle.history.specs.Views.{Looks, LooksAt}
+use Rattle.history.proofs.Finds.{tells_owner, tells_other, owned_none, owned_later, owned_more, owned_past}
+use Rattle.history.proofs.Looking.{looks_then}
+use Rattle.lock_free_owners.specs.Robust.Callable.{WentOn, HasFound}
+use Rattle.lock_free_owners.specs.Robust.Stages.{says}
+use Rattle.lock_free_owners.specs.Robust.Turns.{FindAsks, FindMoves}
+use Rattle.lock_free_owners.proofs.Rules.Robust.Finding.{ascend_push, below_push, below_more}
 
-pub finds_in : (owner : ℕ) (base v : View ℕ) (c : Find) → FindsAt one_word owner base v c tt → FindIn base.capacity c.stage
-finds_in owner base v c at = go c.stage at.found
-  where
-    go : (stage : FindStage) → FoundAt owner base.capacity base.seen v.seen stage → FindIn base.capacity stage
-    go (finds.LoadsCell index found) at = (at.0, (let most = count_most at.1.chosen index in let is = at.1.count in omega arith))
-    go (finds.Asks index found) at = at.0
+module _ {F : Type 0} (step : F → ℕ → CallbackProgression → F → Type 0) (cap owner : ℕ) (base : View ℕ) (f : F) where
+  -- the calls from f on that led to p: one at each of these n indices, all below this one
+  pub record Came (low n : ℕ) (es : List (Event ℕ)) (p : F) : Type 0 where
+    pub indices : List ℕ
+    pub calls : WentOn step f indices p
+    pub ascend : Ascends cap indices
+    pub below : All (λ x. x < low) indices
+    pub count : length indices ≡ n
+    pub few : n ≤ low
+    pub owned : WereOwned owner low indices base.seen es
+
+  abbrev Looked : View ℕ → Type 0
+  Looked v = Looks one_word kinds.Robust cap base v
+
+  -- before its first look the view stays
+  abbrev pub SoFar : FindStage → View ℕ → F → Type 0
+  SoFar (finds.LoadsCell index found) v p = (index < cap) × ((v ≡ base) ⊎ Looked v) × Came index found v.seen p
+  SoFar (finds.Asks index found) v p =
+      (index < cap) × Looked v × (filled_of index v.seen ≡ Some owner) × ((n : ℕ) × (n + 1 ≡ found) × Came index n v.seen p)
+
+  pub record Searching (v : View ℕ) (c : Find) (p : F) : Type 0 where
+    pub known : v.capacity ≡ cap
+    pub some : 0 < v.share.part
+    pub standing : c.capacity ≡ cap
+    pub so_far : SoFar c.stage v p
+
+  abbrev pub Onward : After Find ℕ → View ℕ → F → Type 0
+  Onward (GoOn d) w q = Searching w d q
+  Onward (Done n) w q = Looked w × HasFound step cap owner f n q base.seen w.seen
+
+  -- ---- the list
+
+  came_none : Came 0 0 base.seen f
+  came_none =
+      record {
+        indices = [];
+        calls = refl;
+        ascend = ((λ i j d lt within. absurd (omega arith)), All-nil (λ x. x < cap));
+        below = All-nil (λ x. x < 0);
+        count = refl;
+        few = omega arith;
+        owned = owned_none owner base.seen base.seen;
+      }
+
+  module _ (low n : ℕ) (es : List (Event ℕ)) (p : F) (h : Came low n es p) where
+    came_later : (later : List (Event ℕ)) → IsBeginning es later → Came low n later p
+    came_later later on =
+        record {
+          indices = h.indices;
+          calls = h.calls;
+          ascend = h.ascend;
+          below = h.below;
+          count = h.count;
+          few = h.few;
+          owned = owned_later owner base.seen low h.indices es later on h.owned;
+        }
+
+    module _ (on : IsBeginning base.seen es) where
+      came_past : filled_of low es ≢ Some owner → Came (low + 1) n es p
+      came_past has_not =
+          record {
+            indices = h.indices;
+            calls = h.calls;
+            ascend = h.ascend;
+            below = below_more h.indices low h.below;
+            count = h.count;
+            few = (let few = h.few in omega arith);
+            owned = owned_past owner base.seen low h.indices es on h.owned has_not;
+          }
+
+      came_more : (q : F) → low < cap → filled_of low es ≡ Some owner → step p low Continue q → Came (low + 1) (n + 1) es q
+      came_more q within has hit =
+          let longer = length-append h.indices (low ∷ []) in
+          let count = h.count in
+          record {
+            indices = h.indices ++ low ∷ [];
+            calls = FoldsTo-push (λ p x q. step p x Continue q) f h.indices p low q h.calls hit;
+            ascend = ascend_push cap h.indices low h.ascend h.below within;
+            below = below_push h.indices low h.below;
+            count = omega arith;
+            few = (let few = h.few in omega arith);
+            owned = owned_more owner base.seen low h.indices es on h.owned has;
+          }
+
+      found_last : (found : ℕ) (q : F) → low < cap → n + 1 ≡ found → filled_of low es ≡ Some owner → step p low Stop q
+          → HasFound step cap owner f found q base.seen es
+      found_last found q within more has hit =
+          let longer = length-append h.indices (low ∷ []) in
+          let count = h.count in
+          record {
+            indices = h.indices ++ low ∷ [];
+            number_is = omega arith;
+            ascend = ascend_push cap h.indices low h.ascend h.below within;
+            bound = low + 1;
+            calls = inr (record { before = h.indices; index = low; is = refl; bound_is = refl; now = p; calls = h.calls; stops = hit });
+            owned = owned_more owner base.seen low h.indices es on h.owned has;
+          }
+
+    found_all : low ≡ cap → HasFound step cap owner f n p base.seen es
+    found_all end =
+        record {
+          indices = h.indices;
+          number_is = sym h.count;
+          ascend = h.ascend;
+          bound = low;
+          calls = inl (h.calls, end);
+          owned = h.owned;
+        }
+
+  -- ---- a turn
+
+  -- it has come past the indices below this one
+  comes : (w : View ℕ) (c : Find) (index found : ℕ) (q : F) → Looked w → w.capacity ≡ cap → 0 < w.share.part → c.capacity ≡ cap → index ≤ cap
+      → Came index found w.seen q → Onward (find_comes_to c index found) w q
+  comes w c index found q looked known some standing low h =
+      by_test (λ (a : After Find ℕ). Onward a w q) (nat_lt index c.capacity) (GoOn (at_find c (finds.LoadsCell index found))) (Done found)
+      (λ t. (let below : index < c.capacity = grind (arith, nat_tests) in
+      record { known = known; some = some; standing = standing; so_far = (omega arith, inr looked, h) }))
+      (λ t. (let past : c.capacity ≤ index = grind (arith, nat_tests) in (looked, found_all index found w.seen q h (omega arith))))
+
+  module _ (small : cap < 2 ^ 32) (fits : owner < empty) (v w : View ℕ) (c : Find) (p : F) (h : Searching v c p) where
+    module _ (index found k : ℕ) (at : SoFar (finds.LoadsCell index found) v p) (looks : LooksAt one_word kinds.Robust cap (cell_word index) v k w) where
+      looked_then : Looked w
+      looked_then = go at.1
+        where
+          go : (v ≡ base) ⊎ Looked v → Looked w
+          go (inl same) = subst (λ (z : View ℕ). Looks one_word kinds.Robust cap z w) same looks.looks
+          go (inr before) = looks_then one_word kinds.Robust cap base v w before looks.looks
+
+      came_there : Came index found w.seen p
+      came_there = came_later index found v.seen p at.2 w.seen looks.looks.mine
+
+      loaded : Onward (find_takes c (finds.LoadsCell index found) owner k) w p
+      loaded =
+          let known = looks.looks.capacity ∙ h.known in
+          let some = subst (λ s. 0 < s.part) (sym looks.looks.share) h.some in
+          let few = came_there.few in
+          let low = at.0 in
+          by_eq (λ (a : After Find ℕ). Onward a w p) k owner (GoOn (at_find c (finds.Asks index (one_more found)))) (find_comes_to c (index + 1) found)
+          (λ e. record {
+            known = known;
+            some = some;
+            standing = h.standing;
+            so_far = (at.0, looked_then, tells_owner one_word cap index k at.0 v w looks owner fits e, (found, omega arith, came_there));
+          })
+          (λ ne. comes w c (index + 1) found p looked_then known some h.standing (omega arith)
+          (came_past index found w.seen p came_there looked_then.mine (tells_other one_word cap index k at.0 v w looks owner ne)))
+
+    heard : (index found : ℕ) (answer : CallbackProgression) (q : F) → SoFar (finds.Asks index found) v p → step p index answer q
+        → Onward (find_takes c (finds.Asks index found) owner (says answer)) v q
+    heard index found Continue q at hit =
+        let low = at.0 in
+        let asked = at.3 in
+        comes v c (index + 1) found q at.1 h.known h.some h.standing (omega arith)
+        (subst (λ n. Came (index + 1) n v.seen q) asked.1 (came_more index asked.0 v.seen p asked.2 at.1.mine q at.0 at.2 hit))
+    heard index found Stop q at hit = (at.1, found_last index at.3.0 v.seen p at.3.2 at.1.mine found q at.0 at.3.1 at.2 hit)
+
+    by_stage : (stage : FindStage) → c.stage ≡ stage → SoFar stage v p → (q : F) (a : After Find ℕ) → FindMoves step c owner stage v p a w q
+        → Onward a w q
+    by_stage (finds.LoadsCell index found) is at q a moves =
+        let same : p ≡ q = sym moves.0 in
+        subst (Onward a w) same
+        (subst (λ (z : After Find ℕ). Onward z w p) (ap (λ s. find_takes c s owner moves.1.0) (sym is) ∙ sym moves.1.2)
+        (loaded index found moves.1.0 at (subst (λ n. LooksAt one_word kinds.Robust n (cell_word index) v moves.1.0 w) h.known moves.1.1)))
+    by_stage (finds.Asks index found) is at q a moves =
+        subst (λ (z : View ℕ). Onward a z q) (sym moves.0)
+        (subst (λ (z : After Find ℕ). Onward z v q) (ap (λ s. find_takes c s owner (says moves.1.0)) (sym is) ∙ sym moves.1.2)
+        (heard index found moves.1.0 q at moves.1.1))
+
+    pub onward : (q : F) (a : After Find ℕ) → FindMoves step c owner c.stage v p a w q → Onward a w q
+    onward = by_stage c.stage refl h.so_far
+
+  pub starts : (c : Find) → c ≡ first_find cap → base.capacity ≡ cap → 0 < base.share.part → 0 < cap → Searching base c f
+  starts c is known some any =
+      subst (λ (d : Find). Searching base d f) (sym is) (record { known = known; some = some; standing = refl; so_far = (any, inl refl, came_none) })
+
+  -- the closure may be called with the index that it has come to
+  pub may_go : {pre : F → ℕ → Type 0} (v : View ℕ) (c : Find) (p : F) → TakesPlaces pre (λ p x q. step p x Continue q) cap f → Searching v c p
+      → FindAsks pre v c.stage p
+  may_go {pre} v c p takes h = go c.stage h.so_far
+    where
+      go : (stage : FindStage) → SoFar stage v p → FindAsks pre v stage p
+      go (finds.LoadsCell index found) at = subst (λ n. index < n) (sym h.known) at.0
+      go (finds.Asks index found) at = (let so = at.3.2 in takes.at so.indices p index so.calls so.ascend so.below at.0)

@@ -1,25 +1,43 @@
 -- What the closures of a find and of a recovery are called with: indices that ascend below the
--- capacity, each at most once.
+-- capacity, each at most once; and what a find tells of these.
 use Rattle.std.specs.Prelude.{◌≡◌, ℕ, ◌+◌, ◌<◌, ◌⊎◌, Bool, true, List, [], ◌∷◌, ◌++◌, length, All, AllPairs, Contains}
 use Rattle.std.specs.List.{FoldsTo}
 use Rattle.steps.specs.Indices.Robust.Parts.{empty}
 use Rattle.steps.specs.declared.enums.CallbackProgression.{CallbackProgression}
 use Rattle.steps.specs.declared.enums.CallbackProgression.TheVariants.{Continue, Stop}
+use Rattle.model.specs.declared.event.Event.{Event}
 use Rattle.lock_free_sp.specs.Callable.{Ascends}
+use Rattle.history.specs.Finds.{WereOwned}
 
 -- ---- find
 
--- a find came to n indices: to these, after each of which it was told to go on, and to no more or to
--- one more, on which it was told to stop; these calls made the closure what it is at the end
-pub record HasFound {F : Type 0} (step : F → ℕ → CallbackProgression → F → Type 0)
-    (capacity : ℕ) (f : F) (n : ℕ) (last : F) : Type 0 where
-  pub indices : List ℕ
-  pub now : F
-  pub calls : FoldsTo (λ p x q. step p x Continue q) f indices now
-  pub ascend : Ascends capacity indices
-  pub ended : ((now ≡ last) × (length indices ≡ n))
-      ⊎ ((index : ℕ) × step now index Stop last × Ascends capacity (indices ++ index ∷ [])
-      × (length indices + 1 ≡ n))
+module _ {F : Type 0} (step : F → ℕ → CallbackProgression → F → Type 0) where
+  -- called with these in turn, the closure said each time to go on, and became this
+  abbrev pub WentOn : F → List ℕ → F → Type 0
+  WentOn = FoldsTo (λ p x q. step p x Continue q)
+
+  -- called with these in turn, it said to go on, and at the last to stop
+  pub record WasStopped (f : F) (indices : List ℕ) (bound : ℕ) (last : F) : Type 0 where
+    pub before : List ℕ
+    pub index : ℕ
+    pub is : indices ≡ before ++ index ∷ []
+    pub bound_is : bound ≡ index + 1
+    pub now : F
+    pub calls : WentOn f before now
+    pub stops : step now index Stop last
+
+  -- A find of an owner's indices called the closure with just these, ascending, and answered how many
+  -- they are. It came to all indices below the bound: to all that there are, or up to the one at which
+  -- the closure said to stop. Of those it called the closure with each that had the owner through the
+  -- whole call, and with none that never had him.
+  pub record HasFound (capacity owner : ℕ) (f : F) (number : ℕ) (last : F)
+      (old new : List (Event ℕ)) : Type 0 where
+    pub indices : List ℕ
+    pub number_is : number ≡ length indices
+    pub ascend : Ascends capacity indices
+    pub bound : ℕ
+    pub calls : (WentOn f indices last × (bound ≡ capacity)) ⊎ WasStopped f indices bound last
+    pub owned : WereOwned owner bound indices old new
 
 -- ---- recover
 

@@ -1,12 +1,10 @@
--- What the calls on a robust unique index set say of its passes: of what one knew, and what it
--- knows now.
+-- What the calls on a container say of the lock of its robust index set: of what a pass knew, and what
+-- it knows now.
 use Rattle.std.specs.Prelude.{◌≡◌, ℕ, ◌≤◌, true, false}
 use Rattle.steps.specs.declared.indices.enums.ReleaseMode.{ReleaseMode}
 use Rattle.steps.specs.declared.indices.enums.ReleaseMode.TheVariants.{LockIfLastIndex}
 use Rattle.steps.specs.declared.indices.enums.ReleaseState.{ReleaseState}
 use Rattle.steps.specs.declared.indices.enums.ReleaseState.TheVariants.{Locked, Unlocked}
-use Rattle.steps.specs.declared.indices.enums.UniqueIndexSetAcquireFailure.{UniqueIndexSetAcquireFailure}
-use Rattle.steps.specs.declared.indices.enums.UniqueIndexSetAcquireFailure.TheVariants as failures
 use Rattle.lock_free_owners.specs.declared.robust.view.View.{View}
 use Rattle.lock_free_owners.specs.Robust.Views.{saw_lock}
 
@@ -17,11 +15,6 @@ FoundOpen v w = (w ≡ v) × (v.locked ≡ false)
 -- this call has seen the lock, or an earlier one
 abbrev pub FoundLocked : View → View → Type 0
 FoundLocked v w = w ≡ saw_lock v
-
--- an acquire that took no index
-abbrev pub WasRefused : UniqueIndexSetAcquireFailure → View → View → Type 0
-WasRefused failures.OutOfIndices v w = FoundOpen v w
-WasRefused failures.IsLocked v w = FoundLocked v w
 
 -- a release: Locked in mode LockIfLastIndex alone, and there wherever the lock was seen
 abbrev pub HasReleased : ReleaseState → ReleaseMode → View → View → Type 0

@@ -1,8 +1,7 @@
--- What is known at each stage of a call on a robust unique index set, and how the call ends: of the
--- view with which it began, and the view now.
+-- What is known at each stage of a call on the robust index set of a container, and how the call ends:
+-- of the view with which it began, and the view now; and how the closures of a recovery are called.
 use Rattle.std.specs.Prelude.{◌≡◌, ℕ, ◌<◌, ◌≤◌, Bool, true, false, if◌then◌else◌}
 use Rattle.steps.specs.Indices.Robust.Parts.{empty, locked, greatest}
-use Rattle.steps.specs.Indices.Robust.Find.{find_after}
 use Rattle.steps.specs.Indices.Robust.Recover.{recover_after}
 use Rattle.steps.specs.declared.ask.After.{After}
 use Rattle.steps.specs.declared.ask.After.TheVariants.{GoOn, Done}
@@ -16,8 +15,6 @@ use Rattle.steps.specs.declared.indices.robust.parts.Count as counts
 use Rattle.steps.specs.declared.indices.robust.parts.Lock as locks
 use Rattle.steps.specs.declared.indices.robust.acquire.AcquireStage as acquires
 use Rattle.steps.specs.declared.indices.robust.release.ReleaseStage as releases
-use Rattle.steps.specs.declared.indices.robust.find.Find.{Find}
-use Rattle.steps.specs.declared.indices.robust.find.FindStage as finds
 use Rattle.steps.specs.declared.indices.robust.recover.Recover.{Recover}
 use Rattle.steps.specs.declared.indices.robust.recover.RecoverStage as recovers
 use Rattle.steps.specs.declared.indices.robust.looks.BorrowedIndices.{BorrowedIndices}
@@ -95,20 +92,6 @@ LookEnds base false room w = FoundOpen base w
 abbrev pub says : CallbackProgression → ℕ
 says Continue = 1
 says Stop = 0
-
-module _ {F : Type 0} where
-  -- what a step asks of the closure
-  abbrev pub FindAsks : (F → ℕ → Type 0) → finds.FindStage → F → Type 0
-  FindAsks pre (finds.TheVariants.LoadsCell index found) f = Unit {0}
-  FindAsks pre (finds.TheVariants.Asks index found) f = pre f index
-
-  -- how the call goes on, and what becomes of the closure
-  abbrev pub FindMoves : (F → ℕ → CallbackProgression → F → Type 0) → Find → ℕ
-      → finds.FindStage → F → After Find ℕ → F → Type 0
-  FindMoves step call owner (finds.TheVariants.LoadsCell index found) f after g =
-      (g ≡ f) × ((k : ℕ) × (after ≡ find_after call owner k))
-  FindMoves step call owner (finds.TheVariants.Asks index found) f after g =
-      (a : CallbackProgression) × step f index a g × (after ≡ find_after call owner (says a))
 
 -- where loads of cells lead from this one on: to a cell or an owner there or further on, or to the end
 abbrev pub HasPassedTo : ℕ → recovers.RecoverStage → Type 0

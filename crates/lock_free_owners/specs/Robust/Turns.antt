@@ -1,12 +1,17 @@
--- What is known between two turns of a call on a robust unique index set, whatever the view with which it began.
-use Rattle.std.specs.Prelude.{◌≡◌, ℕ, ◌+◌}
+-- What is known between two turns of a call on a robust unique index set, whatever the view with which
+-- it began.
+use Rattle.std.specs.Prelude.{◌≡◌, ℕ, ◌+◌, ◌<◌}
 use Rattle.steps.specs.Indices.Robust.Acquire.{Acquired}
+use Rattle.steps.specs.Indices.Robust.Find.{find_after}
+use Rattle.steps.specs.Indices.Robust.Parts.{cell_word}
 use Rattle.steps.specs.Indices.Robust.Recover.{recover_after}
 use Rattle.steps.specs.declared.ask.After.{After}
+use Rattle.steps.specs.declared.enums.CallbackProgression.{CallbackProgression}
 use Rattle.steps.specs.declared.indices.enums.ReleaseMode.{ReleaseMode}
 use Rattle.steps.specs.declared.indices.enums.ReleaseState.{ReleaseState}
 use Rattle.steps.specs.declared.indices.robust.acquire.Acquire.{Acquire}
 use Rattle.steps.specs.declared.indices.robust.find.Find.{Find}
+use Rattle.steps.specs.declared.indices.robust.find.FindStage as finds
 use Rattle.steps.specs.declared.indices.robust.looks.BorrowedIndices.{BorrowedIndices}
 use Rattle.steps.specs.declared.indices.robust.recover.Recover.{Recover}
 use Rattle.model.specs.declared.turn.Kind.TheVariants as kinds
@@ -15,9 +20,10 @@ use Rattle.lock_free_sp.specs.Driver.{Next}
 use Rattle.lock_free_sp.specs.Seats.{seen, table_of, key_of}
 use Rattle.lock_free_sp.specs.declared.driver.seated.Seated.{Seated}
 use Rattle.history.specs.declared.view.View.{View}
-use Rattle.history.specs.Finds.{FindsAt, FindsEnd}
 use Rattle.history.specs.Robust.{takes_owned, counts_owned, recovers_owned}
 use Rattle.history.specs.Stages.{At, AtAsked, Ends}
+use Rattle.history.specs.Views.{LooksAt}
+use Rattle.lock_free_owners.specs.Robust.Stages.{says}
 
 -- the counter, and a cell for each index
 abbrev pub size : ℕ → ℕ
@@ -70,11 +76,21 @@ BorrowedGoes = Goes CountAt CountEnds
 
 -- ---- find
 
-abbrev pub FindStands : ℕ → View ℕ → Find → Type 0
-FindStands owner = Stands (FindsAt one_word owner) (FindsEnd one_word owner)
+module _ {F : Type 0} where
+  -- what a turn asks: that it has come to an index that there is, and that the closure may be called with it
+  abbrev pub FindAsks : (F → ℕ → Type 0) → View ℕ → finds.FindStage → F → Type 0
+  FindAsks pre v (finds.TheVariants.LoadsCell index found) f = index < v.capacity
+  FindAsks pre v (finds.TheVariants.Asks index found) f = pre f index
 
-abbrev pub FindGoes : ℕ → View ℕ → Find → After Find ℕ → View ℕ → Type 0
-FindGoes owner = Goes (FindsAt one_word owner) (FindsEnd one_word owner)
+  -- what it does: it looks at the cell, or calls the closure; and how the call goes on
+  abbrev pub FindMoves : (F → ℕ → CallbackProgression → F → Type 0) → Find → ℕ → finds.FindStage
+      → View ℕ → F → After Find ℕ → View ℕ → F → Type 0
+  FindMoves step call owner (finds.TheVariants.LoadsCell index found) v f after w g =
+      (g ≡ f) × ((k : ℕ) × LooksAt one_word kinds.Robust v.capacity (cell_word index) v k w
+      × (after ≡ find_after call owner k))
+  FindMoves step call owner (finds.TheVariants.Asks index found) v f after w g =
+      (w ≡ v) × ((a : CallbackProgression) × step f index a g
+      × (after ≡ find_after call owner (says a)))
 
 -- ---- recover
 

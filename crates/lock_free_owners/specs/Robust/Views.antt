@@ -1,4 +1,4 @@
--- What a seat knows of a robust unique index set, and how that changes.
+-- What a seat at a container's table knows of its robust index set, and how that changes.
 use Rattle.std.specs.Prelude.{ℕ, ◌||◌, false, true}
 use Rattle.lock_free_owners.specs.declared.robust.view.View.{View}
 

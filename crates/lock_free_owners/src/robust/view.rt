@@ -1,5 +1,5 @@
-//! What a seat at the table of a robust unique index set knows. No value of this type is made: it is for contracts and
-//! proofs.
+//! What a seat at a container's table knows of its robust index set. No value of this type is made: it is for contracts
+//! and proofs.
 
 /// What a seat knows.
 pub struct View {

@@ -1,4 +1,4 @@
-//! What the calls say of the views at their steps.
+//! What the calls and the looks say of the views at their steps.
 ghost use Rattle.std.specs.Prelude.{◌≡◌, []};
 ghost use Rattle.model.specs.Coding.{one_word};
 ghost use Rattle.model.specs.declared.turn.Kind.TheVariants as kinds;
@@ -7,7 +7,6 @@ use atomic_table::Play;
 use history::view::View;
 use lock_free_sp::driver::rule::Drives;
 use steps::indices::robust::acquire::Acquire;
-use steps::indices::robust::find::Find;
 use steps::indices::robust::looks::{BorrowedIndices, IsLocked};
 use steps::indices::robust::recover::Recover;
 use steps::indices::robust::release::Release;
@@ -33,17 +32,6 @@ impl Drives<View<u64>, Release> for Gives {
     ghost at = { λ given. At one_word kinds.Robust (gives_owned given) };
 
     ghost ends = { λ given. Ends one_word kinds.Robust (gives_owned given) };
-}
-
-/// Coming to the indices of an owner.
-pub struct Finds;
-
-impl Drives<View<u64>, Find> for Finds {
-    ghost use Rattle.history.specs.Finds.{FindsAt, FindsEnd};
-
-    ghost at = { FindsAt one_word };
-
-    ghost ends = { FindsEnd one_word };
 }
 
 /// Freeing the indices of dead owners.
@@ -88,4 +76,14 @@ impl Play<(), View<u64>> for Look {
 
     ghost then = { λ step old found new.
         Looks one_word kinds.Robust old.0.capacity old.0 new.0 × (new.1 ≡ []) };
+}
+
+/// A look at the whole history and at one word.
+pub struct LookAt;
+
+impl Play<(), View<u64>> for LookAt {
+    ghost use Rattle.history.specs.Views.{LooksAt};
+
+    ghost then = { λ step old found new.
+        LooksAt one_word kinds.Robust old.0.capacity step.word old.0 found new.0 × (new.1 ≡ []) };
 }

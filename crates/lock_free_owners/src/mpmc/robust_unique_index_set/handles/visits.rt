@@ -3,13 +3,14 @@ ghost use Rattle.std.specs.Prelude.{◌≡◌, false};
 ghost use Rattle.steps.specs.declared.enums.CallbackProgression.TheVariants.{Continue};
 ghost use Rattle.model.specs.declared.event.Answer.TheVariants.{State};
 ghost use Rattle.model.specs.declared.families.indices.robust.RobustStart.TheVariants as starts;
+ghost use Rattle.model.specs.declared.turn.Kind.TheVariants as kinds;
 ghost use Rattle.model.specs.Coding.{one_word};
 ghost use Rattle.model.specs.Families.Indices.Reading.{is_locked};
-ghost use Rattle.history.specs.Finds.{FindsEnd};
+ghost use Rattle.history.specs.Views.{Looks};
 ghost use Rattle.lock_free_sp.specs.Callable.{TakesPlaces};
 ghost use Rattle.lock_free_owners.specs.Robust.Callable.{HasFound, TakesQuestions, TakesFreed, HasVisited};
 ghost use Rattle.lock_free_owners.specs.Robust.Told.{HasRecovered, Answered, FoundState};
-ghost use Rattle.lock_free_owners.specs.RobustUniqueIndexSet.{capacity_of, history, HasHistory, MissesNothing, GoesOn};
+ghost use Rattle.lock_free_owners.specs.RobustUniqueIndexSet.{capacity_of, history, GoesOn};
 ghost use Rattle.lock_free_owners.specs.Robust.Handles.{set_in, pass_in, knows};
 
 use super::Handle;
@@ -26,11 +27,11 @@ impl<'a> Handle<'a> {
     ) -> usize
         requires { TakesPlaces F.pre (λ p x q. F.step p x Continue q) (capacity_of (set_in self.old)) visit }
         ensures set { set_in self.new ≡ set_in self.old }
-        ensures goes_on { HasHistory (pass_in self.old) → MissesNothing (pass_in self.old)
-            → GoesOn (pass_in self.old) (pass_in self.new) }
-        ensures ended { FindsEnd one_word owner (knows self.old) result tt (knows self.new) }
-        ensures found { (last : F) × HasFound (λ p x a q. F.step p x a q)
-            (capacity_of (set_in self.old)) visit result last }
+        ensures goes_on { GoesOn (pass_in self.old) (pass_in self.new) }
+        ensures looked { Looks one_word kinds.Robust (capacity_of (set_in self.old)) (knows self.old)
+            (knows self.new) }
+        ensures found { (last : F) × HasFound (λ p x a q. F.step p x a q) (capacity_of (set_in self.old)) owner
+            visit result last (history (pass_in self.old)) (history (pass_in self.new)) }
     {
         self.set.find(owner, visit, &mut self.pass)
     }

@@ -1,0 +1,35 @@
+use Rattle.std.proofs.Common.{◌≡◌, ◌<◌, ℕ, List, [], rules, sym, subst, arith}
+use Rattle.steps.specs.Indices.Robust.Parts.{cell_word}
+use Rattle.atomic_table.specs.Seated.{TableId}
+use Rattle.atomic_table.specs.Table.{Me, Allows}
+use Rattle.model.specs.Coding.{one_word}
+use Rattle.model.specs.declared.turn.Kind.TheVariants as kinds
+use Rattle.lock_free_sp.specs.Seats.{seen}
+use Rattle.history.specs.declared.view.View.{View}
+use Rattle.history.specs.History.{IsMachine}
+use Rattle.history.specs.Views.{LooksAt}
+use Rattle.history.proofs.Passes.{looks_word}
+use Rattle.lock_free_owners.proofs.mpmc.robust_unique_index_set.finds.look_at.Goals as goal
+
+-- what the load owes, where the seat knows this
+abbrev Owed : ℕ → ℕ → ℕ → ℕ → Me (Unit {0}) (View ℕ) → Type 0
+Owed key slots id word me =
+    Allows (IsMachine one_word kinds.Robust key) slots id me word (λ n. n)
+    (λ found new. LooksAt one_word kinds.Robust me.0.capacity word me.0 found new.0 × (new.1 ≡ []))
+
+pub load-requires : goal.load-requires
+load-requires c =
+    let seat = c.args.seat.now.seat in
+    let v = seen c.args.seat.now in
+    let table = c.deref.result.now.shared in
+    let word = c.cell_word.result in
+    let is : word ≡ cell_word c.args.index = c.cell_word.ensures in
+    let at : seat.table_id ≡ table.table_id = search rules in
+    let size : v.capacity ≡ table.key = search rules in
+    let owed : Owed v.capacity table.table_id.slots seat.id word (v, []) =
+    looks_word one_word kinds.Robust v.capacity table.table_id.slots seat.id word v c.requires.some in (
+      at,
+      subst (λ (t : TableId). word < t.words) at (let wide = c.requires.board.0 in let cell = c.requires.cell in omega arith),
+      subst (λ (xs : List (ℕ × Unit {0})). Owed table.key table.table_id.slots seat.id word (v, xs)) (sym c.args.seat.now.bare)
+          (subst (λ k. Owed k table.table_id.slots seat.id word (v, [])) size owed),
+    )
