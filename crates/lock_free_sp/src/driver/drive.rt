@@ -58,7 +58,7 @@ impl<V, K, Q: Rule<V, K>> Seated<V, K, Q> {
         }
     }
 
-    /// One step of a call. No call that is driven here puts a question.
+    /// One step of a call. Whoever has a closure answers the questions himself, between two steps; here the answer is 0.
     #[inline(always)]
     fn once<M: Tells<V>, C: Routine, D: Drives<V, C>>(
         &mut self,
