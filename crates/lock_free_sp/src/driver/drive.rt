@@ -1,6 +1,6 @@
 //! One operation on a word, one step of a call, and whole calls.
 ghost use Rattle.std.specs.Prelude.{◌≡◌, ℕ};
-ghost use Rattle.lock_free_sp.specs.Driver.{OwesAsk, Next, Told, KeepsRule, moves};
+ghost use Rattle.lock_free_sp.specs.Driver.{Owes, OwesAsk, Next, Told, KeepsRule, moves};
 ghost use Rattle.lock_free_sp.specs.Seats.{seen, table_of, key_of, IsSame, IsAt};
 
 use super::rule::{Drives, Rule, Tells};
@@ -58,7 +58,44 @@ impl<V, K, Q: Rule<V, K>> Seated<V, K, Q> {
         }
     }
 
-    /// One step of a call. No call that is driven here puts a question.
+    /// What a call hears where it stands: the word's old value; at a question, which only its caller can answer, 0.
+    #[inline(always)]
+    fn answer<M: Tells<V>, C: Routine>(&mut self, call: C, given: &C::Given) -> u64
+        requires owes { Owes (Q.holds (key_of self.old)) (table_of self.old).words
+            (table_of self.old).slots self.old.seat.id M.told (C.want_of call given.now) self.old.seat.me }
+        requires capacity { (v : V) (n : ℕ) (w : V) → M.told v n w
+            → Q.capacity_seen w ≡ Q.capacity_seen v }
+        ensures same { IsSame self.old self.new }
+        ensures told { M.told (seen self.old) result (seen self.new) }
+    {
+        match call.ask(given) {
+            Want::Ask(ask) => self.perform::<M>(ask),
+            Want::Question(_) => 0,
+            Want::Nothing => 0,
+        }
+    }
+
+    /// One step of a call, whose caller picks what it tells.
+    #[inline(always)]
+    pub fn step_telling<M: Tells<V>, C: Routine>(
+        &mut self,
+        call: C,
+        given: &C::Given,
+        room: &mut C::Room,
+    ) -> After<C, C::End>
+        requires owes { Owes (Q.holds (key_of self.old)) (table_of self.old).words
+            (table_of self.old).slots self.old.seat.id M.told (C.want_of call given.now) self.old.seat.me }
+        requires capacity { (v : V) (n : ℕ) (w : V) → M.told v n w
+            → Q.capacity_seen w ≡ Q.capacity_seen v }
+        ensures same { IsSame self.old self.new }
+        ensures told { (n : ℕ) × (result ≡ C.after call given.now n)
+            × (room.new ≡ C.kept call room.old n) × M.told (seen self.old) n (seen self.new) }
+    {
+        let old = self.answer::<M, C>(call, given);
+        call.take(given, room, old)
+    }
+
+    /// One step of a call. Whoever has a closure answers the questions himself, between two steps; here the answer is 0.
     #[inline(always)]
     fn once<M: Tells<V>, C: Routine, D: Drives<V, C>>(
         &mut self,
@@ -85,11 +122,7 @@ impl<V, K, Q: Rule<V, K>> Seated<V, K, Q> {
             → Next Q.capacity_seen (D.at given.now) (D.ends given.now) base
             result room.new (seen self.new) }
     {
-        let old = match call.ask(given) {
-            Want::Ask(ask) => self.perform::<M>(ask),
-            Want::Question(_) => 0,
-            Want::Nothing => 0,
-        };
+        let old = self.answer::<M, C>(call, given);
         call.take(given, room, old)
     }
 
