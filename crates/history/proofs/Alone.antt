@@ -16,10 +16,11 @@ use Rattle.model.specs.declared.families.Flight.{Flight}
 use Rattle.model.specs.declared.turn.Kind.{Kind}
 use Rattle.model.specs.declared.turn.Turn.TheVariants.{Begin, Next}
 use Rattle.model.specs.Coding.{Coding, IsCoding}
-use Rattle.model.specs.Families.{opening_of, want_of, after_of, begin_rows}
+use Rattle.model.specs.Families.{opening_of, want_of, after_of, goes_of}
 use Rattle.model.specs.Rows.{first_row}
 use Rattle.model.specs.Step.{answer_in}
 use Rattle.model.specs.Turns.{after_turn, events_of, ending_of}
+use Rattle.model.specs.Families.Container.Looks.{state_in}
 use Rattle.model.specs.World.{World, Trace, capacity_error}
 use Rattle.model.specs.World as worlds
 use Rattle.queue_laws.proofs.Queues.Knows.{IsFreshCall}
@@ -27,19 +28,22 @@ use Rattle.lock_free_sp.specs.Shares.{all_shares}
 use Rattle.history.specs.declared.view.View.{View}
 use Rattle.history.specs.History.{IsMachine, call_in}
 use Rattle.history.specs.Known.{owned, events_by}
-use Rattle.history.specs.Stages.{Calling, Starts}
+use Rattle.history.specs.Stages.{Calling, Starts, rows_as}
 use Rattle.history.specs.Views.{first_view}
 use Rattle.history.proofs.Reached.{reached_as_opening, fresh_as_opening}
-use Rattle.history.proofs.Calls.{call_then}
+use Rattle.history.proofs.Calls.{call_then, stateless_none}
 use Rattle.history.proofs.Known.{known_alone, by_mine, AreOf}
 use Rattle.history.proofs.Steps.{settle}
-use Rattle.history.proofs.Turns.{MachineLaws, Between, begun, begun_at, gone, goes_to, told, own_told}
+use Rattle.history.proofs.Turns.{KeptLaws, MachineLaws, kept_laws, goes_on_alike, Between, begun, begun_at, gone, goes_to, told, own_told}
 
 -- each party is its own seat
 abbrev pub same_seat : ℕ → ℕ
 same_seat p = p
 
 module _ {T : Type 0} (code : Coding T) (kind : Kind) (capacity size : ℕ) (effects : World T → ℕ → Flight T → ℕ → List (Event T)) (laws : MachineLaws code kind capacity size effects) where
+  there_laws : KeptLaws code kind capacity size effects
+  there_laws = kept_laws code kind capacity size effects laws
+
   abbrev alone : List ℕ → State (Unit {0}) (View T)
   alone words = record { words = words; homes = []; views = first_view capacity ∷ [] }
 
@@ -95,7 +99,7 @@ module _ {T : Type 0} (code : Coding T) (kind : Kind) (capacity size : ℕ) (eff
 
   -- a pass that has made these events
   abbrev pub maker : List (Event T) → View T
-  maker es = record { capacity = capacity; party = Some 0; share = all_shares; seen = es; other = []; made = es; going = None }
+  maker es = record { capacity = capacity; party = Some 0; share = all_shares; seen = es; other = []; made = es; going = None; state = None }
 
   pub sums : (words : List ℕ) (es : List (Event T)) (going : Option (Start T × Flight T)) → (h : Here words es going) → (f : Event T → ℕ) → sum_by f (maker es).made ≡ sum_by (owned same_seat 0 f) h.u.events
   sums words es going h f = (let all = h.between.made_own (first_view capacity) refl f in omega arith)
@@ -103,12 +107,12 @@ module _ {T : Type 0} (code : Coding T) (kind : Kind) (capacity size : ℕ) (eff
   pub begins : {C M E : Type 0} (call : Calling T C M E) (c : C) (m : M) (words : List ℕ) (es : List (Event T)) → (h : Here words es None) → Starts code kind call (maker es) c m h.u same_seat 0 → Here words (es ++ Begun 0 call.start ∷ []) (Some (call.start, call.flight c m))
   begins call c m words es h s =
       let is : s.party ≡ 0 = s.mine in
-      let may : first_row (begin_rows kind capacity h.u.world.kept 0 call.start) ≡ None = subst (λ p. first_row (begin_rows kind capacity h.u.world.kept p call.start) ≡ None) is s.may in
+      let may : first_row (rows_as kind capacity h.u.world.kept 0 call.start) ≡ None = subst (λ p. first_row (rows_as kind capacity h.u.world.kept p call.start) ≡ None) is s.may in
       record {
         u = after_turn h.u (Begin 0 call.start);
-        between = begun code kind capacity size effects laws same_seat (alone words) 0 0 es h.u h.between call.start (call.flight c m) h.there s.first may;
+        between = begun code kind capacity size effects there_laws same_seat (alone words) 0 0 es h.u h.between call.start (call.flight c m) h.there s.first may;
         events = ap (λ xs. xs ++ Begun 0 call.start ∷ []) h.events;
-        there = begun_at code kind capacity size effects laws same_seat (alone words) 0 0 es h.u h.between call.start (call.flight c m) h.there s.first may;
+        there = begun_at code kind capacity size effects there_laws same_seat (alone words) 0 0 es h.u h.between call.start (call.flight c m) h.there s.first may;
       }
 
   -- ---- it takes a step
@@ -120,6 +124,12 @@ module _ {T : Type 0} (code : Coding T) (kind : Kind) (capacity size : ℕ) (eff
     abbrev comes : After (Flight T) (Answer T)
     comes = after_of code flight found
 
+    comes_there : goes_of code 0 flight found h.u.world.kept ≡ comes
+    comes_there = goes_on_alike code kind capacity size effects laws h.u h.between.run 0 flight found
+
+    ends_so : (own : List (Event T)) → own ++ ending_of 0 start (answer_in (goes_of code 0 flight found h.u.world.kept)) ≡ own ++ ending_of 0 start (answer_in comes)
+    ends_so own = ap (λ (r : After (Flight T) (Answer T)). own ++ ending_of 0 start (answer_in r)) comes_there
+
     -- it wrote this, all of it its own
     module _ (own : List (Event T)) (is : effects h.u.world 0 flight found ≡ own) (only : AreOf 0 own) where
       abbrev wrote : List (Event T)
@@ -127,14 +137,15 @@ module _ {T : Type 0} (code : Coding T) (kind : Kind) (capacity size : ℕ) (eff
 
       took : Here (slice_set words a.word (written a.op found)) (es ++ wrote) (call_then start comes)
       took =
-          let tells : events_of h.u.world (Next 0) ≡ wrote = told code kind capacity size effects laws same_seat (alone words) 0 0 es h.u h.between start flight (Some a) low h.there asks finds ∙ ap (λ zs. zs ++ ending_of 0 start (answer_in comes)) is in
+          let tells : events_of h.u.world (Next 0) ≡ wrote = told code kind capacity size effects there_laws same_seat (alone words) 0 0 es h.u h.between start flight (Some a) low h.there asks finds ∙ (ends_so (effects h.u.world 0 flight found) ∙ ap (λ zs. zs ++ ending_of 0 start (answer_in comes)) is) in
           let mine : events_by 0 (effects h.u.world 0 flight found) ≡ own = ap (events_by 0) is ∙ by_mine 0 own only in
-          let told_own : events_by 0 (events_of h.u.world (Next 0)) ≡ wrote = own_told code kind capacity size effects laws same_seat (alone words) 0 0 es h.u h.between start flight (Some a) low h.there asks finds ∙ ap (λ zs. zs ++ ending_of 0 start (answer_in comes)) mine in
+          let told_own : events_by 0 (events_of h.u.world (Next 0)) ≡ wrote = own_told code kind capacity size effects there_laws same_seat (alone words) 0 0 es h.u h.between start flight (Some a) low h.there asks finds ∙ (ends_so (events_by 0 (effects h.u.world 0 flight found)) ∙ ap (λ zs. zs ++ ending_of 0 start (answer_in comes)) mine) in
           record {
             u = after_turn h.u (Next 0);
-            between = subst (λ zs. Between code kind capacity same_seat (alone (slice_set words a.word (written a.op found))) 0 0 (es ++ zs) (after_turn h.u (Next 0))) told_own (gone code kind capacity size effects laws same_seat (alone words) 0 0 es h.u h.between start flight (Some a) low h.there asks finds);
+            between = subst (λ zs. Between code kind capacity same_seat (alone (slice_set words a.word (written a.op found))) 0 0 (es ++ zs) (after_turn h.u (Next 0))) told_own (gone code kind capacity size effects there_laws same_seat (alone words) 0 0 es h.u h.between start flight (Some a) low h.there asks finds);
             events = ap (λ xs. xs ++ events_of h.u.world (Next 0)) h.events ∙ ap (λ zs. es ++ zs) tells;
-            there = goes_to code kind capacity size effects laws same_seat (alone words) 0 0 es h.u h.between start flight (Some a) low h.there asks finds;
+            there = goes_to code kind capacity size effects there_laws same_seat (alone words) 0 0 es h.u h.between start flight (Some a) low h.there asks finds
+                ∙ ap (call_then start) comes_there;
           }
 
     -- it goes on, and tells nothing
@@ -156,6 +167,8 @@ module _ {T : Type 0} (code : Coding T) (kind : Kind) (capacity size : ℕ) (eff
   opens_so words es h =
       let first : View T = first_view capacity in
       subst (λ v. IsMachine code kind capacity (opening words [] v))
-      (ap (λ zs. record { capacity = capacity; party = Some 0; share = all_shares; seen = zs; other = []; made = es; going = call_in h.u.world 0 }) h.events
-      ∙ ap (λ o. record { capacity = capacity; party = Some 0; share = all_shares; seen = es; other = []; made = es; going = o }) h.there)
+      (ap (λ zs. record { capacity = capacity; party = Some 0; share = all_shares; seen = zs; other = []; made = es; going = call_in h.u.world 0; state = state_in h.u.world.kept 0 }) h.events
+      ∙ (ap (λ o. record { capacity = capacity; party = Some 0; share = all_shares; seen = es; other = []; made = es; going = o; state = state_in h.u.world.kept 0 }) h.there
+      ∙ ap (λ z. record { capacity = capacity; party = Some 0; share = all_shares; seen = es; other = []; made = es; going = None; state = z })
+      (stateless_none h.u.world.kept 0 (laws.stateless h.u h.between.run))))
       (settle code kind capacity 0 0 same_seat words (alone words) first es h.u refl (omega arith) h.between)

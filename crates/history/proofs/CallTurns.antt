@@ -12,30 +12,32 @@ use Rattle.model.specs.declared.event.Event.{Event}
 use Rattle.model.specs.declared.event.Event.TheVariants.{Begun, Finished}
 use Rattle.model.specs.declared.event.Start.{Start}
 use Rattle.model.specs.declared.families.Flight.{Flight}
+use Rattle.model.specs.declared.families.Kept.{Kept}
 use Rattle.model.specs.declared.turn.Kind.{Kind}
 use Rattle.model.specs.declared.turn.Turn.{Turn}
 use Rattle.model.specs.declared.turn.Turn.TheVariants.{Begin, Next}
 use Rattle.model.specs.Coding.{Coding}
-use Rattle.model.specs.Families.{first_of, begin_rows, want_of, after_of, ask_of}
+use Rattle.model.specs.Families.{first_of, kept_after_begin, want_of, goes_of, ask_of}
+use Rattle.model.specs.Families.Container.Looks.{state_in}
 use Rattle.model.specs.Rows.{first_row}
 use Rattle.model.specs.Step.{answer_in}
 use Rattle.model.specs.Reading.{span_of, own_after, Open}
-use Rattle.model.specs.Turns.{after_turn, events_of, ending_of, words_after, old_of}
+use Rattle.model.specs.Turns.{after_turn, events_of, ending_of, words_after, old_of, step_in}
 use Rattle.model.specs.World.{World, Trace}
 use Rattle.lock_free_sp.specs.Shares.{IsAll}
 use Rattle.history.specs.declared.view.View.{View}
 use Rattle.history.specs.Known.{events_by, by_party, owned}
-use Rattle.history.specs.History.{IsRun, IsMachine, Fits, IsLate, call_in}
-use Rattle.history.specs.Stages.{Calling, Since, opened, Starts, IsUnderWay, At, Ends}
+use Rattle.history.specs.History.{IsRun, IsMachine, Fits, IsLate, IsOfParties, call_in}
+use Rattle.history.specs.Stages.{Calling, Since, opened, Starts, IsUnderWay, At, Ends, rows_as}
 use Rattle.queue_laws.proofs.Queues.Knows.{IsFreshCall}
 use Rattle.history.proofs.Known.{known_whole, by_more, nil_right, idle_seat, late_none, none_late}
-use Rattle.history.proofs.Calls.{call_then}
-use Rattle.history.proofs.Turns.{MachineLaws, Between, want_for, at_ask, at_first, begun, begun_at, gone, goes_to, told as turn_told, own_told, found_old, made_between}
+use Rattle.history.proofs.Calls.{stands, call_then}
+use Rattle.history.proofs.Turns.{KeptLaws, Between, want_for, at_ask, at_first, begun, begun_at, begun_kept, gone, kept_then, goes_to, told as turn_told, own_told, found_old, made_between}
 use Rattle.history.proofs.Steps.{view_after}
 use Rattle.history.proofs.CallsIn.{no_rest, same_rest, none_after, regroup, Prior, span_since}
 use Rattle.history.proofs.CallsIn.{Met}
 
-module _ {T C M E : Type 0} (code : Coding T) (kind : Kind) (effects : World T → ℕ → Flight T → ℕ → List (Event T)) (size_of : ℕ → ℕ) (laws : (capacity : ℕ) → MachineLaws code kind capacity (size_of capacity) effects) (call : Calling T C M E) where
+module _ {T C M E : Type 0} (code : Coding T) (kind : Kind) (effects : World T → ℕ → Flight T → ℕ → List (Event T)) (size_of : ℕ → ℕ) (laws : (capacity : ℕ) → KeptLaws code kind capacity (size_of capacity) effects) (call : Calling T C M E) where
   abbrev Stage : View T → View T → C → M → Type 0
   Stage base v c m = At code kind call base v c m
 
@@ -68,6 +70,13 @@ module _ {T C M E : Type 0} (code : Coding T) (kind : Kind) (effects : World T �
     pub waits : IsLate kind (Some (call.start, call.flight c m)) late
     pub prior : Prior p call.start (wrote ++ late) base events made
 
+  -- what is kept where it has just begun
+  pub record Began (key p : ℕ) (v : View T) (now : Kept T) : Type 0 where
+    pub t : Trace T
+    pub run : IsRun code kind key t
+    pub kept : now ≡ kept_after_begin code key call.start p t.world.kept
+    pub stated : v.party ≡ Some p → state_in t.world.kept p ≡ v.state
+
   -- the seat goes on as this one of its parties
   pub record Ready (s : State (Unit {0}) (View T)) (v : View T) (key id : ℕ) (c : C) (m : M) : Type 0 where
     pub p : ℕ
@@ -78,6 +87,9 @@ module _ {T C M E : Type 0} (code : Coding T) (kind : Kind) (effects : World T �
     pub there : call_in u.world p ≡ Some (call.start, call.flight c m)
     pub by : (base : View T) → Stage base v c m → call.by base.party p
     pub prior : (base : View T) → Stage base v c m → Told_by p c m base u.events (v.made ++ gained)
+    pub began : v.going ≡ None → Began key p v u.world.kept
+    pub held : v.going ≡ Some (call.start, call.flight c m) → state_in u.world.kept p ≡ v.state
+    pub as_party : v.going ≡ Some (call.start, call.flight c m) → v.party ≡ Some p
 
   module _ (s : State (Unit {0}) (View T)) (v : View T) (key id : ℕ) (c : C) (m : M) (r : IsMachine code kind key s) (at : get_elem? s.views id ≡ some v) (known : v.capacity ≡ key) where
     here : Fits r.owner r.trace id v
@@ -195,7 +207,7 @@ module _ {T C M E : Type 0} (code : Coding T) (kind : Kind) (effects : World T �
         let p = starts.party in
         let idle : (q : ℕ) → r.owner q ≡ id → call_in r.trace.world q ≡ None = idle_seat r.owner r.trace id v none here in
         let is_first : first_of kind key call.start r.trace.world.kept ≡ Some (call.flight c m) = subst (λ n. first_of kind n call.start r.trace.world.kept ≡ Some (call.flight c m)) size starts.first in
-        let may : first_row (begin_rows kind key r.trace.world.kept p call.start) ≡ None = subst (λ n. first_row (begin_rows kind n r.trace.world.kept p call.start) ≡ None) size starts.may in
+        let may : first_row (rows_as kind key r.trace.world.kept p call.start) ≡ None = subst (λ n. first_row (rows_as kind n r.trace.world.kept p call.start) ≡ None) size starts.may in
         let before : Between code kind key r.owner s id p [] r.trace = at_first code kind key s id p r [] starts.mine self (λ q of_id ne. idle q of_id) (λ u there f. (let same : sum_by f u.made ≡ sum_by f v.made = ap (λ (z : View T). sum_by f z.made) (some-injective u v (sym there ∙ at)) in let all = own_made f in omega arith)) in
         record {
           p = p;
@@ -206,6 +218,14 @@ module _ {T C M E : Type 0} (code : Coding T) (kind : Kind) (effects : World T �
           there = begun_at code kind key (size_of key) effects (laws key) r.owner s id p [] r.trace before call.start (call.flight c m) (idle p starts.mine) is_first may;
           by = λ base' stage. first_by p (subst (λ (z : View T). call.by z.party p) (sym first.is) starts.by) base' none stage;
           prior = λ base' stage. first_prior p starts.mine base' none stage;
+          began = λ none'. record {
+            t = r.trace;
+            run = r.run;
+            kept = begun_kept code kind key (size_of key) effects (laws key) r.owner s id p [] r.trace before call.start (call.flight c m) (idle p starts.mine) is_first may;
+            stated = λ is. here.stated p starts.mine is;
+          };
+          held = λ has. (let no : ◌≡◌ {A = Option (Start T × Flight T)} None (Some (call.start, call.flight c m)) = sym none ∙ has in absurd (cc));
+          as_party = λ has. (let no : ◌≡◌ {A = Option (Start T × Flight T)} None (Some (call.start, call.flight c m)) = sym none ∙ has in absurd (cc));
         }
     ready base (inr under) =
         let p = under.party in
@@ -219,6 +239,9 @@ module _ {T C M E : Type 0} (code : Coding T) (kind : Kind) (effects : World T �
           there = here.going p mine under.mine ∙ under.going;
           by = λ base' stage. later_by p under.mine base' under.going stage;
           prior = λ base' stage. later_prior p mine under.mine base' under.going stage;
+          began = λ none. (let no : ◌≡◌ {A = Option (Start T × Flight T)} None (Some (call.start, call.flight c m)) = sym none ∙ under.going in absurd (cc));
+          held = λ has. here.stated p mine under.mine;
+          as_party = λ has. under.mine;
         }
 
   -- the call is later by what a turn of its party wrote, and by its end
@@ -252,6 +275,10 @@ module _ {T C M E : Type 0} (code : Coding T) (kind : Kind) (effects : World T �
     abbrev flight_now : Flight T
     flight_now = call.flight c m
 
+    -- how it goes on, by what is kept
+    abbrev pub comes_now : After (Flight T) (Answer T)
+    comes_now = goes_of code y.p flight_now found y.u.world.kept
+
     abbrev pub then_trace : Trace T
     then_trace = after_turn y.u (Next y.p)
 
@@ -261,7 +288,10 @@ module _ {T C M E : Type 0} (code : Coding T) (kind : Kind) (effects : World T �
     pub next_between : Between code kind key y.owner (record { words = words_after s.words ask; homes = s.homes; views = s.views }) id y.p then_gained then_trace
     next_between = gone code kind key (size_of key) effects (laws key) y.owner s id y.p y.gained y.u y.between call.start flight_now ask low y.there asks_it finds
 
-    going_then : call_in then_trace.world y.p ≡ call_then call.start (after_of code flight_now found)
+    pub kept_now : then_trace.world.kept ≡ (step_in y.u.world y.p (stands y.u.world y.p call.start flight_now y.there).x flight_now found).kept
+    kept_now = kept_then code kind key (size_of key) effects (laws key) y.owner s id y.p y.gained y.u y.between call.start flight_now ask low y.there asks_it finds
+
+    going_then : call_in then_trace.world y.p ≡ call_then call.start (comes_now)
     going_then = goes_to code kind key (size_of key) effects (laws key) y.owner s id y.p y.gained y.u y.between call.start flight_now ask low y.there asks_it finds
 
     run_then : (base : View T) → Stage base v c m → IsRun code kind base.capacity then_trace
@@ -288,7 +318,7 @@ module _ {T C M E : Type 0} (code : Coding T) (kind : Kind) (effects : World T �
         }
 
     -- it is later by what the step wrote, and by its end
-    since_then : (base : View T) (wrote last : List (Event T)) → Prior y.p call.start wrote base y.u.events (v.made ++ y.gained) → ending_of y.p call.start (answer_in (after_of code flight_now found)) ≡ last → Since y.p call.start (wrote ++ mine_now) last base view_then
+    since_then : (base : View T) (wrote last : List (Event T)) → Prior y.p call.start wrote base y.u.events (v.made ++ y.gained) → ending_of y.p call.start (answer_in (comes_now)) ≡ last → Since y.p call.start (wrote ++ mine_now) last base view_then
     since_then base wrote last prior ends =
         let told_now : events_of y.u.world (Next y.p) ≡ effs ++ last =
         turn_told code kind key (size_of key) effects (laws key) y.owner s id y.p y.gained y.u y.between call.start flight_now ask low y.there asks_it finds ∙ ap (λ zs. effs ++ zs) ends
@@ -298,8 +328,17 @@ module _ {T C M E : Type 0} (code : Coding T) (kind : Kind) (effects : World T �
         in
         since_turn y.p id (Next y.p) y.u v base y.gained wrote effs last prior told_now own_now
 
+    -- who has the whole has made all of it
+    all_then : (base : View T) → Stage base v c m → IsAll base.share → (f : Event T → ℕ) → sum_by f view_then.seen ≡ sum_by f view_then.made
+    all_then base stage all f =
+        made_between code kind key y.owner id y.p then_gained then_trace (record { words = words_after s.words ask; homes = s.homes; views = s.views }) next_between v at
+        (subst IsAll (sym (same_share base v c m stage)) all) f
+
+    parties_then : IsOfParties view_then
+    parties_then = record { owner = y.owner; seat = id; sums = λ f. sum_by-append f v.made then_gained ∙ next_between.made_own v at f }
+
     -- the call goes on
-    pub goes_then : (base : View T) (stage : Stage base v c m) (d : C) (m' : M) → after_of code flight_now found ≡ GoOn (call.flight d m') → call.stands base.capacity d → ((n : ℕ) → call.skips d n ≡ false)
+    pub goes_then : (base : View T) (stage : Stage base v c m) (d : C) (m' : M) → comes_now ≡ GoOn (call.flight d m') → call.stands base.capacity d → ((n : ℕ) → call.skips d n ≡ false)
         → ((es late : List (Event T)) → call.wrote base.capacity y.p base.going c m es → IsLate kind (Some (call.start, flight_now)) late → Met code kind base.capacity call.start flight_now y.p base.going (es ++ late) found y.u → call.wrote base.capacity y.p base.going d m' ((es ++ late) ++ mine_now)) → IsUnderWay code kind call base view_then d m'
     goes_then base stage d m' afters standing past tells =
         let before = y.prior base stage in
@@ -318,10 +357,12 @@ module _ {T C M E : Type 0} (code : Coding T) (kind : Kind) (effects : World T �
           tells = tells before.wrote before.late before.tells before.waits (met base stage);
           since = since_then base (before.wrote ++ before.late) [] before.prior (ap (λ (a : After (Flight T) (Answer T)). ending_of y.p call.start (answer_in a)) afters);
           history = record { trace = then_trace; run = run_then base stage; is = refl };
+          all = all_then base stage;
+          parties = parties_then;
         }
 
     -- the call ends
-    pub ends_then : (base : View T) (stage : Stage base v c m) (end : E) (m' : M) → after_of code flight_now found ≡ Done (call.answer end m')
+    pub ends_then : (base : View T) (stage : Stage base v c m) (end : E) (m' : M) → comes_now ≡ Done (call.answer end m')
         → ((es late : List (Event T)) → call.wrote base.capacity y.p base.going c m es → IsLate kind (Some (call.start, flight_now)) late → Met code kind base.capacity call.start flight_now y.p base.going (es ++ late) found y.u → call.wrote_all base.capacity y.p base.going end m' ((es ++ late) ++ mine_now)) → Ends code kind call base end m' view_then
     ends_then base stage end m' afters tells =
         let before = y.prior base stage in
@@ -337,6 +378,6 @@ module _ {T C M E : Type 0} (code : Coding T) (kind : Kind) (effects : World T �
           tells = tells before.wrote before.late before.tells before.waits (met base stage);
           since = since_then base (before.wrote ++ before.late) (Finished y.p call.start (call.answer end m') ∷ []) before.prior (ap (λ (a : After (Flight T) (Answer T)). ending_of y.p call.start (answer_in a)) afters);
           history = record { trace = then_trace; run = run_then base stage; is = refl };
-          all = λ all f. made_between code kind key y.owner id y.p then_gained then_trace (record { words = words_after s.words ask; homes = s.homes; views = s.views }) next_between v at (subst IsAll (sym (same_share base v c m stage)) all) f;
-          parties = record { owner = y.owner; seat = id; sums = λ f. sum_by-append f v.made then_gained ∙ next_between.made_own v at f };
+          all = all_then base stage;
+          parties = parties_then;
         }

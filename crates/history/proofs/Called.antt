@@ -6,6 +6,7 @@ use Rattle.model.specs.declared.event.Start.{Start}
 use Rattle.model.specs.declared.families.Flight.{Flight}
 use Rattle.model.specs.declared.turn.Kind.{Kind}
 use Rattle.model.specs.Coding.{Coding}
+use Rattle.lock_free_sp.specs.Shares.{IsAll}
 use Rattle.history.specs.declared.view.View.{View}
 use Rattle.history.specs.History.{IsHistory, Called}
 use Rattle.history.specs.Stages.{Calling, opened, At, Ends}
@@ -46,6 +47,8 @@ module _ {T C M E : Type 0} (code : Coding T) (kind : Kind) (call : Calling T C 
         wrote = [];
         tells = subst (λ (o : Option (Start T × Flight T)). call.wrote v.capacity under.party o c m []) (sym under.going) (none v.capacity under.party);
         history = subst (λ n. IsHistory code kind n v.seen) (sym under.capacity) under.history;
+        all = λ all. under.all (subst IsAll under.share all);
+        parties = under.parties;
         since = record {
           others = [];
           during = [];

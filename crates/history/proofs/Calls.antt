@@ -1,23 +1,38 @@
 -- Where the calls of a machine stand after a turn.
-use Rattle.std.proofs.Common.{◌≡◌, ◌≢◌, ℕ, zero, suc, ◌<◌, Bool, Option, Some, None, List, [], ◌∷◌, ◌++◌, length, get_or, set, refl, ap, ◌∙◌, arith}
+use Rattle.std.proofs.Common.{◌≡◌, ◌≢◌, ℕ, zero, suc, ◌<◌, ◌==◌, Bool, false, Option, Some, None, List, [], ◌∷◌, ◌++◌, length, get_or, set, refl, ap, ◌∙◌, arith}
+use Rattle.std.proofs.lemmas.Bool.Decides.{nat_tests}
 use Rattle.steps.specs.declared.ask.Ask.{Ask}
 use Rattle.steps.specs.declared.ask.After.{After}
 use Rattle.steps.specs.declared.ask.After.TheVariants.{GoOn, Done}
 use Rattle.model.specs.declared.event.Answer.{Answer}
 use Rattle.model.specs.declared.event.Event.{Event}
 use Rattle.model.specs.declared.event.Start.{Start}
+use Rattle.model.specs.declared.event.Start.TheVariants.{Container}
+use Rattle.model.specs.declared.families.container.ContainerStart.TheVariants.{GetState, UpdateState}
 use Rattle.model.specs.declared.families.Flight.{Flight}
+use Rattle.model.specs.declared.families.Flight as flights
 use Rattle.model.specs.declared.families.Kept.{Kept}
+use Rattle.model.specs.declared.families.Kept as kepts
 use Rattle.model.specs.declared.party.Doing.{Doing}
 use Rattle.model.specs.declared.party.Doing.TheVariants.{Going, Over}
 use Rattle.model.specs.declared.party.Party.{Party}
-use Rattle.model.specs.Families.{want_of, after_of, ask_of}
+use Rattle.model.specs.declared.turn.Kind.{Kind}
+use Rattle.model.specs.declared.turn.Kind as kinds
+use Rattle.model.specs.declared.turn.Kind.TheVariants.{IndexQueue, Overflow, Queue, Atomic, Bits, Counts, Indices, Robust, Loan}
+use Rattle.model.specs.declared.turn.Turn.TheVariants.{Begin, Next}
+use Rattle.model.specs.Coding.{Coding}
+use Rattle.model.specs.Families.{opening_of, kept_after_begin, want_of, after_of, goes_of, ask_of}
+use Rattle.model.specs.Families.Container.Keeping.{is_look_of}
+use Rattle.model.specs.Families.Container.Looks.{state_in}
 use Rattle.model.specs.Parties.{party_of, doing_of, flight_of}
 use Rattle.model.specs.Step.{Step, answer_in}
 use Rattle.model.specs.Turns.{after_begin, after_next, after_answer, after_decision, after_step, party_after, party_at_begin, step_count, change_of, number_of, step_in, events_of_next, events_of_decision, events_of_step, events_of_answer, ending_of, old_of, ask_of_doing}
 use Rattle.model.specs.World.{World, flight_in}
 use Rattle.model.proofs.Parties.{party_put_same, party_put_other}
 use Rattle.history.specs.History.{call_at, call_of, call_in}
+
+other_number : (p q : ℕ) → q ≢ p → (p == q) ≡ false
+other_number p q ne = grind (arith, nat_tests)
 
 module _ {T : Type 0} where
   -- ---- the party of a call under way
@@ -80,7 +95,56 @@ module _ {T : Type 0} where
       go (Over others) = refl
       go (Going flight since) = ap call_of (party_put_other q p _ w.latest ne)
 
+  -- ---- what is kept
+
+  -- no call goes on by it
+  abbrev pub IsStateless : Kept T → Type 0
+  IsStateless (kepts.TheVariants.Container dead states) = ⊥
+  IsStateless (kepts.TheVariants.Loan book) = ⊥
+  IsStateless kept = Unit {0}
+
+  pub goes_alike : (code : Coding T) (p : ℕ) (flight : Flight T) (n : ℕ) (kept : Kept T) → IsStateless kept → goes_of code p flight n kept ≡ after_of code flight n
+  goes_alike code p (flights.TheVariants.Container flight) n (kepts.TheVariants.Container dead states) none = absurd none
+  goes_alike code p (flights.TheVariants.Loan flight) n (kepts.TheVariants.Loan book) none = absurd none
+  goes_alike code p flight n kept none = refl
+
+  -- no party has a state then
+  pub stateless_none : (kept : Kept T) (p : ℕ) → IsStateless kept → state_in kept p ≡ None
+  stateless_none (kepts.TheVariants.Container dead states) p none = absurd none
+  stateless_none kept p none = refl
+
+  pub opens_without : (kind : Kind) (capacity p : ℕ) → state_in {T = T} ((opening_of kind).kept capacity) p ≡ None
+  opens_without IndexQueue capacity p = refl
+  opens_without Overflow capacity p = refl
+  opens_without Queue capacity p = refl
+  opens_without Atomic capacity p = refl
+  opens_without Bits capacity p = refl
+  opens_without Counts capacity p = refl
+  opens_without Indices capacity p = refl
+  opens_without Robust capacity p = refl
+  opens_without kinds.TheVariants.Container capacity p = refl
+  opens_without Loan capacity p = refl
+
+  -- a turn of another party is no look of this one's
+  pub look_begin : (w : World T) (p q : ℕ) (start : Start T) → q ≢ p → is_look_of w q (Begin p start) ≡ false
+  look_begin w p q (Container GetState) ne = other_number p q ne
+  look_begin w p q (Container UpdateState) ne = other_number p q ne
+  look_begin w p q start ne = refl
+
+  pub look_next : (w : World T) (p q : ℕ) → q ≢ p → is_look_of w q (Next p) ≡ false
+  look_next w p q ne = rw (other_number p q ne) refl
+
   -- ---- the own call
+
+  -- what is kept once it has begun, and once it has gone on
+  pub begin_kept : (w : World T) (p : ℕ) (start : Start T) (flight : Flight T) (o : Option (Flight T)) → o ≡ Some flight
+      → (after_begin w p start o).kept ≡ kept_after_begin w.coding w.capacity start p w.kept
+  begin_kept w p start flight None e = absurd (cc)
+  begin_kept w p start flight (Some f) e = refl
+
+  pub next_kept : (w : World T) (p : ℕ) (start : Start T) (flight : Flight T) (h : Stands w p start flight)
+      → (after_next w p (party_of p w.latest)).kept ≡ (step_in w p h.x flight (old_of w.words (ask_of (want_of w.coding flight)))).kept
+  next_kept w p start flight h = rw (h.found, h.doing) refl
 
   -- where it stands once it has gone on
   abbrev pub call_then : Start T → After (Flight T) (Answer T) → Option (Start T × Flight T)
@@ -95,16 +159,16 @@ module _ {T : Type 0} where
 
   -- what a step of it comes to, where it writes this
   pub record Moved (w : World T) (p : ℕ) (start : Start T) (flight : Flight T) (old : ℕ) (wrote : List (Event T)) : Type 0 where
-    pub going : call_in (after_next w p (party_of p w.latest)) p ≡ call_then start (after_of w.coding flight old)
-    pub events : events_of_next w p (party_of p w.latest) ≡ wrote ++ ending_of p start (answer_in (after_of w.coding flight old))
+    pub going : call_in (after_next w p (party_of p w.latest)) p ≡ call_then start (goes_of w.coding p flight old w.kept)
+    pub events : events_of_next w p (party_of p w.latest) ≡ wrote ++ ending_of p start (answer_in (goes_of w.coding p flight old w.kept))
 
   then_at : (start : Start T) (changes since : ℕ) (after : After (Flight T) (Answer T)) → call_at start (Rattle.model.specs.Turns.doing_after changes since after) ≡ call_then start after
   then_at start changes since (GoOn flight) = refl
   then_at start changes since (Done answer) = refl
 
-  -- where the family goes on as its table says
+  -- where the family goes on as its table says, from what it keeps
   module _ (w : World T) (p : ℕ) (start : Start T) (flight : Flight T) (writes : ℕ → List (Event T)) (h : Stands w p start flight)
-      (goes : (x : Party T) (n : ℕ) → party_of p w.latest ≡ Some x → (step_in w p x flight n).after ≡ after_of w.coding flight n)
+      (goes : (x : Party T) (n : ℕ) → party_of p w.latest ≡ Some x → (step_in w p x flight n).after ≡ goes_of w.coding p flight n w.kept)
       (same : (x : Party T) (n : ℕ) → party_of p w.latest ≡ Some x → (step_in w p x flight n).wrote ≡ writes n) where
     -- handed this, where it asked for that
     module _ (ask : Option Ask) (old : ℕ) where
@@ -112,7 +176,7 @@ module _ {T : Type 0} where
       s = step_in w p h.x flight old
 
       abbrev after : After (Flight T) (Answer T)
-      after = after_of w.coding flight old
+      after = goes_of w.coding p flight old w.kept
 
       stepped : call_in (after_step w p h.x h.since ask s) p ≡ call_then start after
       stepped =
@@ -131,11 +195,11 @@ module _ {T : Type 0} where
         record { going = rw (h.found, h.doing) (stepped ask (old_of w.words ask)); events = rw (h.found, h.doing) (tells ask (old_of w.words ask)) }
 
     -- handed an answer to its question
-    pub heard_going : (said : Bool) → call_in (after_decision w p said (party_of p w.latest)) p ≡ call_then start (after_of w.coding flight (number_of said))
+    pub heard_going : (said : Bool) → call_in (after_decision w p said (party_of p w.latest)) p ≡ call_then start (goes_of w.coding p flight (number_of said) w.kept)
     heard_going said = rw (h.found, h.doing) (stepped None (number_of said))
 
     pub heard_events : (said : Bool) → events_of_decision w p said (party_of p w.latest) ≡ writes (number_of said) ++ ending_of p start
-        (answer_in (after_of w.coding flight (number_of said)))
+        (answer_in (goes_of w.coding p flight (number_of said) w.kept))
     heard_events said = rw (h.found, h.doing) (tells None (number_of said))
 
 -- ---- words, and one more

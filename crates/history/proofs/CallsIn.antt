@@ -15,7 +15,7 @@ use Rattle.model.specs.declared.event.Start.{Start}
 use Rattle.model.specs.declared.families.Flight.{Flight}
 use Rattle.model.specs.declared.turn.Kind.{Kind}
 use Rattle.model.specs.Coding.{Coding}
-use Rattle.model.specs.Families.{want_of, after_of, ask_of}
+use Rattle.model.specs.Families.{want_of, after_of, goes_of, ask_of, is_question}
 use Rattle.model.specs.Reading.{whose, is_party, span_of, span_after, own_after, Span, Never, Open}
 use Rattle.model.specs.Turns.{old_of}
 use Rattle.model.specs.World.{World, Trace}
@@ -26,6 +26,7 @@ use Rattle.history.specs.Known.{events_by}
 use Rattle.history.specs.History.{IsRun, IsLate, call_in}
 use Rattle.history.specs.Stages.{Calling, opened}
 use Rattle.queue_laws.proofs.Queues.Knows.{IsFreshCall}
+use Rattle.history.proofs.Known.{AreOf, by_mine}
 
 pub by_bool : {A : Type 0} → (b : Bool) → (b ≡ true → A) → (b ≡ false → A) → A
 by_bool true t f = t refl
@@ -69,7 +70,7 @@ pub record StepsOf {T C M E : Type 0} (Asks : Type 0) (code : Coding T) (effects
   pub finds : (c : C) (m : M) (n : ℕ) → n < 2 ^ 64 → call.skips c n ≡ false → IsFreshCall n (call.flight c m)
   pub leaves : (c : C) (a : Ask) (n : ℕ) → call.skips c n ≡ true → want c ≡ wants.Ask a → (written a.op n ≡ n) × (e : E) × call.left e × (after c n ≡ Done e)
   pub tells : (capacity p : ℕ) (from : Option (Start T × Flight T)) (c d : C) (m : M) (n : ℕ) (es : List (Event T)) → call.stands capacity c → call.wrote capacity p from c m es → after c n ≡ GoOn d → call.wrote capacity p from d (kept c m n) (es ++ effects p (call.flight c m) n)
-  pub tells_all : (capacity p : ℕ) (from : Option (Start T × Flight T)) (c : C) (e : E) (m : M) (n : ℕ) (es : List (Event T)) → call.stands capacity c → call.skips c n ≡ false → call.wrote capacity p from c m es → after c n ≡ Done e → call.wrote_all capacity p from e (kept c m n) (es ++ effects p (call.flight c m) n)
+  pub tells_all : (capacity p : ℕ) (from : Option (Start T × Flight T)) (c : C) (e : E) (m : M) (n : ℕ) (es : List (Event T)) → call.stands capacity c → call.skips c n ≡ false → call.wrote capacity p from c m es → after c n ≡ Done e → is_question (want c) ≡ false → call.wrote_all capacity p from e (kept c m n) (es ++ effects p (call.flight c m) n)
 
 -- each step of it is at a word
 abbrev pub IsCallOf : {T C M E : Type 0} → Coding T → (ℕ → Flight T → ℕ → List (Event T)) → (ℕ → ℕ) → (C → Want (Unit {0})) → (C → ℕ → After C E)
@@ -85,11 +86,22 @@ pub record Met {T : Type 0} (code : Coding T) (kind : Kind) (capacity : ℕ) (st
   pub found : old_of t.world.words (ask_of (want_of code flight)) ≡ n
   pub span : from ≡ None → span_of p t.events ≡ fold own_after (Open start []) es
 
+-- how it goes on: by itself, or by what the machine keeps
+module _ {T C M E : Type 0} (code : Coding T) (kind : Kind) (after : C → ℕ → After C E) (kept : C → M → ℕ → M) (call : Calling T C M E) where
+  abbrev pub GoesAlike : Type 0
+  GoesAlike =
+      (capacity : ℕ) (c : C) (m : M) (n : ℕ) → call.stands capacity c → after_of code (call.flight c m) n ≡ goes call (after c n) (kept c m n)
+
+  abbrev pub GoesThere : Type 0
+  GoesThere =
+      (capacity p : ℕ) (c : C) (m : M) (n : ℕ) (t : Trace T) → IsRun code kind capacity t → call_in t.world p ≡ Some (call.start, call.flight c m)
+      → call.stands capacity c → goes_of code p (call.flight c m) n t.world.kept ≡ goes call (after c n) (kept c m n)
+
 -- the same of a kind whose steps write by what the machine is, and where another may have written for the call
-pub record StepsIn {T C M E : Type 0} (Asks : Type 0) (code : Coding T) (kind : Kind) (effects : World T → ℕ → Flight T → ℕ → List (Event T))
+pub record StepsAs {T C M E : Type 0} (Asks Goes : Type 0) (code : Coding T) (kind : Kind) (effects : World T → ℕ → Flight T → ℕ → List (Event T))
     (want : C → Want (Unit {0})) (after : C → ℕ → After C E) (kept : C → M → ℕ → M) (call : Calling T C M E) : Type 0 where
   pub same_want : (c : C) (m : M) → want_of code (call.flight c m) ≡ want c
-  pub same_after : (capacity : ℕ) (c : C) (m : M) (n : ℕ) → call.stands capacity c → after_of code (call.flight c m) n ≡ goes call (after c n) (kept c m n)
+  pub same_after : Goes
   pub hears : (c : C) (m : M) (a : Ask) (n : ℕ) → want c ≡ wants.Ask a → (after c (answered a.op n) ≡ after c n) × (kept c m (answered a.op n) ≡ kept c m n)
   pub stays : (capacity : ℕ) (c d : C) (n : ℕ) → call.stands capacity c → after c n ≡ GoOn d → call.stands capacity d
   pub asks : Asks
@@ -99,24 +111,40 @@ pub record StepsIn {T C M E : Type 0} (Asks : Type 0) (code : Coding T) (kind : 
   pub tells : (capacity p : ℕ) (from : Option (Start T × Flight T)) (c d : C) (m : M) (n : ℕ) (es late : List (Event T)) (t : Trace T) → call.stands capacity c → call.wrote capacity p from c m es → IsLate kind (Some (call.start, call.flight c m)) late
       → Met code kind capacity call.start (call.flight c m) p from (es ++ late) n t → after c n ≡ GoOn d → call.wrote capacity p from d (kept c m n) ((es ++ late) ++ events_by p (effects t.world p (call.flight c m) n))
   pub tells_all : (capacity p : ℕ) (from : Option (Start T × Flight T)) (c : C) (e : E) (m : M) (n : ℕ) (es late : List (Event T)) (t : Trace T) → call.stands capacity c → call.skips c n ≡ false → call.wrote capacity p from c m es → IsLate kind (Some (call.start, call.flight c m)) late
-      → Met code kind capacity call.start (call.flight c m) p from (es ++ late) n t → after c n ≡ Done e → call.wrote_all capacity p from e (kept c m n) ((es ++ late) ++ events_by p (effects t.world p (call.flight c m) n))
+      → Met code kind capacity call.start (call.flight c m) p from (es ++ late) n t → after c n ≡ Done e → is_question (want c) ≡ false → call.wrote_all capacity p from e (kept c m n) ((es ++ late) ++ events_by p (effects t.world p (call.flight c m) n))
+
+-- of a call that goes on by itself, and of one that may go on by what is kept
+abbrev pub StepsIn : {T C M E : Type 0} → Type 0 → Coding T → Kind → (World T → ℕ → Flight T → ℕ → List (Event T)) → (C → Want (Unit {0}))
+    → (C → ℕ → After C E) → (C → M → ℕ → M) → Calling T C M E → Type 0
+StepsIn {T} {C} {M} {E} Asks code kind effects want after kept call =
+    StepsAs Asks (GoesAlike code kind after kept call) code kind effects want after kept call
+
+abbrev pub StepsThere : {T C M E : Type 0} → Type 0 → Coding T → Kind → (World T → ℕ → Flight T → ℕ → List (Event T)) → (C → Want (Unit {0}))
+    → (C → ℕ → After C E) → (C → M → ℕ → M) → Calling T C M E → Type 0
+StepsThere {T} {C} {M} {E} Asks code kind effects want after kept call =
+    StepsAs Asks (GoesThere code kind after kept call) code kind effects want after kept call
 
 abbrev pub IsCallIn : {T C M E : Type 0} → Coding T → Kind → (World T → ℕ → Flight T → ℕ → List (Event T)) → (ℕ → ℕ) → (C → Want (Unit {0}))
     → (C → ℕ → After C E) → (C → M → ℕ → M) → Calling T C M E → Type 0
 IsCallIn {T} {C} {M} {E} code kind effects size_of want after kept call =
     StepsIn ((capacity : ℕ) (c : C) → call.stands capacity c → AsksFor (size_of capacity) (want c)) code kind effects want after kept call
 
+abbrev pub IsCallThere : {T C M E : Type 0} → Coding T → Kind → (World T → ℕ → Flight T → ℕ → List (Event T)) → (ℕ → ℕ) → (C → Want (Unit {0}))
+    → (C → ℕ → After C E) → (C → M → ℕ → M) → Calling T C M E → Type 0
+IsCallThere {T} {C} {M} {E} code kind effects size_of want after kept call =
+    StepsThere ((capacity : ℕ) (c : C) → call.stands capacity c → AsksFor (size_of capacity) (want c)) code kind effects want after kept call
+
 -- a call that writes by its own is such a call, of any kind for which nobody else writes
-pub steps_in : {T C M E Asks : Type 0} (code : Coding T) (kind : Kind) (effects : World T → ℕ → Flight T → ℕ → List (Event T))
+pub steps_as : {T C M E Asks Goes : Type 0} (code : Coding T) (kind : Kind) (effects : World T → ℕ → Flight T → ℕ → List (Event T))
     (own : ℕ → Flight T → ℕ → List (Event T)) (want : C → Want (Unit {0})) (after : C → ℕ → After C E) (kept : C → M → ℕ → M) (call : Calling T C M E)
     → ((c : C) (m : M) (late : List (Event T)) → IsLate kind (Some (call.start, call.flight c m)) late → late ≡ [])
     → ((capacity p : ℕ) (c : C) (m : M) (n : ℕ) (t : Trace T) → IsRun code kind capacity t → call_in t.world p ≡ Some (call.start, call.flight c m)
     → events_by p (effects t.world p (call.flight c m) n) ≡ own p (call.flight c m) n)
-    → StepsOf Asks code own want after kept call → StepsIn Asks code kind effects want after kept call
-steps_in {T} {C} {M} {E} {Asks} code kind effects own want after kept call never same h =
+    → Goes → StepsOf Asks code own want after kept call → StepsAs Asks Goes code kind effects want after kept call
+steps_as {T} {C} {M} {E} {Asks} {Goes} code kind effects own want after kept call never same goes_so h =
     record {
       same_want = h.same_want;
-      same_after = h.same_after;
+      same_after = goes_so;
       hears = h.hears;
       stays = h.stays;
       asks = h.asks;
@@ -124,13 +152,62 @@ steps_in {T} {C} {M} {E} {Asks} code kind effects own want after kept call never
       finds = h.finds;
       leaves = h.leaves;
       tells = λ capacity p from c d m n es late t stands wrote waits met e. subst (λ zs. call.wrote capacity p from d (kept c m n) zs) (sym (all capacity p from c m n es late t waits met)) (h.tells capacity p from c d m n es stands wrote e);
-      tells_all = λ capacity p from c e m n es late t stands skip wrote waits met is. subst (λ zs. call.wrote_all capacity p from e (kept c m n) zs) (sym (all capacity p from c m n es late t waits met)) (h.tells_all capacity p from c e m n es stands skip wrote is);
+      tells_all = λ capacity p from c e m n es late t stands skip wrote waits met is still. subst (λ zs. call.wrote_all capacity p from e (kept c m n) zs) (sym (all capacity p from c m n es late t waits met)) (h.tells_all capacity p from c e m n es stands skip wrote is still);
     }
   where
     all : (capacity p : ℕ) (from : Option (Start T × Flight T)) (c : C) (m : M) (n : ℕ) (es late : List (Event T)) (t : Trace T) → IsLate kind (Some (call.start, call.flight c m)) late → Met code kind capacity call.start (call.flight c m) p from (es ++ late) n t → (es ++ late) ++ events_by p (effects t.world p (call.flight c m) n) ≡ es ++ own p (call.flight c m) n
     all capacity p from c m n es late t waits met =
         ap (λ zs. (es ++ zs) ++ events_by p (effects t.world p (call.flight c m) n)) (never c m late waits)
         ∙ (ap (λ zs. zs ++ events_by p (effects t.world p (call.flight c m) n)) (append-nil es) ∙ ap (λ zs. es ++ zs) (same capacity p c m n t met.run met.there))
+
+pub steps_in : {T C M E Asks : Type 0} (code : Coding T) (kind : Kind) (effects : World T → ℕ → Flight T → ℕ → List (Event T))
+    (own : ℕ → Flight T → ℕ → List (Event T)) (want : C → Want (Unit {0})) (after : C → ℕ → After C E) (kept : C → M → ℕ → M) (call : Calling T C M E)
+    → ((c : C) (m : M) (late : List (Event T)) → IsLate kind (Some (call.start, call.flight c m)) late → late ≡ [])
+    → ((capacity p : ℕ) (c : C) (m : M) (n : ℕ) (t : Trace T) → IsRun code kind capacity t → call_in t.world p ≡ Some (call.start, call.flight c m)
+    → events_by p (effects t.world p (call.flight c m) n) ≡ own p (call.flight c m) n)
+    → StepsOf Asks code own want after kept call → StepsIn Asks code kind effects want after kept call
+steps_in code kind effects own want after kept call never same h = steps_as code kind effects own want after kept call never same h.same_after h
+
+-- where it goes on so
+pub with_goes : {T C M E Asks Goes Others : Type 0} (code : Coding T) (kind : Kind) (effects : World T → ℕ → Flight T → ℕ → List (Event T))
+    (want : C → Want (Unit {0})) (after : C → ℕ → After C E) (kept : C → M → ℕ → M) (call : Calling T C M E)
+    → Others → StepsAs Asks Goes code kind effects want after kept call → StepsAs Asks Others code kind effects want after kept call
+with_goes code kind effects want after kept call goes_so h =
+    record {
+      same_want = h.same_want;
+      same_after = goes_so;
+      hears = h.hears;
+      stays = h.stays;
+      asks = h.asks;
+      past = h.past;
+      finds = h.finds;
+      leaves = h.leaves;
+      tells = h.tells;
+      tells_all = h.tells_all;
+    }
+
+-- of a call that goes on by itself, and whose party writes for itself alone, by this of what the kind writes
+pub record ActsAlone {T C M E : Type 0} (code : Coding T) (kind : Kind) (effects : World T → ℕ → Flight T → ℕ → List (Event T))
+    (own : ℕ → Flight T → ℕ → List (Event T)) (call : Calling T C M E) : Type 0 where
+  pub never : (c : C) (m : M) (late : List (Event T)) → IsLate kind (Some (call.start, call.flight c m)) late → late ≡ []
+  pub same : (capacity p : ℕ) (c : C) (m : M) (n : ℕ) (t : Trace T) → IsRun code kind capacity t → effects t.world p (call.flight c m) n ≡ own p (call.flight c m) n
+  pub its_own : (capacity p : ℕ) (c : C) (m : M) (n : ℕ) (t : Trace T) → IsRun code kind capacity t → call_in t.world p ≡ Some (call.start, call.flight c m)
+      → AreOf p (own p (call.flight c m) n)
+  pub alike : (capacity p : ℕ) (c : C) (m : M) (n : ℕ) (t : Trace T) → IsRun code kind capacity t → goes_of code p (call.flight c m) n t.world.kept ≡ after_of code (call.flight c m) n
+
+module _ {T C M E : Type 0} (code : Coding T) (kind : Kind) (effects : World T → ℕ → Flight T → ℕ → List (Event T))
+    (own : ℕ → Flight T → ℕ → List (Event T)) (call : Calling T C M E) (acts : ActsAlone code kind effects own call) where
+  -- what it writes is its own
+  pub written_alone : (capacity p : ℕ) (c : C) (m : M) (n : ℕ) (t : Trace T) → IsRun code kind capacity t → call_in t.world p ≡ Some (call.start, call.flight c m)
+      → events_by p (effects t.world p (call.flight c m) n) ≡ own p (call.flight c m) n
+  written_alone capacity p c m n t run there =
+      ap (events_by p) (acts.same capacity p c m n t run) ∙ by_mine p (own p (call.flight c m) n) (acts.its_own capacity p c m n t run there)
+
+  pub steps_alone : {Asks : Type 0} (want : C → Want (Unit {0})) (after : C → ℕ → After C E) (kept : C → M → ℕ → M)
+      → StepsOf Asks code own want after kept call → StepsThere Asks code kind effects want after kept call
+  steps_alone want after kept h =
+      steps_as code kind effects own want after kept call acts.never written_alone
+      (λ capacity p c m n t run there stands. acts.alike capacity p c m n t run ∙ h.same_after capacity c m n stands) h
 
 pub in_machine : {T C M E : Type 0} (code : Coding T) (kind : Kind) (effects : World T → ℕ → Flight T → ℕ → List (Event T))
     (own : ℕ → Flight T → ℕ → List (Event T)) (size_of : ℕ → ℕ) (want : C → Want (Unit {0})) (after : C → ℕ → After C E) (kept : C → M → ℕ → M)

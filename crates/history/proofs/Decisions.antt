@@ -1,5 +1,6 @@
 -- Calls that put questions: the machine is handed an answer with the call's next step, as it is told of a begin with the first.
 use Rattle.std.proofs.Common.{Bool, true, false, ◌≡◌, inl, inr, ℕ, ◌+◌, ◌<◌, Option, Some, None, List, [], ◌++◌, slice_index, slice_set, set-set, refl, sym, ap, subst, ◌∙◌, append-nil, arith}
+use Rattle.std.proofs.lemmas.List.Sums.{sum_by-append}
 use mathlib.Core.Option.{some}
 use lib.ListN.{get_elem?}
 use Rattle.atomic_table.specs.Table.{State}
@@ -17,38 +18,44 @@ use Rattle.model.specs.declared.families.Flight.{Flight}
 use Rattle.model.specs.declared.turn.Kind.{Kind}
 use Rattle.model.specs.declared.turn.Turn.TheVariants.{Decide}
 use Rattle.model.specs.Coding.{Coding}
-use Rattle.model.specs.Families.{opening_of, first_of, want_of, after_of, is_question}
+use Rattle.model.specs.Families.{opening_of, first_of, want_of, goes_of, is_question}
 use Rattle.model.specs.Turns.{after_turn, events_of, number_of}
-use Rattle.model.specs.World.{Trace}
+use Rattle.model.specs.World.{World, Trace}
+use Rattle.lock_free_sp.specs.Shares.{IsAll}
 use Rattle.lock_free_sp.specs.Driver.{Owes, OwesAsk, Next as NextKnown, Told, KeepsRule}
 use Rattle.history.specs.declared.view.View.{View}
 use Rattle.history.specs.Known.{events_by}
 use Rattle.history.specs.History.{IsRun, IsMachine, call_in}
 use Rattle.history.specs.Stages.{Calling, Since, IsUnderWay, At, Ends, HasHeard, AtAsked}
-use Rattle.history.proofs.Known.{AreOf, by_more, by_mine, within}
+use Rattle.history.proofs.Known.{by_more, within}
 use Rattle.history.proofs.Reached.{MayDecide, refusal_as, decide_as}
 use Rattle.history.proofs.Calls.{stands, flight_is}
-use Rattle.history.proofs.Turns.{KindLaws, MachineLaws, Between, heard, decided, decided_at}
+use Rattle.history.proofs.Turns.{KeptLaws, Between, heard, decided, decided_at, made_between}
 use Rattle.history.proofs.Steps.{view_after, settle}
-use Rattle.history.proofs.CallsIn.{by_bool, goes, AsksFor, StepsOf, StepsIn}
+use Rattle.history.proofs.CallsIn.{by_bool, goes, AsksFor, StepsOf, StepsThere, ActsAlone, written_alone, steps_alone}
 use Rattle.history.proofs.CallTurns.{still_stands, Ready, ready, Told_by, since_turn}
-use Rattle.history.proofs.Drives.{all_laws, steps_itself, ToldOver, keeps_at, next_ended}
+use Rattle.history.proofs.Drives.{ToldOver, keeps_at, next_ended}
 
--- A call that may put questions. It begins with none, and puts none right after another; no answer ends it.
-pub record IsAskingOf {T C M E : Type 0} (code : Coding T) (kind : Kind) (effects : ℕ → Flight T → ℕ → List (Event T)) (size_of : ℕ → ℕ)
+-- A call that may put questions. It begins with none, and puts none right after another.
+pub record IsAskingIn {T C M E : Type 0} (code : Coding T) (kind : Kind) (effects : ℕ → Flight T → ℕ → List (Event T)) (size_of : ℕ → ℕ)
     (want : C → Want (Unit {0})) (after : C → ℕ → After C E) (kept : C → M → ℕ → M) (call : Calling T C M E) : Type 0 where
   pub steps : StepsOf ((capacity : ℕ) (c : C) → call.stands capacity c → is_question (want c) ≡ false → AsksFor (size_of capacity) (want c)) code effects want
       after kept call
   pub never : (c : C) (n : ℕ) → call.skips c n ≡ false
-  pub same_call : (c d : C) (m k : M) → call.flight c m ≡ call.flight d k → (c ≡ d) × (m ≡ k)
+  pub same_call : (c d : C) (m k : M) → call.flight c m ≡ call.flight d k → c ≡ d
+  -- at a question, what it has written tells no rooms apart that the model has as one, and that an answer leaves as one
+  pub same_room : (capacity p : ℕ) (from : Option (Start T × Flight T)) (c : C) (m k : M) (a b : ℕ) (es : List (Event T)) → is_question (want c) ≡ true
+      → call.flight c m ≡ call.flight c k → kept c m a ≡ kept c k b → call.wrote capacity p from c m es → call.wrote capacity p from c k es
   pub first : (n : ℕ) (c : C) (m : M) → first_of kind n call.start ((opening_of kind).kept n) ≡ Some (call.flight c m) → is_question (want c) ≡ false
   pub one : (c d : C) (n : ℕ) → is_question (want c) ≡ true → after c n ≡ GoOn d → is_question (want d) ≡ false
-  pub lasts : (c : C) (e : E) (n : ℕ) → is_question (want c) ≡ true → after c n ≡ Done e → ⊥
 
-module _ {T C M E : Type 0} (code : Coding T) (kind : Kind) (decides : MayDecide kind) (effects : ℕ → Flight T → ℕ → List (Event T)) (size_of : ℕ → ℕ)
-    (laws : (capacity : ℕ) → KindLaws code kind capacity (size_of capacity) effects)
+module _ {T C M E : Type 0} (code : Coding T) (kind : Kind) (decides : MayDecide kind) (effects : World T → ℕ → Flight T → ℕ → List (Event T))
+    (own : ℕ → Flight T → ℕ → List (Event T)) (size_of : ℕ → ℕ) (laws : (capacity : ℕ) → KeptLaws code kind capacity (size_of capacity) effects)
     (want : C → Want (Unit {0})) (after : C → ℕ → After C E) (kept : C → M → ℕ → M) (call : Calling T C M E)
-    (is_call : IsAskingOf code kind effects size_of want after kept call) where
+    (acts : ActsAlone code kind effects own call) (is_call : IsAskingIn code kind own size_of want after kept call)
+    (Finished : View T → E → M → View T → Type 0) (ended : (base : View T) (e : E) (m : M) (w : View T) → Ends code kind call base e m w → Finished base e m w)
+    (rested : (base v : View T) (c : C) (m : M) (said : Bool) (e : E) → is_question (want c) ≡ true → after c (number_of said) ≡ Done e
+    → IsUnderWay code kind call base v c m → Finished base e (kept c m (number_of said)) v) where
   open is_call use {steps as steps, same_call as same_call}
 
   abbrev Heard : View T → View T → C → M → Type 0
@@ -56,9 +63,6 @@ module _ {T C M E : Type 0} (code : Coding T) (kind : Kind) (decides : MayDecide
 
   abbrev Stage : View T → View T → C → M → Type 0
   Stage base v c m = At code kind call base v c m
-
-  on_machine : (capacity : ℕ) → MachineLaws code kind capacity (size_of capacity) (λ w. effects)
-  on_machine = all_laws code kind effects size_of laws
 
   -- ---- the machine is handed the answer
 
@@ -70,11 +74,12 @@ module _ {T C M E : Type 0} (code : Coding T) (kind : Kind) (decides : MayDecide
     abbrev n : ℕ
     n = number_of h.said
 
-    y : Ready code kind (λ w. effects) size_of on_machine call s v key id h.asking h.room
-    y = ready code kind (λ w. effects) size_of on_machine call s v key id h.asking h.room r at known base₀ (inr h.before)
+    y : Ready code kind effects size_of laws call s v key id h.asking h.room
+    y = ready code kind effects size_of laws call s v key id h.asking h.room r at known base₀ (inr h.before)
 
-    comes : after_of code from n ≡ GoOn (call.flight c m)
-    comes = steps.same_after base₀.capacity h.asking h.room n h.before.standing
+    comes : goes_of code y.p from n y.u.world.kept ≡ GoOn (call.flight c m)
+    comes = acts.alike key y.p h.asking h.room n y.u y.between.run
+        ∙ steps.same_after base₀.capacity h.asking h.room n h.before.standing
         ∙ (ap (λ a. goes call a (kept h.asking h.room n)) h.goes ∙ ap (λ k. GoOn (call.flight c k)) (sym h.keeps))
 
     free : refusal_as kind y.u.world (Decide y.p h.said) ≡ None
@@ -96,57 +101,84 @@ module _ {T C M E : Type 0} (code : Coding T) (kind : Kind) (decides : MayDecide
     table_heard = record { words = s.words; homes = s.homes; views = slice_set s.views id view_heard }
 
     between_heard : Between code kind key y.owner s id y.p gained_then u_then
-    between_heard = decided code kind key (size_of key) (λ w. effects) (on_machine key) y.owner s id y.p y.gained y.u y.between call.start from
-        (call.flight c m) h.said y.there free comes
+    between_heard = decided code kind key (size_of key) effects (laws key) y.owner s id y.p y.gained y.u y.between call.start from
+        (GoOn (call.flight c m)) h.said y.there free comes
 
     machine_heard : IsMachine code kind key table_heard
     machine_heard = settle code kind key id y.p y.owner s.words s v gained_then u_then at h.before.some between_heard
 
     there_heard : call_in u_then.world y.p ≡ Some (call.start, call.flight c m)
-    there_heard = decided_at code kind key (size_of key) (λ w. effects) (on_machine key) y.owner s id y.p y.gained y.u y.between call.start from
-        (call.flight c m) h.said y.there free comes
+    there_heard = decided_at code kind key (size_of key) effects (laws key) y.owner s id y.p y.gained y.u y.between call.start from
+        (GoOn (call.flight c m)) h.said y.there free comes
 
     -- ---- whoever has heard an answer stands so, whatever the view with which its drive began
 
     abbrev effs : List (Event T)
-    effs = effects y.p from n
+    effs = effects y.u.world y.p from n
+
+    abbrev mine : List (Event T)
+    mine = own y.p from n
 
     told_heard : events_of y.u.world (Decide y.p h.said) ≡ effs ++ []
-    told_heard = heard code kind key (size_of key) (λ w. effects) (on_machine key) y.owner s id y.p y.gained y.u y.between call.start from
-        (call.flight c m) h.said y.there free comes
+    told_heard = heard code kind key (size_of key) effects (laws key) y.owner s id y.p y.gained y.u y.between call.start from
+        (GoOn (call.flight c m)) h.said y.there free comes
 
     module _ (base : View T) (k : Heard base v c m) where
-      same_one : (k.asking ≡ h.asking) × (k.room ≡ h.room)
-      same_one =
+      same_flight : call.flight k.asking k.room ≡ from
+      same_flight =
           let both : ◌≡◌ {A = Option (Start T × Flight T)} (Some (call.start, call.flight k.asking k.room)) (Some (call.start, from)) = sym k.before.going
           ∙ h.before.going in
           let pair : ◌≡◌ {A = Start T × Flight T} (call.start, call.flight k.asking k.room) (call.start, from) = cc in
-          same_call k.asking h.asking k.room h.room (ap (λ (z : Start T × Flight T). z.1) pair)
+          ap (λ (z : Start T × Flight T). z.1) pair
+
+      same_asking : k.asking ≡ h.asking
+      same_asking = same_call k.asking h.asking k.room h.room same_flight
 
       stage_then : Stage base v h.asking h.room
-      stage_then = inr (subst (λ (z : C × M). IsUnderWay code kind call base v z.0 z.1) (λ i. (same_one.0 i, same_one.1 i)) k.before)
+      stage_then =
+          let under : IsUnderWay code kind call base v h.asking k.room = subst (λ z. IsUnderWay code kind call base v z k.room) same_asking k.before in
+          let same : call.flight h.asking k.room ≡ from = ap (λ z. call.flight z k.room) (sym same_asking) ∙ same_flight in
+          inr (record {
+            capacity = under.capacity;
+            standing = under.standing;
+            share = under.share;
+            some = under.some;
+            party = under.party;
+            mine = under.mine;
+            same = under.same;
+            going = h.before.going;
+            past = under.past;
+            alone = under.alone;
+            wrote = under.wrote;
+            tells = is_call.same_room base.capacity under.party base.going h.asking k.room h.room (number_of k.said) n under.wrote
+                (ap is_question (sym (steps.same_want h.asking h.room)) ∙ h.asks) same
+                (ap (λ z. kept z k.room (number_of k.said)) (sym same_asking) ∙ (sym k.keeps ∙ h.keeps)) under.tells;
+            since = under.since;
+            history = under.history;
+            all = under.all;
+            parties = under.parties;
+          })
 
-      told_by : Told_by code kind (λ w. effects) size_of on_machine call y.p h.asking h.room base y.u.events (v.made ++ y.gained)
+      told_by : Told_by code kind effects size_of laws call y.p h.asking h.room base y.u.events (v.made ++ y.gained)
       told_by = y.prior base stage_then
 
       standing_then : call.stands base.capacity h.asking
-      standing_then = still_stands code kind (λ w. effects) size_of on_machine call base v h.asking h.room stage_then
+      standing_then = still_stands code kind effects size_of laws call base v h.asking h.room stage_then
 
-      all_its_own : (told_by.wrote ++ told_by.late) ++ events_by y.p effs ≡ told_by.wrote ++ effs
+      all_its_own : (told_by.wrote ++ told_by.late) ++ events_by y.p effs ≡ told_by.wrote ++ mine
       all_its_own =
-          let none : told_by.late ≡ [] = (laws key).alone (Some (call.start, from)) told_by.late told_by.waits in
-          let own : AreOf y.p effs = ((laws key).goes_on y.u y.between.run y.p call.start from y.there).own n in
-          ap (λ zs. (told_by.wrote ++ zs) ++ events_by y.p effs) none
-          ∙ (ap (λ zs. zs ++ events_by y.p effs) (append-nil told_by.wrote) ∙ ap (λ zs. told_by.wrote ++ zs) (by_mine y.p effs own))
+          ap (λ zs. (told_by.wrote ++ zs) ++ events_by y.p effs) (acts.never h.asking h.room told_by.late told_by.waits)
+          ∙ (ap (λ zs. zs ++ events_by y.p effs) (append-nil told_by.wrote)
+          ∙ ap (λ zs. told_by.wrote ++ zs) (written_alone code kind effects own call acts key y.p h.asking h.room n y.u y.between.run y.there))
 
-      tells_then : call.wrote base.capacity y.p base.going c m (told_by.wrote ++ effs)
+      tells_then : call.wrote base.capacity y.p base.going c m (told_by.wrote ++ mine)
       tells_then =
-          subst (λ k. call.wrote base.capacity y.p base.going c k (told_by.wrote ++ effs)) (sym h.keeps)
+          subst (λ k. call.wrote base.capacity y.p base.going c k (told_by.wrote ++ mine)) (sym h.keeps)
           (steps.tells base.capacity y.p base.going h.asking c h.room n told_by.wrote standing_then told_by.tells h.goes)
 
       since_then : Since y.p call.start ((told_by.wrote ++ told_by.late) ++ events_by y.p effs) [] base view_heard
       since_then =
-          since_turn code kind (λ w. effects) size_of on_machine call y.p id (Decide y.p h.said) y.u v base y.gained
+          since_turn code kind effects size_of laws call y.p id (Decide y.p h.said) y.u v base y.gained
           (told_by.wrote ++ told_by.late) effs [] told_by.prior told_heard
           (ap (events_by y.p) told_heard ∙ by_more y.p effs [])
 
@@ -167,6 +199,8 @@ module _ {T C M E : Type 0} (code : Coding T) (kind : Kind) (decides : MayDecide
             tells = subst (λ zs. call.wrote base.capacity y.p base.going c m zs) (sym all_its_own) tells_then;
             since = since_then;
             history = record { trace = u_then; run = subst (λ i. IsRun code kind i u_then) (sym (sym k.before.capacity ∙ known)) between_heard.run; is = refl };
+            all = λ all f. made_between code kind key y.owner id y.p gained_then u_then s between_heard v at (subst IsAll (sym k.before.share) all) f;
+            parties = record { owner = y.owner; seat = id; sums = λ f. sum_by-append f v.made gained_then ∙ between_heard.made_own v at f };
           }
 
   -- ---- who is at a word, and who has heard an answer
@@ -185,10 +219,10 @@ module _ {T C M E : Type 0} (code : Coding T) (kind : Kind) (decides : MayDecide
       (Some (call.start, call.flight c m)) = sym k.before.going ∙ under.going in
       let pair : ◌≡◌ {A = Start T × Flight T} (call.start, call.flight k.asking k.room) (call.start, call.flight c m) = cc in
       let same = same_call k.asking c k.room m (ap (λ (z : Start T × Flight T). z.1) pair) in
-      clash (is_question (want c)) (subst (λ z. is_question (want z) ≡ true) same.0 (ap is_question (sym (steps.same_want k.asking k.room)) ∙ k.asks)) still
+      clash (is_question (want c)) (subst (λ z. is_question (want z) ≡ true) same (ap is_question (sym (steps.same_want k.asking k.room)) ∙ k.asks)) still
 
   standing : (base v : View T) (c : C) (m : M) → AtAsked code kind after kept call base v c m → call.stands base.capacity c
-  standing base v c m (inl stage) = still_stands code kind (λ w. effects) size_of on_machine call base v c m stage
+  standing base v c m (inl stage) = still_stands code kind effects size_of laws call base v c m stage
   standing base v c m (inr k) = steps.stays base.capacity k.asking c (number_of k.said) k.before.standing k.goes
 
   same_size : (base v : View T) (c : C) (m : M) → AtAsked code kind after kept call base v c m → v.capacity ≡ base.capacity
@@ -199,46 +233,54 @@ module _ {T C M E : Type 0} (code : Coding T) (kind : Kind) (decides : MayDecide
   -- ---- a question is answered
 
   abbrev ToldAsked : C → M → View T → ℕ → View T → Type 0
-  ToldAsked c m = Told (λ (z : View T). z.capacity) (AtAsked code kind after kept call) (Ends code kind call) after kept c m
+  ToldAsked c m = Told (λ (z : View T). z.capacity) (AtAsked code kind after kept call) Finished after kept c m
 
   -- who stands at a question has heard the answer that it takes
-  pub hears_answer : (base v : View T) (c d : C) (m : M) (said : Bool) → is_question (want c) ≡ true → after c (number_of said) ≡ GoOn d
+  pub hears_said : (base v : View T) (c d : C) (m : M) (said : Bool) → is_question (want c) ≡ true → after c (number_of said) ≡ GoOn d
       → AtAsked code kind after kept call base v c m → AtAsked code kind after kept call base v d (kept c m (number_of said))
-  hears_answer base v c d m said due e (inl (inl first)) = clash (is_question (want c)) due (is_call.first base.capacity c m first.first)
-  hears_answer base v c d m said due e (inl (inr under)) =
+  hears_said base v c d m said due e (inl (inl first)) = clash (is_question (want c)) due (is_call.first base.capacity c m first.first)
+  hears_said base v c d m said due e (inl (inr under)) =
       inr (record { asking = c; room = m; before = under; asks = ap is_question (steps.same_want c m) ∙ due; said = said; goes = e; keeps = refl })
-  hears_answer base v c d m said due e (inr k) =
+  hears_said base v c d m said due e (inr k) =
+      clash (is_question (want c)) due (is_call.one k.asking c (number_of k.said) (ap is_question (sym (steps.same_want k.asking k.room)) ∙ k.asks) k.goes)
+
+  -- and where the answer ends its call, it has ended
+  pub ends_said : (base v : View T) (c : C) (m : M) (said : Bool) (e : E) → is_question (want c) ≡ true → after c (number_of said) ≡ Done e
+      → AtAsked code kind after kept call base v c m → Finished base e (kept c m (number_of said)) v
+  ends_said base v c m said end due e (inl (inl first)) = clash (is_question (want c)) due (is_call.first base.capacity c m first.first)
+  ends_said base v c m said end due e (inl (inr under)) = rested base v c m said end due e under
+  ends_said base v c m said end due e (inr k) =
       clash (is_question (want c)) due (is_call.one k.asking c (number_of k.said) (ap is_question (sym (steps.same_want k.asking k.room)) ∙ k.asks) k.goes)
 
   told_no : (v : View T) (c : C) (m : M) → is_question (want c) ≡ true → ToldAsked c m v 0 v
   told_no v c m due = (refl, λ base stage. go base stage (after c 0) refl)
     where
       go : (base : View T) → AtAsked code kind after kept call base v c m → (a : After C E) → after c 0 ≡ a
-          → NextKnown (λ (z : View T). z.capacity) (AtAsked code kind after kept call) (Ends code kind call) base a (kept c m 0) v
-      go base stage (GoOn d) e = hears_answer base v c d m false due e stage
-      go base stage (Done end) e = absurd (is_call.lasts c end 0 due e)
+          → NextKnown (λ (z : View T). z.capacity) (AtAsked code kind after kept call) Finished base a (kept c m 0) v
+      go base stage (GoOn d) e = hears_said base v c d m false due e stage
+      go base stage (Done end) e = ends_said base v c m false end due e stage
 
   -- ---- each step keeps the rule
 
   with_asked : (base : View T) (a : After C E) (k : M) (w : View T) → NextKnown (λ (z : View T). z.capacity) (At code kind call)
       (Ends code kind call) base a k w
-      → NextKnown (λ (z : View T). z.capacity) (AtAsked code kind after kept call) (Ends code kind call) base a k w
+      → NextKnown (λ (z : View T). z.capacity) (AtAsked code kind after kept call) Finished base a k w
   with_asked base (GoOn d) k w h = inl h
-  with_asked base (Done e) k w h = h
+  with_asked base (Done e) k w h = ended base e k w h
 
-  steps_there : StepsIn ((capacity : ℕ) (c : C) → call.stands capacity c → is_question (want c) ≡ false → AsksFor (size_of capacity) (want c)) code kind
-      (λ w. effects) want after kept call
-  steps_there = steps_itself code kind effects size_of laws want after kept call steps
+  steps_there : StepsThere ((capacity : ℕ) (c : C) → call.stands capacity c → is_question (want c) ≡ false → AsksFor (size_of capacity) (want c)) code
+      kind effects want after kept call
+  steps_there = steps_alone code kind effects own call acts want after kept steps
 
   abbrev ToldSo : C → M → View T → ℕ → View T → Type 0
-  ToldSo c m = ToldOver code kind (λ w. effects) size_of on_machine want after kept call steps_there c m
+  ToldSo c m = ToldOver code kind effects size_of laws want after kept call steps_there c m
 
   told_asked : (c : C) (m : M) (n : ℕ) (x v w : View T) → x.capacity ≡ v.capacity
       → ((base : View T) → AtAsked code kind after kept call base v c m → Stage base x c m) → ToldSo c m x n w → ToldAsked c m v n w
   told_asked c m n x v w same as_stage h = (
     h.0 ∙ same,
     λ base stage. with_asked base (after c n) (kept c m n) w
-        (next_ended code kind (λ w. effects) size_of on_machine want after kept call steps_there is_call.never base (after c n) (kept c m n) w
+        (next_ended code kind effects size_of laws want after kept call steps_there is_call.never base (after c n) (kept c m n) w
         (h.1 base (as_stage base stage))),
   )
 
@@ -258,7 +300,7 @@ module _ {T C M E : Type 0} (code : Coding T) (kind : Kind) (decides : MayDecide
     at_word base v known stage =
         let size : key ≡ base.capacity = sym known ∙ same_size base v c m (inl stage) in
         subst (λ w. Owes (IsMachine code kind key) words slots id (ToldSo c m) w (v, [])) asked.2
-        (keeps_at code kind (λ w. effects) size_of on_machine want after kept call steps_there base v c m key words slots id wide known stage
+        (keeps_at code kind effects size_of laws want after kept call steps_there base v c m key words slots id wide known stage
         (subst (λ i. AsksFor (size_of i) (want c)) size asked))
 
     -- who has heard none
@@ -300,9 +342,9 @@ module _ {T C M E : Type 0} (code : Coding T) (kind : Kind) (decides : MayDecide
         as_heard s r at base (inl stage) = never_both base base₀ v c m still stage h
         as_heard s r at base (inr k) = inr (lifted s v key id c m r at known base₀ h base k)
 
-  pub keeps_asked : KeepsRule (λ (z : View T). z.capacity) (AtAsked code kind after kept call) (Ends code kind call) (λ key. size_of key + 1) (λ key. key)
+  pub keeps_said : KeepsRule (λ (z : View T). z.capacity) (AtAsked code kind after kept call) Finished (λ key. size_of key + 1) (λ key. key)
       (λ key. IsMachine code kind key) want after kept
-  keeps_asked base₀ v c m key words slots id wide known at₀ = by_bool (is_question (want c)) (λ due. at_question (want c) refl due)
+  keeps_said base₀ v c m key words slots id wide known at₀ = by_bool (is_question (want c)) (λ due. at_question (want c) refl due)
       (λ still. at_its_word still (steps.asks key c stands_so still))
     where
       stands_so : call.stands key c
@@ -320,3 +362,26 @@ module _ {T C M E : Type 0} (code : Coding T) (kind : Kind) (decides : MayDecide
           go : AtAsked code kind after kept call base₀ v c m → OwedAt key words slots id c m wide still asked v ToldAsked
           go (inl stage) = at_once key words slots id c m wide still asked base₀ v known stage
           go (inr h) = once_heard key words slots id c m wide still asked base₀ v known h
+
+-- ---- of a call that no answer ends
+
+pub record IsAskingOf {T C M E : Type 0} (code : Coding T) (kind : Kind) (effects : ℕ → Flight T → ℕ → List (Event T)) (size_of : ℕ → ℕ)
+    (want : C → Want (Unit {0})) (after : C → ℕ → After C E) (kept : C → M → ℕ → M) (call : Calling T C M E) : Type 0 where
+  pub asking : IsAskingIn code kind effects size_of want after kept call
+  pub lasts : (c : C) (e : E) (n : ℕ) → is_question (want c) ≡ true → after c n ≡ Done e → ⊥
+
+module _ {T C M E : Type 0} (code : Coding T) (kind : Kind) (decides : MayDecide kind) (effects : World T → ℕ → Flight T → ℕ → List (Event T))
+    (own : ℕ → Flight T → ℕ → List (Event T)) (size_of : ℕ → ℕ) (laws : (capacity : ℕ) → KeptLaws code kind capacity (size_of capacity) effects)
+    (want : C → Want (Unit {0})) (after : C → ℕ → After C E) (kept : C → M → ℕ → M) (call : Calling T C M E)
+    (acts : ActsAlone code kind effects own call) (is_call : IsAskingOf code kind own size_of want after kept call) where
+  never_ends : (base v : View T) (c : C) (m : M) (said : Bool) (e : E) → is_question (want c) ≡ true → after c (number_of said) ≡ Done e
+      → IsUnderWay code kind call base v c m → Ends code kind call base e (kept c m (number_of said)) v
+  never_ends base v c m said end due e under = absurd (is_call.lasts c end (number_of said) due e)
+
+  pub keeps_asked : KeepsRule (λ (z : View T). z.capacity) (AtAsked code kind after kept call) (Ends code kind call) (λ key. size_of key + 1) (λ key. key)
+      (λ key. IsMachine code kind key) want after kept
+  keeps_asked = keeps_said code kind decides effects own size_of laws want after kept call acts is_call.asking (Ends code kind call) (λ base e m w h. h) never_ends
+
+  pub hears_answer : (base v : View T) (c d : C) (m : M) (said : Bool) → is_question (want c) ≡ true → after c (number_of said) ≡ GoOn d
+      → AtAsked code kind after kept call base v c m → AtAsked code kind after kept call base v d (kept c m (number_of said))
+  hears_answer = hears_said code kind decides effects own size_of laws want after kept call acts is_call.asking (Ends code kind call) (λ base e m w h. h) never_ends

@@ -15,30 +15,30 @@ use Rattle.model.specs.declared.families.Flight.{Flight}
 use Rattle.model.specs.declared.turn.Kind.{Kind}
 use Rattle.model.specs.declared.turn.Turn.TheVariants.{Next}
 use Rattle.model.specs.Coding.{Coding}
-use Rattle.model.specs.Families.{want_of, after_of}
+use Rattle.model.specs.Families.{want_of, after_of, goes_of, is_question}
 use Rattle.model.specs.Turns.{after_turn}
 use Rattle.model.specs.World.{World, Trace}
 use Rattle.lock_free_sp.specs.Driver.{answered, Owes, Next as NextKnown, Told, KeepsRule}
 use Rattle.history.specs.declared.view.View.{View}
 use Rattle.history.specs.Known.{events_by}
-use Rattle.history.specs.History.{IsRun, IsMachine, IsLate}
+use Rattle.history.specs.History.{IsRun, IsMachine, IsLate, call_in}
 use Rattle.history.specs.Stages.{Calling, IsFirst, At, Ends, LeftOut, Over}
 use Rattle.history.specs.Views.{Looks}
 use Rattle.queue_laws.proofs.Queues.Knows.{IsFreshCall}
 use Rattle.history.proofs.Known.{by_mine, late_none, AreOf}
 use Rattle.history.proofs.Calls.{get_left}
-use Rattle.history.proofs.Turns.{KindLaws, MachineLaws, machine_laws, Between}
+use Rattle.history.proofs.Turns.{KindLaws, KeptLaws, MachineLaws, kept_laws, goes_on_alike, machine_laws, Between}
 use Rattle.history.proofs.Steps.{settle}
 use Rattle.history.proofs.Passes.{set_same, looks_at}
-use Rattle.history.proofs.CallsIn.{by_bool, AsksFor, StepsOf, StepsIn, steps_in}
+use Rattle.history.proofs.CallsIn.{by_bool, AsksFor, StepsIn, StepsThere, IsCallThere, ActsAlone, steps_alone, with_goes}
 use Rattle.history.proofs.CallTurns.{same_capacity, some_share, still_stands, Ready, ready, then_gained, next_between, view_then, goes_then, ends_then}
 pub use Rattle.history.proofs.CallsIn.{goes, IsCallOf, Met, IsCallIn, in_machine, NeverPushes}
 pub use Rattle.history.proofs.Called.{called, at_itself}
 pub use Rattle.history.proofs.Sized.{AtSized, EndsSized, keeps_sized}
 
 module _ {T C M E Asks : Type 0} (code : Coding T) (kind : Kind) (effects : World T → ℕ → Flight T → ℕ → List (Event T)) (size_of : ℕ → ℕ)
-    (laws : (capacity : ℕ) → MachineLaws code kind capacity (size_of capacity) effects) (want : C → Want (Unit {0})) (after : C → ℕ → After C E)
-    (kept : C → M → ℕ → M) (call : Calling T C M E) (is_call : StepsIn Asks code kind effects want after kept call) where
+    (laws : (capacity : ℕ) → KeptLaws code kind capacity (size_of capacity) effects) (want : C → Want (Unit {0})) (after : C → ℕ → After C E)
+    (kept : C → M → ℕ → M) (call : Calling T C M E) (is_call : StepsThere Asks code kind effects want after kept call) where
   abbrev Step : View T → After C E → M → View T → Type 0
   Step base a m w = NextKnown (λ (z : View T). z.capacity) (At code kind call) (Over code kind call) base a m w
 
@@ -55,13 +55,19 @@ module _ {T C M E Asks : Type 0} (code : Coding T) (kind : Kind) (effects : Worl
     abbrev pub view_now : View T
     view_now = view_then code kind effects size_of laws call s v key id c m at known y (Some ask) low asks_it finds_it
 
+    comes_there : (base : View T) → At code kind call base v c m → goes_of code y.p (call.flight c m) n y.u.world.kept ≡ goes call (after c n) (kept c m n)
+    comes_there base stage =
+        let size : key ≡ base.capacity = sym known ∙ same_capacity code kind effects size_of laws call base v c m stage in
+        is_call.same_after base.capacity y.p c m n y.u (subst (λ k. IsRun code kind k y.u) size y.between.run) y.there
+        (still_stands code kind effects size_of laws call base v c m stage)
+
     known_then : (base : View T) → At code kind call base v c m → (r : After C E) → after c n ≡ r → Step base r (kept c m n) view_now
     known_then base stage (GoOn d) e =
-        inr (goes_then code kind effects size_of laws call s v key id c m at known y (Some ask) low asks_it finds_it base stage d (kept c m n) (is_call.same_after base.capacity c m n (still_stands code kind effects size_of laws call base v c m stage) ∙ ap (λ r. goes call r (kept c m n)) e)
+        inr (goes_then code kind effects size_of laws call s v key id c m at known y (Some ask) low asks_it finds_it base stage d (kept c m n) (comes_there base stage ∙ ap (λ r. goes call r (kept c m n)) e)
         (is_call.stays base.capacity c d n (still_stands code kind effects size_of laws call base v c m stage) e) (λ k. is_call.past base.capacity c d n k (still_stands code kind effects size_of laws call base v c m stage) e) (λ es late h waits met. is_call.tells base.capacity y.p base.going c d m n es late y.u (still_stands code kind effects size_of laws call base v c m stage) h waits met e))
     known_then base stage (Done end) e =
-        inl (ends_then code kind effects size_of laws call s v key id c m at known y (Some ask) low asks_it finds_it base stage end (kept c m n) (is_call.same_after base.capacity c m n (still_stands code kind effects size_of laws call base v c m stage) ∙ ap (λ r. goes call r (kept c m n)) e)
-        (λ es late h waits met. is_call.tells_all base.capacity y.p base.going c end m n es late y.u (still_stands code kind effects size_of laws call base v c m stage) skip h waits met e))
+        inl (ends_then code kind effects size_of laws call s v key id c m at known y (Some ask) low asks_it finds_it base stage end (kept c m n) (comes_there base stage ∙ ap (λ r. goes call r (kept c m n)) e)
+        (λ es late h waits met. is_call.tells_all base.capacity y.p base.going c end m n es late y.u (still_stands code kind effects size_of laws call base v c m stage) skip h waits met e (ap is_question wants_it)))
 
     pub told : Told (λ (z : View T). z.capacity) (At code kind call) (Over code kind call) after kept c m v (answered ask.op n) view_now
     told =
@@ -183,18 +189,42 @@ module _ {T C M E Asks : Type 0} (code : Coding T) (kind : Kind) (effects : Worl
 -- ---- a call each step of which is at a word
 
 module _ {T C M E : Type 0} (code : Coding T) (kind : Kind) (effects : World T → ℕ → Flight T → ℕ → List (Event T)) (size_of : ℕ → ℕ)
-    (laws : (capacity : ℕ) → MachineLaws code kind capacity (size_of capacity) effects) (want : C → Want (Unit {0})) (after : C → ℕ → After C E)
-    (kept : C → M → ℕ → M) (call : Calling T C M E) (is_call : IsCallIn code kind effects size_of want after kept call) where
-  pub keeps_in : KeepsRule (λ (z : View T). z.capacity) (At code kind call) (Over code kind call) (λ key. size_of key + 1) (λ key. key)
+    (laws : (capacity : ℕ) → KeptLaws code kind capacity (size_of capacity) effects) (want : C → Want (Unit {0})) (after : C → ℕ → After C E)
+    (kept : C → M → ℕ → M) (call : Calling T C M E) (is_call : IsCallThere code kind effects size_of want after kept call) where
+  pub keeps_there : KeepsRule (λ (z : View T). z.capacity) (At code kind call) (Over code kind call) (λ key. size_of key + 1) (λ key. key)
       (λ key. IsMachine code kind key) want after kept
-  keeps_in base₀ v c m key words slots id wide known at₀ =
+  keeps_there base₀ v c m key words slots id wide known at₀ =
       keeps_at code kind effects size_of laws want after kept call is_call base₀ v c m key words slots id wide known at₀
       (is_call.asks base₀.capacity c (still_stands code kind effects size_of laws call base₀ v c m at₀))
 
-  pub keeps_all_in : ((c : C) (n : ℕ) → call.skips c n ≡ false)
+  pub keeps_all_there : ((c : C) (n : ℕ) → call.skips c n ≡ false)
       → KeepsRule (λ (z : View T). z.capacity) (At code kind call) (Ends code kind call) (λ key. size_of key + 1) (λ key. key)
       (λ key. IsMachine code kind key) want after kept
-  keeps_all_in never = keeps_ends code kind effects size_of laws want after kept call is_call never keeps_in
+  keeps_all_there never = keeps_ends code kind effects size_of laws want after kept call is_call never keeps_there
+
+-- ---- of a kind whose calls go on by themselves
+
+module _ {T C M E : Type 0} (code : Coding T) (kind : Kind) (effects : World T → ℕ → Flight T → ℕ → List (Event T)) (size_of : ℕ → ℕ)
+    (laws : (capacity : ℕ) → MachineLaws code kind capacity (size_of capacity) effects) (want : C → Want (Unit {0})) (after : C → ℕ → After C E)
+    (kept : C → M → ℕ → M) (call : Calling T C M E) where
+  pub laws_there : (capacity : ℕ) → KeptLaws code kind capacity (size_of capacity) effects
+  laws_there capacity = kept_laws code kind capacity (size_of capacity) effects (laws capacity)
+
+  pub steps_there : {Asks : Type 0} → StepsIn Asks code kind effects want after kept call → StepsThere Asks code kind effects want after kept call
+  steps_there h =
+      with_goes code kind effects want after kept call
+      (λ capacity p c m n t run there stands.
+      goes_on_alike code kind capacity (size_of capacity) effects (laws capacity) t run p (call.flight c m) n ∙ h.same_after capacity c m n stands) h
+
+  module _ (is_call : IsCallIn code kind effects size_of want after kept call) where
+    pub keeps_in : KeepsRule (λ (z : View T). z.capacity) (At code kind call) (Over code kind call) (λ key. size_of key + 1) (λ key. key)
+        (λ key. IsMachine code kind key) want after kept
+    keeps_in = keeps_there code kind effects size_of laws_there want after kept call (steps_there is_call)
+
+    pub keeps_all_in : ((c : C) (n : ℕ) → call.skips c n ≡ false)
+        → KeepsRule (λ (z : View T). z.capacity) (At code kind call) (Ends code kind call) (λ key. size_of key + 1) (λ key. key)
+        (λ key. IsMachine code kind key) want after kept
+    keeps_all_in = keeps_all_there code kind effects size_of laws_there want after kept call (steps_there is_call)
 
 -- ---- of a kind whose parties write for themselves alone
 
@@ -203,42 +233,75 @@ pub all_laws : {T : Type 0} (code : Coding T) (kind : Kind) (effects : ℕ → F
     → MachineLaws code kind capacity (size_of capacity) (λ w. effects)
 all_laws code kind effects size_of laws capacity = machine_laws code kind capacity (size_of capacity) effects (laws capacity)
 
--- a call that writes by its own as one that may ask the machine
-pub steps_itself : {T C M E Asks : Type 0} (code : Coding T) (kind : Kind) (effects : ℕ → Flight T → ℕ → List (Event T)) (size_of : ℕ → ℕ)
+pub all_kept_laws : {T : Type 0} (code : Coding T) (kind : Kind) (effects : ℕ → Flight T → ℕ → List (Event T)) (size_of : ℕ → ℕ)
+    → ((capacity : ℕ) → KindLaws code kind capacity (size_of capacity) effects) → (capacity : ℕ)
+    → KeptLaws code kind capacity (size_of capacity) (λ w. effects)
+all_kept_laws code kind effects size_of laws capacity =
+    kept_laws code kind capacity (size_of capacity) (λ w. effects) (all_laws code kind effects size_of laws capacity)
+
+-- it goes on by itself, and writes for itself alone
+pub acts_alone : {T C M E : Type 0} (code : Coding T) (kind : Kind) (effects : ℕ → Flight T → ℕ → List (Event T)) (size_of : ℕ → ℕ)
     → ((capacity : ℕ) → KindLaws code kind capacity (size_of capacity) effects)
-    → (want : C → Want (Unit {0})) (after : C → ℕ → After C E) (kept : C → M → ℕ → M) (call : Calling T C M E)
-    → StepsOf Asks code effects want after kept call → StepsIn Asks code kind (λ w. effects) want after kept call
-steps_itself code kind effects size_of laws want after kept call =
-    steps_in code kind (λ w. effects) effects want after kept call (λ c m late h. (laws 0).alone (Some (call.start, call.flight c m)) late h)
-    (λ capacity p c m n t run there. by_mine p (effects p (call.flight c m) n) (((laws capacity).goes_on t run p call.start (call.flight c m) there).own n))
+    → (call : Calling T C M E) → ActsAlone code kind (λ w. effects) effects call
+acts_alone code kind effects size_of laws call =
+    record {
+      never = λ c m late h. (laws 0).alone (Some (call.start, call.flight c m)) late h;
+      same = λ capacity p c m n t run. refl;
+      its_own = λ capacity p c m n t run there. ((laws capacity).goes_on t run p call.start (call.flight c m) there).own n;
+      alike = λ capacity p c m n t run.
+          goes_on_alike code kind capacity (size_of capacity) (λ w. effects) (all_laws code kind effects size_of laws capacity) t run p (call.flight c m) n;
+    }
 
 module _ {T C M E : Type 0} (code : Coding T) (kind : Kind) (effects : ℕ → Flight T → ℕ → List (Event T)) (size_of : ℕ → ℕ) (laws : (capacity : ℕ) → KindLaws code kind capacity (size_of capacity) effects) (want : C → Want (Unit {0})) (after : C → ℕ → After C E) (kept : C → M → ℕ → M) (call : Calling T C M E) (is_call : IsCallOf code effects size_of want after kept call) where
-  by_itself : IsCallIn code kind (λ w. effects) size_of want after kept call
-  by_itself = steps_itself code kind effects size_of laws want after kept call is_call
+  by_itself : IsCallThere code kind (λ w. effects) size_of want after kept call
+  by_itself = steps_alone code kind (λ w. effects) effects call (acts_alone code kind effects size_of laws call) want after kept is_call
 
   pub keeps : KeepsRule (λ (z : View T). z.capacity) (At code kind call) (Over code kind call) (λ key. size_of key + 1) (λ key. key) (λ key. IsMachine code kind key) want after kept
-  keeps = keeps_in code kind (λ w. effects) size_of (all_laws code kind effects size_of laws) want after kept call by_itself
+  keeps = keeps_there code kind (λ w. effects) size_of (all_kept_laws code kind effects size_of laws) want after kept call by_itself
 
   pub keeps_all : ((c : C) (n : ℕ) → call.skips c n ≡ false) → KeepsRule (λ (z : View T). z.capacity) (At code kind call) (Ends code kind call) (λ key. size_of key + 1) (λ key. key) (λ key. IsMachine code kind key) want after kept
-  keeps_all = keeps_all_in code kind (λ w. effects) size_of (all_laws code kind effects size_of laws) want after kept call by_itself
+  keeps_all = keeps_all_there code kind (λ w. effects) size_of (all_kept_laws code kind effects size_of laws) want after kept call by_itself
 
-module _ {T C M E : Type 0} (code : Coding T) (kind : Kind) (effects : ℕ → Flight T → ℕ → List (Event T)) (size_of : ℕ → ℕ) (laws : (capacity : ℕ) → KindLaws code kind capacity (size_of capacity) effects) (call : Calling T C M E) where
+module _ {T C M E : Type 0} (code : Coding T) (kind : Kind) (effects : World T → ℕ → Flight T → ℕ → List (Event T)) (size_of : ℕ → ℕ)
+    (laws : (capacity : ℕ) → KeptLaws code kind capacity (size_of capacity) effects) (call : Calling T C M E) where
   -- a call that needs no word is one look at any word
-  pub at_once : (v : View T) (c : C) (m m' : M) (end : E) (key slots id word : ℕ) → v.capacity ≡ key → IsFirst code kind call v v c m → want_of code (call.flight c m) ≡ wants.Nothing → IsFreshCall 0 (call.flight c m) → after_of code (call.flight c m) 0 ≡ Done (call.answer end m')
-      → ((p : ℕ) → call.wrote_all v.capacity p v.going end m' ([] ++ effects p (call.flight c m) 0)) → ((p : ℕ) (wrote : List (Event T)) → call.wrote v.capacity p v.going c m wrote → wrote ≡ [])
+  pub at_once_there : (v : View T) (c : C) (m m' : M) (end : E) (key slots id word : ℕ) → v.capacity ≡ key → IsFirst code kind call v v c m
+      → want_of code (call.flight c m) ≡ wants.Nothing → IsFreshCall 0 (call.flight c m)
+      → ((p : ℕ) (t : Trace T) → IsRun code kind key t → call_in t.world p ≡ Some (call.start, call.flight c m)
+      → goes_of code p (call.flight c m) 0 t.world.kept ≡ Done (call.answer end m'))
+      → ((p : ℕ) (es late : List (Event T)) (t : Trace T) → IsRun code kind key t → call_in t.world p ≡ Some (call.start, call.flight c m)
+      → call.wrote v.capacity p v.going c m es → IsLate kind (Some (call.start, call.flight c m)) late
+      → call.wrote_all v.capacity p v.going end m' ((es ++ late) ++ events_by p (effects t.world p (call.flight c m) 0)))
       → Allows (IsMachine code kind key) slots id (v, []) word (λ n. n) (λ found me. Ends code kind call v end m' me.0 × (me.1 ≡ []))
-  at_once v c m m' end key slots id word known first asks_none finds afters tells none s r long at small =
-      let y = ready code kind (λ w. effects) size_of (all_laws code kind effects size_of laws) call s v key id c m r at known v (inl first) in
-      let u = after_turn y.u (Next y.p) in
-      let own : AreOf y.p (effects y.p (call.flight c m) 0) = ((laws key).goes_on y.u y.between.run y.p call.start (call.flight c m) y.there).own 0 in (
-        view_then code kind (λ w. effects) size_of (all_laws code kind effects size_of laws) call s v key id c m at known y None tt asks_none finds,
+  at_once_there v c m m' end key slots id word known first asks_none finds afters tells s r long at small =
+      let y = ready code kind effects size_of laws call s v key id c m r at known v (inl first) in
+      let u = after_turn y.u (Next y.p) in (
+        view_then code kind effects size_of laws call s v key id c m at known y None tt asks_none finds,
         table.keeps,
         tt,
-        settle code kind key id y.p y.owner (slice_set s.words word (slice_index s.words word)) s v (then_gained code kind (λ w. effects) size_of (all_laws code kind effects size_of laws) call s v key id c m at known y None tt asks_none finds) u at first.some
-            (subst (λ ws. Between code kind key y.owner (record { words = ws; homes = s.homes; views = s.views }) id y.p (then_gained code kind (λ w. effects) size_of (all_laws code kind effects size_of laws) call s v key id c m at known y None tt asks_none finds) u) (sym (set_same s.words word)) (next_between code kind (λ w. effects) size_of (all_laws code kind effects size_of laws) call s v key id c m at known y None tt asks_none finds)),
+        settle code kind key id y.p y.owner (slice_set s.words word (slice_index s.words word)) s v
+            (then_gained code kind effects size_of laws call s v key id c m at known y None tt asks_none finds) u at first.some
+            (subst (λ ws. Between code kind key y.owner (record { words = ws; homes = s.homes; views = s.views }) id y.p
+            (then_gained code kind effects size_of laws call s v key id c m at known y None tt asks_none finds) u) (sym (set_same s.words word))
+            (next_between code kind effects size_of laws call s v key id c m at known y None tt asks_none finds)),
         (
-          ends_then code kind (λ w. effects) size_of (all_laws code kind effects size_of laws) call s v key id c m at known y None tt asks_none finds v (inl first) end m' afters
-              (λ es late h waits met. subst (λ ws. call.wrote_all v.capacity y.p v.going end m' ws) (sym (ap (λ zs. (zs ++ late) ++ events_by y.p (effects y.p (call.flight c m) 0)) (none y.p es h) ∙ (ap (λ zs. zs ++ events_by y.p (effects y.p (call.flight c m) 0)) ((laws key).alone (Some (call.start, call.flight c m)) late waits) ∙ by_mine y.p (effects y.p (call.flight c m) 0) own))) (tells y.p)),
+          ends_then code kind effects size_of laws call s v key id c m at known y None tt asks_none finds v (inl first) end m'
+              (afters y.p y.u y.between.run y.there)
+              (λ es late h waits met. tells y.p es late y.u y.between.run y.there h waits),
           refl,
         ),
       )
+
+module _ {T C M E : Type 0} (code : Coding T) (kind : Kind) (effects : ℕ → Flight T → ℕ → List (Event T)) (size_of : ℕ → ℕ) (laws : (capacity : ℕ) → KindLaws code kind capacity (size_of capacity) effects) (call : Calling T C M E) where
+  pub at_once : (v : View T) (c : C) (m m' : M) (end : E) (key slots id word : ℕ) → v.capacity ≡ key → IsFirst code kind call v v c m → want_of code (call.flight c m) ≡ wants.Nothing → IsFreshCall 0 (call.flight c m) → after_of code (call.flight c m) 0 ≡ Done (call.answer end m')
+      → ((p : ℕ) → call.wrote_all v.capacity p v.going end m' ([] ++ effects p (call.flight c m) 0)) → ((p : ℕ) (wrote : List (Event T)) → call.wrote v.capacity p v.going c m wrote → wrote ≡ [])
+      → Allows (IsMachine code kind key) slots id (v, []) word (λ n. n) (λ found me. Ends code kind call v end m' me.0 × (me.1 ≡ []))
+  at_once v c m m' end key slots id word known first asks_none finds afters tells none =
+      at_once_there code kind (λ w. effects) size_of (all_kept_laws code kind effects size_of laws) call v c m m' end key slots id word known first asks_none finds
+      (λ p t run there. goes_on_alike code kind key (size_of key) (λ w. effects) (all_laws code kind effects size_of laws key) t run p (call.flight c m) 0 ∙ afters)
+      (λ p es late t run there h waits.
+      (let own : AreOf p (effects p (call.flight c m) 0) = ((laws key).goes_on t run p call.start (call.flight c m) there).own 0 in
+      subst (λ ws. call.wrote_all v.capacity p v.going end m' ws)
+      (sym (ap (λ zs. (zs ++ late) ++ events_by p (effects p (call.flight c m) 0)) (none p es h)
+      ∙ (ap (λ zs. zs ++ events_by p (effects p (call.flight c m) 0)) ((laws key).alone (Some (call.start, call.flight c m)) late waits)
+      ∙ by_mine p (effects p (call.flight c m) 0) own))) (tells p)))

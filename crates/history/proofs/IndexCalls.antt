@@ -127,7 +127,7 @@ module _ {T : Type 0} (code : Coding T) where
         finds = λ c m n small t. tt;
         leaves = λ c a n t e. absurd (cc);
         tells = λ capacity p from c d m n es h wrote e. ap (λ zs. zs ++ index_effects p (takes_index.flight c m) n) wrote ∙ (writes_so p (acquire_after c n) ∙ ap (claimed_in p) e);
-        tells_all = λ capacity p from c end m n es h skip wrote e. ap (λ zs. zs ++ index_effects p (takes_index.flight c m) n) wrote ∙ (writes_so p (acquire_after c n) ∙ ap (claimed_in p) e);
+        tells_all = λ capacity p from c end m n es h skip wrote e still. ap (λ zs. zs ++ index_effects p (takes_index.flight c m) n) wrote ∙ (writes_so p (acquire_after c n) ∙ ap (claimed_in p) e);
       }
 
   pub acquire_keeps : KeepsRule (λ (z : View T). z.capacity) (At code kinds.Indices takes_index) (Ends code kinds.Indices takes_index) (λ key. core.size key + 1) (λ key. key) (λ key. IsMachine code kinds.Indices key) acquire_want acquire_after (λ c m n. m)
@@ -212,7 +212,7 @@ module _ {T : Type 0} (code : Coding T) (index : ℕ) where
         finds = λ c m n small t. tt;
         leaves = λ c a n t e. absurd (cc);
         tells = λ capacity p from c d m n es h wrote e new. ap (λ zs. zs ++ index_effects p ((gives_index index).flight c m) n) (wrote new) ∙ (writes_at p c c.stage n ∙ ap (freed_in p) e);
-        tells_all = λ capacity p from c end m n es h skip wrote e new. ap (λ zs. zs ++ index_effects p ((gives_index index).flight c m) n) (wrote new) ∙ (writes_at p c c.stage n ∙ ap (freed_in p) e);
+        tells_all = λ capacity p from c end m n es h skip wrote e still new. ap (λ zs. zs ++ index_effects p ((gives_index index).flight c m) n) (wrote new) ∙ (writes_at p c c.stage n ∙ ap (freed_in p) e);
       }
 
   pub release_keeps : KeepsRule (λ (z : View T). z.capacity) (At code kinds.Indices (gives_index index)) (Ends code kinds.Indices (gives_index index)) (λ key. core.size key + 1) (λ key. key) (λ key. IsMachine code kinds.Indices key) (λ c. release_want false c index) (λ c n. release_after false c n) (λ c m n. m)
@@ -291,7 +291,7 @@ module _ {T : Type 0} (code : Coding T) (index : ℕ) where
         finds = λ c m n small t. tt;
         leaves = λ c a n t e. absurd (cc);
         tells = λ capacity p from c d m n es h wrote e new. ap (λ zs. zs ++ index_effects p ((gives_or_locks index).flight c m) n) (wrote new) ∙ (locks_at p c c.stage n ∙ ap (locked_in p) e);
-        tells_all = λ capacity p from c end m n es h skip wrote e new. ap (λ zs. zs ++ index_effects p ((gives_or_locks index).flight c m) n) (wrote new) ∙ (locks_at p c c.stage n ∙ ap (locked_in p) e);
+        tells_all = λ capacity p from c end m n es h skip wrote e still new. ap (λ zs. zs ++ index_effects p ((gives_or_locks index).flight c m) n) (wrote new) ∙ (locks_at p c c.stage n ∙ ap (locked_in p) e);
       }
 
   pub lock_keeps : KeepsRule (λ (z : View T). z.capacity) (At code kinds.Indices (gives_or_locks index)) (Ends code kinds.Indices (gives_or_locks index)) (λ key. core.size key + 1) (λ key. key) (λ key. IsMachine code kinds.Indices key) (λ c. release_want true c index) (λ c n. release_after true c n) (λ c m n. m)
@@ -318,7 +318,7 @@ module _ {T : Type 0} (code : Coding T) where
         finds = λ c m n small t. tt;
         leaves = λ c a n t e. absurd (cc);
         tells = λ capacity p from c d m n es h wrote e. absurd (cc);
-        tells_all = λ capacity p from c end m n es h skip wrote e. ap (λ zs. zs ++ []) wrote;
+        tells_all = λ capacity p from c end m n es h skip wrote e still. ap (λ zs. zs ++ []) wrote;
       }
 
   pub count_keeps : KeepsRule (λ (z : View T). z.capacity) (At code kinds.Indices counts_out) (Ends code kinds.Indices counts_out) (λ key. core.size key + 1) (λ key. key) (λ key. IsMachine code kinds.Indices key) (λ c. load 0) borrowed_after (λ c m n. m)
@@ -339,7 +339,7 @@ module _ {T : Type 0} (code : Coding T) where
         finds = λ c m n small t. tt;
         leaves = λ c a n t e. absurd (cc);
         tells = λ capacity p from c d m n es h wrote e. absurd (cc);
-        tells_all = λ capacity p from c end m n es h skip wrote e. ap (λ zs. zs ++ []) wrote;
+        tells_all = λ capacity p from c end m n es h skip wrote e still. ap (λ zs. zs ++ []) wrote;
       }
 
   pub look_keeps : KeepsRule (λ (z : View T). z.capacity) (At code kinds.Indices looks_locked) (Ends code kinds.Indices looks_locked) (λ key. core.size key + 1) (λ key. key) (λ key. IsMachine code kinds.Indices key) (λ c. load 0) locked_after (λ c m n. m)

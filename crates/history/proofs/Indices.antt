@@ -39,9 +39,10 @@ use Rattle.history.specs.Held.{Holds}
 use Rattle.history.specs.History.{IsRun, call_in}
 use Rattle.history.specs.Known.{owned}
 use Rattle.history.specs.Stages.{Starts, Calling}
-use Rattle.history.proofs.Calls.{stands}
+use Rattle.history.proofs.Calls.{stands, IsStateless}
 use Rattle.history.proofs.Held.{held_by}
 use Rattle.history.proofs.Known.{AreOf}
+use Rattle.history.proofs.Starting.{starts_by_last}
 use Rattle.history.proofs.Turns.{CallGoesOn, KindLaws}
 
 module _ {T : Type 0} where
@@ -115,7 +116,12 @@ module _ {T : Type 0} (code : Coding T) (capacity : ℕ) where
       }
 
   pub indices_owe : KindLaws code kinds.TheVariants.Indices capacity (core.size capacity) index_effects
-  indices_owe = record { size = size; goes_on = goes_on; alone = λ going late h. h }
+  indices_owe = record {
+    size = size;
+    goes_on = goes_on;
+    alone = λ going late h. h;
+    stateless = λ t r. (let s = sound t r in subst IsStateless (sym (kept_is t.world.kept t.world.words s.state s.fit).0) tt);
+  }
 
 -- ---- which party may begin a call
 
@@ -130,7 +136,8 @@ module _ {T : Type 0} (code : Coding T) (base : View T) where
   module _ {C M E : Type 0} (call : Calling T C M E) (start : IndexStart) (c : C) (m : M) (named : call.start ≡ Indices start) (by_last : (o : Option ℕ) (p : ℕ) → IfSome o (λ q. q ≡ p) → call.by o p)
       (first_is : (kept : Kept T) → first_of kinds.TheVariants.Indices base.capacity (Indices start) kept ≡ Some (call.flight c m)) (free : (holders : List (Option ℕ)) (p : ℕ) → first_row (call_rows base.capacity holders p start) ≡ None) where
     pub plain_starts : (t : Trace T) (owner : ℕ → ℕ) (j : ℕ) → IsOn t → owner j ≡ j → IfSome base.party (λ p. owner p ≡ j) → ((f : Event T → ℕ) → sum_by f base.made ≡ sum_by (owned owner j f) t.events) → Starts code kinds.TheVariants.Indices call base c m t owner j
-    plain_starts t owner j run self party sums = go base.party refl party
+    plain_starts t owner j run self party sums =
+        starts_by_last code kinds.TheVariants.Indices call base c m t owner j by_last self party first_here may
       where
         kept : (holders : List (Option ℕ)) × (t.world.kept ≡ kepts.TheVariants.Indices holders)
         kept = kept_there t run
@@ -143,10 +150,6 @@ module _ {T : Type 0} (code : Coding T) (base : View T) where
 
         first_here : first_of kinds.TheVariants.Indices base.capacity call.start t.world.kept ≡ Some (call.flight c m)
         first_here = rw named (first_is t.world.kept)
-
-        go : (o : Option ℕ) → base.party ≡ o → IfSome o (λ p. owner p ≡ j) → Starts code kinds.TheVariants.Indices call base c m t owner j
-        go None e h = record { party = j; mine = self; by = by_last base.party j (subst (λ (z : Option ℕ). IfSome z (λ q. q ≡ j)) (sym e) tt); first = first_here; may = may j }
-        go (Some p) e h = record { party = p; mine = h; by = by_last base.party p (subst (λ (z : Option ℕ). IfSome z (λ q. q ≡ p)) (sym e) refl); first = first_here; may = may p }
 
   -- a release may, as that of the pass's parties which holds the index
   module _ {C M E : Type 0} (call : Calling T C M E) (index : ℕ) (mode : ReleaseMode) (c : C) (m : M) (named : call.start ≡ Indices (Release index mode)) (by_any : (o : Option ℕ) (p : ℕ) → call.by o p)

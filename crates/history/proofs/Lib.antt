@@ -10,9 +10,11 @@ pub mod Called
 pub mod Sized
 pub mod CallsIn
 pub mod CallTurns
+pub mod Written
 pub mod Drives
 pub mod Decisions
 pub mod Made
+pub mod Starting
 pub mod Sets
 pub mod Ledger
 pub mod Held
@@ -23,6 +25,14 @@ pub mod Robusts
 pub mod RobustParts
 pub mod RobustCalls
 pub mod RobustRecoveries
+pub mod RobustVisits
+pub mod Containers
+pub mod ContainerCalls
+pub mod ContainerAdds
+pub mod ContainerRecoveries
+pub mod ContainerLooks
+pub mod StateLooks
+pub mod StateRests
 pub mod Finds
 pub mod Rooms
 pub mod Values
@@ -44,3 +54,6 @@ pub mod ValueQueueCalls
 pub mod ValueQueueRoles
 pub mod Holders
 pub mod OverflowHolders
+pub mod Settling
+pub mod ContainerFinds
+pub mod ContainerRests

@@ -126,6 +126,7 @@ module _ {T : Type 0} (code : Coding T) (kind : Kind) (size : ℕ) (u v w : View
         capacity = b.capacity ∙ a.capacity;
         party = b.party ∙ a.party;
         going = b.going ∙ a.going;
+        state = b.state ∙ a.state;
         share = b.share ∙ a.share;
         other = b.other;
         made = b.made ∙ a.made;

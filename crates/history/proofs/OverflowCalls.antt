@@ -244,7 +244,7 @@ module _ {T : Type 0} (code : Coding T) (v : ℕ) where
           within_both (es ++ late) (events_by p (over_effects t.world p (pushing.flight c m) n)) (within_both es late wrote.1 (within_late pushing.start late waits))
               (subst (λ zs. AllByRecursion IsWithin zs) (sym (by_mine p (over_effects t.world p (pushing.flight c m) n) (push_own t.world p (record { call = c; given = v; room = m }) n))) (within_effect p (PushIndex v) _ _)),
         );
-        tells_all = λ capacity p from c e m n es late t h skip wrote waits met is. (
+        tells_all = λ capacity p from c e m n es late t h skip wrote waits met is still. (
             let x = there capacity p from c m n (es ++ late) t h.1 wrote.0 (within_both es late wrote.1 (within_late pushing.start late waits)) met in
             ap (λ zs. (es ++ late) ++ zs) (by_mine p (over_effects t.world p (pushing.flight c m) n) (push_own t.world p (record { call = c; given = v; room = m }) n) ∙ effects_end t.world p c e m n is)
             ∙ tells_end capacity p c e m n (es ++ late) t x.core c.stage x.wrote x.read x.cell x.found h.2 skip is);

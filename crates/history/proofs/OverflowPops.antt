@@ -213,7 +213,7 @@ module _ {T : Type 0} (code : Coding T) where
             ap (λ zs. (zs ++ late) ++ events_by p (over_effects t.world p (popping.flight c m) n)) wrote
             ∙ (ap (λ zs. zs ++ events_by p (over_effects t.world p (popping.flight c m) n)) waits
             ∙ ap (events_by p) (effects_on t.world p c d m n e ∙ quiet t.world.words (beside_of t.world.words t.world.kept t.world.latest p) p n c d c.stage e));
-        tells_all = λ capacity p from c b m n es late t h skip wrote waits met e. (
+        tells_all = λ capacity p from c b m n es late t h skip wrote waits met e still. (
             let at = takes_at capacity p from c m n (es ++ late) t h.1 met in
             ap (λ zs. (zs ++ late) ++ events_by p (over_effects t.world p (popping.flight c m) n)) wrote
             ∙ (ap (λ zs. zs ++ events_by p (over_effects t.world p (popping.flight c m) n)) waits

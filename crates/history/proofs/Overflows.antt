@@ -46,7 +46,7 @@ use Rattle.queue_laws.proofs.Overflow.Waiting.{pending_is, IsPending, Pushing}
 use Rattle.history.specs.History.{IsLate, IsLateFor, call_at, call_of, call_in}
 use Rattle.history.specs.Known.{events_by, of_none}
 use Rattle.history.proofs.Known.{AreOf, by_mine, by_other, by_more, none_late}
-use Rattle.history.proofs.Calls.{stands}
+use Rattle.history.proofs.Calls.{stands, IsStateless, goes_alike}
 use Rattle.history.proofs.Queues.{IsOf, sound_of, sized_so}
 use Rattle.history.proofs.Turns.{StepsOn, MachineLaws}
 
@@ -248,6 +248,10 @@ module _ {T : Type 0} (code : Coding T) (capacity : ℕ) where
     beside_late is_over p n r ne (flights.TheVariants.Queues (Length which run)) = none_late kinds.Overflow (call_in t.world r)
     beside_late is_over p n r ne flight = none_late kinds.Overflow (call_in t.world r)
 
+  stateless : (t : Trace T) → IsOver t → IsStateless t.world.kept
+  stateless t run =
+      (let s = sound_of code capacity queues.TheVariants.Overflow t run in subst IsStateless (sym (kept_is t.world.kept t.world.words s.state s.fit).0) tt)
+
   steps_on : (t : Trace T) → IsOver t → (p : ℕ) (start : Start T) (flight : Flight T) → call_in t.world p ≡ Some (start, flight) → StepsOn code kinds.Overflow capacity (4 + (capacity + 1)) over_effects t p flight
   steps_on t run p start flight at =
       let s = sound_of code capacity queues.TheVariants.Overflow t run in
@@ -263,8 +267,8 @@ module _ {T : Type 0} (code : Coding T) (capacity : ℕ) where
         writes = λ x n found. (fact x n found).writes;
         someone = λ n. someone t.world p flight n;
         beside = λ n q ne. beside_late t run p n q ne flight;
-        goes = λ x n found. (fact x n found).goes;
+        goes = λ x n found. (fact x n found).goes ∙ sym (goes_alike t.world.coding p flight n t.world.kept (stateless t run));
       }
 
   pub overflow_owes : MachineLaws code kinds.Overflow capacity (4 + (capacity + 1)) over_effects
-  overflow_owes = record { size = size; steps_on = steps_on }
+  overflow_owes = record { size = size; steps_on = steps_on; stateless = stateless }

@@ -22,7 +22,7 @@ use Rattle.history.specs.History.{IsBeginning, IsMachine, Fits, HasSeenOf, IsLat
 use Rattle.history.specs.Views.{first_view, left_view, right_view, joined_view, spent_view, Looks, LooksAt, WhenIdle}
 use Rattle.history.specs.Known.{Known, owned, events_by}
 use Rattle.history.proofs.Reached.{reached_as_opening, fresh_as_opening}
-use Rattle.history.proofs.Calls.{get_left}
+use Rattle.history.proofs.Calls.{get_left, opens_without}
 use Rattle.history.proofs.Known.{by_more, nil_right, within, handed_on, owned_none, owned_both, owned_third, idle_seat, nat_cases, known_alone, known_step, known_whole, owned_whole, known_split, known_join, none_before, late_none, none_late, by_nothing, quiet_late}
 
 pub set_same : (xs : List ℕ) (i : ℕ) → set xs i (get_or xs i 0) ≡ xs
@@ -141,6 +141,7 @@ module _ {T : Type 0} (code : Coding T) (kind : Kind) (capacity : ℕ) where
             self = λ any. m.fresh j (omega arith);
             going = λ p of_j is. absurd (cc);
             idle = λ p of_j ne. m.further p (alone p j e of_j);
+            stated = λ p of_j is. absurd (cc);
             party = tt;
             late = [];
             waits = none_late m.trace.world.kind None;
@@ -150,7 +151,7 @@ module _ {T : Type 0} (code : Coding T) (kind : Kind) (capacity : ℕ) where
           }
 
       left : Fits m.owner m.trace id (left_view v)
-      left = (let f = m.seats id v at in record { seen = f.seen; other = f.other; self = f.self; going = f.going; idle = f.idle; party = f.party; late = f.late; waits = f.waits; of_party = f.of_party; own = f.own; made = f.made })
+      left = (let f = m.seats id v at in record { seen = f.seen; other = f.other; self = f.self; going = f.going; idle = f.idle; stated = f.stated; party = f.party; late = f.late; waits = f.waits; of_party = f.of_party; own = f.own; made = f.made })
 
       old : (j : ℕ) (x : View T) → get_elem? (set s.views id (left_view v)) j ≡ some x → Fits m.owner m.trace j x
       old j x found = ⊎_elim (λ (e : (j ≡ id) × (left_view v ≡ x)). subst (λ z. Fits m.owner m.trace j z) e.1 (subst (λ n. Fits m.owner m.trace n (left_view v)) (sym e.0) left)) (λ (e : (j ≢ id) × (get_elem? s.views j ≡ some x)). m.seats j x e.1) (at_set s.views id j (left_view v) x found)
@@ -212,6 +213,7 @@ module _ {T : Type 0} (code : Coding T) (kind : Kind) (capacity : ℕ) where
             other = its.seen;
             self = λ any. stays id (λ e. apart (sym (sym (mine.self some_share) ∙ e))) ∙ mine.self some_share;
             going = λ p now is. ⊎_elim (λ (h : m.owner p ≡ id). mine.going p h is) (λ (h : m.owner p ≡ other). absurd (apart (sym h ∙ party_is v.party p is mine.party))) (of_id p now);
+            stated = λ p now is. ⊎_elim (λ (h : m.owner p ≡ id). mine.stated p h is) (λ (h : m.owner p ≡ other). absurd (apart (sym h ∙ party_is v.party p is mine.party))) (of_id p now);
             idle = λ p now ne. ⊎_elim (λ (h : m.owner p ≡ id). mine.idle p h ne) (λ (h : m.owner p ≡ other). its_idle p h) (of_id p now);
             party = go v.party mine.party;
             late = mine.late;
@@ -251,6 +253,7 @@ module _ {T : Type 0} (code : Coding T) (kind : Kind) (capacity : ℕ) where
                 self = λ any. stays j (λ e. apart_too (sym (f.self any) ∙ e)) ∙ f.self any;
                 going = λ p now. f.going p (of_third p j ne now).0;
                 idle = λ p now. f.idle p (of_third p j ne now).0;
+                stated = λ p now. f.stated p (of_third p j ne now).0;
                 party = go x.party f.party;
                 late = f.late;
                 waits = f.waits;
@@ -275,6 +278,7 @@ module _ {T : Type 0} (code : Coding T) (kind : Kind) (capacity : ℕ) where
             self = λ any. absurd (omega arith);
             going = λ p now is. absurd (never p j e now);
             idle = λ p now ne. absurd (never p j e now);
+            stated = λ p now is. absurd (never p j e now);
             party = tt;
             late = [];
             waits = none_late m.trace.world.kind None;
@@ -291,7 +295,7 @@ module _ {T : Type 0} (code : Coding T) (kind : Kind) (capacity : ℕ) where
       let f = m.seats id v at in
       let none : f.late ≡ [] = calm f.late (subst (λ k. IsLate k v.going f.late) m.run.of_kind f.waits) in
       let made : (g : Event T → ℕ) → sum_by g v.made ≡ sum_by (owned m.owner id g) t.events = λ g. (let is = f.made g in let no : sum_by g f.late ≡ 0 = ap (sum_by g) none in omega arith) in
-      let w : View T = record { capacity = v.capacity; party = v.party; share = v.share; seen = t.events; other = []; made = v.made; going = v.going } in (
+      let w : View T = record { capacity = v.capacity; party = v.party; share = v.share; seen = t.events; other = []; made = v.made; going = v.going; state = v.state } in (
         w,
         table.keeps,
         tt,
@@ -302,6 +306,7 @@ module _ {T : Type 0} (code : Coding T) (kind : Kind) (capacity : ℕ) where
               self = f.self;
               going = f.going;
               idle = f.idle;
+              stated = f.stated;
               party = f.party;
               late = [];
               waits = none_late t.world.kind v.going;
@@ -315,6 +320,7 @@ module _ {T : Type 0} (code : Coding T) (kind : Kind) (capacity : ℕ) where
             capacity = refl;
             party = refl;
             going = refl;
+            state = refl;
             share = refl;
             other = refl;
             made = refl;
@@ -395,5 +401,5 @@ module _ {T : Type 0} (code : Coding T) (kind : Kind) (capacity : ℕ) where
       }
     where
       seats : (j : ℕ) (v : View T) → get_elem? (first_view capacity ∷ []) j ≡ some v → Fits (λ p. p) (worlds.opening code kind capacity 0) j v
-      seats zero v e = subst (λ z. Fits (λ p. p) (worlds.opening code kind capacity 0) zero z) (some-injective (first_view capacity) v e) (record { seen = nothing []; other = nothing []; self = λ any. refl; going = λ p of_j is. refl; idle = λ p of_j ne. refl; party = refl; late = []; waits = none_late kind None; of_party = refl; own = λ any p of_j. inl refl; made = λ f. refl })
+      seats zero v e = subst (λ z. Fits (λ p. p) (worlds.opening code kind capacity 0) zero z) (some-injective (first_view capacity) v e) (record { seen = nothing []; other = nothing []; self = λ any. refl; going = λ p of_j is. refl; idle = λ p of_j ne. refl; stated = λ p of_j is. opens_without kind capacity p; party = refl; late = []; waits = none_late kind None; of_party = refl; own = λ any p of_j. inl refl; made = λ f. refl })
       seats (suc j) v e = absurd (some-ne-none v (sym e))

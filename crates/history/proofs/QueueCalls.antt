@@ -163,7 +163,7 @@ module _ {T : Type 0} (code : Coding T) (v : ℕ) where
         finds = λ c m n small t. finds n c.stage small t;
         leaves = λ c a n t e. leaves c a n c.stage t e;
         tells = λ capacity p from c d m n es h wrote e. ap (λ zs. zs ++ queue_effects code p (call.flight c m) n) wrote ∙ (effects_on p c d m n e ∙ quiet p n c d c.stage e);
-        tells_all = λ capacity p from c b m n es h skip wrote e. ap (λ zs. zs ++ queue_effects code p (call.flight c m) n) wrote ∙ (effects_end p c b m n e ∙ loud p n c b c.stage skip e);
+        tells_all = λ capacity p from c b m n es h skip wrote e still. ap (λ zs. zs ++ queue_effects code p (call.flight c m) n) wrote ∙ (effects_end p c b m n e ∙ loud p n c b c.stage skip e);
       }
 
   -- each step of a push keeps the rule of the table: it is a machine
@@ -261,7 +261,7 @@ module _ {T : Type 0} (code : Coding T) where
         finds = λ c m n small t. tt;
         leaves = λ c a n t e. absurd (cc);
         tells = λ capacity p from c d m n es h wrote e. ap (λ zs. zs ++ queue_effects code p (taking.flight c m) n) wrote ∙ (pop_effects_on p c d m n e ∙ pop_quiet p n m.0 c d c.stage e);
-        tells_all = λ capacity p from c b m n es h skip wrote e. ap (λ zs. zs ++ queue_effects code p (taking.flight c m) n) wrote ∙ (pop_effects_end p c b m n e ∙ pop_loud p n c m b c.stage e);
+        tells_all = λ capacity p from c b m n es h skip wrote e still. ap (λ zs. zs ++ queue_effects code p (taking.flight c m) n) wrote ∙ (pop_effects_end p c b m n e ∙ pop_loud p n c m b c.stage e);
       }
 
   pub pop_keep_all : KeepsRule (λ (z : View T). z.capacity) (At code kinds.IndexQueue taking) (Ends code kinds.IndexQueue taking) (λ key. 4 + key + 1) (λ key. key) (λ key. IsMachine code kinds.IndexQueue key) (λ (c : Taking). pop_want c) (λ c n. pop_after 1 c n) keeps_it
@@ -300,7 +300,7 @@ module _ {T : Type 0} (code : Coding T) (role : Role) where
         finds = λ c m n small t. tt;
         leaves = λ c a n t e. absurd (cc);
         tells = λ capacity p from c d m n es h wrote e. absurd (cc);
-        tells_all = λ capacity p from c b m n es h skip wrote e. ap (λ zs. zs ++ []) wrote;
+        tells_all = λ capacity p from c b m n es h skip wrote e still. ap (λ zs. zs ++ []) wrote;
       }
 
   pub acquire_keeps : KeepsRule (λ (z : View T). z.capacity) (At code kinds.IndexQueue acquiring) (Ends code kinds.IndexQueue acquiring) (λ key. 4 + key + 1) (λ key. key) (λ key. IsMachine code kinds.IndexQueue key) acquire_want acquire_after (λ c m n. m)
@@ -329,7 +329,7 @@ module _ {T : Type 0} (code : Coding T) (role : Role) where
         finds = λ c m n small t. tt;
         leaves = λ c a n t e. absurd (cc);
         tells = λ capacity p from c d m n es h wrote e. absurd (cc);
-        tells_all = λ capacity p from c b m n es h skip wrote e. ap (λ zs. zs ++ []) wrote;
+        tells_all = λ capacity p from c b m n es h skip wrote e still. ap (λ zs. zs ++ []) wrote;
       }
 
   pub release_keeps : KeepsRule (λ (z : View T). z.capacity) (At code kinds.IndexQueue releasing) (Ends code kinds.IndexQueue releasing) (λ key. 4 + key + 1) (λ key. key) (λ key. IsMachine code kinds.IndexQueue key) release_want release_after (λ c m n. m)
@@ -397,7 +397,7 @@ module _ {T : Type 0} (code : Coding T) (which : LengthOf) (size : ℕ) where
         finds = λ c m n small t. tt;
         leaves = λ c a n t e. absurd (cc);
         tells = λ capacity p from c d m n es h wrote e. ap (λ zs. zs ++ []) wrote;
-        tells_all = λ capacity p from c b m n es h skip wrote e. ap (λ zs. zs ++ []) wrote;
+        tells_all = λ capacity p from c b m n es h skip wrote e still. ap (λ zs. zs ++ []) wrote;
       }
 
   pub len_keeps : KeepsRule (λ (z : View T). z.capacity) (At code kinds.IndexQueue counting) (Ends code kinds.IndexQueue counting) (λ key. 4 + key + 1) (λ key. key) (λ key. IsMachine code kinds.IndexQueue key) len_want len_after (λ c m n. m)

@@ -24,7 +24,7 @@ use Rattle.model.specs.declared.families.queues.calls.QueueFlight.TheVariants.{R
 use Rattle.model.specs.declared.party.Party.{Party}
 use Rattle.model.specs.declared.turn.Kind as kinds
 use Rattle.model.specs.Coding.{Coding}
-use Rattle.model.specs.Families.{first_of, begin_rows, step_of, beside_of, after_of, going_rows}
+use Rattle.model.specs.Families.{first_of, step_of, beside_of, after_of, going_rows}
 use Rattle.model.specs.Families.Queues.Calls.{after, read_in}
 use Rattle.model.specs.Families.Queues.Opening.{lacks_role, kept_rows, cells_of, words_of_cell}
 use Rattle.model.specs.Families.Queues.Promises.{IsQueue}
@@ -49,11 +49,11 @@ use Rattle.queue_laws.proofs.Ring.Kinds.{Ring, of_indices, of_values, kind_of}
 use Rattle.history.specs.declared.view.View.{View}
 use Rattle.history.specs.Known.{owned}
 use Rattle.history.specs.Roles.{holder, role_after, HasRole}
-use Rattle.history.specs.Stages.{Starts, Calling}
+use Rattle.history.specs.Stages.{Starts, Calling, rows_as}
 use Rattle.history.proofs.Roles.{role_by}
 use Rattle.history.specs.History.{IsRun, IsLate, call_in}
 use Rattle.history.proofs.Known.{AreOf}
-use Rattle.history.proofs.Calls.{stands}
+use Rattle.history.proofs.Calls.{stands, IsStateless}
 use Rattle.history.proofs.Reached.{queue_run}
 use Rattle.history.proofs.Turns.{CallGoesOn, KindLaws}
 
@@ -199,7 +199,12 @@ module _ {T : Type 0} (code : Coding T) (capacity : ℕ) (r : Ring) where
       }
 
   pub ring_owes : KindLaws code (machine_kind (kind_of r)) capacity ring_words (queue_effects code)
-  ring_owes = record { size = size; goes_on = goes_on; alone = alone r }
+  ring_owes = record {
+    size = size;
+    goes_on = goes_on;
+    alone = alone r;
+    stateless = λ t run. (let s = sound_of code capacity (kind_of r) t run in subst IsStateless (sym (kept_is t.world.kept t.world.words s.state s.fit).0) tt);
+  }
     where
       alone : (q : Ring) (going : Option (Start T × Flight T)) (late : List (Event T)) → IsLate (machine_kind (kind_of q)) going late → late ≡ []
       alone of_indices going late h = h
@@ -244,7 +249,7 @@ module _ {T : Type 0} (code : Coding T) (kd : QueueKind) (base : View T) where
         kept_free : first_row (kept_rows start t.world.kept p) ≡ None
         kept_free = subst (λ k. first_row (kept_rows start k p) ≡ None) (sym is) (rw lacks refl)
 
-        rows : (k : QueueKind) → first_of (machine_kind k) base.capacity (Queues start) t.world.kept ≡ Some (call.flight c m) → first_row (begin_rows (machine_kind k) base.capacity t.world.kept p (Queues start)) ≡ None
+        rows : (k : QueueKind) → first_of (machine_kind k) base.capacity (Queues start) t.world.kept ≡ Some (call.flight c m) → first_row (rows_as (machine_kind k) base.capacity t.world.kept p (Queues start)) ≡ None
         rows IndexQueue e = rw e kept_free
         rows queues.TheVariants.Overflow e = rw e kept_free
         rows queues.TheVariants.Queue e = rw e kept_free

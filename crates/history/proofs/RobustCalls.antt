@@ -56,13 +56,13 @@ use Rattle.history.proofs.Robusts.{robust_effects, cells_and_counter, robusts_ow
 
 -- ---- acquire
 
-acquire_found : (stage : AcquireStage) (owner : ℕ) (a : Ask) (n : ℕ) → acquire_asks stage owner ≡ wants.Ask a → answered a.op n ≡ n
+pub acquire_found : (stage : AcquireStage) (owner : ℕ) (a : Ask) (n : ℕ) → acquire_asks stage owner ≡ wants.Ask a → answered a.op n ≡ n
 acquire_found acquires.LoadsCounter owner a n e = found_of _ a n refl e
 acquire_found (acquires.FillsCell counter index) owner a n e = found_of _ a n refl e
 acquire_found (acquires.ChecksCounter counter) owner a n e = found_of _ a n refl e
 acquire_found (acquires.Raises index raise) owner a n e = raise_found raise a n e
 
-acquire_words : (capacity : ℕ) (stage : AcquireStage) (owner : ℕ) → AcquireIn capacity stage → AsksFor (capacity + 1) (acquire_asks stage owner)
+pub acquire_words : (capacity : ℕ) (stage : AcquireStage) (owner : ℕ) → AcquireIn capacity stage → AsksFor (capacity + 1) (acquire_asks stage owner)
 acquire_words capacity acquires.LoadsCounter owner h = (_, omega arith, refl)
 acquire_words capacity (acquires.FillsCell counter index) owner h = (_, (let low : 1 + index < capacity + 1 = omega arith in low), refl)
 acquire_words capacity (acquires.ChecksCounter counter) owner h = (_, omega arith, refl)
@@ -70,7 +70,7 @@ acquire_words capacity (acquires.Raises index raise) owner h = raise_asks capaci
 
 -- where it goes on, and what it has written then
 module _ (T : Type 0) (capacity : ℕ) (c : Acquiring) (same : c.capacity ≡ capacity) (p owner : ℕ) where
-  abbrev AcquireGoes : List (Event T) → After Acquiring Acquired → Type 0
+  abbrev pub AcquireGoes : List (Event T) → After Acquiring Acquired → Type 0
   AcquireGoes es (GoOn d) = (takes_owned {T = T} owner).stands capacity d × (es ≡ filled_at p owner d.stage)
   AcquireGoes es (Done e) = AcquireWrote capacity p owner e es
 
@@ -85,7 +85,7 @@ module _ (T : Type 0) (capacity : ℕ) (c : Acquiring) (same : c.capacity ≡ ca
       by_test (AcquireGoes []) (k == locked) _ _ (λ t. inl refl)
       (λ t. by_test (AcquireGoes []) (k == greatest) _ _ (λ u. refl) (λ u. tries k 0))
 
-  takes_so : (stage : AcquireStage) (k : ℕ) → AcquireIn capacity stage
+  pub takes_so : (stage : AcquireStage) (k : ℕ) → AcquireIn capacity stage
       → AcquireGoes (filled_at p owner stage ++ acquire_effects p owner stage k) (acquire_takes c stage k)
   takes_so acquires.LoadsCounter k h = sees k
   takes_so (acquires.FillsCell counter index) k h = go (k == empty) refl
@@ -127,7 +127,7 @@ module _ {T : Type 0} (code : Coding T) (owner : ℕ) where
         leaves = λ c a n t e. absurd (cc);
         tells = λ capacity p from c d m n es h wrote e new.
             ap (λ zs. zs ++ acquire_effects p owner c.stage n) (wrote new) ∙ (takes_on capacity p c n (GoOn d) h e).1;
-        tells_all = λ capacity p from c end m n es h skip wrote e new.
+        tells_all = λ capacity p from c end m n es h skip wrote e still new.
             subst (λ zs. AcquireWrote capacity p owner end (zs ++ acquire_effects p owner c.stage n)) (sym (wrote new)) (takes_on capacity p c n (Done end) h e);
       }
 
@@ -155,19 +155,19 @@ module _ {T : Type 0} (code : Coding T) (owner : ℕ) where
 
 -- ---- release
 
-release_found : (stage : ReleaseStage) (given : GiveBack) (a : Ask) (n : ℕ) → release_asks stage given ≡ wants.Ask a → answered a.op n ≡ n
+pub release_found : (stage : ReleaseStage) (given : GiveBack) (a : Ask) (n : ℕ) → release_asks stage given ≡ wants.Ask a → answered a.op n ≡ n
 release_found releases.EmptiesCell given a n e = found_of _ a n refl e
 release_found (releases.Raises raise) given a n e = raise_found raise a n e
 release_found (releases.Locks lock) given a n e = lock_found lock a n e
 
-release_words : (capacity : ℕ) (stage : ReleaseStage) (given : GiveBack) → given.index < capacity → ReleaseIn capacity given.mode stage
+pub release_words : (capacity : ℕ) (stage : ReleaseStage) (given : GiveBack) → given.index < capacity → ReleaseIn capacity given.mode stage
     → AsksFor (capacity + 1) (release_asks stage given)
 release_words capacity releases.EmptiesCell given low h = (_, (let l : 1 + given.index < capacity + 1 = omega arith in l), refl)
 release_words capacity (releases.Raises raise) given low h = raise_asks capacity raise
 release_words capacity (releases.Locks lock) given low h = lock_asks capacity lock h.1
 
 module _ (T : Type 0) (capacity : ℕ) (c : Releasing) (same : c.capacity ≡ capacity) (p : ℕ) (given : GiveBack) (low : given.index < capacity) where
-  abbrev ReleaseGoes : List (Event T) → After Releasing Released → Type 0
+  abbrev pub ReleaseGoes : List (Event T) → After Releasing Released → Type 0
   ReleaseGoes es (GoOn d) = (gives_owned {T = T} given).stands capacity d × (es ≡ freed_at p given d.stage)
   ReleaseGoes es (Done e) = ReleaseWrote p given e es
 
@@ -185,7 +185,7 @@ module _ (T : Type 0) (capacity : ℕ) (c : Releasing) (same : c.capacity ≡ ca
   locked_so may (Done states.Locked) on = (may, inl refl)
   locked_so may (Done states.Unlocked) on = refl
 
-  gives_so : (stage : ReleaseStage) (k : ℕ) → ReleaseIn capacity given.mode stage
+  pub gives_so : (stage : ReleaseStage) (k : ℕ) → ReleaseIn capacity given.mode stage
       → ReleaseGoes (freed_at p given stage ++ release_effects p given stage k) (release_takes c stage given k)
   gives_so releases.EmptiesCell k h = go (k == given.owner) refl
     where
@@ -229,7 +229,7 @@ module _ {T : Type 0} (code : Coding T) (given : GiveBack) where
         leaves = λ c a n t e. absurd (cc);
         tells = λ capacity p from c d m n es h wrote e new.
             ap (λ zs. zs ++ release_effects p given c.stage n) (wrote new) ∙ (gives_on capacity p c n (GoOn d) h e).1;
-        tells_all = λ capacity p from c end m n es h skip wrote e new.
+        tells_all = λ capacity p from c end m n es h skip wrote e still new.
             subst (λ zs. ReleaseWrote p given end (zs ++ release_effects p given c.stage n)) (sym (wrote new)) (gives_on capacity p c n (Done end) h e);
       }
 
@@ -258,11 +258,11 @@ module _ {T : Type 0} (code : Coding T) (given : GiveBack) where
 
 -- ---- looks
 
-abbrev CountGoes : ℕ → After Counting ℕ → Type 0
+abbrev pub CountGoes : ℕ → After Counting ℕ → Type 0
 CountGoes capacity (GoOn d) = (counts_owned {T = ℕ}).stands capacity d
 CountGoes capacity (Done n) = Unit {0}
 
-counts_so : (capacity : ℕ) (c : Counting) → c.capacity ≡ capacity → (r : After Count Counted) → CountOn capacity r → CountGoes capacity (borrowed_counted c r)
+pub counts_so : (capacity : ℕ) (c : Counting) → c.capacity ≡ capacity → (r : After Count Counted) → CountOn capacity r → CountGoes capacity (borrowed_counted c r)
 counts_so capacity c same (GoOn count) on = (same, on)
 counts_so capacity c same (Done ends.Locked) on = tt
 counts_so capacity c same (Done (ends.Filled filled counter)) on = tt
@@ -286,7 +286,7 @@ module _ {T : Type 0} (code : Coding T) where
         finds = λ c m n small t. tt;
         leaves = λ c a n t e. absurd (cc);
         tells = λ capacity p from c d m n es h wrote e. ap (λ zs. zs ++ []) wrote;
-        tells_all = λ capacity p from c end m n es h skip wrote e. ap (λ zs. zs ++ []) wrote;
+        tells_all = λ capacity p from c end m n es h skip wrote e still. ap (λ zs. zs ++ []) wrote;
       }
 
   pub count_keeps : KeepsRule (λ (z : View T). z.capacity) (At code kinds.Robust counts_owned) (Ends code kinds.Robust counts_owned)
@@ -320,7 +320,7 @@ module _ {T : Type 0} (code : Coding T) where
         finds = λ c m n small t. tt;
         leaves = λ c a n t e. absurd (cc);
         tells = λ capacity p from c d m n es h wrote e. absurd (cc);
-        tells_all = λ capacity p from c end m n es h skip wrote e. ap (λ zs. zs ++ []) wrote;
+        tells_all = λ capacity p from c end m n es h skip wrote e still. ap (λ zs. zs ++ []) wrote;
       }
 
   pub look_keeps : KeepsRule (λ (z : View T). z.capacity) (At code kinds.Robust looks_owned) (Ends code kinds.Robust looks_owned)

@@ -1,13 +1,14 @@
 -- That a recovery of the robust index set is a call of the model, which puts questions.
-use Rattle.std.proofs.Common.{◌≡◌, inl, inr, ℕ, zero, suc, ◌+◌, ◌<◌, ◌≤◌, ◌==◌, nat_lt, Bool, true, false, Option, Some, None, List, [], ◌∷◌, ◌++◌, append_assoc, append-nil, refl, sym, ap, subst, ◌∙◌, arith}
+use Rattle.std.proofs.Common.{◌≡◌, inl, inr, ℕ, ◌+◌, ◌<◌, ◌≤◌, ◌==◌, nat_lt, Bool, true, false, Option, Some, None, List, [], ◌∷◌, ◌++◌, append_assoc, append-nil, refl, sym, ap, subst, ◌∙◌, arith}
 use Rattle.std.proofs.lemmas.Bool.Decides.{nat_tests}
-use Rattle.steps.specs.Indices.Robust.Parts.{empty, locked, raise_want, raise_after, first_lock, lock_want, lock_after}
+use Rattle.steps.specs.Indices.Robust.Parts.{empty, locked, raise_want, raise_after, lock_want, lock_after}
 use Rattle.steps.specs.Indices.Robust.Recover.{first_recover, at_recover, recover_asks, recover_want, recover_comes_to, recover_raised, recover_locked, recover_takes, recover_after}
 use Rattle.steps.specs.Picks.{by_test}
 use Rattle.steps.specs.Routine.{went_on}
 use Rattle.steps.specs.declared.ask.Ask.{Ask}
 use Rattle.steps.specs.declared.ask.After.{After}
 use Rattle.steps.specs.declared.ask.After.TheVariants.{GoOn, Done}
+use Rattle.steps.specs.declared.ask.Want.{Want}
 use Rattle.steps.specs.declared.ask.Want.TheVariants as wants
 use Rattle.steps.specs.declared.indices.enums.ReleaseMode.{ReleaseMode}
 use Rattle.steps.specs.declared.indices.enums.ReleaseMode.TheVariants.{LockIfLastIndex, Default}
@@ -22,7 +23,9 @@ use Rattle.steps.specs.declared.indices.robust.recover.RecoverStage.TheVariants 
 use Rattle.model.specs.declared.event.Answer.{Answer}
 use Rattle.model.specs.declared.event.Answer.TheVariants.{State}
 use Rattle.model.specs.declared.event.Event.{Event}
-use Rattle.model.specs.declared.event.Event.TheVariants.{FreedOf, Told, Locked}
+use Rattle.model.specs.declared.event.Event.TheVariants.{Begun, FreedOf, Asked, Told, Locked}
+use Rattle.model.specs.declared.event.Start.{Start}
+use Rattle.model.specs.declared.event.Start.TheVariants.{Robust}
 use Rattle.model.specs.declared.families.Flight.{Flight}
 use Rattle.model.specs.declared.families.Flight.TheVariants as flights
 use Rattle.model.specs.declared.families.indices.robust.RobustStart.TheVariants.{Recover}
@@ -35,15 +38,16 @@ use Rattle.model.specs.Families.Queues.Calls.{as_it_is}
 use Rattle.model.specs.Step.{as_call}
 use Rattle.model.specs.Turns.{number_of}
 use Rattle.robust_laws.proofs.Sound.{raise_asks_none, lock_asks_none}
-use Rattle.lock_free_sp.specs.Driver.{answered, KeepsRule}
+use Rattle.lock_free_sp.specs.Driver.{answered, Owes, Next as NextKnown, Told as ToldOf, KeepsRule}
 use Rattle.history.specs.declared.view.View.{View}
 use Rattle.history.specs.History.{IsMachine}
-use Rattle.history.specs.Robust.{RecoverIn, Came, HasAsked, WasTold, HasFreed, HasLocked, MayCome, wrote_of, HasPassed, HasCome, RecoveredAt, RecoveryWrote, recovers_owned}
-use Rattle.history.specs.Stages.{Ends, AtAsked}
+use Rattle.history.specs.Robust.{RecoverIn, Came, HasAsked, WasTold, HasFreed, HasLocked, Visit, visit, AreVisits, came_to, HasCome, VisitsAt, visits_locked, visits_taken, visits_after, wrote_by, wrote_now, recovers_owned}
+use Rattle.history.specs.Stages.{opened, IsFirst, IsUnderWay, Ends, AtAsked}
 use Rattle.history.proofs.CallsIn.{AsksFor}
 use Rattle.history.proofs.Decisions.{IsAskingOf, keeps_asked, hears_answer}
-use Rattle.history.proofs.Drives.{goes}
+use Rattle.history.proofs.Drives.{goes, all_kept_laws, acts_alone}
 use Rattle.history.proofs.RobustParts.{found_of, raise_found, lock_found, raise_asks, lock_asks, LockOn, lock_on}
+use Rattle.history.proofs.RobustVisits.{same_before, none_yet, wider, one_more, came_past, comes_on, wrote_last, wrote_on, same_visits}
 use Rattle.history.proofs.Robusts.{robust_effects, cells_and_counter, robusts_owe, robust_starts}
 
 -- ---- what it asks for
@@ -91,89 +95,135 @@ module _ (c : Recovering) (mode : ReleaseMode) where
 -- ---- where it goes on, and what it has written then
 
 module _ {T : Type 0} (capacity : ℕ) (c : Recovering) (same : c.capacity ≡ capacity) (p : ℕ) (mode : ReleaseMode) where
-  abbrev RecoverGoes : List (Event T) → After Recovering ReleaseState → Type 0
-  RecoverGoes es (GoOn d) = (recovers_owned {T = T} mode).stands capacity d × RecoveredAt capacity p mode d.stage es
-  RecoverGoes es (Done e) = RecoveryWrote capacity p mode e es
+  abbrev RecoverGoes : List (Event T) → List Visit → After Recovering ReleaseState → Type 0
+  RecoverGoes es visits (GoOn d) =
+      (recovers_owned {T = T} mode).stands capacity d × VisitsAt capacity mode d.stage visits × (es ≡ wrote_by p visits ++ wrote_now p d.stage)
+  RecoverGoes es visits (Done e) = AreVisits mode capacity visits × (es ≡ wrote_by p visits)
 
-  -- a step that writes nothing
-  quiet : (es : List (Event T)) (r : After Recovering ReleaseState) → RecoverGoes es r → RecoverGoes (es ++ []) r
-  quiet es r h = subst (λ zs. RecoverGoes zs r) (sym (append-nil es)) h
+  -- a step that writes nothing more
+  quiet : (es whole : List (Event T)) → es ≡ whole → es ++ [] ≡ whole
+  quiet es whole is = append-nil es ∙ is
 
-  comes_to : (index : ℕ) → index ≤ capacity → (es : List (Event T)) → HasPassed p mode index es → RecoverGoes es (recover_comes_to c index)
-  comes_to index low es passed =
-      by_test (λ (stage : RecoverStage). RecoverGoes es (GoOn (at_recover c stage))) (nat_lt index c.capacity) _ _
-      (λ t. (let below : index < c.capacity = grind (arith, nat_tests) in ((same, omega arith), passed)))
+  -- it is at no visit
+  between : (es whole : List (Event T)) → es ≡ whole → es ≡ whole ++ []
+  between es whole is = is ∙ sym (append-nil whole)
+
+  all_of : (es whole : List (Event T)) → es ≡ whole ++ [] → es ≡ whole
+  all_of es whole is = is ∙ append-nil whole
+
+  comes_to : (index : ℕ) → index ≤ capacity → (es : List (Event T)) (visits : List Visit) → AreVisits mode index visits → es ≡ wrote_by p visits
+      → RecoverGoes es visits (recover_comes_to c index)
+  comes_to index low es visits passed is =
+      by_test (λ (stage : RecoverStage). RecoverGoes es visits (GoOn (at_recover c stage))) (nat_lt index c.capacity) _ _
+      (λ t. (let below : index < c.capacity = grind (arith, nat_tests) in ((same, omega arith), passed, between es (wrote_by p visits) is)))
       (λ t. (let past : c.capacity ≤ index = grind (arith, nat_tests) in let last : index ≡ capacity = omega arith in
-      ((same, tt), subst (λ i. HasPassed p mode i es) last passed)))
+      ((same, tt), subst (λ i. AreVisits mode i visits) last passed, between es (wrote_by p visits) is)))
 
-  next_to : (index : ℕ) → index < capacity → (es : List (Event T)) → HasPassed p mode (suc index) es → RecoverGoes es (recover_comes_to c (index + 1))
-  next_to index low es passed =
-      (let next : suc index ≡ index + 1 = omega arith in comes_to (index + 1) (omega arith) es (subst (λ i. HasPassed p mode i es) next passed))
+  next_to : (index : ℕ) → index < capacity → (es : List (Event T)) (visits : List Visit) → AreVisits mode (index + 1) visits → es ≡ wrote_by p visits
+      → RecoverGoes es visits (recover_comes_to c (index + 1))
+  next_to index low es visits passed is = comes_to (index + 1) (omega arith) es visits passed is
 
-  passes : (index owner : ℕ) (came : Came) (es : List (Event T)) → MayCome mode came → HasCome p mode index came owner es → HasPassed p mode (suc index) es
-  passes index owner came es may h = inr (h.before, owner, came, h.passed, may, h.is)
-
-  -- it has written one event more of the index
-  longer : (index owner : ℕ) (came next : Came) (e : Event T) (es : List (Event T)) → wrote_of p index owner came ++ e ∷ [] ≡ wrote_of p index owner next
-      → HasCome p mode index came owner es → HasCome p mode index next owner (es ++ e ∷ [])
-  longer index owner came next e es is h =
-      record {
-        before = h.before;
-        passed = h.passed;
-        is = ap (λ zs. zs ++ e ∷ []) h.is ∙ (append_assoc h.before (wrote_of p index owner came) (e ∷ []) ∙ ap (λ zs. h.before ++ zs) is);
-      }
-
-  raised : (index : ℕ) → index < capacity → (m : ReleaseMode) → mode ≡ m → (owner : ℕ) (es : List (Event T)) → HasCome p mode index HasFreed owner es
-      → (r : After Raise ReleaseState) → RecoverGoes es (recover_raised c index m r)
-  raised index low LockIfLastIndex is owner es h (GoOn raise) = ((same, low), (owner, h))
-  raised index low Default is owner es h (GoOn raise) = ((same, low), (owner, h))
-  raised index low LockIfLastIndex is owner es h (Done states.Locked) = (suc index, omega arith, passes index owner HasFreed es tt h)
-  raised index low Default is owner es h (Done states.Locked) = (suc index, omega arith, passes index owner HasFreed es tt h)
-  raised index low LockIfLastIndex is owner es h (Done states.Unlocked) = ((same, (is, low, tt)), (owner, h))
-  raised index low Default is owner es h (Done states.Unlocked) = next_to index low es (passes index owner HasFreed es tt h)
-
-  counted : (index : ℕ) → index < capacity → mode ≡ LockIfLastIndex → (owner : ℕ) (es : List (Event T)) → HasCome p mode index HasFreed owner es
-      → (r : After Lock ReleaseState) → LockOn capacity r → RecoverGoes es (recover_locked c index r)
-  counted index low may owner es h (GoOn lock) on = ((same, (may, low, on)), (owner, h))
-  counted index low may owner es h (Done state) on = next_to index low es (passes index owner HasFreed es tt h)
-
-  recovers_so : (stage : RecoverStage) (k : ℕ) (es : List (Event T)) → RecoverIn capacity mode stage → RecoveredAt capacity p mode stage es
-      → RecoverGoes (es ++ recover_effects p stage k) (recover_takes c stage mode k)
-  recovers_so recovers.LoadsCounter k es h at =
-      quiet es (recover_takes c recovers.LoadsCounter mode k)
-      (by_test (RecoverGoes es) (k == locked) _ _ (λ t. (0, omega arith, at)) (λ t. comes_to 0 (omega arith) es at))
-  recovers_so (recovers.LoadsCell index) k es h at = go (k == empty) refl
+  raised : (index : ℕ) → index < capacity → (m : ReleaseMode) → mode ≡ m → (owner : ℕ) (es : List (Event T)) (visits : List Visit)
+      → HasCome mode index HasFreed owner visits → es ≡ wrote_by p visits → (r : After Raise ReleaseState) → RecoverGoes es visits (recover_raised c index m r)
+  raised index low m may owner es visits h is r = go m may r
     where
-      go : (b : Bool) → (k == empty) ≡ b → RecoverGoes (es ++ recover_effects p (recovers.LoadsCell index) k)
+      past : AreVisits mode (index + 1) visits
+      past = came_past mode index owner HasFreed visits tt h
+
+      still : es ≡ wrote_by p visits ++ []
+      still = between es (wrote_by p visits) is
+
+      go : (m : ReleaseMode) → mode ≡ m → (r : After Raise ReleaseState) → RecoverGoes es visits (recover_raised c index m r)
+      go LockIfLastIndex may (GoOn raise) = ((same, low), (owner, h), still)
+      go Default may (GoOn raise) = ((same, low), (owner, h), still)
+      go LockIfLastIndex may (Done states.Locked) = (wider mode (index + 1) capacity visits (omega arith) past, is)
+      go Default may (Done states.Locked) = (wider mode (index + 1) capacity visits (omega arith) past, is)
+      go LockIfLastIndex may (Done states.Unlocked) = ((same, (may, low, tt)), (owner, h), still)
+      go Default may (Done states.Unlocked) = next_to index low es visits past is
+
+  counted : (index : ℕ) → index < capacity → mode ≡ LockIfLastIndex → (owner : ℕ) (es : List (Event T)) (visits : List Visit)
+      → HasCome mode index HasFreed owner visits → es ≡ wrote_by p visits → (r : After Lock ReleaseState) → LockOn capacity r
+      → RecoverGoes es visits (recover_locked c index r)
+  counted index low may owner es visits h is (GoOn lock) on = ((same, (may, low, on)), (owner, h), between es (wrote_by p visits) is)
+  counted index low may owner es visits h is (Done state) on = next_to index low es visits (came_past mode index owner HasFreed visits tt h) is
+
+  recovers_so : (stage : RecoverStage) (k : ℕ) (es : List (Event T)) (visits : List Visit) → RecoverIn capacity mode stage
+      → VisitsAt capacity mode stage visits → es ≡ wrote_by p visits ++ wrote_now p stage
+      → RecoverGoes (es ++ recover_effects p stage k) (visits_taken stage visits k) (recover_takes c stage mode k)
+  recovers_so recovers.LoadsCounter k es visits h at is =
+      let settled = quiet es (wrote_by p visits) (all_of es (wrote_by p visits) is) in
+      by_test (RecoverGoes (es ++ []) visits) (k == locked) _ _ (λ t. (none_yet mode capacity visits at, settled))
+      (λ t. comes_to 0 (omega arith) (es ++ []) visits (none_yet mode 0 visits at) settled)
+  recovers_so (recovers.LoadsCell index) k es visits h at is = go (k == empty) refl
+    where
+      wrote : es ≡ wrote_by p visits
+      wrote = all_of es (wrote_by p visits) is
+
+      go : (b : Bool) → (k == empty) ≡ b → RecoverGoes (es ++ recover_effects p (recovers.LoadsCell index) k) visits
           (recover_takes c (recovers.LoadsCell index) mode k)
-      go true e = rw e (quiet es (recover_comes_to c (index + 1)) (next_to index h es (inl at)))
-      go false e = rw e ((same, h), record { before = es; passed = at; is = refl })
-  recovers_so (recovers.Asks index owner) k es h at = go (k == 0) refl
+      go true e = rw e (next_to index h (es ++ []) visits (wider mode index (index + 1) visits (omega arith) at) (quiet es (wrote_by p visits) wrote))
+      go false e = rw e ((same, h), at, ap (λ zs. zs ++ Asked p index k ∷ []) wrote)
+  recovers_so (recovers.Asks index owner) k es visits h at is = go (k == 0) refl
     where
-      go : (b : Bool) → (k == 0) ≡ b → RecoverGoes (es ++ recover_effects p (recovers.Asks index owner) k) (recover_takes c (recovers.Asks index owner) mode k)
-      go true e = rw e (quiet es (recover_comes_to c (index + 1)) (next_to index h es (passes index owner HasAsked es tt at)))
-      go false e = rw e ((same, h), longer index owner HasAsked WasTold (Told p index owner) es refl at)
-  recovers_so (recovers.EmptiesCell index owner) k es h at = go (k == owner) refl
+      more : List Visit
+      more = visits ++ visit index owner HasAsked ∷ []
+
+      wrote : es ≡ wrote_by p more
+      wrote = is ∙ sym (wrote_last p visits (visit index owner HasAsked))
+
+      go : (b : Bool) → (k == 0) ≡ b → RecoverGoes (es ++ recover_effects p (recovers.Asks index owner) k) more
+          (recover_takes c (recovers.Asks index owner) mode k)
+      go true e = rw e (next_to index h (es ++ []) more (one_more mode index owner HasAsked visits tt at) (quiet es (wrote_by p more) wrote))
+      go false e = rw e ((same, h), record { before = visits; passed = at; is = refl }, ap (λ zs. zs ++ Told p index owner ∷ []) wrote)
+  recovers_so (recovers.EmptiesCell index owner) k es visits h at is = go (k == owner) refl
     where
+      told : Event T
+      told = Told p index owner
+
+      gone : Event T
+      gone = FreedOf p index owner
+
+      freed : es ++ gone ∷ [] ≡ wrote_by p (came_to HasFreed visits)
+      freed =
+          ap (λ zs. zs ++ gone ∷ []) is ∙ (append_assoc (wrote_by p visits) (told ∷ []) (gone ∷ [])
+          ∙ wrote_on p mode index owner HasAsked HasFreed visits (wrote_by p visits) (told ∷ gone ∷ []) refl at refl)
+
+      left : es ≡ wrote_by p (came_to WasTold visits)
+      left = is ∙ wrote_on p mode index owner HasAsked WasTold visits (wrote_by p visits) (told ∷ []) refl at refl
+
       go : (b : Bool) → (k == owner) ≡ b → RecoverGoes (es ++ recover_effects p (recovers.EmptiesCell index owner) k)
-          (recover_takes c (recovers.EmptiesCell index owner) mode k)
-      go true e = rw e ((same, h), (owner, longer index owner WasTold HasFreed (FreedOf p index owner) es refl at))
-      go false e = rw e (quiet es (recover_comes_to c (index + 1)) (next_to index h es (passes index owner WasTold es tt at)))
-  recovers_so (recovers.Raises index raise) k es h at =
-      quiet es (recover_takes c (recovers.Raises index raise) mode k) (raised index h mode refl at.0 es at.1 (raise_after raise k))
-  recovers_so (recovers.Locks index (locks.Counts count)) k es h at =
-      quiet es (recover_takes c (recovers.Locks index (locks.Counts count)) mode k)
-      (counted index h.1 h.0 at.0 es at.1 (lock_after c.capacity (locks.Counts count) k) (lock_on capacity c.capacity same (locks.Counts count) k))
-  recovers_so (recovers.Locks index (locks.ExchangesCounter counter)) k es h at = go (k == counter) refl
+          (visits_taken (recovers.EmptiesCell index owner) visits k) (recover_takes c (recovers.EmptiesCell index owner) mode k)
+      go true e = rw e (
+        (same, h),
+        (owner, comes_on mode index owner HasAsked HasFreed visits at),
+        between (es ++ gone ∷ []) (wrote_by p (came_to HasFreed visits)) freed,
+      )
+      go false e = rw e (next_to index h (es ++ []) (came_to WasTold visits)
+          (came_past mode index owner WasTold (came_to WasTold visits) tt (comes_on mode index owner HasAsked WasTold visits at))
+          (quiet es (wrote_by p (came_to WasTold visits)) left))
+  recovers_so (recovers.Raises index raise) k es visits h at is =
+      raised index h mode refl at.0 (es ++ []) visits at.1 (quiet es (wrote_by p visits) (all_of es (wrote_by p visits) is)) (raise_after raise k)
+  recovers_so (recovers.Locks index (locks.Counts count)) k es visits h at is =
+      counted index h.1 h.0 at.0 (es ++ []) visits at.1 (quiet es (wrote_by p visits) (all_of es (wrote_by p visits) is))
+      (lock_after c.capacity (locks.Counts count) k) (lock_on capacity c.capacity same (locks.Counts count) k)
+  recovers_so (recovers.Locks index (locks.ExchangesCounter counter)) k es visits h at is = go (k == counter) refl
     where
+      wrote : es ≡ wrote_by p visits
+      wrote = all_of es (wrote_by p visits) is
+
+      shut : List Visit
+      shut = came_to HasLocked visits
+
       go : (b : Bool) → (k == counter) ≡ b → RecoverGoes (es ++ recover_effects p (recovers.Locks index (locks.ExchangesCounter counter)) k)
-          (recover_takes c (recovers.Locks index (locks.ExchangesCounter counter)) mode k)
-      go true e = rw e (next_to index h.1 (es ++ Locked p ∷ [])
-          (passes index at.0 HasLocked (es ++ Locked p ∷ []) h.0 (longer index at.0 HasFreed HasLocked (Locked p) es refl at.1)))
-      go false e = rw e (quiet es (recover_locked c index (GoOn first_lock)) ((same, (h.0, h.1, tt)), at))
-  recovers_so recovers.LoadsCounterAgain k es h at =
-      quiet es (recover_takes c recovers.LoadsCounterAgain mode k)
-      (by_test (λ (state : ReleaseState). RecoverGoes es (Done state)) (k == locked) states.Locked states.Unlocked (λ t. (capacity, omega arith, at)) (λ t. at))
+          (visits_locked (locks.ExchangesCounter counter) visits k) (recover_takes c (recovers.Locks index (locks.ExchangesCounter counter)) mode k)
+      go true e = rw e (next_to index h.1 (es ++ Locked p ∷ []) shut
+          (came_past mode index at.0 HasLocked shut h.0 (comes_on mode index at.0 HasFreed HasLocked visits at.1))
+          (wrote_on p mode index at.0 HasFreed HasLocked visits es (Locked p ∷ []) refl at.1 wrote))
+      go false e = rw e ((same, (h.0, h.1, tt)), at, between (es ++ []) (wrote_by p visits) (quiet es (wrote_by p visits) wrote))
+  recovers_so recovers.LoadsCounterAgain k es visits h at is =
+      by_test (λ (state : ReleaseState). RecoverGoes (es ++ []) visits (Done state)) (k == locked) states.Locked states.Unlocked
+      (λ t. (at, quiet es (wrote_by p visits) (all_of es (wrote_by p visits) is)))
+      (λ t. (at, quiet es (wrote_by p visits) (all_of es (wrote_by p visits) is)))
 
 -- ---- a recovery
 
@@ -181,40 +231,36 @@ module _ {T : Type 0} (code : Coding T) (mode : ReleaseMode) where
   abbrev after : Recovering → ℕ → After Recovering ReleaseState
   after c n = recover_after c mode n
 
-  abbrev kept : Recovering → Unit {0} → ℕ → Unit {0}
-  kept c m n = m
+  as_recovered : (visits : List Visit) (r : After Recovering ReleaseState) → as_call flights.Robust (λ (answer : Answer T). answer)
+      (as_call calls.Recover State (went_on as_it_is mode tt r)) ≡ goes (recovers_owned {T = T} mode) r visits
+  as_recovered visits (GoOn d) = refl
+  as_recovered visits (Done e) = refl
 
-  as_recovered : (r : After Recovering ReleaseState) → as_call flights.Robust (λ (answer : Answer T). answer)
-      (as_call calls.Recover State (went_on as_it_is mode tt r)) ≡ goes (recovers_owned {T = T} mode) r tt
-  as_recovered (GoOn d) = refl
-  as_recovered (Done e) = refl
+  goes_so : (capacity p : ℕ) (c : Recovering) (n : ℕ) (es : List (Event T)) (visits : List Visit) (r : After Recovering ReleaseState)
+      → (h : (recovers_owned {T = T} mode).stands capacity c) → VisitsAt capacity mode c.stage visits → es ≡ wrote_by p visits ++ wrote_now p c.stage
+      → after c n ≡ r → RecoverGoes capacity c h.0 p mode (es ++ recover_effects p c.stage n) (visits_after c visits n) r
+  goes_so capacity p c n es visits r h at is e =
+      subst (RecoverGoes capacity c h.0 p mode (es ++ recover_effects p c.stage n) (visits_after c visits n)) e
+      (recovers_so capacity c h.0 p mode c.stage n es visits h.1 at is)
 
-  goes_so : (capacity p : ℕ) (c : Recovering) (n : ℕ) (es : List (Event T)) (r : After Recovering ReleaseState)
-      → (h : (recovers_owned {T = T} mode).stands capacity c) → RecoveredAt capacity p mode c.stage es → after c n ≡ r
-      → RecoverGoes capacity c h.0 p mode (es ++ recover_effects p c.stage n) r
-  goes_so capacity p c n es r h at e = subst (RecoverGoes capacity c h.0 p mode (es ++ recover_effects p c.stage n)) e
-      (recovers_so capacity c h.0 p mode c.stage n es h.1 at)
+  -- it may have visited none of the indices that it has passed
+  come_first : (index : ℕ) (came : Came) → HasCome mode index came 0 (visit index 0 came ∷ [])
+  come_first index came = record { before = []; passed = none_yet mode index [] refl; is = refl }
 
-  -- it may have written nothing of the indices that it has passed
-  none_passed : (p index : ℕ) → HasPassed {T = T} p mode index []
-  none_passed p zero = refl
-  none_passed p (suc index) = inl (none_passed p index)
-
-  come_first : (p index owner : ℕ) (came : Came) → HasCome {T = T} p mode index came owner (wrote_of p index owner came)
-  come_first p index owner came = record { before = []; passed = none_passed p index; is = refl }
-
-  some_written : (capacity p : ℕ) (stage : RecoverStage) → (es : List (Event T)) × RecoveredAt capacity p mode stage es
-  some_written capacity p recovers.LoadsCounter = ([], refl)
-  some_written capacity p (recovers.LoadsCell index) = ([], none_passed p index)
-  some_written capacity p (recovers.Asks index owner) = (_, come_first p index owner HasAsked)
-  some_written capacity p (recovers.EmptiesCell index owner) = (_, come_first p index owner WasTold)
-  some_written capacity p (recovers.Raises index raise) = (_, (0, come_first p index 0 HasFreed))
-  some_written capacity p (recovers.Locks index lock) = (_, (0, come_first p index 0 HasFreed))
-  some_written capacity p recovers.LoadsCounterAgain = ([], none_passed p capacity)
+  some_visits : (capacity : ℕ) (stage : RecoverStage) → (visits : List Visit) × VisitsAt capacity mode stage visits
+  some_visits capacity recovers.LoadsCounter = ([], refl)
+  some_visits capacity (recovers.LoadsCell index) = ([], none_yet mode index [] refl)
+  some_visits capacity (recovers.Asks index owner) = ([], none_yet mode index [] refl)
+  some_visits capacity (recovers.EmptiesCell index owner) =
+      (visit index owner HasAsked ∷ [], record { before = []; passed = none_yet mode index [] refl; is = refl })
+  some_visits capacity (recovers.Raises index raise) = (_, (0, come_first index HasFreed))
+  some_visits capacity (recovers.Locks index lock) = (_, (0, come_first index HasFreed))
+  some_visits capacity recovers.LoadsCounterAgain = ([], none_yet mode capacity [] refl)
 
   stands_so : (capacity : ℕ) (c d : Recovering) (n : ℕ) → (recovers_owned {T = T} mode).stands capacity c → after c n ≡ GoOn d
       → (recovers_owned {T = T} mode).stands capacity d
-  stands_so capacity c d n h e = (let some = some_written capacity 0 c.stage in (goes_so capacity 0 c n some.0 (GoOn d) h some.1 e).0)
+  stands_so capacity c d n h e =
+      (let some = some_visits capacity c.stage in (goes_so capacity 0 c n (wrote_by 0 some.0 ++ wrote_now 0 c.stage) some.0 (GoOn d) h some.1 refl e).0)
 
   -- which recovery a flight is
   abbrev recovery_of : Recovering → Flight T → Recovering
@@ -225,49 +271,71 @@ module _ {T : Type 0} (code : Coding T) (mode : ReleaseMode) where
   begun_recovery c None = c
   begun_recovery c (Some flight) = recovery_of c flight
 
-  same_recovery : (c d : Recovering) (m k : Unit {0}) → (recovers_owned {T = T} mode).flight c m ≡ (recovers_owned mode).flight d k → (c ≡ d) × (m ≡ k)
-  same_recovery c d m k e = (ap (recovery_of c) e, refl)
+  same_recovery : (c d : Recovering) (m k : List Visit) → (recovers_owned {T = T} mode).flight c m ≡ (recovers_owned mode).flight d k → c ≡ d
+  same_recovery c d m k e = ap (recovery_of c) e
 
-  pub recover_call : IsAskingOf code kinds.Robust robust_effects cells_and_counter recover_want after kept (recovers_owned mode)
+  -- an answer leaves lists apart that were so
+  same_asked : (stage : RecoverStage) (m k : List Visit) (a b : ℕ) → is_question (recover_asks stage) ≡ true
+      → visits_taken stage m a ≡ visits_taken stage k b → m ≡ k
+  same_asked recovers.LoadsCounter m k a b due e = absurd (cc)
+  same_asked (recovers.LoadsCell index) m k a b due e = absurd (cc)
+  same_asked (recovers.Asks index owner) m k a b due e = same_before m k (visit index owner HasAsked) e
+  same_asked (recovers.EmptiesCell index owner) m k a b due e = absurd (cc)
+  same_asked (recovers.Raises index raise) m k a b due e = no_answer (first_recover 0) mode (is_question (raise_want raise)) (raise_asks_none raise) due
+  same_asked (recovers.Locks index lock) m k a b due e = no_answer (first_recover 0) mode (is_question (lock_want lock)) (lock_asks_none lock) due
+  same_asked recovers.LoadsCounterAgain m k a b due e = absurd (cc)
+
+  pub recover_call : IsAskingOf code kinds.Robust robust_effects cells_and_counter recover_want after visits_after (recovers_owned mode)
   recover_call =
       record {
-        steps =
+        asking =
             record {
-              same_want = λ c m. refl;
-              same_after = λ capacity c m n h. as_recovered (after c n);
-              hears = λ c m a n e. (ap (after c) (recover_found c.stage a n e), refl);
-              stays = λ capacity c d n h e. stands_so capacity c d n h e;
-              asks = λ capacity c h still. recover_words capacity mode c.stage h.1 still;
-              past = λ capacity c d n k h e. refl;
-              finds = λ c m n small t. tt;
-              leaves = λ c a n t e. absurd (cc);
-              tells = λ capacity p from c d m n es h wrote e new. (goes_so capacity p c n es (GoOn d) h (wrote new) e).1;
-              tells_all = λ capacity p from c end m n es h skip wrote e new. goes_so capacity p c n es (Done end) h (wrote new) e;
+              steps =
+                  record {
+                    same_want = λ c m. refl;
+                    same_after = λ capacity c m n h. as_recovered (visits_after c m n) (after c n);
+                    hears = λ c m a n e. (ap (after c) (recover_found c.stage a n e), ap (visits_after c m) (recover_found c.stage a n e));
+                    stays = λ capacity c d n h e. stands_so capacity c d n h e;
+                    asks = λ capacity c h still. recover_words capacity mode c.stage h.1 still;
+                    past = λ capacity c d n k h e. refl;
+                    finds = λ c m n small t. tt;
+                    leaves = λ c a n t e. absurd (cc);
+                    tells = λ capacity p from c d m n es h wrote e new. (
+                        let so = goes_so capacity p c n es m (GoOn d) h (wrote new).0 (wrote new).1 e in (so.1, so.2));
+                    tells_all = λ capacity p from c end m n es h skip wrote e still new. goes_so capacity p c n es m (Done end) h (wrote new).0 (wrote new).1 e;
+                  };
+              never = λ c n. refl;
+              same_call = same_recovery;
+              same_room = λ capacity p from c m k a b es due e keeps wrote.
+                  subst (λ (z : List Visit). (recovers_owned mode).wrote capacity p from c z es) (same_asked c.stage m k a b due keeps) wrote;
+              first = λ n c m e. ap (λ (z : Recovering). is_question (recover_want z)) (sym (ap (λ (o : Option (Flight T)). begun_recovery c o) e));
+              one = λ c d n due e. subst AnswersOn e (answers_on c mode c.stage n due);
             };
-        never = λ c n. refl;
-        same_call = same_recovery;
-        first = λ n c m e. ap (λ (z : Recovering). is_question (recover_want z)) (sym (ap (λ (o : Option (Flight T)). begun_recovery c o) e));
-        one = λ c d n due e. subst AnswersOn e (answers_on c mode c.stage n due);
         lasts = λ c end n due e. subst AnswersOn e (answers_on c mode c.stage n due);
       }
 
+  abbrev At : View T → View T → Recovering → List Visit → Type 0
+  At = AtAsked code kinds.Robust after visits_after (recovers_owned mode)
+
+  abbrev Ended : View T → ReleaseState → List Visit → View T → Type 0
+  Ended = Ends code kinds.Robust (recovers_owned mode)
+
   -- each step of a recovery keeps the rule of the table; at a question the machine is handed the answer with the step after it
-  pub recover_keeps : KeepsRule (λ (z : View T). z.capacity) (AtAsked code kinds.Robust after kept (recovers_owned mode))
-      (Ends code kinds.Robust (recovers_owned mode)) (λ key. cells_and_counter key + 1) (λ key. key)
-      (λ key. IsMachine code kinds.Robust key) recover_want after kept
-  recover_keeps = keeps_asked code kinds.Robust tt robust_effects cells_and_counter (robusts_owe code) recover_want after kept
-      (recovers_owned mode) recover_call
+  pub recover_keeps : KeepsRule (λ (z : View T). z.capacity) At Ended (λ key. cells_and_counter key + 1) (λ key. key)
+      (λ key. IsMachine code kinds.Robust key) recover_want after visits_after
+  recover_keeps = keeps_asked code kinds.Robust tt (λ w. robust_effects) robust_effects cells_and_counter
+      (all_kept_laws code kinds.Robust robust_effects cells_and_counter (robusts_owe code)) recover_want after visits_after (recovers_owned mode)
+      (acts_alone code kinds.Robust robust_effects cells_and_counter (robusts_owe code) (recovers_owned mode)) recover_call
 
   -- a recovery that has asked goes on from the answer
-  pub recover_hears : (base v : View T) (c d : Recovering) (m : Unit {0}) (said : Bool) → is_question (recover_want c) ≡ true
-      → after c (number_of said) ≡ GoOn d
-      → AtAsked code kinds.Robust after kept (recovers_owned mode) base v c m → AtAsked code kinds.Robust after kept (recovers_owned mode) base v d m
-  recover_hears = hears_answer code kinds.Robust tt robust_effects cells_and_counter (robusts_owe code) recover_want after kept
-      (recovers_owned mode) recover_call
+  pub recover_hears : (base v : View T) (c d : Recovering) (m : List Visit) (said : Bool) → is_question (recover_want c) ≡ true
+      → after c (number_of said) ≡ GoOn d → At base v c m → At base v d (visits_after c m (number_of said))
+  recover_hears = hears_answer code kinds.Robust tt (λ w. robust_effects) robust_effects cells_and_counter
+      (all_kept_laws code kinds.Robust robust_effects cells_and_counter (robusts_owe code)) recover_want after visits_after (recovers_owned mode)
+      (acts_alone code kinds.Robust robust_effects cells_and_counter (robusts_owe code) (recovers_owned mode)) recover_call
 
-  pub recover_first : (v : View T) (m : Unit {0}) → v.going ≡ None → v.other ≡ [] → 0 < v.share.part
-      → AtAsked code kinds.Robust after kept (recovers_owned mode) v v (first_recover v.capacity) m
-  recover_first v m idle alone any =
+  pub recover_first : (v : View T) → v.going ≡ None → v.other ≡ [] → 0 < v.share.part → At v v (first_recover v.capacity) []
+  recover_first v idle alone any =
       inl (inl (record {
         is = refl;
         idle = idle;
@@ -275,6 +343,112 @@ module _ {T : Type 0} (code : Coding T) (mode : ReleaseMode) where
         standing = (refl, tt);
         some = any;
         first = refl;
-        starts = robust_starts code v (recovers_owned mode) (Recover mode) (first_recover v.capacity) m refl (λ o p h. h) (λ kept. refl) (λ dead none. refl);
-        wrote = λ p new. refl;
+        starts = robust_starts code v (recovers_owned mode) (Recover mode) (first_recover v.capacity) [] refl (λ o p h. h) (λ kept. refl) (λ dead none. refl);
+        wrote = λ p new. (refl, refl);
       }))
+
+  -- ---- the view tells which visits they are
+
+  -- what it made since it began
+  made_there : (base v : View T) (c : Recovering) (m : List Visit) → base.going ≡ None
+      → (under : IsUnderWay code kinds.Robust (recovers_owned mode) base v c m)
+      → v.made ≡ base.made ++ Begun under.party (Robust (Recover mode)) ∷ (wrote_by under.party m ++ wrote_now under.party c.stage)
+  made_there base v c m idle under =
+      let p = under.party in
+      under.since.made
+      ∙ (ap (λ (o : Option (Start T × Flight T)). base.made ++ (opened p (Robust (Recover mode)) o ++ (under.wrote ++ []))) idle
+      ∙ ap (λ zs. base.made ++ Begun p (Robust (Recover mode)) ∷ zs) (append-nil under.wrote ∙ (under.tells idle).1))
+
+  under_same : (base other v : View T) (c : Recovering) (m k : List Visit) → base.going ≡ None → other.going ≡ None
+      → IsUnderWay code kinds.Robust (recovers_owned mode) base v c m → IsUnderWay code kinds.Robust (recovers_owned mode) other v c k → m ≡ k
+  under_same base other v c m k idle too a b =
+      let both : ◌≡◌ {A = Option ℕ} (Some a.party) (Some b.party) = sym a.mine ∙ b.mine in
+      let by : a.party ≡ b.party = cc in
+      same_visits a.party b.party base.capacity other.capacity mode (Robust (Recover mode)) c.stage v.made base.made other.made m k by
+      (a.tells idle).0 (b.tells too).0 (sym a.capacity ∙ b.capacity) (made_there base v c m idle a) (made_there other v c k too b)
+
+  none_first : (base v : View T) (c : Recovering) (m : List Visit) → IsFirst code kinds.Robust (recovers_owned mode) base v c m → m ≡ []
+  none_first base v c m first =
+      let is : first_recover base.capacity ≡ c = ap (λ (o : Option (Flight T)). begun_recovery c o) first.first in
+      subst (λ (z : Recovering). VisitsAt base.capacity mode z.stage m) (sym is) (first.wrote 0 refl).0
+
+  -- it does not stand at a question that it has the answer to
+  not_both : {A : Type 0} (c asking : Recovering) (n : ℕ) → c ≡ asking → is_question (recover_want asking) ≡ true → after asking n ≡ GoOn c → A
+  not_both c asking n same due e =
+      let still : is_question (recover_want c) ≡ false = subst AnswersOn e (answers_on asking mode asking.stage n due) in
+      let asks : is_question (recover_want c) ≡ true = ap (λ (z : Recovering). is_question (recover_want z)) same ∙ due in
+      let no : true ≡ false = sym asks ∙ still in absurd (cc)
+
+  asked_alike : (stage : RecoverStage) (m : List Visit) (a b : ℕ) → is_question (recover_asks stage) ≡ true → visits_taken stage m a ≡ visits_taken stage m b
+  asked_alike recovers.LoadsCounter m a b due = absurd (cc)
+  asked_alike (recovers.LoadsCell index) m a b due = absurd (cc)
+  asked_alike (recovers.Asks index owner) m a b due = refl
+  asked_alike (recovers.EmptiesCell index owner) m a b due = absurd (cc)
+  asked_alike (recovers.Raises index raise) m a b due = no_answer (first_recover 0) mode (is_question (raise_want raise)) (raise_asks_none raise) due
+  asked_alike (recovers.Locks index lock) m a b due = no_answer (first_recover 0) mode (is_question (lock_want lock)) (lock_asks_none lock) due
+  asked_alike recovers.LoadsCounterAgain m a b due = absurd (cc)
+
+  -- no call is under way in a view in which one is
+  clash : {A : Type 0} (base v : View T) (flight : Flight T) → v ≡ base → base.going ≡ None → v.going ≡ Some (Robust (Recover mode), flight) → A
+  clash base v flight is idle has =
+      let no : ◌≡◌ {A = Option (Start T × Flight T)} None (Some (Robust (Recover mode), flight)) = sym idle ∙ (ap (λ (z : View T). z.going) (sym is) ∙ has) in
+      absurd (cc)
+
+  going_same : (v : View T) (c d : Recovering) (m k : List Visit) → v.going ≡ Some (Robust (Recover mode), (recovers_owned mode).flight c m)
+      → v.going ≡ Some (Robust (Recover mode), (recovers_owned mode).flight d k) → c ≡ d
+  going_same v c d m k a b =
+      let both : ◌≡◌ {A = Option (Start T × Flight T)} (Some (Robust (Recover mode), (recovers_owned mode).flight c m))
+      (Some (Robust (Recover mode), (recovers_owned mode).flight d k)) = sym a ∙ b in
+      let pair : ◌≡◌ {A = Start T × Flight T} (Robust (Recover mode), (recovers_owned mode).flight c m)
+      (Robust (Recover mode), (recovers_owned mode).flight d k) = cc in
+      same_recovery c d m k (ap (λ (z : Start T × Flight T). z.1) pair)
+
+  same_there : (base other v : View T) (c : Recovering) (m k : List Visit) → base.going ≡ None → other.going ≡ None → At base v c m → At other v c k
+      → m ≡ k
+  same_there base other v c m k idle too (inl (inl a)) (inl (inl b)) = none_first base v c m a ∙ sym (none_first other v c k b)
+  same_there base other v c m k idle too (inl (inl a)) (inl (inr b)) = clash base v _ a.is idle b.going
+  same_there base other v c m k idle too (inl (inl a)) (inr b) = clash base v _ a.is idle b.before.going
+  same_there base other v c m k idle too (inl (inr a)) (inl (inl b)) = clash other v _ b.is too a.going
+  same_there base other v c m k idle too (inl (inr a)) (inl (inr b)) = under_same base other v c m k idle too a b
+  same_there base other v c m k idle too (inl (inr a)) (inr b) =
+      not_both c b.asking (number_of b.said) (going_same v c b.asking m b.room a.going b.before.going) b.asks b.goes
+  same_there base other v c m k idle too (inr a) (inl (inl b)) = clash other v _ b.is too a.before.going
+  same_there base other v c m k idle too (inr a) (inl (inr b)) =
+      not_both c a.asking (number_of a.said) (going_same v c a.asking k a.room b.going a.before.going) a.asks a.goes
+  same_there base other v c m k idle too (inr a) (inr b) =
+      let same = going_same v b.asking a.asking b.room a.room b.before.going a.before.going in
+      let rooms = under_same base other v a.asking a.room b.room idle too a.before
+      (subst (λ (z : Recovering). IsUnderWay code kinds.Robust (recovers_owned mode) other v z b.room) same b.before) in
+      a.keeps
+      ∙ (asked_alike a.asking.stage a.room (number_of a.said) (number_of b.said) a.asks
+      ∙ (ap (λ vs. visits_after a.asking vs (number_of b.said)) rooms
+      ∙ (ap (λ (z : Recovering). visits_after z b.room (number_of b.said)) (sym same) ∙ sym b.keeps)))
+
+  -- what a step tells, whatever the view and the visits with which it began
+  abbrev pub Tells : Recovering → View T → ℕ → View T → Type 0
+  Tells c v n w =
+      (w.capacity ≡ v.capacity)
+      × ((base : View T) (visits : List Visit) → base.going ≡ None → At base v c visits
+      → NextKnown (λ (z : View T). z.capacity) At Ended base (after c n) (visits_after c visits n) w)
+
+  abbrev ToldSo : Recovering → List Visit → View T → ℕ → View T → Type 0
+  ToldSo c m = ToldOf (λ (z : View T). z.capacity) At Ended after visits_after c m
+
+  pub recover_tells : (base v : View T) (c : Recovering) (m : List Visit) (key words slots id : ℕ) → words ≡ cells_and_counter key + 1
+      → v.capacity ≡ key → base.going ≡ None → At base v c m → Owes (IsMachine code kinds.Robust key) words slots id (Tells c) (recover_want c) (v, [])
+  recover_tells base v c m key words slots id wide known idle at = go (recover_want c) (recover_keeps base v c m key words slots id wide known at)
+    where
+      all : (n : ℕ) (w : View T) → ToldSo c m v n w → Tells c v n w
+      all n w h = (
+        h.0,
+        λ other visits too there. (
+            let same = same_there base other v c m visits idle too at there in
+            subst (λ vs. NextKnown (λ (z : View T). z.capacity) At Ended other (after c n) (visits_after c vs n) w) same
+            (h.1 other (subst (At other v c) (sym same) there))),
+      )
+
+      go : (w : Want (Unit {0})) → Owes (IsMachine code kinds.Robust key) words slots id (ToldSo c m) w (v, [])
+          → Owes (IsMachine code kinds.Robust key) words slots id (Tells c) w (v, [])
+      go (wants.Ask a) h = (h.0, λ s r long there small. (let x = h.1 s r long there small in (x.0, x.1, x.2, x.3, (all _ x.0 x.4.0, x.4.1))))
+      go (wants.Question q) h = all 0 v h
+      go wants.Nothing h = all 0 v h

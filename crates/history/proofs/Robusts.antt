@@ -35,8 +35,9 @@ use Rattle.history.specs.declared.view.View.{View}
 use Rattle.history.specs.History.{IsRun, call_in}
 use Rattle.history.specs.Known.{owned}
 use Rattle.history.specs.Stages.{Starts, Calling}
-use Rattle.history.proofs.Calls.{stands}
+use Rattle.history.proofs.Calls.{stands, IsStateless}
 use Rattle.history.proofs.Known.{AreOf}
+use Rattle.history.proofs.Starting.{starts_by_last}
 use Rattle.history.proofs.Turns.{CallGoesOn, KindLaws}
 
 module _ {T : Type 0} where
@@ -124,7 +125,12 @@ module _ {T : Type 0} (code : Coding T) (capacity : ℕ) where
       }
 
   pub robusts_owe : KindLaws code kinds.Robust capacity (cells_and_counter capacity) robust_effects
-  robusts_owe = record { size = robust_size; goes_on = goes_on; alone = λ going late h. h }
+  robusts_owe = record {
+    size = robust_size;
+    goes_on = goes_on;
+    alone = λ going late h. h;
+    stateless = λ t r. (let s = robust_sound t r in subst IsStateless (sym (kept_is t.world.kept t.world.words s.state s.fit).0) tt);
+  }
 
 -- ---- which party may begin a call
 
@@ -150,7 +156,8 @@ module _ {T : Type 0} (code : Coding T) (base : View T) where
     pub robust_starts : (t : Trace T) (owner : ℕ → ℕ) (j : ℕ) → IsOn t → owner j ≡ j → IfSome base.party (λ p. owner p ≡ j)
         → ((f : Event T → ℕ) → sum_by f base.made ≡ sum_by (owned owner j f) t.events)
         → Starts code kinds.Robust call base c m t owner j
-    robust_starts t owner j run self party sums = go base.party refl party
+    robust_starts t owner j run self party sums =
+        starts_by_last code kinds.Robust call base c m t owner j by_last self party first_here may
       where
         kept : (dead : List ℕ) × (t.world.kept ≡ kepts.TheVariants.Owners dead) × ((owner : ℕ) → has_died owner dead ≡ false)
         kept = kept_there t run
@@ -163,15 +170,3 @@ module _ {T : Type 0} (code : Coding T) (base : View T) where
 
         first_here : first_of kinds.Robust base.capacity call.start t.world.kept ≡ Some (call.flight c m)
         first_here = rw named (first_is t.world.kept)
-
-        go : (o : Option ℕ) → base.party ≡ o → IfSome o (λ p. owner p ≡ j) → Starts code kinds.Robust call base c m t owner j
-        go None e h = record {
-          party = j;
-          mine = self;
-          by = by_last base.party j
-              (subst (λ (z : Option ℕ). IfSome z (λ q. q ≡ j)) (sym e) tt);
-          first = first_here;
-          may = may j;
-        }
-        go (Some p) e h = record
-            { party = p; mine = h; by = by_last base.party p (subst (λ (z : Option ℕ). IfSome z (λ q. q ≡ p)) (sym e) refl); first = first_here; may = may p }

@@ -38,10 +38,12 @@ use Rattle.bit_laws.proofs.Bits.Justified.{laws as bits_laws}
 use Rattle.history.specs.History.{IsRun, IsMachine, IsReachedAs, call_in, IsLate}
 use Rattle.history.specs.declared.view.View.{View}
 use Rattle.history.specs.Known.{owned}
-use Rattle.history.specs.Stages.{Calling, Starts}
+use Rattle.history.specs.Stages.{Calling, Starts, rows_as}
 use Rattle.history.specs.Views.{first_view}
 use Rattle.history.proofs.Known.{AreOf}
-use Rattle.history.proofs.Calls.{stands}
+use Rattle.history.proofs.Calls.{stands, IsStateless}
+use Rattle.history.proofs.Reached.{rows_free}
+use Rattle.history.proofs.Starting.{starts_by_last}
 use Rattle.history.proofs.Turns.{CallGoesOn, KindLaws}
 use Rattle.history.proofs.Passes.{opens, one_more}
 
@@ -78,7 +80,7 @@ module _ {T : Type 0} where
   effect_own p (events.TheVariants.Acted q start answer) h = absurd h
   effect_own p (events.TheVariants.Finished q start answer) h = absurd h
 
-  effects_own : (p : ℕ) (es : List (Event T)) → AllByRecursion (IsEffectOf (Next p)) es → AreOf p es
+  pub effects_own : (p : ℕ) (es : List (Event T)) → AllByRecursion (IsEffectOf (Next p)) es → AreOf p es
   effects_own p [] h = tt
   effects_own p (e ∷ es) h = (effect_own p e h.0, effects_own p es h.1)
 
@@ -138,13 +140,14 @@ module _ {T : Type 0} (K : SetKind T) (laws : (code : Coding T) (c : ℕ) → Se
       }
 
   pub sets_owe : ((going : Option (Start T × Flight T)) (late : List (Event T)) → IsLate K.kind going late → late ≡ []) → KindLaws code K.kind capacity words set_effects
-  sets_owe alone = record { size = size; goes_on = goes_on; alone = alone }
+  sets_owe alone = record { size = size; goes_on = goes_on; alone = alone; stateless = λ t r. subst IsStateless (sym (sound t r).fit.0) tt }
 
   -- a call that may begin on a new set may begin at any time, as the party that the pass was last
   pub set_starts : {C M E : Type 0} → (call : Calling T C M E) (base : View T) (c : C) (m : M) → base.capacity ≡ capacity → ((o : Option ℕ) (p : ℕ) → IfSome o (λ q. q ≡ p) → call.by o p)
       → first_of K.kind capacity call.start ((opening_of K.kind).kept capacity) ≡ Some (call.flight c m) → ((p : ℕ) → first_row (begin_rows K.kind capacity ((opening_of K.kind).kept capacity) p call.start) ≡ None)
       → (t : Trace T) (owner : ℕ → ℕ) (j : ℕ) → IsRun code K.kind base.capacity t → owner j ≡ j → IfSome base.party (λ p. owner p ≡ j) → ((f : Event T → ℕ) → sum_by f base.made ≡ sum_by (owned owner j f) t.events) → Starts code K.kind call base c m t owner j
-  set_starts {C} {M} {E} call base c m size by first may t owner j run self party sums = go base.party refl party
+  set_starts {C} {M} {E} call base c m size by first may t owner j run self party sums =
+      starts_by_last code K.kind call base c m t owner j by self party first_here may_here
     where
       kept : t.world.kept ≡ (opening_of K.kind).kept capacity
       kept = bare t (subst (λ n. IsRun code K.kind n t) size run)
@@ -152,12 +155,8 @@ module _ {T : Type 0} (K : SetKind T) (laws : (code : Coding T) (c : ℕ) → Se
       first_here : first_of K.kind base.capacity call.start t.world.kept ≡ Some (call.flight c m)
       first_here = subst (λ n. first_of K.kind n call.start t.world.kept ≡ Some (call.flight c m)) (sym size) (subst (λ k. first_of K.kind capacity call.start k ≡ Some (call.flight c m)) (sym kept) first)
 
-      may_here : (p : ℕ) → first_row (begin_rows K.kind base.capacity t.world.kept p call.start) ≡ None
-      may_here p = subst (λ n. first_row (begin_rows K.kind n t.world.kept p call.start) ≡ None) (sym size) (subst (λ k. first_row (begin_rows K.kind capacity k p call.start) ≡ None) (sym kept) (may p))
-
-      go : (o : Option ℕ) → base.party ≡ o → IfSome o (λ p. owner p ≡ j) → Starts code K.kind call base c m t owner j
-      go None e h = record { party = j; mine = self; by = by base.party j (subst (λ (z : Option ℕ). IfSome z (λ q. q ≡ j)) (sym e) tt); first = first_here; may = may_here j }
-      go (Some p) e h = record { party = p; mine = h; by = by base.party p (subst (λ (z : Option ℕ). IfSome z (λ q. q ≡ p)) (sym e) refl); first = first_here; may = may_here p }
+      may_here : (p : ℕ) → first_row (rows_as K.kind base.capacity t.world.kept p call.start) ≡ None
+      may_here p = rows_free K.kind base.capacity t.world.kept p call.start (subst (λ n. first_row (begin_rows K.kind n t.world.kept p call.start) ≡ None) (sym size) (subst (λ k. first_row (begin_rows K.kind capacity k p call.start) ≡ None) (sym kept) (may p)))
 
 module _ {T : Type 0} (code : Coding T) (capacity : ℕ) where
   pub counts_owe : KindLaws code kinds.TheVariants.Counts capacity capacity set_effects

@@ -8,6 +8,7 @@ use Rattle.atomic_table.proofs.Lists.{at_set}
 use Rattle.model.specs.declared.event.Event.{Event}
 use Rattle.model.specs.declared.turn.Kind.{Kind}
 use Rattle.model.specs.Coding.{Coding}
+use Rattle.model.specs.Families.Container.Looks.{state_in}
 use Rattle.model.specs.World.{Trace}
 use Rattle.history.specs.declared.view.View.{View}
 use Rattle.history.specs.History.{IsBeginning, IsMachine, Fits, call_in}
@@ -19,7 +20,7 @@ module _ {T : Type 0} (code : Coding T) (kind : Kind) (capacity id p : ℕ) wher
   -- what the seat knows afterwards, as this party
   abbrev pub view_after : View T → List (Event T) → Trace T → View T
   view_after v gained u =
-      record { capacity = v.capacity; party = Some p; share = v.share; seen = u.events; other = []; made = v.made ++ gained; going = call_in u.world p }
+      record { capacity = v.capacity; party = Some p; share = v.share; seen = u.events; other = []; made = v.made ++ gained; going = call_in u.world p; state = state_in u.world.kept p }
 
   pub whole : (u : Trace T) → IsBeginning u.events u.events
   whole u = record { rest = []; is = sym (append-nil u.events) }
@@ -66,6 +67,7 @@ module _ {T : Type 0} (code : Coding T) (kind : Kind) (capacity id p : ℕ) wher
             self = λ any. b.self;
             going = λ q of_id is. (let same : p ≡ q = cc in ap (call_in u.world) (sym same));
             idle = λ q of_id ne. b.idle q of_id (λ e. ne (ap Some (sym e)));
+            stated = λ q of_id is. (let same : p ≡ q = cc in ap (state_in u.world.kept) (sym same));
             party = b.mine;
             late = [];
             waits = none_late u.world.kind (call_in u.world p);

@@ -1,5 +1,5 @@
 -- What a begin and a step of a reached machine leave, where a table stands at its words.
-use Rattle.std.proofs.Common.{Bool, ◌≡◌, ◌≢◌, inl, inr, ℕ, ◌+◌, ◌<◌, ◌≤◌, ⊎_elim, Option, Some, None, IfSome, List, [], ◌∷◌, ◌++◌, length, slice_index, slice_set, refl, sym, ap, subst, ◌∙◌, append_assoc, append-nil, arith, sum_by}
+use Rattle.std.proofs.Common.{Bool, false, ◌≡◌, ◌≢◌, inl, inr, ℕ, ◌+◌, ◌<◌, ◌≤◌, ⊎_elim, Option, Some, None, IfSome, List, [], ◌∷◌, ◌++◌, length, slice_index, slice_set, refl, sym, ap, subst, ◌∙◌, append_assoc, append-nil, arith, sum_by}
 use Rattle.std.proofs.lemmas.Bool.{cases_eq}
 use Rattle.std.proofs.lemmas.List.Sums.{sum_by-append}
 use mathlib.Core.Option.{some}
@@ -8,7 +8,6 @@ use Rattle.atomic_table.specs.Table.{State}
 use Rattle.steps.specs.Ask.{written}
 use Rattle.steps.specs.declared.ask.Ask.{Ask}
 use Rattle.steps.specs.declared.ask.After.{After}
-use Rattle.steps.specs.declared.ask.After.TheVariants.{GoOn}
 use Rattle.steps.specs.declared.ask.Want.{Want}
 use Rattle.steps.specs.declared.ask.Want.TheVariants as wants
 use Rattle.model.specs.declared.event.Answer.{Answer}
@@ -21,7 +20,9 @@ use Rattle.model.specs.declared.turn.Kind.{Kind}
 use Rattle.model.specs.declared.turn.Turn.{Turn}
 use Rattle.model.specs.declared.turn.Turn.TheVariants.{Begin, Next, Decide}
 use Rattle.model.specs.Coding.{Coding}
-use Rattle.model.specs.Families.{first_of, begin_rows, going_rows, want_of, after_of, ask_of}
+use Rattle.model.specs.Families.{first_of, kept_after_begin, going_rows, want_of, after_of, goes_of, ask_of}
+use Rattle.model.specs.Families.Container.Keeping.{is_look_of}
+use Rattle.model.specs.Families.Container.Looks.{state_in}
 use Rattle.model.specs.Parties.{party_of}
 use Rattle.model.specs.Promises.Turns.{ask_in}
 use Rattle.model.specs.Refusals.{call_refusal}
@@ -38,9 +39,10 @@ use Rattle.lock_free_sp.specs.Shares.{Shares, IsAll}
 use Rattle.history.specs.declared.view.View.{View}
 use Rattle.history.specs.Known.{events_by, by_party, owned, of_none}
 use Rattle.history.specs.History.{IsBeginning, IsRun, IsMachine, Fits, HasSeenOf, call_in, IsLate}
+use Rattle.history.specs.Stages.{rows_as}
 use Rattle.history.proofs.Known.{by_more, by_same, by_other, by_mine, by_twice, by_apart, owned_none, owned_one, owned_whole, late_none, none_late, late_more, AreOf, sum_first}
 use Rattle.history.proofs.Reached.{refusal_as, begin_as, next_as, reached_as_more, fresh_as_more}
-use Rattle.history.proofs.Calls.{stands, flight_is, no_flight, next_other, begin_other, decision_other, begin_own, call_then, moved, heard_going, heard_events, get_left, set_left, Moved}
+use Rattle.history.proofs.Calls.{IsStateless, goes_alike, stateless_none, look_begin, look_next, stands, flight_is, no_flight, next_other, begin_other, decision_other, begin_own, begin_kept, next_kept, call_then, moved, heard_going, heard_events, get_left, set_left, Moved}
 
 -- what is wanted, where it is a word or nothing
 abbrev pub want_for : Option Ask → Want (Unit {0})
@@ -76,7 +78,8 @@ module _ {T : Type 0} where
 
   -- a turn of another party keeps what a seat knows: where it writes for the seat's call, the seat has still to see it
   module _ (kind : Kind) (owner : ℕ → ℕ) (u w : Trace T) (es : List (Event T)) (j : ℕ) (v : View T) (f : Fits owner u j v) (same : u.world.kind ≡ kind) (same' : w.world.kind ≡ kind) (more : w.events ≡ u.events ++ es)
-      (beside : (q : ℕ) → owner q ≡ j → IsLate kind (call_in u.world q) (events_by q es)) (apart : (q : ℕ) → owner q ≡ j → call_in w.world q ≡ call_in u.world q) where
+      (beside : (q : ℕ) → owner q ≡ j → IsLate kind (call_in u.world q) (events_by q es)) (apart : (q : ℕ) → owner q ≡ j → call_in w.world q ≡ call_in u.world q)
+      (held : (q : ℕ) → owner q ≡ j → state_in w.world.kept q ≡ state_in u.world.kept q) where
     -- a party with no call under way has nothing written for it
     quiet : (q : ℕ) → owner q ≡ j → call_in u.world q ≡ None → events_by q es ≡ []
     quiet q of_j none = late_none kind (events_by q es) (subst (λ o. IsLate kind o (events_by q es)) none (beside q of_j))
@@ -121,6 +124,7 @@ module _ {T : Type 0} where
           self = f.self;
           going = λ q of_j is. apart q of_j ∙ f.going q of_j is;
           idle = λ q of_j ne. apart q of_j ∙ f.idle q of_j ne;
+          stated = λ q of_j is. held q of_j ∙ f.stated q of_j is;
           party = f.party;
           late = f.late ++ by_party v.party es;
           waits = subst (λ k. IsLate k v.going (f.late ++ by_party v.party es)) (sym same') (waits_on v.party refl);
@@ -138,17 +142,42 @@ module _ {T : Type 0} where
   -- ---- what a kind owes
 
   module _ (code : Coding T) (kind : Kind) (capacity words : ℕ) (effects : World T → ℕ → Flight T → ℕ → List (Event T)) where
-    -- of each of its calls under way: what a step writes, for another only what may be late there
+    -- of each of its calls under way: what a step writes, for another only what may be late there, and where it leads
     pub record StepsOn (t : Trace T) (p : ℕ) (flight : Flight T) : Type 0 where
       pub may : first_row (going_rows t.world.coding t.world.kept (Some flight) None) ≡ None
       pub writes : (x : Party T) (n : ℕ) → party_of p t.world.latest ≡ Some x → (step_in t.world p x flight n).wrote ≡ effects t.world p flight n
       pub someone : (n : ℕ) → sum_by (λ e. of_none (whose e)) (effects t.world p flight n) ≡ 0
       pub beside : (n q : ℕ) → q ≢ p → IsLate kind (call_in t.world q) (events_by q (effects t.world p flight n))
-      pub goes : (x : Party T) (n : ℕ) → party_of p t.world.latest ≡ Some x → (step_in t.world p x flight n).after ≡ after_of t.world.coding flight n
+      pub goes : (x : Party T) (n : ℕ) → party_of p t.world.latest ≡ Some x → (step_in t.world p x flight n).after ≡ goes_of t.world.coding p flight n t.world.kept
 
+    -- of a kind whose calls may go on by what is kept
+    pub record KeptLaws : Type 0 where
+      pub size : (t : Trace T) → IsRun code kind capacity t → length t.world.words ≡ words
+      pub steps_on : (t : Trace T) → IsRun code kind capacity t → (p : ℕ) (start : Start T) (flight : Flight T) → call_in t.world p ≡ Some (start, flight) → StepsOn t p flight
+      -- a turn that is no look of a party leaves its state
+      pub states : (t : Trace T) (turn : Turn T) → IsRun code kind capacity t → IsRun code kind capacity (after_turn t turn)
+          → refusal_as kind t.world turn ≡ None → (q : ℕ) → is_look_of t.world q turn ≡ false
+          → state_in (after_turn t turn).world.kept q ≡ state_in t.world.kept q
+
+    -- of one whose calls do not
     pub record MachineLaws : Type 0 where
       pub size : (t : Trace T) → IsRun code kind capacity t → length t.world.words ≡ words
       pub steps_on : (t : Trace T) → IsRun code kind capacity t → (p : ℕ) (start : Start T) (flight : Flight T) → call_in t.world p ≡ Some (start, flight) → StepsOn t p flight
+      pub stateless : (t : Trace T) → IsRun code kind capacity t → IsStateless t.world.kept
+
+    pub kept_laws : MachineLaws → KeptLaws
+    kept_laws laws =
+        record {
+          size = laws.size;
+          steps_on = laws.steps_on;
+          states = λ t turn run next free q none.
+              stateless_none (after_turn t turn).world.kept q (laws.stateless (after_turn t turn) next)
+              ∙ sym (stateless_none t.world.kept q (laws.stateless t run));
+        }
+
+    pub goes_on_alike : MachineLaws → (t : Trace T) → IsRun code kind capacity t → (p : ℕ) (flight : Flight T) (n : ℕ)
+        → goes_of code p flight n t.world.kept ≡ after_of code flight n
+    goes_on_alike laws t run p flight n = goes_alike code p flight n t.world.kept (laws.stateless t run)
 
   -- what a kind owes whose parties write for themselves alone
   module _ (code : Coding T) (kind : Kind) (capacity words : ℕ) (effects : ℕ → Flight T → ℕ → List (Event T)) where
@@ -162,6 +191,7 @@ module _ {T : Type 0} where
       pub size : (t : Trace T) → IsRun code kind capacity t → length t.world.words ≡ words
       pub goes_on : (t : Trace T) → IsRun code kind capacity t → (p : ℕ) (start : Start T) (flight : Flight T) → call_in t.world p ≡ Some (start, flight) → CallGoesOn t p flight
       pub alone : (going : Option (Start T × Flight T)) (late : List (Event T)) → IsLate kind going late → late ≡ []
+      pub stateless : (t : Trace T) → IsRun code kind capacity t → IsStateless t.world.kept
 
     own_beside : (w : World T) (p q : ℕ) (es : List (Event T)) → q ≢ p → AreOf p es → IsLate kind (call_in w q) (events_by q es)
     own_beside w p q es ne own = subst (λ zs. IsLate kind (call_in w q) zs) (sym (by_other p q es ne own)) (none_late kind (call_in w q))
@@ -177,8 +207,9 @@ module _ {T : Type 0} where
                 writes = own.writes;
                 someone = λ n. all_someone p (effects p flight n) (own.own n);
                 beside = λ n q ne. own_beside t.world p q (effects p flight n) ne (own.own n);
-                goes = own.goes;
+                goes = λ x n found. own.goes x n found ∙ sym (goes_alike t.world.coding p flight n t.world.kept (laws.stateless t run));
               });
+          stateless = laws.stateless;
         }
 
   module _ (code : Coding T) (kind : Kind) (capacity : ℕ) where
@@ -241,7 +272,7 @@ module _ {T : Type 0} where
           fresh = fresh_as_more kind t turn e fresh r.fresh;
         }
 
-    module _ (words : ℕ) (effects : World T → ℕ → Flight T → ℕ → List (Event T)) (laws : MachineLaws code kind capacity words effects) (owner : ℕ → ℕ) (s : State (Unit {0}) (View T)) (id p : ℕ) (gained : List (Event T)) (u : Trace T) (b : Between owner s id p gained u) where
+    module _ (words : ℕ) (effects : World T → ℕ → Flight T → ℕ → List (Event T)) (laws : KeptLaws code kind capacity words effects) (owner : ℕ → ℕ) (s : State (Unit {0}) (View T)) (id p : ℕ) (gained : List (Event T)) (u : Trace T) (b : Between owner s id p gained u) where
       -- a party of another seat is another
       not_mine : (j q : ℕ) → j ≢ id → owner q ≡ j → q ≢ p
       not_mine j q ne own e = ne (sym own ∙ (ap owner e ∙ b.mine))
@@ -250,14 +281,16 @@ module _ {T : Type 0} where
       turned : (words' : List ℕ) (turn : Turn T) → refusal_as kind u.world turn ≡ None → IsFreshTurn u turn
           → words' ≡ (after_turn u turn).world.words ++ 0 ∷ [] → sum_by (λ e. of_none (whose e)) (events_of u.world turn) ≡ 0
           → ((q : ℕ) → q ≢ p → IsLate kind (call_in u.world q) (events_by q (events_of u.world turn)))
-          → ((j : ℕ) → j ≢ p → call_in (after_turn u turn).world j ≡ call_in u.world j) → Between owner (record { words = words'; homes = s.homes; views = s.views }) id p (gained ++ events_by p (events_of u.world turn)) (after_turn u turn)
-      turned words' turn free fresh_turn same someone beside apart =
+          → ((j : ℕ) → j ≢ p → call_in (after_turn u turn).world j ≡ call_in u.world j)
+          → ((q : ℕ) → q ≢ p → is_look_of u.world q turn ≡ false) → Between owner (record { words = words'; homes = s.homes; views = s.views }) id p (gained ++ events_by p (events_of u.world turn)) (after_turn u turn)
+      turned words' turn free fresh_turn same someone beside apart no_look =
           let es = events_of u.world turn in
           let run = run_more u turn free fresh_turn b.run in
           record {
             run = run;
             words = same;
-            others = λ j v ne at. still_fits kind owner u (after_turn u turn) es j v (b.others j v ne at) b.run.of_kind run.of_kind refl (λ q of_j. beside q (not_mine j q ne of_j)) (λ q of_j. apart q (not_mine j q ne of_j));
+            others = λ j v ne at. still_fits kind owner u (after_turn u turn) es j v (b.others j v ne at) b.run.of_kind run.of_kind refl (λ q of_j. beside q (not_mine j q ne of_j)) (λ q of_j. apart q (not_mine j q ne of_j))
+                (λ q of_j. laws.states u turn b.run run free q (no_look q (not_mine j q ne of_j)));
             mine = b.mine;
             self = b.self;
             idle = λ q of_id ne. apart q ne ∙ b.idle q of_id ne;
@@ -284,31 +317,34 @@ module _ {T : Type 0} where
 
       -- ---- a call begins
 
-      module _ (start : Start T) (flight : Flight T) (idle : call_in u.world p ≡ None) (first : first_of kind capacity start u.world.kept ≡ Some flight) (may : first_row (begin_rows kind capacity u.world.kept p start) ≡ None) where
+      module _ (start : Start T) (flight : Flight T) (idle : call_in u.world p ≡ None) (first : first_of kind capacity start u.world.kept ≡ Some flight) (may : first_row (rows_as kind capacity u.world.kept p start) ≡ None) where
         first_here : first_of u.world.kind u.world.capacity start u.world.kept ≡ Some flight
         first_here =
             ap (λ k. first_of k u.world.capacity start u.world.kept) b.run.of_kind
             ∙ (ap (λ n. first_of kind n start u.world.kept) b.run.sized ∙ first)
 
-        pub begins_free : call_refusal u.world (Begin p start) ≡ None
+        begins_free : refusal_as kind u.world (Begin p start) ≡ None
         begins_free =
-            let rows : first_row (begin_rows u.world.kind u.world.capacity u.world.kept p start) ≡ None =
-            ap (λ k. first_row (begin_rows k u.world.capacity u.world.kept p start)) b.run.of_kind
-            ∙ (ap (λ n. first_row (begin_rows kind n u.world.kept p start)) b.run.sized ∙ may)
-            in
-            rw (no_flight u.world p idle) rows
+            begin_as kind u.world p start b.run.of_kind (no_flight u.world p idle)
+            (subst (λ n. first_row (rows_as kind n u.world.kept p start) ≡ None) (sym b.run.sized) may)
 
         begins : Between owner s id p (gained ++ events_by p (Begun p start ∷ [])) (after_turn u (Begin p start))
-        begins = turned s.words (Begin p start) (begin_as kind u.world p start begins_free) tt
+        begins = turned s.words (Begin p start) begins_free tt
             (b.words ∙ ap (λ ws. ws ++ 0 ∷ []) (sym (writes_one_word u.world (Begin p start)))) refl
             (λ q ne. subst (λ zs. IsLate kind (call_in u.world q) zs) (sym (by_other p q (Begun p start ∷ []) ne (refl, tt)))
             (none_late kind (call_in u.world q))) (λ j ne. begin_other u.world p j start ne (first_of u.world.kind u.world.capacity start u.world.kept))
+            (λ q ne. look_begin u.world p q start ne)
 
         pub begun : Between owner s id p (gained ++ Begun p start ∷ []) (after_turn u (Begin p start))
         begun = subst (λ zs. Between owner s id p (gained ++ zs) (after_turn u (Begin p start))) (by_mine p (Begun p start ∷ []) (refl, tt)) begins
 
         pub begun_at : call_in (after_turn u (Begin p start)).world p ≡ Some (start, flight)
         begun_at = begin_own u.world p start flight (first_of u.world.kind u.world.capacity start u.world.kept) first_here
+
+        pub begun_kept : (after_turn u (Begin p start)).world.kept ≡ kept_after_begin code capacity start p u.world.kept
+        begun_kept =
+            begin_kept u.world p start flight (first_of u.world.kind u.world.capacity start u.world.kept) first_here
+            ∙ (ap (λ z. kept_after_begin z u.world.capacity start p u.world.kept) b.run.coded ∙ ap (λ n. kept_after_begin code n start p u.world.kept) b.run.sized)
 
       -- ---- it goes on, at a word or at none
 
@@ -357,35 +393,44 @@ module _ {T : Type 0} where
         its_step = moved u.world p start flight (effects u.world p flight) (stands u.world p start flight at) mine.goes mine.writes
 
         -- what it comes to, from the word that the table had
-        pub goes_to : call_in (after_turn u (Next p)).world p ≡ call_then start (after_of code flight found)
-        goes_to = its_step.going ∙ ap (call_then start) (ap (λ z. after_of z flight (old_of u.world.words (ask_of (want_of u.world.coding flight)))) b.run.coded ∙ ap (after_of code flight) found_old)
+        abbrev goes_then : ℕ → After (Flight T) (Answer T)
+        goes_then n = goes_of code p flight n u.world.kept
+
+        pub goes_to : call_in (after_turn u (Next p)).world p ≡ call_then start (goes_then found)
+        goes_to = its_step.going ∙ ap (call_then start) (ap (λ z. goes_of z p flight (old_of u.world.words (ask_of (want_of u.world.coding flight))) u.world.kept) b.run.coded ∙ ap goes_then found_old)
 
         abbrev pub tells : List (Event T)
-        tells = effects u.world p flight found ++ ending_of p start (answer_in (after_of code flight found))
+        tells = effects u.world p flight found ++ ending_of p start (answer_in (goes_then found))
 
         pub told : events_of u.world (Next p) ≡ tells
         told =
             its_step.events
-            ∙ (ap (λ z. effects u.world p flight (old_of u.world.words (ask_of (want_of u.world.coding flight))) ++ ending_of p start (answer_in (after_of z flight (old_of u.world.words (ask_of (want_of u.world.coding flight)))))) b.run.coded
-            ∙ ap (λ n. effects u.world p flight n ++ ending_of p start (answer_in (after_of code flight n))) found_old)
+            ∙ (ap (λ z. effects u.world p flight (old_of u.world.words (ask_of (want_of u.world.coding flight))) ++ ending_of p start (answer_in (goes_of z p flight (old_of u.world.words (ask_of (want_of u.world.coding flight))) u.world.kept))) b.run.coded
+            ∙ ap (λ n. effects u.world p flight n ++ ending_of p start (answer_in (goes_then n))) found_old)
 
-        ends_own : AreOf p (ending_of p start (answer_in (after_of code flight found)))
-        ends_own = ending_of_own p start (answer_in (after_of code flight found))
+        -- and what is kept then
+        pub kept_then : (after_turn u (Next p)).world.kept ≡ (step_in u.world p (stands u.world p start flight at).x flight found).kept
+        kept_then =
+            next_kept u.world p start flight (stands u.world p start flight at)
+            ∙ ap (λ n. (step_in u.world p (stands u.world p start flight at).x flight n).kept) found_old
+
+        ends_own : AreOf p (ending_of p start (answer_in (goes_then found)))
+        ends_own = ending_of_own p start (answer_in (goes_then found))
 
         someone : sum_by (λ e. of_none (whose e)) (events_of u.world (Next p)) ≡ 0
         someone =
             let all : sum_by (λ e. of_none (whose e)) (events_of u.world (Next p)) ≡ sum_by (λ e. of_none (whose e)) tells = ap (sum_by (λ e. of_none (whose e))) told in
-            let one = sum_by-append (λ e. of_none (whose e)) (effects u.world p flight found) (ending_of p start (answer_in (after_of code flight found))) in
+            let one = sum_by-append (λ e. of_none (whose e)) (effects u.world p flight found) (ending_of p start (answer_in (goes_then found))) in
             let wrote = mine.someone found in
-            let ends = all_someone p (ending_of p start (answer_in (after_of code flight found))) ends_own in
+            let ends = all_someone p (ending_of p start (answer_in (goes_then found))) ends_own in
             omega arith
 
         beside : (q : ℕ) → q ≢ p → IsLate kind (call_in u.world q) (events_by q (events_of u.world (Next p)))
-        beside q ne = subst (λ zs. IsLate kind (call_in u.world q) zs) (sym (ap (events_by q) told ∙ by_same q (effects u.world p flight found) (ending_of p start (answer_in (after_of code flight found))) (by_other p q (ending_of p start (answer_in (after_of code flight found))) ne ends_own))) (mine.beside found q ne)
+        beside q ne = subst (λ zs. IsLate kind (call_in u.world q) zs) (sym (ap (events_by q) told ∙ by_same q (effects u.world p flight found) (ending_of p start (answer_in (goes_then found))) (by_other p q (ending_of p start (answer_in (goes_then found))) ne ends_own))) (mine.beside found q ne)
 
         -- what it writes of its own
-        pub own_told : events_by p (events_of u.world (Next p)) ≡ events_by p (effects u.world p flight found) ++ ending_of p start (answer_in (after_of code flight found))
-        own_told = ap (events_by p) told ∙ (by_more p (effects u.world p flight found) (ending_of p start (answer_in (after_of code flight found))) ∙ ap (λ zs. events_by p (effects u.world p flight found) ++ zs) (by_mine p (ending_of p start (answer_in (after_of code flight found))) ends_own))
+        pub own_told : events_by p (events_of u.world (Next p)) ≡ events_by p (effects u.world p flight found) ++ ending_of p start (answer_in (goes_then found))
+        own_told = ap (events_by p) told ∙ (by_more p (effects u.world p flight found) (ending_of p start (answer_in (goes_then found))) ∙ ap (λ zs. events_by p (effects u.world p flight found) ++ zs) (by_mine p (ending_of p start (answer_in (goes_then found))) ends_own))
 
         words_then : words_after s.words ask ≡ (after_turn u (Next p)).world.words ++ 0 ∷ []
         words_then = go ask low asked
@@ -408,37 +453,56 @@ module _ {T : Type 0} where
 
         pub gone : Between owner (record { words = words_after s.words ask; homes = s.homes; views = s.views }) id p (gained ++ events_by p (events_of u.world (Next p))) (after_turn u (Next p))
         gone = turned (words_after s.words ask) (Next p) (next_as kind u.world p goes_free) fresh_now words_then someone beside
-            (λ j ne. next_other u.world p j ne (party_of p u.world.latest))
+            (λ j ne. next_other u.world p j ne (party_of p u.world.latest)) (λ q ne. look_next u.world p q ne)
 
-      -- ---- it is handed an answer to its question, and goes on without a word
+      -- ---- it is handed an answer to its question, and goes on without a word, or ends
 
-      module _ (start : Start T) (flight next : Flight T) (said : Bool) (at : call_in u.world p ≡ Some (start, flight))
-          (free : refusal_as kind u.world (Decide p said) ≡ None) (comes : after_of code flight (number_of said) ≡ GoOn next) where
+      module _ (start : Start T) (flight : Flight T) (next : After (Flight T) (Answer T)) (said : Bool) (at : call_in u.world p ≡ Some (start, flight))
+          (free : refusal_as kind u.world (Decide p said) ≡ None) (comes : goes_of code p flight (number_of said) u.world.kept ≡ next) where
         steps_so : StepsOn code kind capacity words effects u p flight
         steps_so = laws.steps_on u b.run p start flight at
 
         abbrev hears : List (Event T)
         hears = effects u.world p flight (number_of said)
 
-        comes_here : after_of u.world.coding flight (number_of said) ≡ GoOn next
-        comes_here = ap (λ z. after_of z flight (number_of said)) b.run.coded ∙ comes
+        abbrev ends_so : List (Event T)
+        ends_so = ending_of p start (answer_in next)
 
-        pub heard : events_of u.world (Decide p said) ≡ hears ++ []
+        comes_here : goes_of u.world.coding p flight (number_of said) u.world.kept ≡ next
+        comes_here = ap (λ z. goes_of z p flight (number_of said) u.world.kept) b.run.coded ∙ comes
+
+        pub heard : events_of u.world (Decide p said) ≡ hears ++ ends_so
         heard =
             heard_events u.world p start flight (effects u.world p flight) (stands u.world p start flight at) steps_so.goes steps_so.writes said
             ∙ ap (λ (a : After (Flight T) (Answer T)). hears ++ ending_of p start (answer_in a)) comes_here
 
-        heard_only : events_of u.world (Decide p said) ≡ hears
-        heard_only = heard ∙ append-nil hears
+        -- what it writes of its own
+        pub own_heard : events_by p (events_of u.world (Decide p said)) ≡ events_by p hears ++ ends_so
+        own_heard =
+            ap (events_by p) heard
+            ∙ (by_more p hears ends_so ∙ ap (λ zs. events_by p hears ++ zs) (by_mine p ends_so (ending_of_own p start (answer_in next))))
+
+        heard_someone : sum_by (λ e. of_none (whose e)) (events_of u.world (Decide p said)) ≡ 0
+        heard_someone =
+            let all : sum_by (λ e. of_none (whose e)) (events_of u.world (Decide p said)) ≡ sum_by (λ e. of_none (whose e)) (hears ++ ends_so) =
+            ap (sum_by (λ e. of_none (whose e))) heard in
+            let one = sum_by-append (λ e. of_none (whose e)) hears ends_so in
+            let wrote = steps_so.someone (number_of said) in
+            let ends = all_someone p ends_so (ending_of_own p start (answer_in next)) in
+            omega arith
+
+        heard_beside : (q : ℕ) → q ≢ p → IsLate kind (call_in u.world q) (events_by q (events_of u.world (Decide p said)))
+        heard_beside q ne =
+            subst (λ zs. IsLate kind (call_in u.world q) zs)
+            (sym (ap (events_by q) heard ∙ by_same q hears ends_so (by_other p q ends_so ne (ending_of_own p start (answer_in next)))))
+            (steps_so.beside (number_of said) q ne)
 
         pub decided : Between owner s id p (gained ++ events_by p (events_of u.world (Decide p said))) (after_turn u (Decide p said))
         decided =
             turned s.words (Decide p said) free tt (b.words ∙ ap (λ ws. ws ++ 0 ∷ []) (sym (writes_one_word u.world (Decide p said))))
-            (ap (sum_by (λ e. of_none (whose e))) heard_only ∙ steps_so.someone (number_of said))
-            (λ q ne. subst (λ zs. IsLate kind (call_in u.world q) (events_by q zs)) (sym heard_only) (steps_so.beside (number_of said) q ne))
-            (λ j ne. decision_other u.world p j said ne (party_of p u.world.latest))
+            heard_someone heard_beside (λ j ne. decision_other u.world p j said ne (party_of p u.world.latest)) (λ q ne. refl)
 
-        pub decided_at : call_in (after_turn u (Decide p said)).world p ≡ Some (start, next)
+        pub decided_at : call_in (after_turn u (Decide p said)).world p ≡ call_then start next
         decided_at =
             heard_going u.world p start flight (effects u.world p flight) (stands u.world p start flight at) steps_so.goes steps_so.writes said
             ∙ ap (call_then start) comes_here

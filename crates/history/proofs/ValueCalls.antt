@@ -66,7 +66,7 @@ module _ {T : Type 0} (code : Coding T) where
         finds = λ c m n small t. tt;
         leaves = λ c a n t e. absurd (cc);
         tells = λ capacity p from c d m n es h wrote e. absurd (cc);
-        tells_all = λ capacity p from c b m n es h skip wrote e. ap (λ zs. zs ++ []) wrote;
+        tells_all = λ capacity p from c b m n es h skip wrote e still. ap (λ zs. zs ++ []) wrote;
       }
 
   pub acquire_keeps : Keeps acquires_producer acquire_want acquire_after (λ c m n. m)
@@ -97,7 +97,7 @@ module _ {T : Type 0} (code : Coding T) where
         finds = λ c m n small t. tt;
         leaves = λ c a n t e. absurd (cc);
         tells = λ capacity p from c d m n es h wrote e. absurd (cc);
-        tells_all = λ capacity p from c b m n es h skip wrote e. ap (λ zs. zs ++ []) wrote;
+        tells_all = λ capacity p from c b m n es h skip wrote e still. ap (λ zs. zs ++ []) wrote;
       }
 
   pub release_keeps : Keeps releases_producer release_want release_after (λ c m n. m)
@@ -200,7 +200,7 @@ module _ {T : Type 0} (code : Coding T) (law : IsCoding code) (value : T) where
         finds = λ c m n small t. store_finds n c.stage small t;
         leaves = λ c a n t e. store_leaves c a n c.stage t e;
         tells = λ capacity p from c d m n es h wrote e. ap (λ zs. zs ++ value_effects code p (storing.flight c m) n) wrote ∙ store_quiet p c d m n e;
-        tells_all = λ capacity p from c b m n es h skip wrote e. (
+        tells_all = λ capacity p from c b m n es h skip wrote e still. (
             let yes : b ≡ true = store_true c n b c.stage skip e in
             (yes, ap (λ zs. zs ++ value_effects code p (storing.flight c m) n) wrote ∙ store_acts p c m n (subst (λ t. store_after code.size c n ≡ Done t) yes e)));
       }
@@ -324,7 +324,7 @@ module _ {T R : Type 0} (code : Coding T) (law : IsCoding code) (words_in : R �
         finds = λ c m n small t. tt;
         leaves = λ c a n t e. absurd (cc);
         tells = λ capacity p from c d m n es h wrote e. ap (λ zs. zs ++ value_effects code p (loading.flight c m) n) wrote ∙ load_quiet p c d m n e h;
-        tells_all = λ capacity p from c b m n es h skip wrote e. ap (λ zs. zs ++ value_effects code p (loading.flight c m) n) wrote ∙ load_acts p c m n c.stage e;
+        tells_all = λ capacity p from c b m n es h skip wrote e still. ap (λ zs. zs ++ value_effects code p (loading.flight c m) n) wrote ∙ load_acts p c m n c.stage e;
       }
 
   pub load_keeps_rule : KeepsRule (λ (z : View T). z.capacity) (At code kinds.Atomic loading) (Ends code kinds.Atomic loading) (λ key. 2 + code.size * 2 + 1) (λ key. key) (λ key. IsMachine code kinds.Atomic key) (λ (c : Loading T R). load_want c) (λ c n. load_after code.size c n) keeps_word

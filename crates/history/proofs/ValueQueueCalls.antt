@@ -165,7 +165,7 @@ module _ {T : Type 0} (code : Coding T) (law : IsCoding code) (v : T) where
         finds = λ c m n small t. push_finds n c.stage small t;
         leaves = λ c a n t e. push_leaves c a n c.stage t e;
         tells = λ capacity p from c d m n es h wrote e. ap (λ zs. zs ++ queue_effects code p (pushing.flight c m) n) wrote ∙ (effects_on p c d m n e ∙ quiet p n c d c.stage e);
-        tells_all = λ capacity p from c b m n es h skip wrote e. ap (λ zs. zs ++ queue_effects code p (pushing.flight c m) n) wrote ∙ (effects_end p c b m n e ∙ loud p n c b c.stage skip e);
+        tells_all = λ capacity p from c b m n es h skip wrote e still. ap (λ zs. zs ++ queue_effects code p (pushing.flight c m) n) wrote ∙ (effects_end p c b m n e ∙ loud p n c b c.stage skip e);
       }
 
   pub value_push_keeps : KeepsRule (λ (z : View T). z.capacity) (At code kinds.Queue pushing) (Over code kinds.Queue pushing) (λ key. 4 + code.size * key + 1) (λ key. key) (λ key. IsMachine code kinds.Queue key) (λ c. push_want code.words_of c v) (λ c n. push_after code.size c n) (λ c m n. m)
@@ -296,7 +296,7 @@ module _ {T R : Type 0} (code : Coding T) (law : IsCoding code) (words_in : R �
         finds = λ c m n small t. tt;
         leaves = λ c a n t e. absurd (cc);
         tells = λ capacity p from c d m n es h wrote e. ap (λ zs. zs ++ queue_effects code p (popping.flight c m) n) wrote ∙ pop_quiet p n c d m c.stage e;
-        tells_all = λ capacity p from c b m n es h skip wrote e. ap (λ zs. zs ++ queue_effects code p (popping.flight c m) n) wrote ∙ pop_loud p n c m b c.stage e;
+        tells_all = λ capacity p from c b m n es h skip wrote e still. ap (λ zs. zs ++ queue_effects code p (popping.flight c m) n) wrote ∙ pop_loud p n c m b c.stage e;
       }
 
   pub value_pop_keeps : KeepsRule (λ (z : View T). z.capacity) (At code kinds.Queue popping) (Ends code kinds.Queue popping) (λ key. 4 + code.size * key + 1) (λ key. key) (λ key. IsMachine code kinds.Queue key) (λ (c : Popping T R). pop_want c) (λ c n. pop_after code.size c n) keeps_word

@@ -42,7 +42,7 @@ use Rattle.history.specs.History.{IsRun, IsOfParties, call_in}
 use Rattle.history.specs.Known.{owned}
 use Rattle.history.specs.Stages.{Starts, Calling}
 use Rattle.history.specs.Value.{takes_producer, gives_producer, HasProducer}
-use Rattle.history.proofs.Calls.{stands}
+use Rattle.history.proofs.Calls.{stands, IsStateless}
 use Rattle.history.proofs.Known.{AreOf}
 use Rattle.history.proofs.Ledger.{Moves, still, taken, given, held_by_one, at_most}
 use Rattle.history.proofs.Roles.{granted}
@@ -137,7 +137,12 @@ module _ {T : Type 0} (code : Coding T) (capacity : ℕ) where
       }
 
   pub value_owes : KindLaws code kinds.Atomic capacity (2 + code.size * 2) (value_effects code)
-  value_owes = record { size = size; goes_on = goes_on; alone = λ going late h. h }
+  value_owes = record {
+    size = size;
+    goes_on = goes_on;
+    alone = λ going late h. h;
+    stateless = λ t r. (let s = value_sound t r in subst IsStateless (sym (kept_is t.world.kept t.world.words s.state s.fit).0) tt);
+  }
 
   -- what the model promises of each run
   pub value_goes_on : (t : Trace T) → IsOn t → IsValue t

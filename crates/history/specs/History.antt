@@ -19,6 +19,7 @@ use Rattle.model.specs.declared.party.Party.{Party}
 use Rattle.model.specs.declared.turn.Kind.{Kind}
 use Rattle.model.specs.declared.turn.Kind as kinds
 use Rattle.model.specs.Coding.{Coding}
+use Rattle.model.specs.Families.Container.Looks.{state_in}
 use Rattle.model.specs.Parties.{party_of}
 use Rattle.model.specs.Turns.{IsReachedOn}
 use Rattle.model.specs.World.{World, Trace}
@@ -82,6 +83,7 @@ module _ {T : Type 0} where
     pub self : 0 < v.share.part → owner j ≡ j
     pub going : (p : ℕ) → owner p ≡ j → v.party ≡ Some p → call_in t.world p ≡ v.going
     pub idle : (p : ℕ) → owner p ≡ j → v.party ≢ Some p → call_in t.world p ≡ None
+    pub stated : (p : ℕ) → owner p ≡ j → v.party ≡ Some p → state_in t.world.kept p ≡ v.state
     pub party : IfSome v.party (λ p. owner p ≡ j)
     pub late : List (Event T)
     pub waits : IsLate t.world.kind v.going late
@@ -91,14 +93,16 @@ module _ {T : Type 0} where
         → sum_by f v.made + sum_by f late ≡ sum_by (owned owner j f) t.events
 
   -- A machine lets a recovery free what a dead owner has; a thread claims a death, and cannot prove it. So a robust set of
-  -- threads is reached by an open run: nobody dies, and no yes is refused.
+  -- threads, or a container, is reached by an open run: nobody dies, and neither a yes nor a recovery is refused.
   abbrev pub IsReachedAs : Kind → Trace T → Type 0
   IsReachedAs kinds.TheVariants.Robust t = IsReachedOpen t
+  IsReachedAs kinds.TheVariants.Container t = IsReachedOpen t
   IsReachedAs kind t = IsReachedOn t
 
-  -- no push found the last position, and no store the last version; a robust set has neither
+  -- no push found the last position, and no store the last version; the two on owners have neither
   abbrev pub IsFreshAs : Kind → Trace T → Type 0
   IsFreshAs kinds.TheVariants.Robust t = Unit {0}
+  IsFreshAs kinds.TheVariants.Container t = Unit {0}
   IsFreshAs kind t = IsFreshRun t
 
   -- a reached machine of this kind and capacity, in which no push found the last position, and no store the last version

@@ -3,6 +3,7 @@ pub mod Held
 pub mod Roles
 pub mod Indices
 pub mod Robust
+pub mod Container
 pub mod History
 pub mod Rooms
 pub mod Stages
@@ -11,6 +12,10 @@ pub mod Overflow
 pub mod Value
 pub mod ValueQueue
 pub mod ValueOpened
+pub mod ContainerRecovery
+pub mod ContainerLooks
 pub mod Views
 pub mod Passes
 pub mod Finds
+pub mod Settled
+pub mod ContainerFind

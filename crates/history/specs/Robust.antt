@@ -1,5 +1,5 @@
 -- The calls on robust index sets as calls of the model: where each stands, and what it has written there.
-use Rattle.std.specs.Prelude.{◌≡◌, ◌⊎◌, ℕ, zero, suc, ◌<◌, ◌≤◌, Bool, false, None, IfSome, Ok, Err, List, [], ◌∷◌, ◌++◌}
+use Rattle.std.specs.Prelude.{◌≡◌, ◌⊎◌, ℕ, ◌<◌, ◌==◌, Bool, false, None, IfSome, Ok, Err, List, [], ◌∷◌, ◌++◌, flat_map, All, AllPairs, if◌then◌else◌}
 use Rattle.steps.specs.Indices.Robust.Acquire.{Acquired}
 use Rattle.steps.specs.Indices.Robust.Release.{Released}
 use Rattle.steps.specs.declared.indices.enums.ReleaseMode.{ReleaseMode}
@@ -136,66 +136,109 @@ abbrev pub MayCome : ReleaseMode → Came → Type 0
 MayCome mode HasLocked = mode ≡ LockIfLastIndex
 MayCome mode came = Unit {0}
 
+-- such an index, with its owner
+pub record Visit : Type 0 where
+  pub index : ℕ
+  pub owner : ℕ
+  pub came : Came
+
+-- each is below this index, and above the one before
+abbrev pub AreVisits : ReleaseMode → ℕ → List Visit → Type 0
+AreVisits mode bound visits =
+    AllPairs (λ (x y : Visit). x.index < y.index) visits
+    × All (λ (v : Visit). (v.index < bound) × MayCome mode v.came) visits
+
+abbrev pub visit : ℕ → ℕ → Came → Visit
+visit index owner came = record { index = index; owner = owner; came = came }
+
+-- it came so far with the last one
+abbrev pub came_to : Came → List Visit → List Visit
+came_to came [] = []
+came_to came (v ∷ []) = visit v.index v.owner came ∷ []
+came_to came (v ∷ w ∷ visits) = v ∷ came_to came (w ∷ visits)
+
+-- it came so far with this index, as the last one
+pub record HasCome (mode : ReleaseMode) (index : ℕ) (came : Came) (owner : ℕ) (visits : List Visit) : Type 0 where
+  pub before : List Visit
+  pub passed : AreVisits mode index before
+  pub is : visits ≡ before ++ visit index owner came ∷ []
+
+-- the visits of a recovery at this stage: that which it asks about is one when it has the answer
+abbrev pub VisitsAt : ℕ → ReleaseMode → recovers.RecoverStage → List Visit → Type 0
+VisitsAt capacity mode recovers.TheVariants.LoadsCounter visits = visits ≡ []
+VisitsAt capacity mode (recovers.TheVariants.LoadsCell index) visits = AreVisits mode index visits
+VisitsAt capacity mode (recovers.TheVariants.Asks index owner) visits = AreVisits mode index visits
+VisitsAt capacity mode (recovers.TheVariants.EmptiesCell index owner) visits =
+    HasCome mode index HasAsked owner visits
+VisitsAt capacity mode (recovers.TheVariants.Raises index raise) visits =
+    (owner : ℕ) × HasCome mode index HasFreed owner visits
+VisitsAt capacity mode (recovers.TheVariants.Locks index lock) visits =
+    (owner : ℕ) × HasCome mode index HasFreed owner visits
+VisitsAt capacity mode recovers.TheVariants.LoadsCounterAgain visits = AreVisits mode capacity visits
+
+abbrev pub visits_locked : locks.Lock → List Visit → ℕ → List Visit
+visits_locked (locks.TheVariants.Counts count) visits old = visits
+visits_locked (locks.TheVariants.ExchangesCounter counter) visits old =
+    if old == counter then came_to HasLocked visits else visits
+
+-- and those after it, by what it has heard there
+abbrev pub visits_taken : recovers.RecoverStage → List Visit → ℕ → List Visit
+visits_taken recovers.TheVariants.LoadsCounter visits old = visits
+visits_taken (recovers.TheVariants.LoadsCell index) visits old = visits
+visits_taken (recovers.TheVariants.Asks index owner) visits old = visits ++ visit index owner HasAsked ∷ []
+visits_taken (recovers.TheVariants.EmptiesCell index owner) visits old =
+    came_to (if old == owner then HasFreed else WasTold) visits
+visits_taken (recovers.TheVariants.Raises index raise) visits old = visits
+visits_taken (recovers.TheVariants.Locks index lock) visits old = visits_locked lock visits old
+visits_taken recovers.TheVariants.LoadsCounterAgain visits old = visits
+
+abbrev pub visits_after : Recovering → List Visit → ℕ → List Visit
+visits_after call visits old = visits_taken call.stage visits old
+
 module _ {T : Type 0} where
-  -- what it wrote of such an index
-  abbrev pub wrote_of : ℕ → ℕ → ℕ → Came → List (Event T)
-  wrote_of p index owner HasAsked = Asked p index owner ∷ []
-  wrote_of p index owner WasTold = Asked p index owner ∷ Told p index owner ∷ []
-  wrote_of p index owner HasFreed =
+  -- what it writes of such an index
+  abbrev pub wrote_to : ℕ → ℕ → ℕ → Came → List (Event T)
+  wrote_to p index owner HasAsked = Asked p index owner ∷ []
+  wrote_to p index owner WasTold = Asked p index owner ∷ Told p index owner ∷ []
+  wrote_to p index owner HasFreed =
       Asked p index owner ∷ Told p index owner ∷ FreedOf p index owner ∷ []
-  wrote_of p index owner HasLocked =
+  wrote_to p index owner HasLocked =
       Asked p index owner ∷ Told p index owner ∷ FreedOf p index owner ∷ Locked p ∷ []
 
-  -- what it has written when it has come past the indices below this one: of each in its turn nothing, where it found no
-  -- owner, or so far as it came
-  abbrev pub HasPassed : ℕ → ReleaseMode → ℕ → List (Event T) → Type 0
-  HasPassed p mode zero es = es ≡ []
-  HasPassed p mode (suc index) es =
-      HasPassed p mode index es
-      ⊎ ((before : List (Event T)) × (owner : ℕ) × (came : Came) × HasPassed p mode index before
-      × MayCome mode came × (es ≡ before ++ wrote_of p index owner came))
+  abbrev pub wrote_of : ℕ → Visit → List (Event T)
+  wrote_of p v = wrote_to p v.index v.owner v.came
 
-  -- it has come so far with this index
-  pub record HasCome (p : ℕ) (mode : ReleaseMode) (index : ℕ) (came : Came) (owner : ℕ) (es : List (Event T)) : Type 0 where
-    pub before : List (Event T)
-    pub passed : HasPassed p mode index before
-    pub is : es ≡ before ++ wrote_of p index owner came
+  -- and of all in turn
+  abbrev pub wrote_by : ℕ → List Visit → List (Event T)
+  wrote_by p visits = flat_map (wrote_of p) visits
 
-  -- what it has written at this stage
-  abbrev pub RecoveredAt : ℕ → ℕ → ReleaseMode → recovers.RecoverStage → List (Event T) → Type 0
-  RecoveredAt capacity p mode recovers.TheVariants.LoadsCounter es = es ≡ []
-  RecoveredAt capacity p mode (recovers.TheVariants.LoadsCell index) es = HasPassed p mode index es
-  RecoveredAt capacity p mode (recovers.TheVariants.Asks index owner) es =
-      HasCome p mode index HasAsked owner es
-  RecoveredAt capacity p mode (recovers.TheVariants.EmptiesCell index owner) es =
-      HasCome p mode index WasTold owner es
-  RecoveredAt capacity p mode (recovers.TheVariants.Raises index raise) es =
-      (owner : ℕ) × HasCome p mode index HasFreed owner es
-  RecoveredAt capacity p mode (recovers.TheVariants.Locks index lock) es =
-      (owner : ℕ) × HasCome p mode index HasFreed owner es
-  RecoveredAt capacity p mode recovers.TheVariants.LoadsCounterAgain es =
-      HasPassed p mode capacity es
+  -- at this stage it has written so much more: the question, and a yes, which its next step tells
+  abbrev pub wrote_now : ℕ → recovers.RecoverStage → List (Event T)
+  wrote_now p recovers.TheVariants.LoadsCounter = []
+  wrote_now p (recovers.TheVariants.LoadsCell index) = []
+  wrote_now p (recovers.TheVariants.Asks index owner) = Asked p index owner ∷ []
+  wrote_now p (recovers.TheVariants.EmptiesCell index owner) = Told p index owner ∷ []
+  wrote_now p (recovers.TheVariants.Raises index raise) = []
+  wrote_now p (recovers.TheVariants.Locks index lock) = []
+  wrote_now p recovers.TheVariants.LoadsCounterAgain = []
 
-  -- and in all: one that found the set locked may have ended before it had come past each index
-  abbrev pub RecoveryWrote : ℕ → ℕ → ReleaseMode → ReleaseState → List (Event T) → Type 0
-  RecoveryWrote capacity p mode states.Unlocked es = HasPassed p mode capacity es
-  RecoveryWrote capacity p mode states.Locked es =
-      (bound : ℕ) × (bound ≤ capacity) × HasPassed p mode bound es
-
-  abbrev pub recovers_owned : ReleaseMode → Calling T Recovering (Unit {0}) ReleaseState
+  -- its room is the list of its visits, which the set does not know of
+  abbrev pub recovers_owned : ReleaseMode → Calling T Recovering (List Visit) ReleaseState
   recovers_owned mode =
       record {
         start = Robust (Recover mode);
         by = λ was p. IfSome was (λ q. q ≡ p);
         stands = λ capacity c. (c.capacity ≡ capacity) × RecoverIn capacity mode c.stage;
-        flight = λ c m.
+        flight = λ c visits.
             flights.TheVariants.Robust
-            (calls.Recover (record { call = c; given = mode; room = m }));
-        answer = λ e m. State e;
+            (calls.Recover (record { call = c; given = mode; room = tt }));
+        answer = λ e visits. State e;
         skips = λ c n. false;
         left = λ e. ⊥;
-        wrote = λ capacity p from c m es. from ≡ None → RecoveredAt capacity p mode c.stage es;
-        wrote_all = λ capacity p from e m es. from ≡ None → RecoveryWrote capacity p mode e es;
+        wrote = λ capacity p from c visits es. from ≡ None
+            → VisitsAt capacity mode c.stage visits × (es ≡ wrote_by p visits ++ wrote_now p c.stage);
+        wrote_all = λ capacity p from e visits es. from ≡ None
+            → AreVisits mode capacity visits × (es ≡ wrote_by p visits);
       }
 
   -- ---- looks

@@ -1,11 +1,17 @@
 -- What a seat knows while a call is driven on a table that is a machine: the same for any call.
-use Rattle.std.specs.Prelude.{Bool, true, false, ◌≡◌, ◌<◌, ◌⊎◌, ℕ, Option, Some, None, IfSome, List, [], ◌∷◌, ◌++◌, sum_by, slice_index}
+use Rattle.std.specs.Prelude.{Bool, true, false, ◌≡◌, ◌<◌, ◌⊎◌, ℕ, Option, Some, None, IfSome, is_none, List, [], ◌∷◌, ◌++◌, sum_by, slice_index}
 use Rattle.model.specs.declared.event.Answer.{Answer}
 use Rattle.model.specs.declared.event.Event.{Event}
 use Rattle.model.specs.declared.event.Event.TheVariants.{Begun, Finished}
 use Rattle.model.specs.declared.event.Start.{Start}
+use Rattle.model.specs.declared.event.Start.TheVariants.{Container}
+use Rattle.model.specs.declared.families.container.ContainerStart.TheVariants.{Recover}
 use Rattle.model.specs.declared.families.Flight.{Flight}
+use Rattle.model.specs.declared.families.Kept.{Kept}
 use Rattle.model.specs.declared.turn.Kind.{Kind}
+use Rattle.model.specs.declared.turn.Kind.TheVariants as kinds
+use Rattle.model.specs.declared.turn.Refusal.{Refusal}
+use Rattle.model.specs.declared.turn.Refusal.TheVariants.{WrongCall}
 use Rattle.model.specs.Coding.{Coding}
 use Rattle.steps.specs.declared.ask.After.{After}
 use Rattle.steps.specs.declared.ask.After.TheVariants.{GoOn}
@@ -57,6 +63,12 @@ module _ {T : Type 0} where
     pub during_own : events_by p during ≡ wrote
     pub made : v.made ≡ base.made ++ (opened p start base.going ++ (wrote ++ last))
 
+  -- what is tested of a begin, which for a container's recovery is only that the kind has the call
+  abbrev pub rows_as : Kind → ℕ → Kept T → ℕ → Start T → List (Bool × Refusal)
+  rows_as kinds.Container capacity kept p (Container (Recover owner mode)) =
+      (is_none (first_of kinds.Container capacity (Container (Recover owner mode)) kept), WrongCall) ∷ []
+  rows_as kind capacity kept p start = begin_rows kind capacity kept p start
+
 module _ {T C M E : Type 0} (code : Coding T) (kind : Kind) (call : Calling T C M E) where
   -- on this machine a party of the seat may begin the call
   pub record Starts (base : View T) (c : C) (m : M) (t : Trace T) (owner : ℕ → ℕ) (j : ℕ) : Type 0 where
@@ -64,7 +76,7 @@ module _ {T C M E : Type 0} (code : Coding T) (kind : Kind) (call : Calling T C 
     pub mine : owner party ≡ j
     pub by : call.by base.party party
     pub first : first_of kind base.capacity call.start t.world.kept ≡ Some (call.flight c m)
-    pub may : first_row (begin_rows kind base.capacity t.world.kept party call.start) ≡ None
+    pub may : first_row (rows_as kind base.capacity t.world.kept party call.start) ≡ None
 
   -- the call is about to begin, as one that its family has and does not refuse
   pub record IsFirst (base v : View T) (c : C) (m : M) : Type 0 where
@@ -97,6 +109,9 @@ module _ {T C M E : Type 0} (code : Coding T) (kind : Kind) (call : Calling T C 
     pub tells : call.wrote base.capacity party base.going c m wrote
     pub since : Since party call.start wrote [] base v
     pub history : IsHistory code kind base.capacity v.seen
+    -- who has the whole has made all of it
+    pub all : IsAll base.share → (f : Event T → ℕ) → sum_by f v.seen ≡ sum_by f v.made
+    pub parties : IsOfParties v
 
   abbrev pub At : View T → View T → C → M → Type 0
   At base v c m = IsFirst base v c m ⊎ IsUnderWay base v c m

@@ -42,6 +42,7 @@ module _ {T : Type 0} (value : T) where
         other = [];
         made = opened (first_stores version);
         going = None;
+        state = None;
       }
 
 -- the words of its cells: those of the value, but zeros in the first where it was stored once

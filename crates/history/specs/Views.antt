@@ -24,6 +24,7 @@ module _ {T : Type 0} where
         other = [];
         made = [];
         going = None;
+        state = None;
       }
 
   abbrev pub right_view : View T → View T
@@ -36,6 +37,7 @@ module _ {T : Type 0} where
         other = [];
         made = [];
         going = None;
+        state = None;
       }
 
   abbrev pub left_view : View T → View T
@@ -51,6 +53,7 @@ module _ {T : Type 0} where
         other = w.seen;
         made = v.made ++ w.made;
         going = v.going;
+        state = v.state;
       }
 
   abbrev pub spent_view : View T
@@ -63,6 +66,7 @@ module _ {T : Type 0} where
         other = [];
         made = [];
         going = None;
+        state = None;
       }
 
   -- a look sees all of the history, of which both were beginnings
@@ -70,6 +74,7 @@ module _ {T : Type 0} where
     pub capacity : w.capacity ≡ v.capacity
     pub party : w.party ≡ v.party
     pub going : w.going ≡ v.going
+    pub state : w.state ≡ v.state
     pub share : w.share ≡ v.share
     pub other : w.other ≡ []
     pub made : w.made ≡ v.made

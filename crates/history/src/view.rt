@@ -3,6 +3,7 @@ use lock_free_sp::share::Share;
 use model::event::{Event, Start};
 use model::families::Flight;
 use std::collections::LinkedList;
+use steps::container::state::ContainerState;
 
 /// What a seat has seen of the history of its table, and where its own call stands.
 pub struct View<T> {
@@ -20,4 +21,6 @@ pub struct View<T> {
     pub made: LinkedList<Event<T>>,
     /// Its call under way.
     pub going: Option<(Start<T>, Flight<T>)>,
+    /// The state of a container that its party has, as its latest look has left it.
+    pub state: Option<ContainerState<T>>,
 }

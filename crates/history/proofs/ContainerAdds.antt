@@ -1,0 +1,328 @@
+-- That an add and a replace of the container are calls of the model.
+use Rattle.std.proofs.Common.{◌≡◌, inl, ℕ, ◌+◌, ◌<◌, ◌==◌, nat_lt, true, false, None, Ok, Err, List, [], ◌++◌, append_assoc, append-nil, refl, sym, ap, subst, ◌∙◌, arith}
+use Rattle.std.proofs.lemmas.Bool.Decides.{nat_tests}
+use Rattle.steps.specs.Container.Add.{Added, first_add, inner_acquire, add_asks, add_want, add_acquired, add_takes, add_after}
+use Rattle.steps.specs.Container.Layout.{is_even, total_words}
+use Rattle.steps.specs.Container.Replace.{Replaced, first_replace, replace_asks, replace_want, replace_takes, replace_after}
+use Rattle.steps.specs.Indices.Robust.Acquire.{Acquired, acquire_takes}
+use Rattle.steps.specs.Indices.Robust.Parts.{empty}
+use Rattle.steps.specs.Picks.{by_test}
+use Rattle.steps.specs.Routine.{went_on}
+use Rattle.steps.specs.declared.ask.Ask.{Ask}
+use Rattle.steps.specs.declared.ask.After.{After}
+use Rattle.steps.specs.declared.ask.After.TheVariants.{GoOn, Done}
+use Rattle.steps.specs.declared.ask.Want.TheVariants as wants
+use Rattle.steps.specs.declared.container.add.Add.{Add as Adding}
+use Rattle.steps.specs.declared.container.add.AddStage.{AddStage}
+use Rattle.steps.specs.declared.container.add.AddStage.TheVariants as adds
+use Rattle.steps.specs.declared.container.add.Owned.{Owned}
+use Rattle.steps.specs.declared.container.replace.Replace.{Replace as Replacing}
+use Rattle.steps.specs.declared.container.replace.ReplaceStage.{ReplaceStage}
+use Rattle.steps.specs.declared.container.replace.ReplaceStage.TheVariants as replaces
+use Rattle.steps.specs.declared.container.replace.Replacement.{Replacement}
+use Rattle.steps.specs.declared.indices.enums.UniqueIndexSetAcquireFailure.TheVariants as failures
+use Rattle.steps.specs.declared.indices.robust.acquire.Acquire.{Acquire as Acquiring}
+use Rattle.steps.specs.declared.indices.robust.acquire.AcquireStage.{AcquireStage}
+use Rattle.model.specs.declared.event.Answer.{Answer}
+use Rattle.model.specs.declared.event.Event.{Event}
+use Rattle.model.specs.declared.event.Event.TheVariants.{Hidden}
+use Rattle.model.specs.declared.families.Flight.TheVariants as flights
+use Rattle.model.specs.declared.families.container.ContainerStart.TheVariants.{Add, Replace}
+use Rattle.model.specs.declared.families.container.calls.ContainerFlight.TheVariants as calls
+use Rattle.model.specs.declared.turn.Kind.TheVariants as kinds
+use Rattle.model.specs.Coding.{Coding, IsCoding}
+use Rattle.model.specs.Families.{opening_of}
+use Rattle.model.specs.Families.Container.Calls.{replace_of, added, replaced}
+use Rattle.model.specs.Families.Container.Steps.{hidden, placed, add_effects, replace_effects}
+use Rattle.model.specs.Families.Indices.Robust.Steps.{acquire_effects}
+use Rattle.model.specs.Families.Queues.Calls.{as_it_is}
+use Rattle.model.specs.Step.{as_call}
+use Rattle.container_laws.proofs.Core.{data_within}
+use Rattle.lock_free_sp.specs.Driver.{answered, KeepsRule}
+use Rattle.history.specs.declared.view.View.{View}
+use Rattle.history.specs.Container.{when, HasCleared, HasPut, AddIn, taken, AddedAt, HasAdded, adds_value, ReplaceIn, ReplacedAt, HasReplaced, replaces_value}
+use Rattle.history.specs.History.{IsMachine}
+use Rattle.history.specs.Stages.{Calling, At, Ends}
+use Rattle.history.proofs.CallsIn.{AsksFor}
+use Rattle.history.proofs.ContainerCalls.{set_words, change_low, count_low, place_is}
+use Rattle.history.proofs.Containers.{plain_effects, container_words, container_keeps, container_first, container_starts, fewer}
+use Rattle.history.proofs.Drives.{IsCallOf, goes}
+use Rattle.history.proofs.RobustCalls.{acquire_found, acquire_words, AcquireGoes, takes_so}
+use Rattle.history.proofs.RobustParts.{found_of}
+
+-- ---- what is written of an element
+
+module _ {T : Type 0} (p index : ℕ) (before : List (Event T)) where
+  calm : (es all : List (Event T)) → es ≡ all → es ++ [] ≡ all
+  calm es all at = append-nil es ∙ at
+
+  still_cleared : (es : List (Event T)) → HasCleared p index before es → HasCleared p index before (es ++ [])
+  still_cleared es h = (h.0, append-nil es ∙ h.1)
+
+  -- nothing stood there, or it was hidden
+  nothing_there : (es : List (Event T)) → es ≡ before → HasCleared p index before (es ++ [])
+  nothing_there es at = (false, append-nil es ∙ (at ∙ sym (append-nil before)))
+
+  cleared : (es : List (Event T)) (count old : ℕ) → es ≡ before → HasCleared p index before (es ++ hidden p index count old)
+  cleared es count old at = (old == count, ap (λ zs. zs ++ hidden p index count old) at)
+
+  put : (es : List (Event T)) (value : T) (old : ℕ) → HasCleared p index before es → HasPut p index value before (es ++ placed p index value old)
+  put es value old h =
+      (h.0, is_even old, ap (λ zs. zs ++ placed p index value old) h.1 ∙ append_assoc before (when h.0 (Hidden p index)) (placed p index value old))
+
+  still_put : (es : List (Event T)) (value : T) → HasPut p index value before es → HasPut p index value before (es ++ [])
+  still_put es value h = (h.0, h.1, append-nil es ∙ h.2)
+
+-- ---- add
+
+module _ {T : Type 0} (words_of : T → List ℕ) (size : ℕ) where
+  add_found : (c : Adding T) (stage : AddStage) (given : Owned T) (a : Ask) (n : ℕ) → add_asks words_of size c.capacity stage given ≡ wants.Ask a
+      → add_takes size c stage (answered a.op n) ≡ add_takes size c stage n
+  add_found c (adds.Acquires stage) given a n e = ap (add_takes size c (adds.Acquires stage)) (acquire_found stage given.owner a n e)
+  add_found c (adds.LoadsCount index) given a n e = ap (add_takes size c (adds.LoadsCount index)) (found_of _ a n refl e)
+  add_found c (adds.Hides index count) given a n e = refl
+  add_found c (adds.Stores index at) given a n e = refl
+  add_found c (adds.AddsCount index) given a n e = refl
+  add_found c (adds.AddsChange index) given a n e = refl
+
+  add_words : (capacity : ℕ) (stage : AddStage) (given : Owned T) → AddIn size capacity stage
+      → AsksFor (total_words capacity size) (add_asks words_of size capacity stage given)
+  add_words capacity (adds.Acquires stage) given h =
+      fewer (capacity + 1) (total_words capacity size) _ (set_words capacity size) (acquire_words capacity stage given.owner h)
+  add_words capacity (adds.LoadsCount index) given h = (_, count_low capacity size index h, refl)
+  add_words capacity (adds.Hides index count) given h = (_, count_low capacity size index h, refl)
+  add_words capacity (adds.Stores index at) given h = (_, data_within capacity size index at h.0 h.1, refl)
+  add_words capacity (adds.AddsCount index) given h = (_, count_low capacity size index h, refl)
+  add_words capacity (adds.AddsChange index) given h = (_, change_low capacity size, refl)
+
+-- where it goes on, and what it has written then
+module _ {T : Type 0} (capacity size : ℕ) (some : 0 < size) (c : Adding T) (same : c.capacity ≡ capacity) (p : ℕ) (given : Owned T) where
+  abbrev AddGoes : List (Event T) → After (Adding T) Added → Type 0
+  AddGoes es (GoOn d) = (adds_value size given).stands capacity d × AddedAt p given d.stage es
+  AddGoes es (Done e) = HasAdded capacity p given e es
+
+  abbrev IsAcquired : AcquireStage → List (Event T) → After Acquiring Acquired → Type 0
+  IsAcquired stage = AcquireGoes T capacity (inner_acquire c.capacity stage) same p given.owner
+
+  acquired : (stage : AcquireStage) (es : List (Event T)) (r : After Acquiring Acquired) → IsAcquired stage es r → AddGoes es (add_acquired c r)
+  acquired stage es (GoOn acquire) h = ((same, h.0.1), h.1)
+  acquired stage es (Done (Ok index)) h = ((same, h.0), h.1)
+  acquired stage es (Done (Err failures.IsLocked)) h = h
+  acquired stage es (Done (Err failures.OutOfIndices)) h = h
+
+  adds_so : (stage : AddStage) (k : ℕ) (es : List (Event T)) → AddIn size capacity stage → AddedAt p given stage es
+      → AddGoes (es ++ add_effects p given stage k) (add_takes size c stage k)
+  adds_so (adds.Acquires stage) k es h at =
+      acquired stage _ (acquire_takes (inner_acquire c.capacity stage) stage k)
+      (subst (λ zs. IsAcquired stage (zs ++ acquire_effects p given.owner stage k) (acquire_takes (inner_acquire c.capacity stage) stage k)) (sym at)
+      (takes_so T capacity (inner_acquire c.capacity stage) same p given.owner stage k h))
+  adds_so (adds.LoadsCount index) k es h at =
+      by_test (AddGoes (es ++ [])) (is_even k) _ _
+      (λ t. ((same, (h, some)), nothing_there p index (taken p index given.owner) es at))
+      (λ t. ((same, h), calm p index (taken p index given.owner) es _ at))
+  adds_so (adds.Hides index count) k es h at = ((same, (h, some)), cleared p index (taken p index given.owner) es count k at)
+  adds_so (adds.Stores index at) k es h was =
+      by_test (AddGoes (es ++ [])) (nat_lt (at + 1) size) _ _
+      (λ t. (let next : at + 1 < size = grind (arith, nat_tests) in ((same, (h.0, next)), still_cleared p index (taken p index given.owner) es was)))
+      (λ t. ((same, h.0), still_cleared p index (taken p index given.owner) es was))
+  adds_so (adds.AddsCount index) k es h at = ((same, h), put p index (taken p index given.owner) es given.value k at)
+  adds_so (adds.AddsChange index) k es h at = (h, still_put p index (taken p index given.owner) es given.value at)
+
+  -- it may have written something where it stands
+  some_added : (stage : AddStage) → (es : List (Event T)) × AddedAt p given stage es
+  some_added (adds.Acquires stage) = (_, refl)
+  some_added (adds.LoadsCount index) = (_, refl)
+  some_added (adds.Hides index count) = (_, refl)
+  some_added (adds.Stores index at) = (_, (false, refl))
+  some_added (adds.AddsCount index) = (_, (false, refl))
+  some_added (adds.AddsChange index) = (_, (false, false, refl))
+
+module _ {T : Type 0} (code : Coding T) (law : IsCoding code) (given : Owned T) where
+  abbrev adding : Calling T (Adding T) (Unit {0}) Added
+  adding = adds_value code.size given
+
+  abbrev add_then : Adding T → ℕ → After (Adding T) Added
+  add_then c n = add_after code.size c n
+
+  has_words : 0 < code.size
+  has_words = (let some = law.some in omega arith)
+
+  as_added : (r : After (Adding T) Added) → as_call flights.Container (λ (answer : Answer T). answer)
+      (as_call calls.Add added (went_on as_it_is given tt r)) ≡ goes adding r tt
+  as_added (GoOn d) = refl
+  as_added (Done e) = refl
+
+  -- a step puts no question
+  add_goes : (capacity p : ℕ) (c : Adding T) (n : ℕ) (es : List (Event T)) (r : After (Adding T) Added) → (h : adding.stands capacity c)
+      → AddedAt p given c.stage es → add_then c n ≡ r
+      → AddGoes capacity code.size has_words c h.0 p given (es ++ (add_effects p given c.stage n ++ [])) r
+  add_goes capacity p c n es r h at e =
+      subst (λ zs. AddGoes capacity code.size has_words c h.0 p given (es ++ zs) r) (sym (append-nil (add_effects p given c.stage n)))
+      (subst (AddGoes capacity code.size has_words c h.0 p given (es ++ add_effects p given c.stage n)) e
+      (adds_so capacity code.size has_words c h.0 p given c.stage n es h.1 at))
+
+  add_call : IsCallOf code (plain_effects code) (container_words code) (λ c. add_want code.words_of code.size c given) add_then (λ c m n. m) adding
+  add_call =
+      record {
+        same_want = λ c m. refl;
+        same_after = λ capacity c m n h. as_added (add_then c n);
+        hears = λ c m a n e. (add_found code.words_of code.size c c.stage given a n e, refl);
+        stays = λ capacity c d n h e. (
+            let written = some_added capacity code.size has_words c h.0 0 given c.stage in
+            (add_goes capacity 0 c n written.0 (GoOn d) h written.1 e).0);
+        asks = λ capacity c h. subst (λ k. AsksFor (container_words code capacity) (add_asks code.words_of code.size k c.stage given)) (sym h.0)
+            (add_words code.words_of code.size capacity c.stage given h.1);
+        past = λ capacity c d n k h e. refl;
+        finds = λ c m n small t. tt;
+        leaves = λ c a n t e. absurd (cc);
+        tells = λ capacity p from c d m n es h wrote e new. (add_goes capacity p c n es (GoOn d) h (wrote new) e).1;
+        tells_all = λ capacity p from c end m n es h skip wrote e still new. add_goes capacity p c n es (Done end) h (wrote new) e;
+      }
+
+  pub container_add_keeps : KeepsRule (λ (z : View T). z.capacity) (At code kinds.Container adding) (Ends code kinds.Container adding)
+      (λ key. container_words code key + 1) (λ key. key) (λ key. IsMachine code kinds.Container key) (λ c. add_want code.words_of code.size c given) add_then
+      (λ c m n. m)
+  container_add_keeps = container_keeps code adding (λ c m. tt) (λ c. add_want code.words_of code.size c given) add_then (λ c m n. m) add_call (λ c n. refl)
+
+  pub container_add_first : (v : View T) (m : Unit {0}) → v.going ≡ None → v.other ≡ [] → 0 < v.share.part → given.owner < empty
+      → At code kinds.Container adding v v (first_add v.capacity) m
+  container_add_first v m idle alone any fits =
+      let named : nat_lt given.owner empty ≡ true = grind (arith, nat_tests) in
+      inl (record {
+        is = refl;
+        idle = idle;
+        fresh = alone;
+        standing = (refl, tt);
+        some = any;
+        first = container_first code v adding (Add given.value given.owner) (first_add v.capacity) m refl (λ o p h. h) named refl
+            ((opening_of kinds.Container).kept v.capacity);
+        starts = container_starts code v adding (Add given.value given.owner) (first_add v.capacity) m refl (λ o p h. h) named refl;
+        wrote = λ p new. refl;
+      })
+
+-- ---- replace
+
+module _ {T : Type 0} (words_of : T → List ℕ) (size : ℕ) where
+  replace_found : (c : Replacing T) (stage : ReplaceStage) (given : Replacement T) (a : Ask) (n : ℕ)
+      → replace_asks words_of size c.capacity stage given ≡ wants.Ask a
+      → replace_takes size c stage given (answered a.op n) ≡ replace_takes size c stage given n
+  replace_found c replaces.Refuses given a n e = refl
+  replace_found c replaces.LoadsCell given a n e = ap (replace_takes size c replaces.LoadsCell given) (found_of _ a n refl e)
+  replace_found c replaces.LoadsCount given a n e = ap (replace_takes size c replaces.LoadsCount given) (found_of _ a n refl e)
+  replace_found c (replaces.Hides count) given a n e = refl
+  replace_found c (replaces.Stores at) given a n e = refl
+  replace_found c replaces.AddsCount given a n e = refl
+  replace_found c replaces.AddsChange given a n e = refl
+
+  replace_words : (capacity : ℕ) (stage : ReplaceStage) (given : Replacement T) → given.index < capacity → ReplaceIn size stage
+      → AsksFor (total_words capacity size) (replace_asks words_of size capacity stage given)
+  replace_words capacity replaces.Refuses given low h = absurd h
+  replace_words capacity replaces.LoadsCell given low h = (_, (let below : 1 + given.index < capacity + 1 = omega arith in let all = set_words capacity size in omega arith), refl)
+  replace_words capacity replaces.LoadsCount given low h = (_, count_low capacity size given.index low, refl)
+  replace_words capacity (replaces.Hides count) given low h = (_, count_low capacity size given.index low, refl)
+  replace_words capacity (replaces.Stores at) given low h = (_, data_within capacity size given.index at low h, refl)
+  replace_words capacity replaces.AddsCount given low h = (_, count_low capacity size given.index low, refl)
+  replace_words capacity replaces.AddsChange given low h = (_, change_low capacity size, refl)
+
+module _ {T : Type 0} (capacity size : ℕ) (some : 0 < size) (c : Replacing T) (same : c.capacity ≡ capacity) (p : ℕ) (given : Replacement T)
+    (low : given.index < capacity) where
+  abbrev ReplaceGoes : List (Event T) → After (Replacing T) Replaced → Type 0
+  ReplaceGoes es (GoOn d) = (replaces_value size given).stands capacity d × ReplacedAt p given d.stage es
+  ReplaceGoes es (Done e) = HasReplaced p given e es
+
+  replaces_so : (stage : ReplaceStage) (k : ℕ) (es : List (Event T)) → ReplaceIn size stage → ReplacedAt p given stage es
+      → ReplaceGoes (es ++ replace_effects p given stage k) (replace_takes size c stage given k)
+  replaces_so replaces.Refuses k es h at = absurd h
+  replaces_so replaces.LoadsCell k es h at =
+      by_test (ReplaceGoes (es ++ [])) (k == given.owner) _ _
+      (λ t. ((same, low, tt), calm p given.index [] es [] at)) (λ t. calm p given.index [] es [] at)
+  replaces_so replaces.LoadsCount k es h at =
+      by_test (ReplaceGoes (es ++ [])) (is_even k) _ _
+      (λ t. ((same, low, some), nothing_there p given.index [] es at)) (λ t. ((same, low, tt), calm p given.index [] es [] at))
+  replaces_so (replaces.Hides count) k es h at = ((same, low, some), cleared p given.index [] es count k at)
+  replaces_so (replaces.Stores at) k es h was =
+      by_test (ReplaceGoes (es ++ [])) (nat_lt (at + 1) size) _ _
+      (λ t. (let next : at + 1 < size = grind (arith, nat_tests) in ((same, low, next), still_cleared p given.index [] es was)))
+      (λ t. ((same, low, tt), still_cleared p given.index [] es was))
+  replaces_so replaces.AddsCount k es h at = ((same, low, tt), put p given.index [] es given.value k at)
+  replaces_so replaces.AddsChange k es h at = still_put p given.index [] es given.value at
+
+  some_replaced : (stage : ReplaceStage) → (es : List (Event T)) × ReplacedAt p given stage es
+  some_replaced replaces.Refuses = (_, refl)
+  some_replaced replaces.LoadsCell = (_, refl)
+  some_replaced replaces.LoadsCount = (_, refl)
+  some_replaced (replaces.Hides count) = (_, refl)
+  some_replaced (replaces.Stores at) = (_, (false, refl))
+  some_replaced replaces.AddsCount = (_, (false, refl))
+  some_replaced replaces.AddsChange = (_, (false, false, refl))
+
+module _ {T : Type 0} (code : Coding T) (law : IsCoding code) (given : Replacement T) where
+  abbrev replacing : Calling T (Replacing T) (Unit {0}) Replaced
+  replacing = replaces_value code.size given
+
+  abbrev replace_then : Replacing T → ℕ → After (Replacing T) Replaced
+  replace_then c n = replace_after code.size c given n
+
+  has_some : 0 < code.size
+  has_some = (let some = law.some in omega arith)
+
+  as_replaced : (r : After (Replacing T) Replaced) → as_call flights.Container (λ (answer : Answer T). answer)
+      (as_call calls.Replace replaced (went_on as_it_is given tt r)) ≡ goes replacing r tt
+  as_replaced (GoOn d) = refl
+  as_replaced (Done e) = refl
+
+  replace_goes : (capacity p : ℕ) (c : Replacing T) (n : ℕ) (es : List (Event T)) (r : After (Replacing T) Replaced) → (h : replacing.stands capacity c)
+      → ReplacedAt p given c.stage es → replace_then c n ≡ r
+      → ReplaceGoes capacity code.size has_some c h.0 p given h.1 (es ++ (replace_effects p given c.stage n ++ [])) r
+  replace_goes capacity p c n es r h at e =
+      subst (λ zs. ReplaceGoes capacity code.size has_some c h.0 p given h.1 (es ++ zs) r) (sym (append-nil (replace_effects p given c.stage n)))
+      (subst (ReplaceGoes capacity code.size has_some c h.0 p given h.1 (es ++ replace_effects p given c.stage n)) e
+      (replaces_so capacity code.size has_some c h.0 p given h.1 c.stage n es h.2 at))
+
+  replace_call : IsCallOf code (plain_effects code) (container_words code) (λ c. replace_want code.words_of code.size c given) replace_then (λ c m n. m)
+      replacing
+  replace_call =
+      record {
+        same_want = λ c m. refl;
+        same_after = λ capacity c m n h. as_replaced (replace_then c n);
+        hears = λ c m a n e. (replace_found code.words_of code.size c c.stage given a n e, refl);
+        stays = λ capacity c d n h e. (
+            let written = some_replaced capacity code.size has_some c h.0 0 given h.1 c.stage in
+            (replace_goes capacity 0 c n written.0 (GoOn d) h written.1 e).0);
+        asks = λ capacity c h. subst (λ k. AsksFor (container_words code capacity) (replace_asks code.words_of code.size k c.stage given)) (sym h.0)
+            (replace_words code.words_of code.size capacity c.stage given h.1 h.2);
+        past = λ capacity c d n k h e. refl;
+        finds = λ c m n small t. tt;
+        leaves = λ c a n t e. absurd (cc);
+        tells = λ capacity p from c d m n es h wrote e new. (replace_goes capacity p c n es (GoOn d) h (wrote new) e).1;
+        tells_all = λ capacity p from c end m n es h skip wrote e still new. replace_goes capacity p c n es (Done end) h (wrote new) e;
+      }
+
+  pub container_replace_keeps : KeepsRule (λ (z : View T). z.capacity) (At code kinds.Container replacing) (Ends code kinds.Container replacing)
+      (λ key. container_words code key + 1) (λ key. key) (λ key. IsMachine code kinds.Container key) (λ c. replace_want code.words_of code.size c given)
+      replace_then (λ c m n. m)
+  container_replace_keeps = container_keeps code replacing (λ c m. tt) (λ c. replace_want code.words_of code.size c given) replace_then (λ c m n. m)
+      replace_call (λ c n. refl)
+
+  pub container_replace_first : (v : View T) (m : Unit {0}) → v.going ≡ None → v.other ≡ [] → 0 < v.share.part → given.index < v.capacity
+      → given.owner < empty → At code kinds.Container replacing v v (first_replace v.capacity given.index) m
+  container_replace_first v m idle alone any low fits =
+      let named : nat_lt given.owner empty ≡ true = grind (arith, nat_tests) in
+      let below : nat_lt given.index v.capacity ≡ true = grind (arith, nat_tests) in
+      let flies : flights.Container (replace_of v.capacity given.index given.value given.owner) ≡ replacing.flight (first_replace v.capacity given.index) m =
+      ap (λ (i : ℕ). flights.Container (calls.Replace
+      (record { call = first_replace v.capacity i; given = record { index = i; owner = given.owner; value = given.value }; room = tt })))
+      (place_is v.capacity given.index low)
+      in
+      inl (record {
+        is = refl;
+        idle = idle;
+        fresh = alone;
+        standing = (refl, low, rw below tt);
+        some = any;
+        first = container_first code v replacing (Replace given.index given.value given.owner) (first_replace v.capacity given.index) m refl
+            (λ o p h. h) named flies ((opening_of kinds.Container).kept v.capacity);
+        starts = container_starts code v replacing (Replace given.index given.value given.owner) (first_replace v.capacity given.index) m refl
+            (λ o p h. h) named flies;
+        wrote = λ p new. rw below refl;
+      })

@@ -1,0 +1,284 @@
+-- That a remove of the container, and its looks at its set, are calls of the model.
+use Rattle.std.proofs.Common.{◌≡◌, inl, ℕ, ◌+◌, ◌<◌, ◌≤◌, ◌==◌, nat_lt, true, false, None, Ok, Err, List, [], ◌++◌, append-nil, refl, sym, ap, subst, arith}
+use Rattle.std.proofs.lemmas.Bool.Decides.{nat_tests}
+use Rattle.steps.specs.Container.Layout.{is_even, change_word, count_word, total_words}
+use Rattle.steps.specs.Container.Remove.{Removed, first_remove, inner_release, remove_asks, remove_want, remove_released, remove_takes, remove_after}
+use Rattle.steps.specs.Indices.Robust.Looks.{first_borrowed, borrowed_want, borrowed_after, locked_after}
+use Rattle.steps.specs.Indices.Robust.Parts.{empty, count_after}
+use Rattle.steps.specs.Indices.Robust.Release.{Released, release_takes}
+use Rattle.steps.specs.Picks.{by_test}
+use Rattle.steps.specs.Queues.Ring.{load}
+use Rattle.steps.specs.Routine.{went_on}
+use Rattle.steps.specs.declared.ask.Ask.{Ask}
+use Rattle.steps.specs.declared.ask.After.{After}
+use Rattle.steps.specs.declared.ask.After.TheVariants.{GoOn, Done}
+use Rattle.steps.specs.declared.ask.Want.TheVariants as wants
+use Rattle.steps.specs.declared.container.remove.Remove.{Remove as Removing}
+use Rattle.steps.specs.declared.container.remove.RemoveStage.{RemoveStage}
+use Rattle.steps.specs.declared.container.remove.RemoveStage.TheVariants as removes
+use Rattle.steps.specs.declared.indices.robust.looks.BorrowedIndices.{BorrowedIndices as Counting}
+use Rattle.steps.specs.declared.indices.robust.looks.IsLocked.{IsLocked as Looking}
+use Rattle.steps.specs.declared.indices.robust.release.GiveBack.{GiveBack}
+use Rattle.steps.specs.declared.indices.robust.release.Release.{Release as Releasing}
+use Rattle.steps.specs.declared.indices.robust.release.ReleaseStage.{ReleaseStage}
+use Rattle.model.specs.declared.event.Answer.{Answer}
+use Rattle.model.specs.declared.event.Event.{Event}
+use Rattle.model.specs.declared.families.Flight.TheVariants as flights
+use Rattle.model.specs.declared.families.container.ContainerStart.TheVariants.{Remove, IsLocked}
+use Rattle.model.specs.declared.families.container.calls.ContainerFlight.TheVariants as calls
+use Rattle.model.specs.declared.families.container.calls.CountOf.{CountOf}
+use Rattle.model.specs.declared.families.container.calls.CountOf.TheVariants as counts
+use Rattle.model.specs.declared.turn.Kind.TheVariants as kinds
+use Rattle.model.specs.Coding.{Coding}
+use Rattle.model.specs.Families.Container.Calls.{first as first_call, place_of, remove_of, removed, counted}
+use Rattle.model.specs.Families.{opening_of}
+use Rattle.model.specs.Families.Container.Opening.{names_owner}
+use Rattle.model.specs.Families.Container.Steps.{remove_effects}
+use Rattle.model.specs.Families.Indices.Robust.Steps.{release_effects}
+use Rattle.model.specs.Families.Queues.Calls.{as_it_is}
+use Rattle.model.specs.Step.{as_call}
+use Rattle.lock_free_sp.specs.Driver.{answered, KeepsRule}
+use Rattle.history.specs.declared.view.View.{View}
+use Rattle.history.specs.Container.{RemoveIn, HasRemovedIt, RemovedAt, HasRemoved, removes_value, count_start, counts_values, sees_lock}
+use Rattle.history.specs.History.{IsMachine}
+use Rattle.history.specs.Stages.{At, Ends}
+use Rattle.history.proofs.CallsIn.{AsksFor}
+use Rattle.history.proofs.Containers.{plain_effects, container_words, container_keeps, container_first, container_starts, fewer}
+use Rattle.history.proofs.Drives.{IsCallOf, goes}
+use Rattle.history.proofs.RobustCalls.{release_found, release_words, ReleaseGoes, gives_so, CountGoes, counts_so}
+use Rattle.history.proofs.RobustParts.{found_of, count_found, count_asks, count_on}
+
+-- the words of the set are some of the container's
+pub set_words : (capacity size : ℕ) → capacity + 1 ≤ total_words capacity size
+set_words capacity size = omega arith
+
+pub change_low : (capacity size : ℕ) → change_word capacity < total_words capacity size
+change_low capacity size = omega arith
+
+pub count_low : (capacity size index : ℕ) → index < capacity → count_word capacity index < total_words capacity size
+count_low capacity size index low = omega arith
+
+pub place_is : (capacity index : ℕ) → index < capacity → place_of capacity index ≡ index
+place_is capacity index low = (let below : nat_lt index capacity ≡ true = grind (arith, nat_tests) in rw below refl)
+
+-- ---- looks at the set
+
+module _ {T : Type 0} (code : Coding T) (which : CountOf) where
+  as_counted : (r : After Counting ℕ) → as_call flights.Container (λ (answer : Answer T). answer)
+      (as_call (λ run. calls.Count which run) (counted which) (went_on as_it_is tt tt r)) ≡ goes (counts_values {T = T} which) r tt
+  as_counted (GoOn d) = refl
+  as_counted (Done n) = refl
+
+  count_call : IsCallOf code (plain_effects code) (container_words code) borrowed_want borrowed_after (λ c m n. m) (counts_values which)
+  count_call =
+      record {
+        same_want = λ c m. refl;
+        same_after = λ capacity c m n h. as_counted (borrowed_after c n);
+        hears = λ c m a n e. (ap (borrowed_after c) (count_found c.count a n e), refl);
+        stays = λ capacity c d n h e. subst (CountGoes capacity) e
+            (counts_so capacity c h.0 (count_after c.capacity c.count n) (count_on capacity c.capacity h.0 c.count n));
+        asks = λ capacity c h. fewer (capacity + 1) (container_words code capacity) (borrowed_want c) (set_words capacity code.size) (count_asks capacity c.count h.1);
+        past = λ capacity c d n k h e. refl;
+        finds = λ c m n small t. tt;
+        leaves = λ c a n t e. absurd (cc);
+        tells = λ capacity p from c d m n es h wrote e. ap (λ zs. zs ++ []) wrote;
+        tells_all = λ capacity p from c end m n es h skip wrote e still. ap (λ zs. zs ++ []) wrote;
+      }
+
+  pub container_count_keeps : KeepsRule (λ (z : View T). z.capacity) (At code kinds.Container (counts_values which)) (Ends code kinds.Container (counts_values which))
+      (λ key. container_words code key + 1) (λ key. key) (λ key. IsMachine code kinds.Container key) borrowed_want borrowed_after (λ c m n. m)
+  container_count_keeps = container_keeps code (counts_values which) (λ c m. tt) borrowed_want borrowed_after (λ c m n. m) count_call (λ c n. refl)
+
+  count_named : (w : CountOf) → names_owner {T = T} (count_start w) ≡ true
+  count_named counts.Len = refl
+  count_named counts.IsEmpty = refl
+
+  count_flies : (w : CountOf) (capacity : ℕ) (m : Unit {0})
+      → flights.Container (first_call capacity (count_start {T = T} w)) ≡ (counts_values w).flight (first_borrowed capacity) m
+  count_flies counts.Len capacity m = refl
+  count_flies counts.IsEmpty capacity m = refl
+
+  pub container_count_first : (v : View T) (m : Unit {0}) → v.going ≡ None → v.other ≡ [] → 0 < v.share.part
+      → At code kinds.Container (counts_values which) v v (first_borrowed v.capacity) m
+  container_count_first v m idle alone any =
+      let named = count_named which in
+      let flies = count_flies which v.capacity m in
+      inl (record {
+        is = refl;
+        idle = idle;
+        fresh = alone;
+        standing = (refl, tt);
+        some = any;
+        first = container_first code v (counts_values which) (count_start which) (first_borrowed v.capacity) m refl (λ o p h. h) named flies
+            ((opening_of kinds.Container).kept v.capacity);
+        starts = container_starts code v (counts_values which) (count_start which) (first_borrowed v.capacity) m refl (λ o p h. h) named flies;
+        wrote = λ p. refl;
+      })
+
+module _ {T : Type 0} (code : Coding T) where
+  lock_call : IsCallOf code (plain_effects code) (container_words code) (λ c. load 0) locked_after (λ c m n. m) sees_lock
+  lock_call =
+      record {
+        same_want = λ c m. refl;
+        same_after = λ capacity c m n h. refl;
+        hears = λ c m a n e. (ap (locked_after c) (found_of _ a n refl e), refl);
+        stays = λ capacity c d n h e. absurd (cc);
+        asks = λ capacity c h. (_, omega arith, refl);
+        past = λ capacity c d n k h e. refl;
+        finds = λ c m n small t. tt;
+        leaves = λ c a n t e. absurd (cc);
+        tells = λ capacity p from c d m n es h wrote e. absurd (cc);
+        tells_all = λ capacity p from c end m n es h skip wrote e still. ap (λ zs. zs ++ []) wrote;
+      }
+
+  pub container_lock_keeps : KeepsRule (λ (z : View T). z.capacity) (At code kinds.Container sees_lock) (Ends code kinds.Container sees_lock)
+      (λ key. container_words code key + 1) (λ key. key) (λ key. IsMachine code kinds.Container key) (λ c. load 0) locked_after (λ c m n. m)
+  container_lock_keeps = container_keeps code sees_lock (λ c m. tt) (λ c. load 0) locked_after (λ c m n. m) lock_call (λ c n. refl)
+
+  pub container_lock_first : (v : View T) (c : Looking) (m : Unit {0}) → v.going ≡ None → v.other ≡ [] → 0 < v.share.part
+      → At code kinds.Container sees_lock v v c m
+  container_lock_first v c m idle alone any =
+      inl (record {
+        is = refl;
+        idle = idle;
+        fresh = alone;
+        standing = tt;
+        some = any;
+        first = container_first code v sees_lock IsLocked c m refl (λ o p h. h) refl refl ((opening_of kinds.Container).kept v.capacity);
+        starts = container_starts code v sees_lock IsLocked c m refl (λ o p h. h) refl refl;
+        wrote = λ p. refl;
+      })
+
+-- ---- remove
+
+remove_found : (capacity : ℕ) (stage : RemoveStage) (given : GiveBack) (a : Ask) (n : ℕ) → remove_asks capacity stage given ≡ wants.Ask a → answered a.op n ≡ n
+remove_found capacity removes.Refuses given a n e = absurd (cc)
+remove_found capacity removes.LoadsCount given a n e = found_of _ a n refl e
+remove_found capacity (removes.Releases count stage) given a n e = release_found stage given a n e
+remove_found capacity (removes.Hides count state) given a n e = found_of _ a n refl e
+remove_found capacity (removes.AddsChange state) given a n e = found_of _ a n refl e
+
+remove_words : (capacity size : ℕ) (stage : RemoveStage) (given : GiveBack) → given.index < capacity → RemoveIn capacity given.mode stage
+    → AsksFor (total_words capacity size) (remove_asks capacity stage given)
+remove_words capacity size removes.Refuses given low h = absurd h
+remove_words capacity size removes.LoadsCount given low h = (_, count_low capacity size given.index low, refl)
+remove_words capacity size (removes.Releases count stage) given low h =
+    fewer (capacity + 1) (total_words capacity size) _ (set_words capacity size) (release_words capacity stage given low h)
+remove_words capacity size (removes.Hides count state) given low h = (_, count_low capacity size given.index low, refl)
+remove_words capacity size (removes.AddsChange state) given low h = (_, change_low capacity size, refl)
+
+-- where it goes on, and what it has written then
+module _ (T : Type 0) (capacity : ℕ) (c : Removing) (same : c.capacity ≡ capacity) (p : ℕ) (given : GiveBack) (low : given.index < capacity) where
+  abbrev RemoveGoes : List (Event T) → After Removing Removed → Type 0
+  RemoveGoes es (GoOn d) = (removes_value {T = T} given).stands capacity d × RemovedAt p given d.stage es
+  RemoveGoes es (Done e) = HasRemoved p given e es
+
+  released : (count : ℕ) (stage : ReleaseStage) (es : List (Event T)) (r : After Releasing Released)
+      → ReleaseGoes T capacity (inner_release c.capacity stage) same p given low es r → RemoveGoes es (remove_released c count r)
+  released count stage es (GoOn release) h = ((same, low, h.0.2), h.1)
+  released count stage es (Done (Ok state)) h =
+      by_test (RemoveGoes es) (is_even count) _ _
+      (λ t. ((same, low, tt), (es, h, (false, sym (append-nil es)))))
+      (λ t. ((same, low, tt), h))
+  released count stage es (Done (Err failure)) h = h
+
+  -- where it stands then, whatever it has written
+  abbrev StandsThen : After Removing Removed → Type 0
+  StandsThen (GoOn d) = (removes_value {T = T} given).stands capacity d
+  StandsThen (Done e) = Unit {0}
+
+  released_there : (count : ℕ) (stage : ReleaseStage) (es : List (Event T)) (r : After Releasing Released)
+      → ReleaseGoes T capacity (inner_release c.capacity stage) same p given low es r → StandsThen (remove_released c count r)
+  released_there count stage es (GoOn release) h = (same, low, h.0.2)
+  released_there count stage es (Done (Ok state)) h = by_test StandsThen (is_even count) _ _ (λ t. (same, low, tt)) (λ t. (same, low, tt))
+  released_there count stage es (Done (Err failure)) h = tt
+
+  stands_then : (stage : RemoveStage) (k : ℕ) → RemoveIn capacity given.mode stage → StandsThen (remove_takes c stage given k)
+  stands_then removes.Refuses k h = absurd h
+  stands_then removes.LoadsCount k h = (same, low, tt)
+  stands_then (removes.Releases count stage) k h =
+      released_there count stage _ (release_takes (inner_release c.capacity stage) stage given k)
+      (gives_so T capacity (inner_release c.capacity stage) same p given low stage k h)
+  stands_then (removes.Hides count state) k h = (same, low, tt)
+  stands_then (removes.AddsChange state) k h = tt
+
+  removes_so : (stage : RemoveStage) (k : ℕ) (es : List (Event T)) → RemoveIn capacity given.mode stage → RemovedAt p given stage es
+      → RemoveGoes (es ++ remove_effects p given stage k) (remove_takes c stage given k)
+  removes_so removes.Refuses k es h at = absurd h
+  removes_so removes.LoadsCount k es h at = ((same, low, tt), ap (λ zs. zs ++ []) at)
+  removes_so (removes.Releases count stage) k es h at =
+      released count stage _ (release_takes (inner_release c.capacity stage) stage given k)
+      (subst (λ zs. ReleaseGoes T capacity (inner_release c.capacity stage) same p given low
+      (zs ++ release_effects p given stage k)
+      (release_takes (inner_release c.capacity stage) stage given k)) (sym at)
+      (gives_so T capacity (inner_release c.capacity stage) same p given low stage k h))
+  removes_so (removes.Hides count state) k es h at = ((same, low, tt), (es, at, (k == count, refl)))
+  removes_so (removes.AddsChange state) k es h at = subst (HasRemovedIt p given state) (sym (append-nil es)) at
+
+module _ {T : Type 0} (code : Coding T) (given : GiveBack) where
+  abbrev after : Removing → ℕ → After Removing Removed
+  after c n = remove_after c given n
+
+  as_removed : (r : After Removing Removed) → as_call flights.Container (λ (answer : Answer T). answer)
+      (as_call calls.Remove removed (went_on as_it_is given tt r)) ≡ goes (removes_value {T = T} given) r tt
+  as_removed (GoOn d) = refl
+  as_removed (Done e) = refl
+
+  -- a step puts no question
+  abbrev written : ℕ → Removing → ℕ → List (Event T)
+  written p c n = remove_effects p given c.stage n ++ []
+
+  goes_so : (capacity p : ℕ) (c : Removing) (n : ℕ) (es : List (Event T)) (r : After Removing Removed) → (h : (removes_value {T = T} given).stands capacity c)
+      → RemovedAt p given c.stage es → after c n ≡ r → RemoveGoes T capacity c h.0 p given h.1 (es ++ written p c n) r
+  goes_so capacity p c n es r h at e =
+      subst (λ zs. RemoveGoes T capacity c h.0 p given h.1 (es ++ zs) r) (sym (append-nil (remove_effects p given c.stage n)))
+      (subst (RemoveGoes T capacity c h.0 p given h.1 (es ++ remove_effects p given c.stage n)) e
+      (removes_so T capacity c h.0 p given h.1 c.stage n es h.2 at))
+
+  stands_so : (capacity : ℕ) (c d : Removing) (n : ℕ) → (removes_value {T = T} given).stands capacity c → after c n ≡ GoOn d
+      → (removes_value {T = T} given).stands capacity d
+  stands_so capacity c d n h e = subst (StandsThen T capacity c h.0 0 given h.1) e (stands_then T capacity c h.0 0 given h.1 c.stage n h.2)
+
+  pub remove_call : IsCallOf code (plain_effects code) (container_words code) (λ c. remove_want c given) after (λ c m n. m) (removes_value given)
+  remove_call =
+      record {
+        same_want = λ c m. refl;
+        same_after = λ capacity c m n h. as_removed (after c n);
+        hears = λ c m a n e. (ap (after c) (remove_found c.capacity c.stage given a n e), refl);
+        stays = λ capacity c d n h e. stands_so capacity c d n h e;
+        asks = λ capacity c h. subst (λ k. AsksFor (container_words code capacity) (remove_asks k c.stage given)) (sym h.0)
+            (remove_words capacity code.size c.stage given h.1 h.2);
+        past = λ capacity c d n k h e. refl;
+        finds = λ c m n small t. tt;
+        leaves = λ c a n t e. absurd (cc);
+        tells = λ capacity p from c d m n es h wrote e new. (goes_so capacity p c n es (GoOn d) h (wrote new) e).1;
+        tells_all = λ capacity p from c end m n es h skip wrote e still new. goes_so capacity p c n es (Done end) h (wrote new) e;
+      }
+
+  pub container_remove_keeps : KeepsRule (λ (z : View T). z.capacity) (At code kinds.Container (removes_value given)) (Ends code kinds.Container (removes_value given))
+      (λ key. container_words code key + 1) (λ key. key) (λ key. IsMachine code kinds.Container key) (λ c. remove_want c given) after (λ c m n. m)
+  container_remove_keeps = container_keeps code (removes_value given) (λ c m. tt) (λ c. remove_want c given) after (λ c m n. m) remove_call (λ c n. refl)
+
+  pub container_remove_first : (v : View T) (m : Unit {0}) → v.going ≡ None → v.other ≡ [] → 0 < v.share.part → given.index < v.capacity → given.owner < empty
+      → At code kinds.Container (removes_value given) v v (first_remove v.capacity given.index) m
+  container_remove_first v m idle alone any low fits =
+      let named : nat_lt given.owner empty ≡ true = grind (arith, nat_tests) in
+      let below : nat_lt given.index v.capacity ≡ true = grind (arith, nat_tests) in
+      let flies : flights.Container (remove_of v.capacity given.index given.owner given.mode)
+      ≡ (removes_value {T = T} given).flight (first_remove v.capacity given.index) m =
+      ap (λ (i : ℕ). flights.Container (calls.Remove
+      (record { call = first_remove v.capacity i; given = record { index = i; owner = given.owner; mode = given.mode }; room = tt })))
+      (place_is v.capacity given.index low)
+      in
+      inl (record {
+        is = refl;
+        idle = idle;
+        fresh = alone;
+        standing = (refl, low, rw below tt);
+        some = any;
+        first = container_first code v (removes_value given) (Remove given.index given.owner given.mode) (first_remove v.capacity given.index) m refl
+            (λ o p h. h) named flies ((opening_of kinds.Container).kept v.capacity);
+        starts = container_starts code v (removes_value given) (Remove given.index given.owner given.mode) (first_remove v.capacity given.index) m refl
+            (λ o p h. h) named flies;
+        wrote = λ p new. rw below refl;
+      })

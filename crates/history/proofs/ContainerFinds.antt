@@ -1,0 +1,450 @@
+-- That a find on a container is a call of the model, which may rest at its question.
+use Rattle.std.proofs.Common.{Bool, true, false, if◌then◌else◌, option_map, ◌≡◌, ◌⊎◌, inl, inr, ℕ, ◌+◌, ◌*◌, ◌<◌, ◌≤◌, ◌==◌, nat_lt, Option, Some, None, List, [], ◌∷◌, ◌++◌, slice_set, append-nil, append_assoc, fold, refl, sym, ap, subst, ◌∙◌, arith}
+use Rattle.std.proofs.Math.Nat.{mul-le-mul_left}
+use Rattle.std.proofs.lemmas.Bool.Decides.{nat_tests}
+use Rattle.std.proofs.lemmas.List.{map-append}
+use Rattle.steps.specs.Container.Find.{find_asks, find_keeps, first_find, find_want, find_comes_to, find_takes, find_after}
+use Rattle.steps.specs.Container.Layout.{is_even, total_words}
+use Rattle.steps.specs.Indices.Robust.Parts.{empty}
+use Rattle.steps.specs.Picks.{by_test}
+use Rattle.steps.specs.Routine.{went_on}
+use Rattle.steps.specs.declared.ask.Ask.{Ask}
+use Rattle.steps.specs.declared.ask.After.{After}
+use Rattle.steps.specs.declared.ask.After.TheVariants.{GoOn, Done}
+use Rattle.steps.specs.declared.ask.Want.{Want}
+use Rattle.steps.specs.declared.ask.Want.TheVariants as wants
+use Rattle.steps.specs.declared.container.find.Find.{Find as Finding}
+use Rattle.steps.specs.declared.container.find.FindStage.{FindStage}
+use Rattle.steps.specs.declared.container.find.FindStage.TheVariants as finds
+use Rattle.steps.specs.declared.copied.Kept as rooms
+use Rattle.model.specs.declared.event.Answer.{Answer}
+use Rattle.model.specs.declared.event.Answer.TheVariants as answers
+use Rattle.model.specs.declared.event.Event.{Event}
+use Rattle.model.specs.declared.event.Event as events
+use Rattle.model.specs.declared.event.Start.{Start}
+use Rattle.model.specs.declared.event.Start.TheVariants.{Container}
+use Rattle.model.specs.declared.families.Flight.{Flight}
+use Rattle.model.specs.declared.families.Flight.TheVariants as flights
+use Rattle.model.specs.declared.families.container.ContainerStart.TheVariants.{Find}
+use Rattle.model.specs.declared.families.container.calls.ContainerFlight.TheVariants as calls
+use Rattle.model.specs.declared.turn.Kind.TheVariants as kinds
+use Rattle.model.specs.Coding.{Coding, IsCoding}
+use Rattle.model.specs.Families.{opening_of, is_question}
+use Rattle.model.specs.Families.Container.Calls.{find_of}
+use Rattle.model.specs.Families.Indices.Robust.Opening.{is_owner}
+use Rattle.model.specs.Families.Container.Steps.{find_effects}
+use Rattle.model.specs.Families.Queues.Calls.{as_it_is, fresh_cell, kept_at, read_in}
+use Rattle.model.specs.Reading.{own_after, Open}
+use Rattle.model.specs.Step.{as_call}
+use Rattle.model.specs.Turns.{number_of}
+use Rattle.lock_free_sp.specs.Driver.{answered, KeepsRule}
+use Rattle.history.specs.declared.view.View.{View}
+use Rattle.history.specs.ContainerFind.{FindIn, copies_of, copies_after, find_copies, finds_values}
+use Rattle.history.specs.History.{IsMachine}
+use Rattle.history.specs.Rooms.{room_of}
+use Rattle.history.specs.Settled.{IsResting, RestsAt, EndsAsked}
+use Rattle.history.specs.Value.{value_of_room}
+use Rattle.history.proofs.CallsIn.{goes, AsksFor, StepsOf}
+use Rattle.history.proofs.Containers.{container_effects, plain_effects, container_words, containers_owe, plain_acts, goes_plain, container_first, container_starts}
+use Rattle.history.proofs.Decisions.{IsAskingIn, keeps_said, hears_said, ends_said}
+use Rattle.history.proofs.RobustParts.{found_of}
+use Rattle.history.proofs.Rooms.{room_set, room_read}
+use Rattle.history.proofs.Written.{same_written}
+use Rattle.history.specs.Stages.{Calling, IsUnderWay, Ends, AtAsked}
+
+find_found : (size capacity : ℕ) (stage : FindStage) (a : Ask) (n : ℕ) → find_asks size capacity stage ≡ wants.Ask a → answered a.op n ≡ n
+find_found size capacity (finds.LoadsCell index found) a n e = found_of _ a n refl e
+find_found size capacity (finds.LoadsCount index found) a n e = found_of _ a n refl e
+find_found size capacity (finds.LoadsWord index found count at) a n e = found_of _ a n refl e
+find_found size capacity (finds.ChecksCount index found count) a n e = found_of _ a n refl e
+find_found size capacity (finds.Asks index found) a n e = absurd (cc)
+
+find_words : (capacity size : ℕ) (stage : FindStage) → FindIn size capacity stage → is_question (find_asks size capacity stage) ≡ false
+    → AsksFor (total_words capacity size) (find_asks size capacity stage)
+find_words capacity size (finds.LoadsCell index found) h still = (_, omega arith, refl)
+find_words capacity size (finds.LoadsCount index found) h still = (_, omega arith, refl)
+find_words capacity size (finds.LoadsWord index found count at) h still = (
+  _,
+  (
+      let row : size * (index + 1) ≤ size * capacity = mul-le-mul_left size (omega arith) in
+      let low = h.1 in
+      omega arith),
+  refl,
+)
+find_words capacity size (finds.ChecksCount index found count) h still = (_, omega arith, refl)
+find_words capacity size (finds.Asks index found) h still = absurd (cc)
+
+module _ {T R : Type 0} (code : Coding T) (law : IsCoding code) (words_in : R → List ℕ) (with_word : R → ℕ → ℕ → R)
+    (put_in : (x : R) (at word : ℕ) → words_in (with_word x at word) ≡ slice_set (words_in x) at word) (owner : ℕ) where
+  abbrev Room : Type 0
+  Room = R × List (ℕ × T)
+
+  abbrev finding : Calling T (Finding T R) Room ℕ
+  finding = finds_values code words_in owner
+
+  abbrev room : R → rooms.Kept 128
+  room m = room_of code.size (words_in m)
+
+  abbrev want : Finding T R → Want (Unit {0})
+  want c = find_want code.size c
+
+  abbrev after : Finding T R → ℕ → After (Finding T R) ℕ
+  after c n = find_after code.size c owner n
+
+  abbrev kept : Finding T R → Room → ℕ → Room
+  kept = find_copies code words_in with_word
+
+  abbrev call_at : ℕ → FindStage → Finding T (rooms.Kept 128)
+  call_at capacity stage = record { capacity = capacity; stage = stage; of = record {} }
+
+  -- how a find of the model goes on
+  abbrev as_model : rooms.Kept 128 → After (Finding T (rooms.Kept 128)) ℕ → After (Flight T) (Answer T)
+  as_model x r = as_call flights.Container (λ (answer : Answer T). answer) (as_call calls.Find answers.Number (went_on as_it_is owner x r))
+
+  put_there : (m : R) (at n : ℕ) → at < code.size → kept_at (room m) at n ≡ room (with_word m at n)
+  put_there m at n below = room_set code.size at n (words_in m) below ∙ ap (room_of code.size) (sym (put_in m at n))
+
+  comes_alike : (c : Finding T R) (m : Room) (stage : FindStage) (index found : ℕ)
+      → as_model (room m.0) (find_comes_to (call_at c.capacity stage) index found) ≡ goes finding (find_comes_to c index found) m
+  comes_alike c m stage index found = go (nat_lt index c.capacity) refl
+    where
+      go : (b : Bool) → nat_lt index c.capacity ≡ b
+          → as_model (room m.0) (find_comes_to (call_at c.capacity stage) index found) ≡ goes finding (find_comes_to c index found) m
+      go true t = rw t refl
+      go false t = rw t refl
+
+  goes_alike : (c : Finding T R) (m : Room) (n : ℕ) (stage : FindStage) → FindIn code.size c.capacity stage
+      → as_model (find_keeps kept_at stage (room m.0) n) (find_takes code.size (call_at c.capacity stage) stage owner n)
+      ≡ goes finding (find_takes code.size c stage owner n) (find_keeps with_word stage m.0 n, m.1)
+  goes_alike c m n (finds.LoadsCell index found) h = go (n == owner) refl
+    where
+      go : (b : Bool) → (n == owner) ≡ b → as_model (room m.0) (find_takes code.size (call_at c.capacity (finds.LoadsCell index found)) (finds.LoadsCell index found) owner n)
+          ≡ goes finding (find_takes code.size c (finds.LoadsCell index found) owner n) m
+      go true t = rw t refl
+      go false t = rw t (comes_alike c m (finds.LoadsCell index found) (index + 1) found)
+  goes_alike c m n (finds.LoadsCount index found) h = go (is_even n) refl
+    where
+      go : (b : Bool) → is_even n ≡ b → as_model (room m.0) (find_takes code.size (call_at c.capacity (finds.LoadsCount index found)) (finds.LoadsCount index found) owner n)
+          ≡ goes finding (find_takes code.size c (finds.LoadsCount index found) owner n) m
+      go true t = rw t (comes_alike c m (finds.LoadsCount index found) (index + 1) found)
+      go false t = rw t refl
+  goes_alike c m n (finds.LoadsWord index found count at) h = go (nat_lt (at + 1) code.size) refl
+    where
+      go : (b : Bool) → nat_lt (at + 1) code.size ≡ b
+          → as_model (kept_at (room m.0) at n) (find_takes code.size (call_at c.capacity (finds.LoadsWord index found count at)) (finds.LoadsWord index found count at) owner n)
+          ≡ goes finding (find_takes code.size c (finds.LoadsWord index found count at) owner n) (with_word m.0 at n, m.1)
+      go true t = rw t (ap (λ x. as_model x (GoOn (call_at c.capacity (finds.LoadsWord index found count (at + 1))))) (put_there m.0 at n h.1))
+      go false t = rw t (ap (λ x. as_model x (GoOn (call_at c.capacity (finds.ChecksCount index found count)))) (put_there m.0 at n h.1))
+  goes_alike c m n (finds.ChecksCount index found count) h = go (n == count) refl
+    where
+      go : (b : Bool) → (n == count) ≡ b → as_model (room m.0) (find_takes code.size (call_at c.capacity (finds.ChecksCount index found count)) (finds.ChecksCount index found count) owner n)
+          ≡ goes finding (find_takes code.size c (finds.ChecksCount index found count) owner n) m
+      go true t = rw t refl
+      go false t = rw t (comes_alike c m (finds.ChecksCount index found count) (index + 1) found)
+  goes_alike c m n (finds.Asks index found) h = go (n == 0) refl
+    where
+      go : (b : Bool) → (n == 0) ≡ b → as_model (room m.0) (find_takes code.size (call_at c.capacity (finds.Asks index found)) (finds.Asks index found) owner n)
+          ≡ goes finding (find_takes code.size c (finds.Asks index found) owner n) m
+      go true t = rw t refl
+      go false t = rw t (comes_alike c m (finds.Asks index found) (index + 1) found)
+
+  -- ---- what it has written
+
+  copies_so : (p : ℕ) (m : Room) (stage : FindStage) (n : ℕ) (es : List (Event T)) → es ≡ copies_of p m.1
+      → es ++ find_effects p (read_in code (room m.0)) stage n ≡ copies_of p (copies_after stage n (value_of_room code words_in m.0) m.1)
+  copies_so p m (finds.LoadsCell index found) n es h = append-nil es ∙ h
+  copies_so p m (finds.LoadsCount index found) n es h = append-nil es ∙ h
+  copies_so p m (finds.LoadsWord index found count at) n es h = append-nil es ∙ h
+  copies_so p m (finds.Asks index found) n es h = append-nil es ∙ h
+  copies_so p m (finds.ChecksCount index found count) n es h = go (n == count) refl
+    where
+      go : (b : Bool) → (n == count) ≡ b → es ++ find_effects p (read_in code (room m.0)) (finds.ChecksCount index found count) n
+          ≡ copies_of p (copies_after (finds.ChecksCount index found count) n (value_of_room code words_in m.0) m.1)
+      go true t =
+          let value : read_in code (room m.0) ≡ value_of_room code words_in m.0 = room_read code (words_in m.0) in
+          rw t (ap (λ x. es ++ events.TheVariants.Copied p index x ∷ []) value
+          ∙ (ap (λ zs. zs ++ events.TheVariants.Copied p index (value_of_room code words_in m.0) ∷ []) h
+          ∙ sym (map-append (λ (c : ℕ × T). events.TheVariants.Copied p c.0 c.1) m.1 ((index, value_of_room code words_in m.0) ∷ []))))
+      go false t = rw t (append-nil es ∙ h)
+
+  -- ---- it is a call of the model
+
+  abbrev copied_then : Finding T R → Room → ℕ → List (ℕ × T)
+  copied_then c m n = copies_after c.stage n (value_of_room code words_in m.0) m.1
+
+  find_room : (c : Finding T R) (m : Room) (a : Ask) (n : ℕ) → want c ≡ wants.Ask a
+      → (after c (answered a.op n) ≡ after c n) × (kept c m (answered a.op n) ≡ kept c m n)
+  find_room c m a n e = (let is = find_found code.size c.capacity c.stage a n e in (ap (after c) is, ap (kept c m) is))
+
+  tells_so : (p : ℕ) (c : Finding T R) (m : Room) (n : ℕ) (es : List (Event T)) → es ≡ copies_of p m.1
+      → es ++ plain_effects code p (finding.flight c m) n ≡ copies_of p (copied_then c m n)
+  tells_so p c m n es h =
+      ap (λ zs. es ++ zs) (append-nil (find_effects p (read_in code (room m.0)) c.stage n)) ∙ copies_so p m c.stage n es h
+
+  abbrev StandsThen : ℕ → After (Finding T R) ℕ → Type 0
+  StandsThen capacity (GoOn d) = (d.capacity ≡ capacity) × FindIn code.size capacity d.stage
+  StandsThen capacity (Done found) = Unit {0}
+
+  stands_then : (capacity : ℕ) (c : Finding T R) (same : c.capacity ≡ capacity) (stage : FindStage) (n : ℕ) → FindIn code.size capacity stage → (d : Finding T R)
+      → find_takes code.size c stage owner n ≡ GoOn d → (d.capacity ≡ capacity) × FindIn code.size capacity d.stage
+  stands_then capacity c same stage n h d e = onward (find_takes code.size c stage owner n) (there stage h) e
+    where
+      Stands : After (Finding T R) ℕ → Type 0
+      Stands = StandsThen capacity
+
+      onward : (r : After (Finding T R) ℕ) → Stands r → r ≡ GoOn d → (d.capacity ≡ capacity) × FindIn code.size capacity d.stage
+      onward r h e = subst Stands e h
+
+      comes : (index found : ℕ) → index < capacity → Stands (find_comes_to c (index + 1) found)
+      comes index found low =
+          by_test Stands (nat_lt (index + 1) c.capacity) _ _ (λ t. (same, (let below : index + 1 < c.capacity = grind (arith, nat_tests) in omega arith))) (λ t. tt)
+
+      there : (stage : FindStage) → FindIn code.size capacity stage → Stands (find_takes code.size c stage owner n)
+      there (finds.LoadsCell index found) h = by_test Stands (n == owner) _ _ (λ t. (same, h)) (λ t. comes index found h)
+      there (finds.LoadsCount index found) h =
+          let some = law.some in
+          by_test Stands (is_even n) _ _ (λ t. comes index found h) (λ t. (same, (h, omega arith)))
+      there (finds.LoadsWord index found count at) h =
+          by_test Stands (nat_lt (at + 1) code.size) _ _ (λ t. (same, (h.0, grind (arith, nat_tests)))) (λ t. (same, h.0))
+      there (finds.ChecksCount index found count) h = by_test Stands (n == count) _ _ (λ t. (same, h)) (λ t. comes index found h)
+      there (finds.Asks index found) h = by_test Stands (n == 0) _ _ (λ t. tt) (λ t. comes index found h)
+
+  -- what it has copied is nothing to the model
+  goes_any : (r : After (Finding T R) ℕ) (x : R) (xs ys : List (ℕ × T)) → goes finding r (x, xs) ≡ goes finding r (x, ys)
+  goes_any (GoOn d) x xs ys = refl
+  goes_any (Done e) x xs ys = refl
+
+  find_steps : StepsOf ((capacity : ℕ) (c : Finding T R) → finding.stands capacity c → is_question (want c) ≡ false → AsksFor (container_words code capacity) (want c)) code
+      (plain_effects code) want after kept finding
+  find_steps =
+      record {
+        same_want = λ c m. refl;
+        same_after = λ capacity c m n h. goes_alike c m n c.stage (subst (λ k. FindIn code.size k c.stage) (sym h.0) h.1)
+            ∙ goes_any (after c n) (find_keeps with_word c.stage m.0 n) m.1 (copied_then c m n);
+        hears = λ c m a n e. find_room c m a n e;
+        stays = λ capacity c d n h e. stands_then capacity c h.0 c.stage n h.1 d e;
+        asks = λ capacity c h still. subst (λ k. AsksFor (container_words code capacity) (find_asks code.size k c.stage)) (sym h.0)
+            (find_words capacity code.size c.stage h.1 (subst (λ k. is_question (find_asks code.size k c.stage) ≡ false) h.0 still));
+        past = λ capacity c d n k h e. refl;
+        finds = λ c m n small t. tt;
+        leaves = λ c a n t e. absurd (cc);
+        tells = λ capacity p from c d m n es h wrote e new. tells_so p c m n es (wrote new);
+        tells_all = λ capacity p from c end m n es h skip wrote e still new. tells_so p c m n es (wrote new);
+      }
+
+  -- ---- which find a flight is, and with which room
+
+  abbrev find_in : Finding T R → Flight T → Finding T R
+  find_in c (flights.Container (calls.Find run)) = record { capacity = run.call.capacity; stage = run.call.stage; of = record {} }
+  find_in c flight = c
+
+  abbrev begun_find : Finding T R → Option (Flight T) → Finding T R
+  begun_find c None = c
+  begun_find c (Some flight) = find_in c flight
+
+  -- the first of it puts no question
+  first_so : (capacity : ℕ) (c : Finding T R) (m : Room) (named : Bool)
+      → option_map flights.Container (if named then Some (find_of {T = T} capacity owner) else None) ≡ Some (finding.flight c m)
+      → is_question (want c) ≡ false
+  first_so capacity c m true e = ap (λ (z : Finding T R). is_question (want z)) (sym (ap (λ (o : Option (Flight T)). begun_find c o) e))
+  first_so capacity c m false e = absurd (cc)
+
+  -- no question comes right after another
+  abbrev AsksNone : After (Finding T R) ℕ → Type 0
+  AsksNone (GoOn d) = is_question (want d) ≡ false
+  AsksNone (Done found) = Unit {0}
+
+  asks_none : (c : Finding T R) (n : ℕ) (stage : FindStage) → is_question (find_asks code.size c.capacity stage) ≡ true → AsksNone (find_takes code.size c stage owner n)
+  asks_none c n (finds.LoadsCell index found) due = absurd (cc)
+  asks_none c n (finds.LoadsCount index found) due = absurd (cc)
+  asks_none c n (finds.LoadsWord index found count at) due = absurd (cc)
+  asks_none c n (finds.ChecksCount index found count) due = absurd (cc)
+  asks_none c n (finds.Asks index found) due =
+      by_test AsksNone (n == 0) _ _ (λ t. tt) (λ t. by_test AsksNone (nat_lt (index + 1) c.capacity) _ _ (λ u. refl) (λ u. tt))
+
+  -- a question leaves what it keeps
+  asked_room : (c : Finding T R) (m : Room) (n : ℕ) (stage : FindStage) → is_question (find_asks code.size c.capacity stage) ≡ true
+      → ◌≡◌ {A = Room} (find_keeps with_word stage m.0 n, copies_after stage n (value_of_room code words_in m.0) m.1) m
+  asked_room c m n (finds.LoadsCell index found) due = absurd (cc)
+  asked_room c m n (finds.LoadsCount index found) due = absurd (cc)
+  asked_room c m n (finds.LoadsWord index found count at) due = absurd (cc)
+  asked_room c m n (finds.ChecksCount index found count) due = absurd (cc)
+  asked_room c m n (finds.Asks index found) due = refl
+
+  pub find_call : IsAskingIn code kinds.Container (plain_effects code) (container_words code) want after kept finding
+  find_call =
+      record {
+        steps = find_steps;
+        never = λ c n. refl;
+        same_call = λ c d m k e. ap (find_in c) e;
+        same_room = λ capacity p from c m k a b es due e keeps wrote.
+            subst (λ (z : Room). from ≡ None → es ≡ copies_of p z.1) (sym (asked_room c m a c.stage due) ∙ (keeps ∙ asked_room c k b c.stage due)) wrote;
+        first = λ n c m e. first_so n c m (is_owner owner) e;
+        one = λ c d n due e. subst AsksNone e (asks_none c n c.stage due);
+      }
+
+  -- ---- it may rest at its question
+
+  abbrev FindOver : View T → ℕ → Room → View T → Type 0
+  FindOver = EndsAsked code kinds.Container after kept finding
+
+  rests_so : (base v : View T) (c : Finding T R) (m : Room) (said : Bool) (e : ℕ) → is_question (want c) ≡ true → after c (number_of said) ≡ Done e
+      → IsUnderWay code kinds.Container finding base v c m → FindOver base e (kept c m (number_of said)) v
+  rests_so base v c m said e due ends under =
+      let room_same : kept c m (number_of said) ≡ m = asked_room c m (number_of said) c.stage due in
+      subst (λ k. FindOver base e k v) (sym room_same)
+      (inr (record { asking = c; before = under; asks = due; said = said; goes = ends; keeps = room_same }))
+
+  ended_step : (base : View T) (e : ℕ) (m : Room) (w : View T) → Ends code kinds.Container finding base e m w → FindOver base e m w
+  ended_step base e m w h = inl h
+
+  -- each step of a find keeps the rule of the table
+  pub container_find_keeps : KeepsRule (λ (z : View T). z.capacity) (AtAsked code kinds.Container after kept finding) FindOver
+      (λ key. container_words code key + 1) (λ key. key) (λ key. IsMachine code kinds.Container key) want after kept
+  container_find_keeps =
+      keeps_said code kinds.Container tt container_effects (plain_effects code) (container_words code) (containers_owe code) want after kept finding
+      (plain_acts code finding (λ c m. tt)) find_call FindOver ended_step rests_so
+
+  -- a find that has asked goes on from the answer
+  pub container_find_hears : (base v : View T) (c d : Finding T R) (m : Room) (said : Bool) → is_question (want c) ≡ true
+      → after c (number_of said) ≡ GoOn d → AtAsked code kinds.Container after kept finding base v c m
+      → AtAsked code kinds.Container after kept finding base v d (kept c m (number_of said))
+  container_find_hears =
+      hears_said code kinds.Container tt container_effects (plain_effects code) (container_words code) (containers_owe code) want after kept finding
+      (plain_acts code finding (λ c m. tt)) find_call FindOver ended_step rests_so
+
+  -- or has ended with it
+  pub container_find_ends : (base v : View T) (c : Finding T R) (m : Room) (said : Bool) (e : ℕ) → is_question (want c) ≡ true
+      → after c (number_of said) ≡ Done e → AtAsked code kinds.Container after kept finding base v c m → FindOver base e (kept c m (number_of said)) v
+  container_find_ends =
+      ends_said code kinds.Container tt container_effects (plain_effects code) (container_words code) (containers_owe code) want after kept finding
+      (plain_acts code finding (λ c m. tt)) find_call FindOver ended_step rests_so
+
+  -- in a room of zeros in which a value fits
+  pub container_find_first : (v : View T) (m : Room) → room m.0 ≡ fresh_cell → m.1 ≡ [] → v.going ≡ None → v.other ≡ [] → 0 < v.share.part → 0 < v.capacity → owner < empty
+      → AtAsked code kinds.Container after kept finding v v (first_find v.capacity) m
+  container_find_first v m zeros none idle alone any some fits =
+      let named : nat_lt owner empty ≡ true = grind (arith, nat_tests) in
+      let flies : flights.Container (find_of v.capacity owner) ≡ finding.flight (first_find v.capacity) m =
+      ap (λ x. flights.Container (calls.Find (record { call = call_at v.capacity (finds.LoadsCell 0 0); given = owner; room = x }))) (sym zeros)
+      in
+      inl (inl (record {
+        is = refl;
+        idle = idle;
+        fresh = alone;
+        standing = (refl, some);
+        some = any;
+        first = container_first code v finding (Find owner) (first_find v.capacity) m refl (λ o p h. h) named flies ((opening_of kinds.Container).kept v.capacity);
+        starts = container_starts code v finding (Find owner) (first_find v.capacity) m refl (λ o p h. h) named flies;
+        wrote = λ p new. ap (copies_of p) (sym none);
+      }))
+
+  -- ---- what it has copied is told by what its pass has seen
+
+  copies_span : (p : ℕ) (start : Start T) (ws : List (Event T)) (xs : List (ℕ × T))
+      → fold own_after (Open start ws) (copies_of p xs) ≡ Open start (ws ++ copies_of p xs)
+  copies_span p start ws [] = ap (Open start) (sym (append-nil ws))
+  copies_span p start ws (x ∷ xs) =
+      let e : Event T = events.TheVariants.Copied p x.0 x.1 in
+      copies_span p start (ws ++ e ∷ []) xs ∙ ap (Open start) (append_assoc ws (e ∷ []) (copies_of p xs))
+
+  one_list : (p : ℕ) (xs ys : List (ℕ × T)) → copies_of p xs ≡ copies_of p ys → xs ≡ ys
+  one_list p [] [] e = refl
+  one_list p [] (y ∷ ys) e = absurd (cc)
+  one_list p (x ∷ xs) [] e = absurd (cc)
+  one_list p (x ∷ xs) (y ∷ ys) e =
+      let first : ◌≡◌ {A = Event T} (events.TheVariants.Copied p x.0 x.1) (events.TheVariants.Copied p y.0 y.1) = cc in
+      let index : x.0 ≡ y.0 = cc in
+      let value : x.1 ≡ y.1 = cc in
+      let rest : copies_of p xs ≡ copies_of p ys = cc in
+      let same = one_list p xs ys rest in
+      λ i. (index i, value i) ∷ same i
+
+  abbrev Stands : View T → View T → Room → Type 0
+  Stands base v m =
+      ((v.going ≡ None) × (m.1 ≡ []))
+      ⊎ ((d : Finding T R) × (k : Room) × (k.1 ≡ m.1) × IsUnderWay code kinds.Container finding base v d k)
+
+  stands_at : (base v : View T) (c : Finding T R) (m : Room) → AtAsked code kinds.Container after kept finding base v c m → Stands base v m
+  stands_at base v c m (inl (inl first)) = inl (ap (λ (z : View T). z.going) first.is ∙ first.idle, sym (one_list 0 [] m.1 (first.wrote 0 refl)))
+  stands_at base v c m (inl (inr under)) = inr (c, m, refl, under)
+  stands_at base v c m (inr h) =
+      inr (h.asking, h.room, ap (λ (z : Room). z.1) (sym (h.keeps ∙ asked_room h.asking h.room (number_of h.said) h.asking.stage h.asks)), h.before)
+
+  -- who knows of it from where it began knows the same of it
+  pub find_copied : (base other v : View T) (c d : Finding T R) (m k : Room) → base.going ≡ None → other.going ≡ None
+      → AtAsked code kinds.Container after kept finding base v c m → AtAsked code kinds.Container after kept finding other v d k → m.1 ≡ k.1
+  find_copied base other v c d m k idle still at there = go (stands_at base v c m at) (stands_at other v d k there)
+    where
+      start : Start T
+      start = Container (Find owner)
+
+      long : (x : View T) (e : Finding T R) (r : Room) → x.going ≡ None → (under : IsUnderWay code kinds.Container finding x v e r)
+          → fold own_after (Open start []) under.wrote ≡ Open start under.wrote
+      long x e r none under =
+          let is = under.tells none in
+          ap (fold own_after (Open start [])) is ∙ (copies_span under.party start [] r.1 ∙ ap (Open start) (sym is))
+
+      go : Stands base v m → Stands other v k → m.1 ≡ k.1
+      go (inl x) (inl y) = x.1 ∙ sym y.1
+      go (inl x) (inr y) = (let no : ◌≡◌ {A = Option (Start T × Flight T)} None (Some (start, finding.flight y.0 y.1)) = sym x.0 ∙ y.3.going in absurd (cc))
+      go (inr x) (inl y) = (let no : ◌≡◌ {A = Option (Start T × Flight T)} None (Some (start, finding.flight x.0 x.1)) = sym y.0 ∙ x.3.going in absurd (cc))
+      go (inr x) (inr y) =
+          let same = same_written code kinds.Container finding base other v x.0 y.0 x.1 y.1 idle still x.3 y.3
+          (long base x.0 x.1 idle x.3) (long other y.0 y.1 still y.3) in
+          let lists : copies_of x.3.party x.1.1 ≡ copies_of x.3.party y.1.1 = sym (x.3.tells idle)
+          ∙ (same.1 ∙ (y.3.tells still ∙ ap (λ q. copies_of q y.1.1) (sym same.0))) in
+          sym x.2 ∙ (one_list x.3.party x.1.1 y.1.1 lists ∙ y.2)
+
+  -- ---- where it rests
+
+  asked_at : (c : Finding T R) (said : Bool) (e : ℕ) (stage : FindStage) → is_question (find_asks code.size c.capacity stage) ≡ true
+      → find_takes code.size c stage owner (number_of said) ≡ Done e → (m : Room)
+      → as_model (room m.0) (find_takes code.size (call_at c.capacity stage) stage owner (number_of false)) ≡ Done (answers.Number e)
+  asked_at c said e (finds.LoadsCell index found) due ends m = absurd (cc)
+  asked_at c said e (finds.LoadsCount index found) due ends m = absurd (cc)
+  asked_at c said e (finds.LoadsWord index found count at) due ends m = absurd (cc)
+  asked_at c said e (finds.ChecksCount index found count) due ends m = absurd (cc)
+  asked_at c false e (finds.Asks index found) due ends m = (let same : found ≡ e = cc in ap (λ n. Done (answers.Number n)) same)
+  asked_at c true e (finds.Asks index found) due ends m = go (nat_lt (index + 1) c.capacity) refl
+    where
+      go : (b : Bool) → nat_lt (index + 1) c.capacity ≡ b
+          → as_model (room m.0) (find_takes code.size (call_at c.capacity (finds.Asks index found)) (finds.Asks index found) owner (number_of false)) ≡ Done (answers.Number e)
+      go true t = (let no : ◌≡◌ {A = After (Finding T R) ℕ} (GoOn (record { capacity = c.capacity; stage = finds.LoadsCell (index + 1) found; of = record {} })) (Done e) = rw t at ends in absurd (cc))
+      go false t =
+          let over : ◌≡◌ {A = After (Finding T R) ℕ} (Done found) (Done e) = rw t at ends in
+          let same : found ≡ e = cc in
+          ap (λ n. Done (answers.Number n)) same
+
+  -- a no would end it, with the number that it has answered
+  pub find_rests : (base v : View T) (e : ℕ) (m : Room) → RestsAt code kinds.Container after kept finding base v e m → IsResting code v
+  find_rests base v e m h =
+      let under = h.before in
+      record {
+        party = under.party;
+        mine = under.mine;
+        start = Container (Find owner);
+        flight = finding.flight h.asking m;
+        going = under.going;
+        asks = h.asks;
+        answer = answers.Number e;
+        ends = λ there.
+            goes_plain code under.party (finding.flight h.asking m) (number_of false) there tt
+            ∙ (ap (λ x. as_model x (find_takes code.size (call_at h.asking.capacity h.asking.stage) h.asking.stage owner (number_of false))) (asks_room h.asking.stage h.asks)
+            ∙ asked_at h.asking h.said e h.asking.stage h.asks h.goes m);
+        alone = under.alone;
+        some = under.some;
+      }
+    where
+      asks_room : (stage : FindStage) → is_question (find_asks code.size h.asking.capacity stage) ≡ true → find_keeps kept_at stage (room m.0) (number_of false) ≡ room m.0
+      asks_room (finds.LoadsCell index found) due = absurd (cc)
+      asks_room (finds.LoadsCount index found) due = absurd (cc)
+      asks_room (finds.LoadsWord index found count at) due = absurd (cc)
+      asks_room (finds.ChecksCount index found count) due = absurd (cc)
+      asks_room (finds.Asks index found) due = refl
+
+  -- as the party of the find, with its number
+  pub find_rests_so : (base v : View T) (e : ℕ) (m : Room) (h : RestsAt code kinds.Container after kept finding base v e m)
+      → (r : IsResting code v) × (r.party ≡ h.before.party) × (r.start ≡ Container (Find owner)) × (r.answer ≡ answers.Number e)
+  unfolding find_rests
+  find_rests_so base v e m h = (find_rests base v e m h, refl, refl, refl)

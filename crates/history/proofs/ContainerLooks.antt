@@ -1,0 +1,142 @@
+-- What a look of a state comes to, where the machine has the state for its party that its drive has.
+use Rattle.std.proofs.Common.{◌≡◌, inl, inr, ℕ, suc, ◌+◌, ◌<◌, ◌≤◌, ◌==◌, nat_lt, Bool, true, false, Option, List, [], ◌∷◌, ◌++◌, slice_index_or, append-nil, refl, sym, ap, subst, ◌∙◌, arith}
+use Rattle.std.proofs.lemmas.Bool.Decides.{nat_tests}
+use Rattle.steps.specs.Container.Layout.{is_even, total_words}
+use Rattle.steps.specs.Container.Look.{look_asks, look_comes_to, look_finds, look_takes, look_after, look_kept}
+use Rattle.steps.specs.Container.State.{Numbers, Showing}
+use Rattle.steps.specs.Copied.{value_in}
+use Rattle.steps.specs.Picks.{by_test}
+use Rattle.steps.specs.declared.ask.Ask.{Ask}
+use Rattle.steps.specs.declared.ask.After.{After}
+use Rattle.steps.specs.declared.ask.After.TheVariants.{GoOn, Done}
+use Rattle.steps.specs.declared.ask.Want.TheVariants as wants
+use Rattle.steps.specs.declared.container.look.Look.{Look as Looking}
+use Rattle.steps.specs.declared.container.look.LookStage.{LookStage}
+use Rattle.steps.specs.declared.container.look.LookStage.TheVariants as looks
+use Rattle.steps.specs.declared.container.state.ContainerState.{ContainerState}
+use Rattle.model.specs.declared.event.Answer.{Answer}
+use Rattle.model.specs.declared.event.Event.{Event}
+use Rattle.model.specs.declared.event.Event.TheVariants.{Copied}
+use Rattle.model.specs.declared.event.Start.TheVariants.{Container}
+use Rattle.model.specs.declared.families.Flight.TheVariants as flights
+use Rattle.model.specs.declared.families.Kept.{Kept}
+use Rattle.model.specs.declared.families.Kept.TheVariants as kepts
+use Rattle.model.specs.declared.families.container.ContainerStart.{ContainerStart}
+use Rattle.model.specs.declared.families.container.calls.ContainerFlight.TheVariants as calls
+use Rattle.model.specs.declared.families.container.calls.LookOf.{LookOf}
+use Rattle.model.specs.Coding.{Coding}
+use Rattle.model.specs.Families.{goes_of, step_of}
+use Rattle.model.specs.Families.Container.Calls.{look_came, settled_if}
+use Rattle.model.specs.Families.Container.Steps.{look_effects, look_effects_of}
+use Rattle.model.specs.Step.{as_call}
+use Rattle.model.specs.World.{World}
+use Rattle.container_laws.proofs.Core.{data_within}
+use Rattle.container_laws.proofs.Looks.{written_same}
+use Rattle.lock_free_sp.specs.Driver.{answered}
+use Rattle.history.specs.ContainerFind.{HasCopied}
+use Rattle.history.specs.ContainerLooks.{LookIn, state_of_look, HasState, LookedAt, HasLookedAll, looks_at}
+use Rattle.history.specs.Stages.{Calling}
+use Rattle.history.proofs.CallsIn.{AsksFor}
+use Rattle.history.proofs.ContainerCalls.{change_low, count_low}
+use Rattle.history.proofs.Containers.{container_effects}
+use Rattle.history.proofs.Drives.{goes}
+use Rattle.history.proofs.RobustParts.{found_of}
+
+-- ---- what it asks for
+
+pub look_words : (size capacity : ℕ) (stage : LookStage) → LookIn size capacity stage → AsksFor (total_words capacity size) (look_asks size capacity stage)
+look_words size capacity looks.LoadsChange h = (_, change_low capacity size, refl)
+look_words size capacity (looks.LoadsCount index) h = (_, count_low capacity size index h, refl)
+look_words size capacity (looks.LoadsWord index count at) h = (_, data_within capacity size index at h.0 h.1, refl)
+look_words size capacity (looks.ChecksCount index count) h = (_, count_low capacity size index h, refl)
+
+pub look_found : (size capacity : ℕ) (stage : LookStage) (a : Ask) (n : ℕ) → look_asks size capacity stage ≡ wants.Ask a
+    → answered a.op n ≡ n
+look_found size capacity looks.LoadsChange a n e = found_of _ a n refl e
+look_found size capacity (looks.LoadsCount index) a n e = found_of _ a n refl e
+look_found size capacity (looks.LoadsWord index count at) a n e = found_of _ a n refl e
+look_found size capacity (looks.ChecksCount index count) a n e = found_of _ a n refl e
+
+-- ---- where it goes on, and what it has written then
+
+module _ {T : Type 0} (size : ℕ) (some : 0 < size) (which : LookOf) (capacity cells : ℕ) (seen : Numbers) (c : Looking T) (same : c.capacity ≡ capacity)
+    (p : ℕ) where
+  abbrev looking : Calling T (Looking T) (Showing T) Bool
+  looking = looks_at size which cells seen
+
+  abbrev pub LookGoes : List (Event T) → After (Looking T) Bool → Type 0
+  LookGoes es (GoOn d) = looking.stands capacity d × LookedAt p d.stage es
+  LookGoes es (Done changed) = HasLookedAll capacity p changed es
+
+  quiet : (es : List (Event T)) (r : After (Looking T) Bool) → LookGoes es r → LookGoes (es ++ []) r
+  quiet es r h = subst (λ zs. LookGoes zs r) (sym (append-nil es)) h
+
+  comes_to : (index : ℕ) → index ≤ capacity → (es : List (Event T)) → HasCopied p 0 index es → LookGoes es (look_comes_to c index)
+  comes_to index low es h =
+      by_test (LookGoes es) (nat_lt index c.capacity) _ _
+      (λ t. (let below : index < c.capacity = grind (arith, nat_tests) in ((same, omega arith), h)))
+      (λ t. (let past : c.capacity ≤ index = grind (arith, nat_tests) in let last : index ≡ capacity = omega arith in subst (λ i. HasCopied p 0 i es) last h))
+
+  next_to : (index : ℕ) → index < capacity → (es : List (Event T)) → HasCopied p 0 (suc index) es → LookGoes es (look_comes_to c (index + 1))
+  next_to index low es h =
+      (let next : suc index ≡ index + 1 = omega arith in comes_to (index + 1) (omega arith) es (subst (λ i. HasCopied p 0 i es) next h))
+
+  finds : (index count : ℕ) → index < capacity → (es : List (Event T)) → HasCopied p 0 index es → LookGoes es (look_finds c index count)
+  finds index count low es h =
+      by_test (LookGoes es) (is_even count) _ _ (λ t. next_to index low es (inl h)) (λ t. ((same, (low, some)), h))
+
+  pub looks_so : (value : T) (stage : LookStage) (k : ℕ) (es : List (Event T)) → LookIn size capacity stage → LookedAt p stage es
+      → LookGoes (es ++ look_effects p value stage k) (look_takes size c stage seen k)
+  looks_so value looks.LoadsChange k es h at =
+      quiet es (look_takes size c looks.LoadsChange seen k)
+      (by_test (LookGoes es) (k == seen.change) _ _ (λ t. at) (λ t. comes_to 0 (omega arith) es at))
+  looks_so value (looks.LoadsCount index) k es h at =
+      quiet es (look_takes size c (looks.LoadsCount index) seen k)
+      (by_test (LookGoes es) (k == slice_index_or seen.counts index 0) _ _ (λ t. next_to index h es (inl at)) (λ t. finds index k h es at))
+  looks_so value (looks.LoadsWord index count at) k es h was =
+      quiet es (look_takes size c (looks.LoadsWord index count at) seen k)
+      (by_test (LookGoes es) (nat_lt (at + 1) size) _ _
+      (λ t. (let next : at + 1 < size = grind (arith, nat_tests) in ((same, (h.0, next)), was)))
+      (λ t. ((same, h.0), was)))
+  looks_so value (looks.ChecksCount index count) k es h at = go (k == count) refl
+    where
+      go : (b : Bool) → (k == count) ≡ b → LookGoes (es ++ look_effects p value (looks.ChecksCount index count) k)
+          (look_takes size c (looks.ChecksCount index count) seen k)
+      go true e = rw e (next_to index h (es ++ Copied p index value ∷ []) (inr (es, value, at, (let same : index ≡ 0 + index = omega arith in ap (λ n. es ++ Copied p n value ∷ []) same))))
+      go false e = rw e (quiet es (look_finds c index k) (finds index k h es at))
+
+-- ---- the state that the machine has for its party
+
+module _ {T : Type 0} (code : Coding T) (which : LookOf) (capacity : ℕ) (seen : Numbers) (p : ℕ) where
+  abbrev drives : Calling T (Looking T) (Showing T) Bool
+  drives = looks_at code.size which capacity seen
+
+  abbrev kept_shown : Looking T → Showing T → ℕ → Showing T
+  kept_shown c m n = look_kept code.value_of code.size c m n
+
+  came_so : (m : Showing T) (r : After (Looking T) Bool) → as_call flights.Container (λ (answer : Answer T). answer) (look_came which (state_of_look capacity seen m) r)
+      ≡ goes drives r m
+  came_so m (GoOn d) = refl
+  came_so m (Done changed) = refl
+
+  -- the look goes on from it as its drive does
+  pub look_goes_so : (c : Looking T) (m : Showing T) (n : ℕ) (kept : Kept T) → HasState kept p (state_of_look capacity seen m)
+      → goes_of code p (flights.Container (calls.Look which c)) n kept ≡ goes drives (look_after code.size c seen n) (kept_shown c m n)
+  look_goes_so c m n (kepts.Container dead states) has = rw has (came_so (kept_shown c m n) (look_after code.size c seen n))
+  look_goes_so c m n kept has = absurd (cc)
+
+  -- and writes into it what the drive's room has then
+  pub look_keeps_so : (words : List ℕ) (beside : Option (ℕ × ℕ)) (start : ContainerStart T) (c : Looking T) (m : Showing T) (n : ℕ) (kept : Kept T)
+      → HasState kept p (state_of_look capacity seen m)
+      → HasState (step_of code words beside p (Container start) (flights.Container (calls.Look which c)) n kept).kept p
+      (settled_if (look_after code.size c seen n) (state_of_look capacity seen (kept_shown c m n)))
+  look_keeps_so words beside start c m n (kepts.Container dead states) has =
+      let then : ContainerState T = settled_if (look_after code.size c seen n) (state_of_look capacity seen (kept_shown c m n)) in
+      rw has (written_same p then (state_of_look capacity seen m) states has)
+  look_keeps_so words beside start c m n kept has = absurd (cc)
+
+  -- its copies are of what the room has read
+  pub look_writes_so : (c : Looking T) (m : Showing T) (n : ℕ) (w : World T) → w.coding ≡ code → HasState w.kept p (state_of_look capacity seen m)
+      → container_effects w p (flights.Container (calls.Look which c)) n ≡ look_effects p (value_in code.value_of code.size m.copy) c.stage n ++ []
+  look_writes_so c m n w coded has =
+      ap (λ o. look_effects_of w.coding p c.stage n o ++ []) has ∙ ap (λ (z : Coding T). look_effects p (value_in z.value_of z.size m.copy) c.stage n ++ []) coded

@@ -1,0 +1,169 @@
+-- Each call of a container on a pass whose last call may rest at a find's question.
+use Rattle.std.proofs.Common.{Bool, true, false, ◌≡◌, inl, inr, ℕ, ◌+◌, ◌<◌, Option, Some, None, List, [], refl, sym, ap, ◌∙◌}
+use Rattle.atomic_table.specs.Table.{Allows}
+use Rattle.steps.specs.Container.Find.{find_asks}
+use Rattle.steps.specs.Container.Recover.{recover_asks}
+use Rattle.steps.specs.Container.Replace.{replace_asks}
+use Rattle.steps.specs.declared.ask.After.{After}
+use Rattle.steps.specs.declared.ask.After.TheVariants.{GoOn, Done}
+use Rattle.steps.specs.declared.ask.Want.{Want}
+use Rattle.steps.specs.declared.container.find.FindStage.{FindStage}
+use Rattle.steps.specs.declared.container.find.FindStage.TheVariants as finds
+use Rattle.steps.specs.declared.container.recover.RecoverStage.{RecoverStage}
+use Rattle.steps.specs.declared.container.recover.RecoverStage.TheVariants as recovers
+use Rattle.steps.specs.declared.container.replace.ReplaceStage.{ReplaceStage}
+use Rattle.steps.specs.declared.container.replace.ReplaceStage.TheVariants as replaces
+use Rattle.model.specs.declared.event.Answer.{Answer}
+use Rattle.model.specs.declared.event.Event.{Event}
+use Rattle.model.specs.declared.event.Start.{Start}
+use Rattle.model.specs.declared.families.Flight.{Flight}
+use Rattle.model.specs.declared.families.Flight as flights
+use Rattle.model.specs.declared.families.container.calls.ContainerFlight.{ContainerFlight}
+use Rattle.model.specs.declared.families.container.calls.ContainerFlight.TheVariants as calls
+use Rattle.model.specs.declared.turn.Kind.TheVariants as kinds
+use Rattle.model.specs.Coding.{Coding}
+use Rattle.model.specs.Families.{want_of, goes_of, is_question}
+use Rattle.model.specs.Turns.{number_of}
+use Rattle.model.specs.World.{World}
+use Rattle.robust_laws.proofs.Sound.{count_asks_none, raise_asks_none, lock_asks_none}
+use Rattle.container_laws.proofs.LooksTell.{look_asks_none}
+use Rattle.container_laws.proofs.Moves.{add_asks_none, remove_asks_none}
+use Rattle.lock_free_sp.specs.Driver.{KeepsRule}
+use Rattle.history.specs.declared.view.View.{View}
+use Rattle.history.specs.History.{IsMachine, IsLate}
+use Rattle.history.specs.Settled.{IsResting, Settles, AtRested, EndsRested}
+use Rattle.history.specs.Stages.{Calling, At, Ends, AtAsked}
+use Rattle.history.proofs.CallsIn.{AsksFor}
+use Rattle.history.proofs.Containers.{container_effects, container_words, containers_owe}
+use Rattle.history.proofs.Settling.{keeps_rested, settles_at}
+
+pub clash : {A : Type 0} (b : Bool) → b ≡ true → b ≡ false → A
+clash b due still = (let both : true ≡ false = sym due ∙ still in absurd (cc))
+
+module _ {T : Type 0} where
+  replace_asks_none : (code : Coding T) (c : ℕ) (stage : ReplaceStage) (given : _) → is_question (replace_asks code.words_of code.size c stage given) ≡ false
+  replace_asks_none code c replaces.Refuses given = refl
+  replace_asks_none code c replaces.LoadsCell given = refl
+  replace_asks_none code c replaces.LoadsCount given = refl
+  replace_asks_none code c (replaces.Hides count) given = refl
+  replace_asks_none code c (replaces.Stores at) given = refl
+  replace_asks_none code c replaces.AddsCount given = refl
+  replace_asks_none code c replaces.AddsChange given = refl
+
+  -- ---- an answer that ends a call writes nothing
+
+  module _ (code : Coding T) (w : World T) (p : ℕ) (answer : Answer T) where
+    abbrev EndsBy : ContainerFlight T → Type 0
+    EndsBy flight =
+        is_question (want_of code (flights.TheVariants.Container flight)) ≡ true
+        → goes_of code p (flights.TheVariants.Container flight) (number_of false) w.kept ≡ Done answer
+        → container_effects w p (flights.TheVariants.Container flight) (number_of false) ≡ []
+
+    abbrev IsOn : After (Flight T) (Answer T) → Type 0
+    IsOn (GoOn flight) = Unit {0}
+    IsOn (Done answer) = ⊥
+
+    ends_quietly : (flight : ContainerFlight T) → EndsBy flight
+    ends_quietly (calls.Add run) due e = clash (is_question _) due (add_asks_none code run.call.capacity run.call.stage run.given)
+    ends_quietly (calls.Remove run) due e = clash (is_question _) due (remove_asks_none run.call.capacity run.call.stage run.given)
+    ends_quietly (calls.Replace run) due e = clash (is_question _) due (replace_asks_none code run.call.capacity run.call.stage run.given)
+    ends_quietly (calls.Find run) due e = go run.call.stage refl due
+      where
+        go : (stage : FindStage) → run.call.stage ≡ stage → is_question (find_asks code.size run.call.capacity stage) ≡ true
+            → container_effects w p (flights.TheVariants.Container (calls.Find run)) (number_of false) ≡ []
+        go (finds.LoadsCell index found) is due = absurd (cc)
+        go (finds.LoadsCount index found) is due = absurd (cc)
+        go (finds.LoadsWord index found count at) is due = absurd (cc)
+        go (finds.ChecksCount index found count) is due = absurd (cc)
+        go (finds.Asks index found) is due = rw is refl
+    ends_quietly (calls.Recover run) due e = go run.call.stage refl due
+      where
+        go : (stage : RecoverStage) → run.call.stage ≡ stage → is_question (recover_asks code.size run.call.capacity stage run.given.owner) ≡ true
+            → container_effects w p (flights.TheVariants.Container (calls.Recover run)) (number_of false) ≡ []
+        go recovers.LoadsCounter is due = absurd (cc)
+        go (recovers.LoadsCell index) is due = absurd (cc)
+        go (recovers.LoadsCount index) is due = absurd (cc)
+        go (recovers.LoadsWord index count at) is due = absurd (cc)
+        go (recovers.ChecksCount index count) is due = absurd (cc)
+        go (recovers.Asks index count) is due = rw is refl
+        go (recovers.EmptiesCell index count) is due = absurd (cc)
+        go (recovers.Hides index count) is due = absurd (cc)
+        go (recovers.Raises index raise) is due = clash (is_question _) due (raise_asks_none raise)
+        go (recovers.Locks index lock) is due = clash (is_question _) due (lock_asks_none lock)
+        go recovers.LoadsCounterAgain is due = absurd (cc)
+        go (recovers.AddsChange state) is due = absurd (cc)
+    ends_quietly (calls.Look which call) due e = clash (is_question _) due (look_asks_none code.size call.capacity call.stage)
+    ends_quietly (calls.Count which run) due e = clash (is_question _) due (count_asks_none run.call.count)
+    ends_quietly (calls.IsLocked run) due e = absurd (cc)
+
+    quietly : (flight : Flight T) → is_question (want_of code flight) ≡ true → goes_of code p flight (number_of false) w.kept ≡ Done answer
+        → container_effects w p flight (number_of false) ≡ []
+    quietly (flights.TheVariants.Container flight) due e = ends_quietly flight due e
+    quietly flight due e = refl
+
+  pub ends_quiet : (code : Coding T) (w : World T) (p : ℕ) (flight : Flight T) (answer : Answer T) → is_question (want_of code flight) ≡ true
+      → goes_of code p flight (number_of false) w.kept ≡ Done answer → container_effects w p flight (number_of false) ≡ []
+  ends_quiet code w p flight answer due e = quietly code w p answer flight due e
+
+-- ---- a call of the container comes after one that rests
+
+module _ {T : Type 0} (code : Coding T) where
+  abbrev pub Keeps : {C M E : Type 0} → (View T → View T → C → M → Type 0) → (View T → E → M → View T → Type 0) → (C → Want (Unit {0})) → (C → ℕ → After C E)
+      → (C → M → ℕ → M) → Type 0
+  Keeps at ends want after kept =
+      KeepsRule (λ (z : View T). z.capacity) at ends (λ key. container_words code key + 1) (λ key. key) (λ key. IsMachine code kinds.Container key) want after kept
+
+  pub never_late : (going : Option (Start T × Flight T)) (late : List (Event T)) → IsLate kinds.Container going late → late ≡ []
+  never_late going late h = h
+
+  -- a look with which the call that rests is ended
+  pub container_settles : (key slots id word : ℕ) (v : View T) → v.capacity ≡ key → IsResting code v
+      → Allows (IsMachine code kinds.Container key) slots id (v, []) word (λ n. n) (λ found me. Settles code kinds.Container v me.0 × (me.1 ≡ []))
+  container_settles = settles_at code kinds.Container tt container_effects (container_words code) (containers_owe code) never_late (ends_quiet code)
+
+  module _ {C M E : Type 0} (call : Calling T C M E) (want : C → Want (Unit {0})) (same_want : (c : C) (m : M) → want_of code (call.flight c m) ≡ want c) where
+    module _ (Begins : ℕ → C → M → Type 0) (asks : (capacity : ℕ) (c : C) (m : M) → Begins capacity c m → AsksFor (container_words code capacity) (want c)) where
+      at_word : (capacity : ℕ) (c : C) (m : M) → Begins capacity c m → is_question (want c) ≡ false
+      at_word capacity c m begins = ap is_question (asks capacity c m begins).2
+
+      -- who rests has not begun the next
+      apart_at : (base v : View T) (c : C) (m k : M) → IsResting code v → Begins v.capacity c k → At code kinds.Container call base v c m → ⊥
+      apart_at base v c m k h begins (inl first) =
+          let none : ◌≡◌ {A = Option (Start T × Flight T)} None (Some (h.start, h.flight)) = sym first.idle ∙ (ap (λ (z : View T). z.going) (sym first.is) ∙ h.going) in
+          absurd (cc)
+      apart_at base v c m k h begins (inr under) =
+          let both : ◌≡◌ {A = Option (Start T × Flight T)} (Some (h.start, h.flight)) (Some (call.start, call.flight c m)) = sym h.going ∙ under.going in
+          let pair : ◌≡◌ {A = Start T × Flight T} (h.start, h.flight) (call.start, call.flight c m) = cc in
+          clash (is_question (want_of code (call.flight c m)))
+          (ap (λ (z : Start T × Flight T). is_question (want_of code z.1)) (sym pair) ∙ h.asks)
+          (ap is_question (same_want c m) ∙ at_word v.capacity c k begins)
+
+      -- of a call that puts questions, of which no answer leads to where it begins
+      module _ (after : C → ℕ → After C E) (kept : C → M → ℕ → M) (Over : View T → E → M → View T → Type 0)
+          (never : (capacity : ℕ) (c d : C) (m : M) (n : ℕ) → is_question (want c) ≡ true → after c n ≡ GoOn d → Begins capacity d m → ⊥)
+          (keeps : Keeps (AtAsked code kinds.Container after kept call) Over want after kept)
+          (first : (v : View T) (c : C) (m : M) → Begins v.capacity c m → v.going ≡ None → v.other ≡ [] → 0 < v.share.part
+          → AtAsked code kinds.Container after kept call v v c m) where
+        -- whatever is in its room
+        pub apart_asked : (base v : View T) (c : C) (m k : M) → IsResting code v → Begins v.capacity c k
+            → AtAsked code kinds.Container after kept call base v c m → ⊥
+        apart_asked base v c m k h begins (inl stage) = apart_at base v c m k h begins stage
+        apart_asked base v c m k h begins (inr x) =
+            never v.capacity x.asking c k (number_of x.said) (ap is_question (sym (same_want x.asking x.room)) ∙ x.asks) x.goes begins
+
+        pub rested_asks : Keeps (AtRested code kinds.Container Begins (AtAsked code kinds.Container after kept call) Over)
+            (EndsRested code kinds.Container Begins (AtAsked code kinds.Container after kept call) Over) want after kept
+        rested_asks =
+            keeps_rested code kinds.Container tt container_effects (container_words code) (containers_owe code) never_late (ends_quiet code) want after kept
+            (AtAsked code kinds.Container after kept call) Over keeps Begins asks first (λ base v c m. apart_asked base v c m m)
+
+    -- and of one that puts none, whatever is in its room where it begins
+    module _ (Begins : ℕ → C → Type 0) (asks : (capacity : ℕ) (c : C) → Begins capacity c → AsksFor (container_words code capacity) (want c))
+        (after : C → ℕ → After C E) (kept : C → M → ℕ → M) (keeps : Keeps (At code kinds.Container call) (Ends code kinds.Container call) want after kept)
+        (first : (v : View T) (c : C) (m : M) → Begins v.capacity c → v.going ≡ None → v.other ≡ [] → 0 < v.share.part → At code kinds.Container call v v c m) where
+      pub rested_keeps : Keeps (AtRested code kinds.Container (λ capacity c m. Begins capacity c) (At code kinds.Container call) (Ends code kinds.Container call))
+          (EndsRested code kinds.Container (λ capacity c m. Begins capacity c) (At code kinds.Container call) (Ends code kinds.Container call)) want after kept
+      rested_keeps =
+          keeps_rested code kinds.Container tt container_effects (container_words code) (containers_owe code) never_late (ends_quiet code) want after kept
+          (At code kinds.Container call) (Ends code kinds.Container call) keeps (λ capacity c m. Begins capacity c) (λ capacity c m begins. asks capacity c begins) first
+          (λ base v c m. apart_at (λ capacity c m. Begins capacity c) (λ capacity c m begins. asks capacity c begins) base v c m m)

@@ -1,0 +1,267 @@
+-- What the container owes, from the laws of its open runs, which party may begin a call on it, and that a call which is no
+-- look of a state goes on by itself.
+use Rattle.std.proofs.Common.{◌≡◌, ℕ, ◌+◌, ◌≤◌, true, false, Option, Some, None, IfSome, List, [], ◌++◌, length, sum_by, refl, sym, ap, subst, ◌∙◌, arith}
+use Rattle.steps.specs.declared.ask.After.{After}
+use Rattle.steps.specs.declared.ask.Want.{Want}
+use Rattle.steps.specs.declared.container.state.ContainerState.{ContainerState}
+use Rattle.steps.specs.Container.Layout.{total_words}
+use Rattle.model.specs.declared.event.Event.{Event}
+use Rattle.model.specs.declared.event.Start.{Start}
+use Rattle.model.specs.declared.event.Start.TheVariants.{Container}
+use Rattle.model.specs.declared.families.Flight.{Flight}
+use Rattle.model.specs.declared.families.Flight as flights
+use Rattle.model.specs.declared.families.Kept.{Kept}
+use Rattle.model.specs.declared.families.Kept as kepts
+use Rattle.model.specs.declared.families.container.ContainerStart.{ContainerStart}
+use Rattle.model.specs.declared.families.container.ContainerStart.TheVariants.{Add, Remove, Replace, Find, Recover, GetState, UpdateState, Len, IsEmpty, IsLocked}
+use Rattle.model.specs.declared.families.container.calls.ContainerFlight.{ContainerFlight}
+use Rattle.model.specs.declared.families.container.calls.ContainerFlight.TheVariants as calls
+use Rattle.model.specs.declared.party.Party.{Party}
+use Rattle.model.specs.declared.turn.Kind.TheVariants as kinds
+use Rattle.model.specs.declared.turn.Turn.{Turn}
+use Rattle.model.specs.declared.turn.Turn.TheVariants.{Next}
+use Rattle.model.specs.Coding.{Coding}
+use Rattle.model.specs.Families.{first_of, step_of, beside_of, goes_of, after_of, going_rows}
+use Rattle.model.specs.Families.Container.Calls.{first}
+use Rattle.model.specs.Families.Container.Keeping.{is_look_of}
+use Rattle.model.specs.Families.Container.Looks.{state_in}
+use Rattle.model.specs.Families.Container.Opening.{names_owner}
+use Rattle.model.specs.Families.Container.Reading.{Act, acts_of}
+use Rattle.model.specs.Families.Container.Steps.{effects, questions}
+use Rattle.model.specs.Families.Indices.Robust.Dead.{has_died}
+use Rattle.model.specs.Families.Indices.Robust.Reading.{Deed, deeds_of}
+use Rattle.model.specs.Rows.{first_row}
+use Rattle.model.specs.Turns.{step_in, after_turn}
+use Rattle.model.specs.World.{World, Trace}
+use Rattle.model.proofs.Frame as frame
+use Rattle.model.proofs.Scenes.{stands_there}
+use Rattle.robust_laws.specs.Gone.{Word}
+use Rattle.robust_laws.specs.Open.{open_refusal}
+use Rattle.robust_laws.proofs.Alive.{AllLive}
+use Rattle.container_laws.specs.Open.{IsOpenContainer}
+use Rattle.container_laws.proofs.Invariant.{ContainerNow, Fit, FlightAt, family_by}
+use Rattle.container_laws.proofs.Living.{has_not_died, step_is_free}
+use Rattle.container_laws.proofs.OpenRuns.{reached_open_sound, reached_open_lives, reached_open_wide, reached_open_kept, reached_open_tells}
+use Rattle.container_laws.proofs.Sound.{kept_is}
+use Rattle.container_laws.proofs.Terms.{Terms}
+use Rattle.container_laws.proofs.Written.{all_effects}
+use Rattle.lock_free_sp.specs.Driver.{KeepsRule}
+use Rattle.history.specs.declared.view.View.{View}
+use Rattle.history.specs.History.{IsRun, IsMachine, call_in}
+use Rattle.history.specs.Known.{owned}
+use Rattle.history.specs.Stages.{Calling, Starts, At, Ends, rows_as}
+use Rattle.history.proofs.Calls.{stands}
+use Rattle.history.proofs.CallsIn.{AsksFor, ActsAlone, steps_alone}
+use Rattle.history.proofs.Drives.{IsCallOf, keeps_all_there}
+use Rattle.history.proofs.Known.{AreOf, by_other}
+use Rattle.history.proofs.Sets.{effects_own}
+use Rattle.history.proofs.Starting.{starts_by_last}
+use Rattle.history.proofs.Turns.{StepsOn, KeptLaws, all_someone}
+
+module _ {T : Type 0} where
+  -- what a step of a container's call writes, where this is kept
+  abbrev kept_effects : Coding T → Kept T → ℕ → Flight T → ℕ → List (Event T)
+  kept_effects code kept p (flights.TheVariants.Container flight) old = effects code p (state_in kept p) flight old ++ questions p flight old
+  kept_effects code kept p flight old = []
+
+  abbrev pub container_effects : World T → ℕ → Flight T → ℕ → List (Event T)
+  container_effects w = kept_effects w.coding w.kept
+
+  -- what a step writes of a call that is no look of a state
+  abbrev pub plain_effects : Coding T → ℕ → Flight T → ℕ → List (Event T)
+  plain_effects code p (flights.TheVariants.Container flight) old = effects code p None flight old ++ questions p flight old
+  plain_effects code p flight old = []
+
+  pub effects_of_party : (code : Coding T) (kept : Kept T) (p : ℕ) (flight : Flight T) (n : ℕ) → AreOf p (kept_effects code kept p flight n)
+  effects_of_party code kept p (flights.TheVariants.Container flight) n = effects_own p _ (all_effects (Next p) p refl code (state_in kept p) flight n)
+  effects_of_party code kept p flight n = tt
+
+  plain_of_party : (code : Coding T) (p : ℕ) (flight : Flight T) (n : ℕ) → AreOf p (plain_effects code p flight n)
+  plain_of_party code p (flights.TheVariants.Container flight) n = effects_own p _ (all_effects (Next p) p refl code None flight n)
+  plain_of_party code p flight n = tt
+
+  -- ---- a call that is no look of a state
+
+  abbrev pub IsPlain : Flight T → Type 0
+  IsPlain (flights.TheVariants.Container (calls.Look which call)) = ⊥
+  IsPlain (flights.TheVariants.Container flight) = Unit {0}
+  IsPlain flight = ⊥
+
+  plain_writes : (code : Coding T) (kept : Kept T) (p : ℕ) (flight : ContainerFlight T) (n : ℕ) → IsPlain (flights.TheVariants.Container flight)
+      → kept_effects code kept p (flights.TheVariants.Container flight) n ≡ plain_effects code p (flights.TheVariants.Container flight) n
+  plain_writes code kept p (calls.Look which call) n plain = absurd plain
+  plain_writes code kept p flight n plain = refl
+
+  -- it writes by itself
+  writes_alike : (code : Coding T) (kept : Kept T) (p : ℕ) (flight : Flight T) (n : ℕ) → IsPlain flight
+      → kept_effects code kept p flight n ≡ plain_effects code p flight n
+  writes_alike code kept p (flights.TheVariants.Container flight) n plain = plain_writes code kept p flight n plain
+  writes_alike code kept p flight n plain = absurd plain
+
+  plain_goes : (code : Coding T) (p : ℕ) (flight : ContainerFlight T) (n : ℕ) (kept : Kept T) → IsPlain (flights.TheVariants.Container flight)
+      → goes_of code p (flights.TheVariants.Container flight) n kept ≡ after_of code (flights.TheVariants.Container flight) n
+  plain_goes code p (calls.Look which call) n kept plain = absurd plain
+  plain_goes code p flight n (kepts.TheVariants.Container dead states) plain = refl
+  plain_goes code p flight n kept plain = refl
+
+  -- and goes on by itself
+  pub goes_plain : (code : Coding T) (p : ℕ) (flight : Flight T) (n : ℕ) (kept : Kept T) → IsPlain flight → goes_of code p flight n kept ≡ after_of code flight n
+  goes_plain code p (flights.TheVariants.Container flight) n kept plain = plain_goes code p flight n kept plain
+  goes_plain code p flight n kept plain = absurd plain
+
+-- the words of the set, how often an element has changed, and for each index a number and its element
+abbrev pub container_words : {T : Type 0} → Coding T → ℕ → ℕ
+container_words code capacity = total_words capacity code.size
+
+module _ {T : Type 0} (code : Coding T) (capacity : ℕ) where
+  abbrev pub IsOn : Trace T → Type 0
+  IsOn t = IsRun code kinds.Container capacity t
+
+  abbrev by_word : Terms
+  by_word = record { by = Word; kept = false }
+
+  container_sound : (t : Trace T) → IsOn t → frame.Sound (family_by by_word t.world.coding t.world.capacity) t
+  container_sound t r = reached_open_sound t r.of_kind r.reached
+
+  all_live : (t : Trace T) → IsOn t → AllLive t.events
+  all_live t r = reached_open_lives t r.of_kind r.reached
+
+  -- what the model promises of each open run
+  pub is_open_container : (t : Trace T) (r : IsOn t) → IsOpenContainer t r.reached
+  is_open_container t r = reached_open_kept t r.of_kind r.reached
+
+  pub container_size : (t : Trace T) → IsOn t → length t.world.words ≡ container_words code capacity
+  container_size t r =
+      reached_open_wide t r.of_kind r.reached
+      ∙ (ap (λ n. total_words n t.world.coding.size) r.sized ∙ ap (λ (z : Coding T). total_words capacity z.size) r.coded)
+
+  -- nobody has died
+  pub kept_there : (t : Trace T) → IsOn t → (dead : List ℕ) × (states : List (ℕ × ContainerState T))
+      × (t.world.kept ≡ kepts.TheVariants.Container dead states) × ((owner : ℕ) → has_died owner dead ≡ false)
+  kept_there t r =
+      let s = container_sound t r in (
+        s.state.dead,
+        s.state.states,
+        (kept_is t.world.kept t.world.words s.state s.fit).0,
+        λ owner. has_not_died by_word t.world.coding t.world.capacity t s
+            (all_live t r) owner,
+      )
+
+  -- ---- what a step comes to
+
+  no_rows : (t : Trace T) → IsOn t → (c z : ℕ) (all : List Deed) (done : List (Act T)) (start : Start T) (flight : Flight T) → FlightAt c z all done start flight
+      → first_row (going_rows t.world.coding t.world.kept (Some flight) None) ≡ None
+  no_rows t r c z all done (Container start) (flights.TheVariants.Container flight) at =
+      step_is_free by_word t.world.coding t.world.capacity t (container_sound t r) (all_live t r) flight
+  no_rows t r c z all done start flight at = absurd at
+
+  writes_there : (y : Coding T) (words ws : List ℕ) (beside : Option (ℕ × ℕ)) (c z p old : ℕ) (all : List Deed) (done : List (Act T)) (kept : Kept T)
+      (s : ContainerNow T) (start : Start T) (flight : Flight T) → Fit kept ws s → FlightAt c z all done start flight
+      → (step_of y words beside p start flight old kept).wrote ≡ kept_effects y kept p flight old
+  writes_there y words ws beside c z p old all done (kepts.TheVariants.Container dead states) s (Container start) (flights.TheVariants.Container flight) fit at = refl
+  writes_there y words ws beside c z p old all done kept s (Container start) (flights.TheVariants.Container flight) fit at = absurd fit
+  writes_there y words ws beside c z p old all done kept s start flight fit at = absurd at
+
+  goes_there : (y : Coding T) (words ws : List ℕ) (beside : Option (ℕ × ℕ)) (c z p old : ℕ) (all : List Deed) (done : List (Act T)) (kept : Kept T)
+      (s : ContainerNow T) (start : Start T) (flight : Flight T) → Fit kept ws s → FlightAt c z all done start flight
+      → (step_of y words beside p start flight old kept).after ≡ goes_of y p flight old kept
+  goes_there y words ws beside c z p old all done (kepts.TheVariants.Container dead states) s (Container start) (flights.TheVariants.Container flight) fit at = refl
+  goes_there y words ws beside c z p old all done kept s (Container start) (flights.TheVariants.Container flight) fit at = absurd fit
+  goes_there y words ws beside c z p old all done kept s start flight fit at = absurd at
+
+  steps_on : (t : Trace T) → IsOn t → (p : ℕ) (start : Start T) (flight : Flight T) → call_in t.world p ≡ Some (start, flight)
+      → StepsOn code kinds.Container capacity (container_words code capacity) container_effects t p flight
+  steps_on t r p start flight at =
+      let w = t.world in
+      let s = container_sound t r in
+      let here = stands w p start flight at in
+      let there = stands_there (family_by by_word w.coding w.capacity) t s p here.x here.since flight here.found here.doing in
+      let all : List Deed = deeds_of p s.state.events in
+      let done : List (Act T) = acts_of p s.state.events in
+      let mine : FlightAt w.capacity w.coding.size all done here.x.start flight = there.at in
+      record {
+        may = no_rows t r w.capacity w.coding.size all done here.x.start flight mine;
+        writes = λ x n found. (
+            let same : here.x ≡ x = (let both : Some here.x ≡ Some x = sym here.found ∙ found in cc) in
+            subst (λ (z : Party T). (step_in w p z flight n).wrote ≡ container_effects w p flight n) same
+            (writes_there w.coding w.words w.words (beside_of w.words w.kept w.latest p) w.capacity w.coding.size p n all done w.kept s.state
+            here.x.start flight s.fit mine));
+        someone = λ n. all_someone p (container_effects w p flight n) (effects_of_party w.coding w.kept p flight n);
+        beside = λ n q ne. by_other p q (container_effects w p flight n) ne (effects_of_party w.coding w.kept p flight n);
+        goes = λ x n found. (
+            let same : here.x ≡ x = (let both : Some here.x ≡ Some x = sym here.found ∙ found in cc) in
+            subst (λ (z : Party T). (step_in w p z flight n).after ≡ goes_of w.coding p flight n w.kept) same
+            (goes_there w.coding w.words w.words (beside_of w.words w.kept w.latest p) w.capacity w.coding.size p n all done w.kept s.state
+            here.x.start flight s.fit mine));
+      }
+
+  states_stay : (t : Trace T) (r : IsOn t) (turn : Turn T) → open_refusal t.world turn ≡ None → (q : ℕ) → is_look_of t.world q turn ≡ false
+      → state_in (after_turn t turn).world.kept q ≡ state_in t.world.kept q
+  states_stay t r turn free q none = (reached_open_tells t r.of_kind r.reached turn free).states.moves q none
+
+  pub containers_owe : KeptLaws code kinds.Container capacity (container_words code capacity) container_effects
+  containers_owe =
+      record { size = container_size; steps_on = steps_on; states = λ t turn run next free q none. states_stay t run turn free q none }
+
+-- ---- which party may begin a call
+
+-- what is tested of a begin, where nobody has died
+module _ {T : Type 0} (capacity p : ℕ) (dead : List ℕ) (states : List (ℕ × ContainerState T)) (lives : (owner : ℕ) → has_died owner dead ≡ false) where
+  abbrev FreeTo : ContainerStart T → Type 0
+  FreeTo start = first_row (rows_as kinds.Container capacity (kepts.TheVariants.Container dead states) p (Container start)) ≡ None
+
+  may_begin : (start : ContainerStart T) → names_owner start ≡ true → FreeTo start
+  may_begin (Add value owner) named = rw (named, lives owner) refl
+  may_begin (Remove index owner mode) named = rw (named, lives owner) refl
+  may_begin (Replace index value owner) named = rw (named, lives owner) refl
+  may_begin (Find owner) named = rw named refl
+  may_begin (Recover owner mode) named = rw named refl
+  may_begin GetState named = refl
+  may_begin UpdateState named = refl
+  may_begin Len named = refl
+  may_begin IsEmpty named = refl
+  may_begin IsLocked named = refl
+
+-- each call that the container has may, as the party that the pass was last
+module _ {T C M E : Type 0} (code : Coding T) (base : View T) (call : Calling T C M E) (start : ContainerStart T) (c : C) (m : M)
+    (is_named : call.start ≡ Container start) (by_last : (o : Option ℕ) (p : ℕ) → IfSome o (λ q. q ≡ p) → call.by o p)
+    (named : names_owner start ≡ true) (flies : flights.TheVariants.Container (first base.capacity start) ≡ call.flight c m) where
+  pub container_first : (kept : Kept T) → first_of kinds.Container base.capacity call.start kept ≡ Some (call.flight c m)
+  container_first kept = rw is_named (rw named (ap Some flies))
+
+  pub container_starts : (t : Trace T) (owner : ℕ → ℕ) (j : ℕ) → IsOn code base.capacity t → owner j ≡ j → IfSome base.party (λ p. owner p ≡ j)
+      → ((f : Event T → ℕ) → sum_by f base.made ≡ sum_by (owned owner j f) t.events)
+      → Starts code kinds.Container call base c m t owner j
+  container_starts t owner j run self party sums =
+      starts_by_last code kinds.Container call base c m t owner j by_last self party (container_first t.world.kept)
+      (λ p. rw is_named (subst (λ k. first_row (rows_as kinds.Container base.capacity k p (Container start)) ≡ None) (sym kept.2)
+      (may_begin base.capacity p kept.0 kept.1 kept.3 start named)))
+    where
+      kept : (dead : List ℕ) × (states : List (ℕ × ContainerState T)) × (t.world.kept ≡ kepts.TheVariants.Container dead states)
+          × ((owner : ℕ) → has_died owner dead ≡ false)
+      kept = kept_there code base.capacity t run
+
+-- ---- the steps of a call that is no look of a state
+
+module _ {T C M E : Type 0} (code : Coding T) (call : Calling T C M E) (plain : (c : C) (m : M) → IsPlain (call.flight c m)) where
+  pub plain_acts : ActsAlone code kinds.Container container_effects (plain_effects code) call
+  plain_acts =
+      record {
+        never = λ c m late h. h;
+        same = λ capacity p c m n t run.
+            ap (λ (z : Coding T). kept_effects z t.world.kept p (call.flight c m) n) run.coded ∙ writes_alike code t.world.kept p (call.flight c m) n (plain c m);
+        its_own = λ capacity p c m n t run there. plain_of_party code p (call.flight c m) n;
+        alike = λ capacity p c m n t run. goes_plain code p (call.flight c m) n t.world.kept (plain c m);
+      }
+
+  pub container_keeps : (want : C → Want (Unit {0})) (after : C → ℕ → After C E) (kept : C → M → ℕ → M)
+      → IsCallOf code (plain_effects code) (container_words code) want after kept call → ((c : C) (n : ℕ) → call.skips c n ≡ false)
+      → KeepsRule (λ (z : View T). z.capacity) (At code kinds.Container call) (Ends code kinds.Container call)
+      (λ key. container_words code key + 1) (λ key. key) (λ key. IsMachine code kinds.Container key) want after kept
+  container_keeps want after kept is_call never =
+      keeps_all_there code kinds.Container container_effects (container_words code) (containers_owe code) want after kept call
+      (steps_alone code kinds.Container container_effects (plain_effects code) call plain_acts want after kept is_call) never
+
+-- a call that needs fewer words
+pub fewer : (some more : ℕ) (want : Want (Unit {0})) → some ≤ more → AsksFor some want → AsksFor more want
+fewer some more want low h = (let below = h.1 in (h.0, omega arith, h.2))

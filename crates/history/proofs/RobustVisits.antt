@@ -1,0 +1,148 @@
+-- The lists of a recovery's visits: that they ascend, what was written of them, and that this tells what they are.
+use Rattle.std.proofs.Common.{◌≡◌, ℕ, ◌+◌, ◌<◌, ◌≤◌, List, [], ◌∷◌, ◌++◌, fold, append_assoc, append-nil, refl, sym, ap, subst, ◌∙◌, arith}
+use Rattle.std.proofs.lemmas.List.Concat.{flat_map-append}
+use Rattle.std.proofs.lemmas.List.Elements.{All-nil, All-push, All-weaker}
+use Rattle.std.proofs.lemmas.List.Quantifiers.{all_pairs_push}
+use Rattle.std.proofs.lemmas.List.Sums.{fold-append}
+use Rattle.steps.specs.declared.indices.enums.ReleaseMode.{ReleaseMode}
+use Rattle.steps.specs.declared.indices.robust.recover.RecoverStage.{RecoverStage}
+use Rattle.steps.specs.declared.indices.robust.recover.RecoverStage.TheVariants as recovers
+use Rattle.model.specs.declared.event.Event.{Event}
+use Rattle.model.specs.declared.event.Event.TheVariants.{Begun, FreedOf, Asked, Told, Locked}
+use Rattle.model.specs.declared.event.Start.{Start}
+use Rattle.history.specs.Robust.{Came, HasAsked, WasTold, HasFreed, HasLocked, MayCome, Visit, visit, AreVisits, came_to, HasCome, VisitsAt, wrote_to, wrote_of, wrote_by, wrote_now}
+
+-- ---- the last of a list
+
+abbrev all_but_last : {A : Type 0} → List A → List A
+all_but_last [] = []
+all_but_last (x ∷ []) = []
+all_but_last (x ∷ y ∷ xs) = x ∷ all_but_last (y ∷ xs)
+
+but_last : {A : Type 0} (xs : List A) (x : A) → all_but_last (xs ++ x ∷ []) ≡ xs
+but_last [] x = refl
+but_last (y ∷ []) x = refl
+but_last (y ∷ z ∷ xs) x = ap (λ zs. y ∷ zs) (but_last (z ∷ xs) x)
+
+pub same_before : {A : Type 0} (xs ys : List A) (x : A) → xs ++ x ∷ [] ≡ ys ++ x ∷ [] → xs ≡ ys
+same_before xs ys x e = sym (but_last xs x) ∙ (ap all_but_last e ∙ but_last ys x)
+
+pub came_last : (visits : List Visit) (index owner : ℕ) (came next : Came)
+    → came_to next (visits ++ visit index owner came ∷ []) ≡ visits ++ visit index owner next ∷ []
+came_last [] index owner came next = refl
+came_last (v ∷ []) index owner came next = refl
+came_last (v ∷ w ∷ visits) index owner came next = ap (λ zs. v ∷ zs) (came_last (w ∷ visits) index owner came next)
+
+-- ---- they ascend
+
+module _ (mode : ReleaseMode) where
+  pub none_yet : (bound : ℕ) (visits : List Visit) → visits ≡ [] → AreVisits mode bound visits
+  none_yet bound visits is =
+      subst (AreVisits mode bound) (sym is) ((λ i j d low within. absurd (omega arith)), All-nil (λ (v : Visit). (v.index < bound) × MayCome mode v.came))
+
+  pub wider : (low high : ℕ) (visits : List Visit) → low ≤ high → AreVisits mode low visits → AreVisits mode high visits
+  wider low high visits up h = (
+    h.0,
+    All-weaker (λ (v : Visit). (v.index < low) × MayCome mode v.came) (λ (v : Visit). (v.index < high) × MayCome mode v.came)
+        (λ v at. (let below = at.0 in omega arith, at.1)) visits h.1,
+  )
+
+  pub one_more : (index owner : ℕ) (came : Came) (visits : List Visit) → MayCome mode came → AreVisits mode index visits
+      → AreVisits mode (index + 1) (visits ++ visit index owner came ∷ [])
+  one_more index owner came visits may h = (
+    all_pairs_push (λ (x y : Visit). x.index < y.index) visits (visit index owner came) h.0
+        (All-weaker (λ (v : Visit). (v.index < index) × MayCome mode v.came) (λ (v : Visit). v.index < index) (λ v at. at.0) visits h.1),
+    All-push (λ (v : Visit). (v.index < index + 1) × MayCome mode v.came) visits (visit index owner came)
+        (wider index (index + 1) visits (omega arith) h).1 (omega arith, may),
+  )
+
+  pub came_past : (index owner : ℕ) (came : Came) (visits : List Visit) → MayCome mode came → HasCome mode index came owner visits
+      → AreVisits mode (index + 1) visits
+  came_past index owner came visits may h = subst (AreVisits mode (index + 1)) (sym h.is) (one_more index owner came h.before may h.passed)
+
+  -- it comes further with the last one
+  abbrev pub comes_on : (index owner : ℕ) (came next : Came) (visits : List Visit) → HasCome mode index came owner visits
+      → HasCome mode index next owner (came_to next visits)
+  comes_on index owner came next visits h =
+      record { before = h.before; passed = h.passed; is = ap (came_to next) h.is ∙ came_last h.before index owner came next }
+
+-- ---- what was written of them
+
+module _ {T : Type 0} (p : ℕ) where
+  abbrev wrote : List Visit → List (Event T)
+  wrote visits = wrote_by p visits
+
+  pub wrote_last : (visits : List Visit) (v : Visit) → wrote (visits ++ v ∷ []) ≡ wrote visits ++ wrote_of p v
+  wrote_last visits v = flat_map-append (wrote_of p) visits (v ∷ []) ∙ ap (λ zs. wrote visits ++ zs) (append-nil (wrote_of p v))
+
+  -- the last one has come further, and so much more was written
+  pub wrote_on : (mode : ReleaseMode) (index owner : ℕ) (came next : Came) (visits : List Visit) (es more : List (Event T))
+      → wrote_to p index owner came ++ more ≡ wrote_to p index owner next → HasCome mode index came owner visits
+      → es ≡ wrote visits → es ++ more ≡ wrote (came_to next visits)
+  wrote_on mode index owner came next visits es more longer h is =
+      ap (λ zs. zs ++ more) (is ∙ (ap wrote h.is ∙ wrote_last h.before (visit index owner came)))
+      ∙ (append_assoc (wrote h.before) (wrote_to p index owner came) more
+      ∙ (ap (λ zs. wrote h.before ++ zs) longer
+      ∙ (sym (wrote_last h.before (visit index owner next)) ∙ ap wrote (sym (comes_on mode index owner came next visits h).is))))
+
+-- ---- it tells what they are
+
+module _ (T : Type 0) (p : ℕ) where
+  abbrev writes : List Visit → List (Event T)
+  writes visits = wrote_by p visits
+
+  -- the visits of the call that began last
+  abbrev read : List Visit → Event T → List Visit
+  read visits (Begun q start) = []
+  read visits (Asked q index owner) = visits ++ visit index owner HasAsked ∷ []
+  read visits (Told q index owner) = came_to WasTold visits
+  read visits (FreedOf q index owner) = came_to HasFreed visits
+  read visits (Locked q) = came_to HasLocked visits
+  read visits e = visits
+
+  reads_one : (visits : List Visit) (index owner : ℕ) (came : Came) → fold read visits (wrote_to p index owner came) ≡ visits ++ visit index owner came ∷ []
+  reads_one visits index owner HasAsked = refl
+  reads_one visits index owner WasTold = came_last visits index owner HasAsked WasTold
+  reads_one visits index owner HasFreed =
+      ap (came_to HasFreed) (came_last visits index owner HasAsked WasTold) ∙ came_last visits index owner WasTold HasFreed
+  reads_one visits index owner HasLocked =
+      ap (λ vs. came_to HasLocked (came_to HasFreed vs)) (came_last visits index owner HasAsked WasTold)
+      ∙ (ap (came_to HasLocked) (came_last visits index owner WasTold HasFreed) ∙ came_last visits index owner HasFreed HasLocked)
+
+  reads : (front visits : List Visit) → fold read front (writes visits) ≡ front ++ visits
+  reads front [] = sym (append-nil front)
+  reads front (v ∷ visits) =
+      fold-append read front (wrote_of p v) (writes visits)
+      ∙ (ap (λ vs. fold read vs (writes visits)) (reads_one front v.index v.owner v.came)
+      ∙ (reads (front ++ v ∷ []) visits ∙ append_assoc front (v ∷ []) visits))
+
+  -- what it reads where a recovery stands
+  read_there : (before : List (Event T)) (start : Start T) (stage : RecoverStage) (visits : List Visit)
+      → fold read [] (before ++ Begun p start ∷ (writes visits ++ wrote_now p stage)) ≡ fold read visits (wrote_now p stage)
+  read_there before start stage visits =
+      fold-append read [] before (Begun p start ∷ (writes visits ++ wrote_now p stage))
+      ∙ (fold-append read [] (writes visits) (wrote_now p stage) ∙ ap (λ vs. fold read vs (wrote_now p stage)) (reads [] visits))
+
+  told_apart : (capacity : ℕ) (mode : ReleaseMode) (stage : RecoverStage) (a b : List Visit) → VisitsAt capacity mode stage a
+      → VisitsAt capacity mode stage b → fold read a (wrote_now p stage) ≡ fold read b (wrote_now p stage) → a ≡ b
+  told_apart capacity mode recovers.LoadsCounter a b x y e = e
+  told_apart capacity mode (recovers.LoadsCell index) a b x y e = e
+  told_apart capacity mode (recovers.Asks index owner) a b x y e = same_before a b (visit index owner HasAsked) e
+  told_apart capacity mode (recovers.EmptiesCell index owner) a b x y e =
+      let last = λ (vs : List Visit) (h : HasCome mode index HasAsked owner vs). (comes_on mode index owner HasAsked WasTold vs h).is in
+      x.is
+      ∙ (ap (λ vs. vs ++ visit index owner HasAsked ∷ [])
+      (same_before x.before y.before (visit index owner WasTold) (sym (last a x) ∙ (e ∙ last b y))) ∙ sym y.is)
+  told_apart capacity mode (recovers.Raises index raise) a b x y e = e
+  told_apart capacity mode (recovers.Locks index lock) a b x y e = e
+  told_apart capacity mode recovers.LoadsCounterAgain a b x y e = e
+
+-- who knows what it made since it began knows the visits
+pub same_visits : {T : Type 0} (p q size other : ℕ) (mode : ReleaseMode) (start : Start T) (stage : RecoverStage) (made first second : List (Event T))
+    (a b : List Visit) → p ≡ q → VisitsAt size mode stage a → VisitsAt other mode stage b → size ≡ other
+    → made ≡ first ++ Begun p start ∷ (wrote_by p a ++ wrote_now p stage) → made ≡ second ++ Begun q start ∷ (wrote_by q b ++ wrote_now q stage) → a ≡ b
+same_visits {T} p q size other mode start stage made first second a b by x y sized is also =
+    let there : made ≡ second ++ Begun p start ∷ (wrote_by p b ++ wrote_now p stage) =
+    subst (λ r. made ≡ second ++ Begun r start ∷ (wrote_by r b ++ wrote_now r stage)) (sym by) also in
+    told_apart T p size mode stage a b x (subst (λ n. VisitsAt n mode stage b) (sym sized) y)
+    (sym (read_there T p first start stage a) ∙ (ap (fold (read T p) []) (sym is ∙ there) ∙ read_there T p second start stage b))

@@ -1,0 +1,316 @@
+-- A pass whose last call rests at a question takes a step: the machine is handed the answer first.
+use Rattle.std.proofs.Common.{true, false, ◌≡◌, inl, inr, ⊎_elim, ℕ, ◌+◌, ◌<◌, Option, Some, None, IfSome, List, [], ◌∷◌, ◌++◌, slice_index, slice_set, set-set, refl, sym, ap, subst, ◌∙◌, arith, sum_by}
+use Rattle.std.proofs.lemmas.List.Sums.{sum_by-append}
+use mathlib.Core.Option.{some, some-injective}
+use lib.ListN.{get_elem?}
+use Rattle.atomic_table.specs.Table.{State, Allows}
+use Rattle.atomic_table.specs.Table as table
+use Rattle.atomic_table.proofs.Lists.{set_here}
+use Rattle.steps.specs.Ask.{written}
+use Rattle.steps.specs.declared.ask.Ask.{Ask}
+use Rattle.steps.specs.declared.ask.After.{After}
+use Rattle.steps.specs.declared.ask.After.TheVariants.{GoOn, Done}
+use Rattle.steps.specs.declared.ask.Want.{Want}
+use Rattle.steps.specs.declared.ask.Want.TheVariants as wants
+use Rattle.model.specs.declared.event.Answer.{Answer}
+use Rattle.model.specs.declared.event.Event.{Event}
+use Rattle.model.specs.declared.event.Event.TheVariants.{Finished}
+use Rattle.model.specs.declared.event.Start.{Start}
+use Rattle.model.specs.declared.families.Flight.{Flight}
+use Rattle.model.specs.declared.turn.Kind.{Kind}
+use Rattle.model.specs.declared.turn.Turn.TheVariants.{Decide}
+use Rattle.model.specs.Coding.{Coding}
+use Rattle.model.specs.Families.{want_of, goes_of, is_question}
+use Rattle.model.specs.Turns.{after_turn, events_of, number_of}
+use Rattle.model.specs.World.{World, Trace}
+use Rattle.lock_free_sp.specs.Driver.{Owes, OwesAsk, Next as NextKnown, Told, KeepsRule}
+use Rattle.lock_free_sp.specs.Shares.{IsAll}
+use Rattle.history.specs.declared.view.View.{View}
+use Rattle.history.specs.Known.{events_by}
+use Rattle.history.specs.History.{IsRun, IsMachine, Fits, IsLate, call_in}
+use Rattle.history.specs.Settled.{IsResting, Settles, SettledFrom, Waits, AtWaiting, AtRested, EndsSettled, EndsRested}
+use Rattle.history.proofs.Known.{by_more, within, known_whole}
+use Rattle.history.proofs.Reached.{MayDecide, refusal_as, decide_as}
+use Rattle.history.proofs.Calls.{stands, flight_is}
+use Rattle.history.proofs.Turns.{KeptLaws, Between, at_first, heard, own_heard, decided, decided_at, made_between}
+use Rattle.history.proofs.Passes.{set_same}
+use Rattle.history.proofs.Steps.{view_after, settle}
+use Rattle.history.proofs.CallsIn.{AsksFor, no_rest, same_rest, none_after}
+
+module _ {T : Type 0} (code : Coding T) (kind : Kind) (decides : MayDecide kind) (effects : World T → ℕ → Flight T → ℕ → List (Event T))
+    (size_of : ℕ → ℕ) (laws : (capacity : ℕ) → KeptLaws code kind capacity (size_of capacity) effects)
+    (alone : (going : Option (Start T × Flight T)) (late : List (Event T)) → IsLate kind going late → late ≡ [])
+    (quiet : (w : World T) (p : ℕ) (flight : Flight T) (answer : Answer T) → is_question (want_of code flight) ≡ true
+    → goes_of code p flight (number_of false) w.kept ≡ Done answer → effects w p flight (number_of false) ≡ []) where
+  -- ---- the machine is handed the answer
+
+  module _ (s : State (Unit {0}) (View T)) (v : View T) (key id : ℕ) (r : IsMachine code kind key s) (at : get_elem? s.views id ≡ some v)
+      (known : v.capacity ≡ key) (h : IsResting code v) where
+    here : Fits r.owner r.trace id v
+    here = r.seats id v at
+
+    mine : r.owner h.party ≡ id
+    mine = subst (λ (o : Option ℕ). IfSome o (λ q. r.owner q ≡ id)) h.mine here.party
+
+    none : here.late ≡ []
+    none = alone v.going here.late (subst (λ k. IsLate k v.going here.late) r.run.of_kind here.waits)
+
+    between : Between code kind key r.owner s id h.party [] r.trace
+    between =
+        at_first code kind key s id h.party r [] mine (here.self h.some)
+        (λ q of_id ne. here.idle q of_id (λ e. (
+        let both : ◌≡◌ {A = Option ℕ} (Some h.party) (Some q) = sym h.mine ∙ e in
+        let same : h.party ≡ q = cc in
+        ne (sym same))))
+        (λ x there f. (
+        let same : sum_by f x.made ≡ sum_by f v.made = ap (λ (z : View T). sum_by f z.made) (some-injective x v (sym there ∙ at)) in
+        let all = here.made f in
+        let no : sum_by f here.late ≡ 0 = ap (sum_by f) none in
+        omega arith))
+
+    there : call_in r.trace.world h.party ≡ Some (h.start, h.flight)
+    there = here.going h.party mine h.mine ∙ h.going
+
+    comes : goes_of code h.party h.flight (number_of false) r.trace.world.kept ≡ Done h.answer
+    comes = h.ends r.trace.world.kept
+
+    free : refusal_as kind r.trace.world (Decide h.party false) ≡ None
+    free =
+        decide_as kind decides r.trace.world h.party false h.flight
+        (flight_is r.trace.world h.party h.start h.flight (stands r.trace.world h.party h.start h.flight there))
+        (ap (λ z. is_question (want_of z h.flight)) r.run.coded ∙ h.asks)
+
+    abbrev end : List (Event T)
+    end = Finished h.party h.start h.answer ∷ []
+
+    abbrev u_then : Trace T
+    u_then = after_turn r.trace (Decide h.party false)
+
+    abbrev gained_then : List (Event T)
+    gained_then = [] ++ events_by h.party (events_of r.trace.world (Decide h.party false))
+
+    -- what the seat would know then
+    abbrev pub view_settled : View T
+    view_settled = view_after code kind key id h.party v gained_then u_then
+
+    abbrev pub table_settled : State (Unit {0}) (View T)
+    table_settled = record { words = s.words; homes = s.homes; views = slice_set s.views id view_settled }
+
+    between_then : Between code kind key r.owner s id h.party gained_then u_then
+    between_then = decided code kind key (size_of key) effects (laws key) r.owner s id h.party [] r.trace between h.start h.flight (Done h.answer) false there free comes
+
+    pub machine_settled : IsMachine code kind key table_settled
+    machine_settled = settle code kind key id h.party r.owner s.words s v gained_then u_then at h.some between_then
+
+    -- an answer is no look
+    state_stays : view_settled.state ≡ v.state
+    state_stays =
+        (laws key).states r.trace (Decide h.party false) r.run between_then.run free h.party refl ∙ here.stated h.party mine h.mine
+
+    wrote_none : effects r.trace.world h.party h.flight (number_of false) ≡ []
+    wrote_none = quiet r.trace.world h.party h.flight h.answer h.asks comes
+
+    told_end : events_of r.trace.world (Decide h.party false) ≡ end
+    told_end =
+        heard code kind key (size_of key) effects (laws key) r.owner s id h.party [] r.trace between h.start h.flight (Done h.answer) false there free comes
+        ∙ ap (λ zs. zs ++ end) wrote_none
+
+    own_end : gained_then ≡ end
+    own_end =
+        own_heard code kind key (size_of key) effects (laws key) r.owner s id h.party [] r.trace between h.start h.flight (Done h.answer) false there free comes
+        ∙ ap (λ zs. events_by h.party zs ++ end) wrote_none
+
+    made_end : view_settled.made ≡ v.made ++ end
+    made_end = ap (λ zs. v.made ++ zs) own_end
+
+    -- who has a share has seen all of its own
+    seen_own : events_by h.party here.seen.rest ≡ []
+    seen_own = ⊎_elim of_seen of_other (here.own h.some h.party mine)
+      where
+        of_seen : events_by h.party v.seen ++ events_by h.party here.late ≡ events_by h.party r.trace.events → events_by h.party here.seen.rest ≡ []
+        of_seen e =
+            same_rest (events_by h.party v.seen) (events_by h.party here.seen.rest) []
+            (sym (by_more h.party v.seen here.seen.rest) ∙ (sym (ap (events_by h.party) here.seen.is) ∙ (sym e ∙ ap (λ zs. events_by h.party v.seen ++ events_by h.party zs) none)))
+
+        of_other : (call_in r.trace.world h.party ≡ None) × (events_by h.party v.other ≡ events_by h.party r.trace.events) → events_by h.party here.seen.rest ≡ []
+        of_other x = (let no : ◌≡◌ {A = Option (Start T × Flight T)} None (Some (h.start, h.flight)) = sym x.0 ∙ there in absurd (cc))
+
+    -- who has the whole has seen all
+    seen_all : IsAll v.share → here.seen.rest ≡ []
+    seen_all all =
+        ⊎_elim (λ (e : v.seen ≡ r.trace.events). no_rest v.seen here.seen.rest (e ∙ here.seen.is))
+        (λ (e : v.other ≡ r.trace.events). none_after v.seen here.seen.rest (sym (sym here.seen.is ∙ (sym e ∙ h.alone))))
+        (known_whole s.views r.trace.events id v at all r.known)
+
+    run_then : IsRun code kind v.capacity u_then
+    run_then = subst (λ n. IsRun code kind n u_then) (sym known) between_then.run
+
+    pub settles : Settles code kind v view_settled
+    settles =
+        record {
+          resting = h;
+          capacity = refl;
+          party = sym h.mine;
+          share = refl;
+          state = state_stays;
+          idle = decided_at code kind key (size_of key) effects (laws key) r.owner s id h.party [] r.trace between h.start h.flight (Done h.answer) false there free comes;
+          fresh = refl;
+          others = here.seen.rest;
+          seen = ap (λ zs. r.trace.events ++ zs) told_end ∙ ap (λ zs. zs ++ end) here.seen.is;
+          alone = seen_all;
+          others_own = seen_own;
+          made = made_end;
+          history = record { trace = u_then; run = run_then; is = refl };
+          all = λ all f. made_between code kind key r.owner id h.party gained_then u_then s between_then v at all f;
+          parties = record { owner = r.owner; seat = id; sums = λ f. sum_by-append f v.made gained_then ∙ between_then.made_own v at f };
+        }
+
+  -- ---- a look with which the call that rests is ended
+
+  pub settles_at : (key slots id word : ℕ) (v : View T) → v.capacity ≡ key → IsResting code v
+      → Allows (IsMachine code kind key) slots id (v, []) word (λ n. n) (λ found me. Settles code kind v me.0 × (me.1 ≡ []))
+  settles_at key slots id word v known h s r long at small =
+      let w = view_settled s v key id r at known h in (
+        w,
+        table.keeps,
+        tt,
+        subst (λ ws. IsMachine code kind key (record { words = ws; homes = s.homes; views = slice_set s.views id w })) (sym (set_same s.words word))
+            (machine_settled s v key id r at known h),
+        (settles s v key id r at known h, refl),
+      )
+
+  -- ---- a call begins after it
+
+  module _ {C M E : Type 0} (want : C → Want (Unit {0})) (after : C → ℕ → After C E) (kept : C → M → ℕ → M)
+      (Stage : View T → View T → C → M → Type 0) (Over : View T → E → M → View T → Type 0)
+      (keeps : KeepsRule (λ (z : View T). z.capacity) Stage Over (λ key. size_of key + 1) (λ key. key) (λ key. IsMachine code kind key) want after kept)
+      (Begins : View T → C → M → Type 0) (asks : (v : View T) (c : C) (m : M) → Begins v c m → AsksFor (size_of v.capacity) (want c))
+      (stays : (v w : View T) (c : C) (m : M) → Settles code kind v w → Begins v c m → Begins w c m)
+      (first : (v : View T) (c : C) (m : M) → Begins v c m → v.going ≡ None → v.other ≡ [] → 0 < v.share.part → Stage v v c m)
+      (apart : (base v : View T) (c : C) (m : M) → IsResting code v → Begins v c m → Stage base v c m → ⊥) where
+    abbrev Rested : View T → View T → C → M → Type 0
+    Rested base v c m = AtWaiting code kind Begins Stage base v c m
+
+    abbrev RestedOver : View T → E → M → View T → Type 0
+    RestedOver base e m w = EndsSettled code kind Over base e m w
+
+    abbrev ToldRested : C → M → View T → ℕ → View T → Type 0
+    ToldRested c m = Told (λ (z : View T). z.capacity) Rested RestedOver after kept c m
+
+    abbrev ToldStage : C → M → View T → ℕ → View T → Type 0
+    ToldStage c m = Told (λ (z : View T). z.capacity) Stage Over after kept c m
+
+    -- how it has gone on from there
+    onward : (base from : View T) → SettledFrom code kind base from → (a : After C E) (m : M) (w : View T)
+        → NextKnown (λ (z : View T). z.capacity) Stage Over from a m w → NextKnown (λ (z : View T). z.capacity) Rested RestedOver base a m w
+    onward base from settled (GoOn d) m w h = inl (record { from = from; settled = settled; stage = h })
+    onward base from settled (Done e) m w h = record { from = from; settled = settled; over = h }
+
+    never : {A : Type 0} (base other v : View T) (c : C) (m : M) → Stage base v c m → Waits code kind Begins other v c m → A
+    never base other v c m stage waits =
+        let resting = subst (λ z. IsResting code z) (sym waits.is) waits.resting in
+        let begins = subst (λ (z : View T). Begins z c m) (sym waits.is) waits.first in
+        absurd (apart base v c m resting begins stage)
+
+    -- who has begun
+    told_begun : (base₀ v w : View T) (c : C) (m : M) (n : ℕ) → Stage base₀ v c m → ToldStage c m v n w → ToldRested c m v n w
+    told_begun base₀ v w c m n stage h = (h.0, λ base rested. go base rested)
+      where
+        go : (base : View T) → Rested base v c m → NextKnown (λ (z : View T). z.capacity) Rested RestedOver base (after c n) (kept c m n) w
+        go base (inl x) = onward base x.from x.settled (after c n) (kept c m n) w (h.1 x.from x.stage)
+        go base (inr waits) = never base₀ base v c m stage waits
+
+    begun_keeps : (base₀ v : View T) (c : C) (m : M) (key words slots id : ℕ) → Stage base₀ v c m → (w : Want (Unit {0}))
+        → Owes (IsMachine code kind key) words slots id (ToldStage c m) w (v, []) → Owes (IsMachine code kind key) words slots id (ToldRested c m) w (v, [])
+    begun_keeps base₀ v c m key words slots id stage (wants.Ask a) h =
+        (h.0, λ s r long at small. (let x = h.1 s r long at small in (x.0, x.1, x.2, x.3, (told_begun base₀ v x.0 c m _ stage x.4.0, x.4.1))))
+    begun_keeps base₀ v c m key words slots id stage (wants.Question q) h = told_begun base₀ v v c m 0 stage h
+    begun_keeps base₀ v c m key words slots id stage wants.Nothing h = told_begun base₀ v v c m 0 stage h
+
+    -- who has still to begin
+    module _ (v : View T) (c : C) (m : M) (key words slots id : ℕ) (wide : words ≡ size_of key + 1) (known : v.capacity ≡ key) (h : IsResting code v)
+        (begins : Begins v c m) where
+      word : AsksFor (size_of key) (want c)
+      word = subst (λ n. AsksFor (size_of n) (want c)) known (asks v c m begins)
+
+      abbrev ask : Ask
+      ask = word.0
+
+      first_then : (s : State (Unit {0}) (View T)) (r : IsMachine code kind key s) (at : get_elem? s.views id ≡ some v)
+          → Stage (view_settled s v key id r at known h) (view_settled s v key id r at known h) c m
+      first_then s r at =
+          let x = settles s v key id r at known h in
+          first (view_settled s v key id r at known h) c m (stays v (view_settled s v key id r at known h) c m x begins) x.idle x.fresh h.some
+
+      told_first : (s : State (Unit {0}) (View T)) (r : IsMachine code kind key s) (at : get_elem? s.views id ≡ some v) (n : ℕ) (w : View T)
+          → ToldStage c m (view_settled s v key id r at known h) n w → ToldRested c m v n w
+      told_first s r at n w told = (told.0, λ base rested. go base rested)
+        where
+          go : (base : View T) → Rested base v c m → NextKnown (λ (z : View T). z.capacity) Rested RestedOver base (after c n) (kept c m n) w
+          go base (inl x) = absurd (apart x.from v c m h begins x.stage)
+          go base (inr waits) =
+              onward base (view_settled s v key id r at known h)
+              (inr (subst (λ z. Settles code kind z (view_settled s v key id r at known h)) waits.is (settles s v key id r at known h)))
+              (after c n) (kept c m n) w
+              (told.1 (view_settled s v key id r at known h) (first_then s r at))
+
+      owed : (s : State (Unit {0}) (View T)) (r : IsMachine code kind key s) (at : get_elem? s.views id ≡ some v)
+          → OwesAsk (IsMachine code kind key) words slots id (ToldStage c m) ask.word ask.op (view_settled s v key id r at known h, [])
+      owed s r at =
+          subst (λ w. Owes (IsMachine code kind key) words slots id (ToldStage c m) w (view_settled s v key id r at known h, [])) word.2
+          (keeps (view_settled s v key id r at known h) (view_settled s v key id r at known h) c m key words slots id wide known (first_then s r at))
+
+      below : ask.word < words
+      below = (let low = word.1 in omega arith)
+
+      first_keeps : OwesAsk (IsMachine code kind key) words slots id (ToldRested c m) ask.word ask.op (v, [])
+      first_keeps = (
+        below,
+        λ s r long at small. (
+            let vh = view_settled s v key id r at known h in
+            let x = (owed s r at).1 (table_settled s v key id r at known h) (machine_settled s v key id r at known h) long
+            (set_here s.views id vh (within s.views id v at)) small in (
+              x.0,
+              x.1,
+              x.2,
+              subst (λ vs. IsMachine code kind key
+                  (record {
+                    words = slice_set s.words ask.word (written ask.op (slice_index s.words ask.word));
+                    homes = table.homes_after s.homes [] x.1;
+                    views = vs;
+                  }))
+                  (set-set s.views id vh x.0) x.3,
+              (told_first s r at _ x.0 x.4.0, x.4.1),
+            )),
+      )
+
+    -- each step of a call that comes after one that rests keeps the rule
+    pub keeps_waiting : KeepsRule (λ (z : View T). z.capacity) Rested RestedOver (λ key. size_of key + 1) (λ key. key) (λ key. IsMachine code kind key) want after kept
+    keeps_waiting base₀ v c m key words slots id wide known (inl x) =
+        begun_keeps x.from v c m key words slots id x.stage (want c) (keeps x.from v c m key words slots id wide known x.stage)
+    keeps_waiting base₀ v c m key words slots id wide known (inr waits) =
+        let resting = subst (λ z. IsResting code z) (sym waits.is) waits.resting in
+        let begins = subst (λ (z : View T). Begins z c m) (sym waits.is) waits.first in
+        subst (λ w. Owes (IsMachine code kind key) words slots id (ToldRested c m) w (v, []))
+        (sym (word v c m key words slots id wide known resting begins).2)
+        (first_keeps v c m key words slots id wide known resting begins)
+
+    -- it may begin on a pass with no call under way, or with one that rests
+    pub begins_idle : (v : View T) (c : C) (m : M) → Begins v c m → v.going ≡ None → v.other ≡ [] → 0 < v.share.part → Rested v v c m
+    begins_idle v c m begins idle fresh any = inl (record { from = v; settled = inl (refl, idle); stage = first v c m begins idle fresh any })
+
+    pub begins_rested : (v : View T) (c : C) (m : M) → Begins v c m → IsResting code v → Rested v v c m
+    begins_rested v c m begins resting = inr (record { is = refl; resting = resting; first = begins })
+
+  -- of one whose begin hangs on the capacity
+  module _ {C M E : Type 0} (want : C → Want (Unit {0})) (after : C → ℕ → After C E) (kept : C → M → ℕ → M)
+      (Stage : View T → View T → C → M → Type 0) (Over : View T → E → M → View T → Type 0)
+      (keeps : KeepsRule (λ (z : View T). z.capacity) Stage Over (λ key. size_of key + 1) (λ key. key) (λ key. IsMachine code kind key) want after kept)
+      (Begins : ℕ → C → M → Type 0) (asks : (capacity : ℕ) (c : C) (m : M) → Begins capacity c m → AsksFor (size_of capacity) (want c))
+      (first : (v : View T) (c : C) (m : M) → Begins v.capacity c m → v.going ≡ None → v.other ≡ [] → 0 < v.share.part → Stage v v c m)
+      (apart : (base v : View T) (c : C) (m : M) → IsResting code v → Begins v.capacity c m → Stage base v c m → ⊥) where
+    pub keeps_rested : KeepsRule (λ (z : View T). z.capacity) (AtRested code kind Begins Stage Over) (EndsRested code kind Begins Stage Over) (λ key. size_of key + 1)
+        (λ key. key) (λ key. IsMachine code kind key) want after kept
+    keeps_rested =
+        keeps_waiting want after kept Stage Over keeps (λ v. Begins v.capacity) (λ v. asks v.capacity)
+        (λ v w c m settled begins. subst (λ n. Begins n c m) (sym settled.capacity) begins) first apart

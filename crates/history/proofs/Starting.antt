@@ -1,0 +1,22 @@
+-- A call that each party may begin, begins as the party that the pass was last.
+use Rattle.std.proofs.Common.{◌≡◌, ℕ, Option, Some, None, IfSome, sym, refl, subst}
+use Rattle.model.specs.declared.turn.Kind.{Kind}
+use Rattle.model.specs.Coding.{Coding}
+use Rattle.model.specs.Families.{first_of}
+use Rattle.model.specs.Rows.{first_row}
+use Rattle.model.specs.World.{Trace}
+use Rattle.history.specs.declared.view.View.{View}
+use Rattle.history.specs.Stages.{Calling, Starts, rows_as}
+
+pub starts_by_last : {T C M E : Type 0} (code : Coding T) (kind : Kind) (call : Calling T C M E) (base : View T) (c : C) (m : M) (t : Trace T)
+    (owner : ℕ → ℕ) (j : ℕ) → ((o : Option ℕ) (p : ℕ) → IfSome o (λ q. q ≡ p) → call.by o p) → owner j ≡ j → IfSome base.party (λ p. owner p ≡ j)
+    → first_of kind base.capacity call.start t.world.kept ≡ Some (call.flight c m)
+    → ((p : ℕ) → first_row (rows_as kind base.capacity t.world.kept p call.start) ≡ None)
+    → Starts code kind call base c m t owner j
+starts_by_last code kind call base c m t owner j by self party first may = go base.party refl party
+  where
+    go : (o : Option ℕ) → base.party ≡ o → IfSome o (λ p. owner p ≡ j) → Starts code kind call base c m t owner j
+    go None e h = record
+        { party = j; mine = self; by = by base.party j (subst (λ (z : Option ℕ). IfSome z (λ q. q ≡ j)) (sym e) tt); first = first; may = may j }
+    go (Some p) e h = record
+        { party = p; mine = h; by = by base.party p (subst (λ (z : Option ℕ). IfSome z (λ q. q ≡ p)) (sym e) refl); first = first; may = may p }

@@ -1,0 +1,307 @@
+-- That a look of a state is a call of the model: a get_state, and an update_state of the state that the pass's party has.
+use Rattle.std.proofs.Common.{◌≡◌, inl, inr, ℕ, zero, suc, ◌+◌, ◌<◌, Bool, true, false, Option, Some, None, IfSome, List, [], ◌++◌, slice_index, slice_set, append-nil, refl, sym, ap, subst, ◌∙◌, arith}
+use mathlib.Core.Option.{some}
+use lib.ListN.{get_elem?}
+use Rattle.atomic_table.specs.Table.{State}
+use Rattle.atomic_table.specs.Table as table
+use Rattle.steps.specs.Ask.{written}
+use Rattle.steps.specs.Container.Look.{first_look, look_asks, look_want, look_after, look_kept}
+use Rattle.steps.specs.Container.State.{Numbers, Showing, shown_at}
+use Rattle.steps.specs.Copied.{value_in}
+use Rattle.steps.specs.declared.ask.Ask.{Ask}
+use Rattle.steps.specs.declared.ask.After.{After}
+use Rattle.steps.specs.declared.ask.After.TheVariants.{GoOn, Done}
+use Rattle.steps.specs.declared.ask.Want.{Want}
+use Rattle.steps.specs.declared.ask.Want.TheVariants as wants
+use Rattle.steps.specs.declared.container.look.Look.{Look as Looking}
+use Rattle.steps.specs.declared.container.look.LookStage.{LookStage}
+use Rattle.steps.specs.declared.container.look.LookStage.TheVariants as looks
+use Rattle.steps.specs.declared.container.state.ContainerState.{ContainerState}
+use Rattle.model.specs.declared.event.Event.{Event}
+use Rattle.model.specs.declared.event.Start.TheVariants.{Container}
+use Rattle.model.specs.declared.families.Flight.{Flight}
+use Rattle.model.specs.declared.families.Flight.TheVariants as flights
+use Rattle.model.specs.declared.families.Kept.{Kept}
+use Rattle.model.specs.declared.families.Kept.TheVariants as kepts
+use Rattle.model.specs.declared.families.container.calls.LookOf.{LookOf}
+use Rattle.model.specs.declared.families.container.calls.LookOf.TheVariants as which_looks
+use Rattle.model.specs.declared.turn.Kind.TheVariants as kinds
+use Rattle.model.specs.declared.turn.Turn.TheVariants.{Next}
+use Rattle.model.specs.Coding.{Coding, IsCoding}
+use Rattle.model.specs.Families.{opening_of, kept_after_begin, step_of, beside_of}
+use Rattle.model.specs.Families.Container.Calls.{first as first_call, settled_if}
+use Rattle.model.specs.Families.Container.Looks.{state_in, is_looking, WasCopied}
+use Rattle.model.specs.Families.Container.Opening.{names_owner}
+use Rattle.model.specs.Families.Container.States.{state_of, fresh}
+use Rattle.model.specs.Families.Container.Steps.{look_effects}
+use Rattle.model.specs.Turns.{after_turn}
+use Rattle.model.specs.World.{flight_in}
+use Rattle.model.proofs.Parties.{found_put_same}
+use Rattle.lock_free_sp.specs.Driver.{answered, Owes, Next as NextKnown, Told, KeepsRule}
+use Rattle.history.specs.declared.view.View.{View}
+use Rattle.history.specs.ContainerFind.{HasCopied}
+use Rattle.history.specs.ContainerLooks.{look_start, state_of_look, HasState, LookedAt, ShowsCopied, looking, BeginsWith, StateLooks, StateLooked}
+use Rattle.history.specs.History.{IsMachine}
+use Rattle.history.specs.Known.{events_by}
+use Rattle.history.specs.Stages.{Calling, At}
+use Rattle.history.proofs.Calls.{stands, no_flight}
+use Rattle.history.proofs.CallsIn.{AsksFor, goes}
+use Rattle.history.proofs.CallTurns.{same_capacity, some_share, still_stands, Ready, ready, then_trace, then_gained, next_between, comes_now, kept_now, view_then, goes_then, ends_then}
+use Rattle.history.proofs.ContainerLooks.{look_words, look_found, LookGoes, looks_so, look_goes_so, look_keeps_so, look_writes_so}
+use Rattle.history.proofs.Containers.{container_effects, effects_of_party, container_words, containers_owe, kept_there, container_first, container_starts, is_open_container}
+use Rattle.history.proofs.Known.{by_mine}
+use Rattle.history.proofs.Steps.{settle}
+
+module _ {T : Type 0} (code : Coding T) (law : IsCoding code) (which : LookOf) (cells : ℕ) (seen : Numbers) where
+  abbrev call : Calling T (Looking T) (Showing T) Bool
+  call = looking code which cells seen
+
+  abbrev want : Looking T → Want (Unit {0})
+  want c = look_want code.size c
+
+  abbrev after : Looking T → ℕ → After (Looking T) Bool
+  after c n = look_after code.size c seen n
+
+  abbrev kept : Looking T → Showing T → ℕ → Showing T
+  kept c m n = look_kept code.value_of code.size c m n
+
+  abbrev Stage : View T → View T → Looking T → Showing T → Type 0
+  Stage = StateLooks code which cells seen
+
+  abbrev Over : View T → Bool → Showing T → View T → Type 0
+  Over = StateLooked code which cells seen
+
+  has_words : 0 < code.size
+  has_words = (let some = law.some in omega arith)
+
+  pub plain : (base v : View T) (c : Looking T) (m : Showing T) → Stage base v c m → At code kinds.Container call base v c m
+  plain base v c m (size, inl h) = inl h.0
+  plain base v c m (size, inr h) = inr h.0
+
+  -- ---- the state with which it begins
+
+  begins_with : (w : LookOf) (p : ℕ) (base : View T) (m : Showing T) (k : Kept T) (dead : List ℕ) (states : List (ℕ × ContainerState T))
+      → k ≡ kepts.Container dead states → (base.party ≡ Some p → state_in k p ≡ base.state) → IfSome base.party (λ q. q ≡ p)
+      → BeginsWith code which cells seen w base m
+      → HasState (kept_after_begin code cells (Container (look_start w)) p k) p (state_of_look cells seen m)
+  begins_with which_looks.GetState p base m k dead states is stated by h =
+      subst (λ z. HasState (kept_after_begin code cells (Container (look_start which_looks.GetState)) p z) p (state_of_look cells seen m)) (sym is)
+      (found_put_same p (fresh code cells) states
+      ∙ ap (λ (z : Numbers × Showing T). Some (state_of_look cells z.0 z.1)) (λ i. (sym h.0 i, sym h.1 i)))
+  begins_with which_looks.UpdateState p base m k dead states is stated by h =
+      let same : h.0 ≡ p = subst (λ (o : Option ℕ). IfSome o (λ q. q ≡ p)) h.1 by in
+      let has : state_in k p ≡ Some (state_of_look cells seen m) = stated (h.1 ∙ ap Some same) ∙ h.2 in
+      let found : state_of p states ≡ Some (state_of_look cells seen m) = ap (λ z. state_in z p) (sym is) ∙ has in
+      subst (λ z. HasState (kept_after_begin code cells (Container (look_start which_looks.UpdateState)) p z) p (state_of_look cells seen m)) (sym is)
+      (rw found found)
+
+  -- ---- where it goes on, and what it has written then
+
+  none_copied : (p index : ℕ) → HasCopied {T = T} p 0 index []
+  none_copied p zero = refl
+  none_copied p (suc index) = inl (none_copied p index)
+
+  none_looked : (p : ℕ) (stage : LookStage) → LookedAt {T = T} p stage []
+  none_looked p looks.LoadsChange = refl
+  none_looked p (looks.LoadsCount index) = none_copied p index
+  none_looked p (looks.LoadsWord index count at) = none_copied p index
+  none_looked p (looks.ChecksCount index count) = none_copied p index
+
+  abbrev value_read : Showing T → T
+  value_read m = value_in code.value_of code.size m.copy
+
+  goes_so : (capacity p : ℕ) (c : Looking T) (m : Showing T) (n : ℕ) (es : List (Event T)) (a : After (Looking T) Bool) → (h : call.stands capacity c)
+      → LookedAt p c.stage es → after c n ≡ a → LookGoes code.size has_words which capacity cells seen c h.0 p (es ++ look_effects p (value_read m) c.stage n) a
+  goes_so capacity p c m n es a h at e =
+      subst (LookGoes code.size has_words which capacity cells seen c h.0 p (es ++ look_effects p (value_read m) c.stage n)) e
+      (looks_so code.size has_words which capacity cells seen c h.0 p (value_read m) c.stage n es h.1 at)
+
+  -- ---- a step
+
+  abbrev ReadyAt : State (Unit {0}) (View T) → View T → ℕ → ℕ → Looking T → Showing T → Type 0
+  ReadyAt = Ready code kinds.Container container_effects (container_words code) (containers_owe code) call
+
+  module _ (s : State (Unit {0}) (View T)) (v : View T) (key id : ℕ) (c : Looking T) (m : Showing T) (at : get_elem? s.views id ≡ some v)
+      (known : v.capacity ≡ key) (y : ReadyAt s v key id c m) (ask : Ask) (low : ask.word < container_words code key) (wants_it : want c ≡ wants.Ask ask)
+      (has : HasState y.u.world.kept y.p (state_of_look cells seen m)) where
+    abbrev n : ℕ
+    n = slice_index s.words ask.word
+
+    abbrev now : Showing T
+    now = kept c m n
+
+    abbrev its_flight : Flight T
+    its_flight = call.flight c m
+
+    abbrev view_now : View T
+    view_now = view_then code kinds.Container container_effects (container_words code) (containers_owe code) call s v key id c m at known y (Some ask) low
+        wants_it tt
+
+    comes : comes_now code kinds.Container container_effects (container_words code) (containers_owe code) call s v key id c m at known y (Some ask) low wants_it tt
+        ≡ goes call (after c n) now
+    comes = look_goes_so code which cells seen y.p c m n y.u.world.kept has
+
+    -- the state that it leaves
+    abbrev left : ContainerState T
+    left = settled_if (after c n) (state_of_look cells seen now)
+
+    state_then : view_now.state ≡ Some left
+    state_then =
+        let w = y.u.world in
+        let here = stands w y.p call.start its_flight y.there in
+        let beside = beside_of w.words w.kept w.latest y.p in
+        ap (λ k. state_in k y.p)
+        (kept_now code kinds.Container container_effects (container_words code) (containers_owe code) call s v key id c m at known y (Some ask) low wants_it tt)
+        ∙ subst (λ z. HasState (step_of z w.words beside y.p here.x.start its_flight n w.kept).kept y.p left) (sym y.between.run.coded)
+        (subst (λ st. HasState (step_of code w.words beside y.p st its_flight n w.kept).kept y.p left) (sym here.named)
+        (look_keeps_so code which cells seen y.p w.words beside (look_start which) c m n w.kept has))
+
+    left_shows : (a : After (Looking T) Bool) → (settled_if a (state_of_look cells seen now)).shown ≡ now
+    left_shows (GoOn d) = refl
+    left_shows (Done true) = refl
+    left_shows (Done false) = refl
+
+    -- at its end it shows what its party has copied
+    shows_copied : view_now.going ≡ None → ShowsCopied now view_now
+    shows_copied idle p i value is shown =
+        let u =
+        then_trace code kinds.Container container_effects (container_words code) (containers_owe code) call s v key id c m at known y (Some ask) low wants_it tt
+        in
+        let run =
+        (next_between code kinds.Container container_effects (container_words code) (containers_owe code) call s v key id c m at known y (Some ask) low wants_it tt).run
+        in
+        let still : is_looking (flight_in u.world y.p) ≡ false = ap is_looking (no_flight u.world y.p idle) in
+        let copied : WasCopied y.p i value u.events =
+        (is_open_container code key u run).states y.p i left value still state_then (ap (λ (z : Showing T). shown_at z.elements i) (left_shows (after c n)) ∙ shown)
+        in
+        let same : y.p ≡ p = cc in
+        subst (λ q. WasCopied q i value u.events) same copied
+
+    -- what it writes is its own
+    its_own : (es late : List (Event T)) → late ≡ []
+        → (es ++ late) ++ events_by y.p (container_effects y.u.world y.p its_flight n) ≡ es ++ look_effects y.p (value_read m) c.stage n
+    its_own es late none =
+        let w = y.u.world in
+        ap (λ zs. (es ++ zs) ++ events_by y.p (container_effects w y.p its_flight n)) none
+        ∙ (ap (λ zs. zs ++ events_by y.p (container_effects w y.p its_flight n)) (append-nil es)
+        ∙ ap (λ zs. es ++ zs)
+        (by_mine y.p (container_effects w y.p its_flight n) (effects_of_party w.coding w.kept y.p its_flight n)
+        ∙ (look_writes_so code which cells seen y.p c m n w y.between.run.coded has ∙ append-nil (look_effects y.p (value_read m) c.stage n))))
+
+    known_then : (base : View T) → Stage base v c m → (a : After (Looking T) Bool) → after c n ≡ a
+        → NextKnown (λ (z : View T). z.capacity) Stage Over base a now view_now
+    known_then base stage (GoOn d) e =
+        let there = plain base v c m stage in
+        let standing = still_stands code kinds.Container container_effects (container_words code) (containers_owe code) call base v c m there in (
+          stage.0,
+          inr (
+            goes_then code kinds.Container container_effects (container_words code) (containers_owe code) call s v key id c m at known y (Some ask) low wants_it tt
+                base there d now (comes ∙ ap (λ a. goes call a now) e) (goes_so base.capacity y.p c m n [] (GoOn d) standing (none_looked y.p c.stage) e).0
+                (λ k. refl)
+                (λ es late h waits met new. subst (λ zs. LookedAt y.p d.stage zs) (sym (its_own es late waits))
+                (goes_so base.capacity y.p c m n es (GoOn d) standing (h new) e).1),
+            state_then ∙ ap (λ a. Some (settled_if a (state_of_look cells seen now))) e,
+          ),
+        )
+    known_then base stage (Done changed) e =
+        let there = plain base v c m stage in
+        let standing = still_stands code kinds.Container container_effects (container_words code) (containers_owe code) call base v c m there in
+        let ends =
+        ends_then code kinds.Container container_effects (container_words code) (containers_owe code) call s v key id c m at known y (Some ask) low wants_it tt
+        base there changed now (comes ∙ ap (λ a. goes call a now) e)
+        (λ es late h waits met new. subst (λ zs. call.wrote_all base.capacity y.p None changed now zs) (sym (its_own es late waits))
+        (λ none. goes_so base.capacity y.p c m n es (Done changed) standing (h new) e) refl)
+        in (ends, state_then ∙ ap (λ a. Some (settled_if a (state_of_look cells seen now))) e, shows_copied ends.idle)
+
+    told : Told (λ (z : View T). z.capacity) Stage Over after kept c m v (answered ask.op n) view_now
+    told =
+        let same : answered ask.op n ≡ n = look_found code.size c.capacity c.stage ask n wants_it in (
+          refl,
+          λ base stage. subst (λ i. NextKnown (λ (z : View T). z.capacity) Stage Over base (after c i) (kept c m i) view_now) (sym same)
+              (known_then base stage (after c n) refl),
+        )
+
+  -- ---- each step keeps the rule
+
+  pub state_looks_keep : KeepsRule (λ (z : View T). z.capacity) Stage Over (λ key. container_words code key + 1) (λ key. key)
+      (λ key. IsMachine code kinds.Container key) want after kept
+  state_looks_keep base₀ v c m key words slots id wide known at₀ =
+      let there₀ = plain base₀ v c m at₀ in
+      let standing = still_stands code kinds.Container container_effects (container_words code) (containers_owe code) call base₀ v c m there₀ in
+      let same : base₀.capacity ≡ key =
+      sym (same_capacity code kinds.Container container_effects (container_words code) (containers_owe code) call base₀ v c m there₀) ∙ known
+      in
+      let asked : AsksFor (container_words code key) (want c) = asks_so standing same in
+      let ask = asked.0 in
+      let low = asked.1 in
+      let below : ask.word < words = omega arith in
+      subst (λ w. Owes (IsMachine code kinds.Container key) words slots id (Told (λ (z : View T). z.capacity) Stage Over after kept c m) w (v, [])) (sym asked.2) (
+        below,
+        λ s r long at small. (
+            let y = ready code kinds.Container container_effects (container_words code) (containers_owe code) call s v key id c m r at known base₀ there₀ in
+            let has = has_so s y at₀ same in (
+              view_now s v key id c m at known y ask low asked.2 has,
+              table.keeps,
+              tt,
+              settle code kinds.Container key id y.p y.owner (slice_set s.words ask.word (written ask.op (slice_index s.words ask.word))) s v
+                  (then_gained code kinds.Container container_effects (container_words code) (containers_owe code) call s v key id c m at known y (Some ask) low
+                  asked.2 tt)
+                  (after_turn y.u (Next y.p)) at
+                  (some_share code kinds.Container container_effects (container_words code) (containers_owe code) call base₀ v c m there₀)
+                  (next_between code kinds.Container container_effects (container_words code) (containers_owe code) call s v key id c m at known y (Some ask) low
+                  asked.2 tt),
+              (told s v key id c m at known y ask low asked.2 has, refl),
+            )),
+      )
+    where
+      asks_so : call.stands base₀.capacity c → base₀.capacity ≡ key → AsksFor (container_words code key) (want c)
+      asks_so standing same =
+          subst (λ k. AsksFor (container_words code k) (want c)) same
+          (subst (λ k. AsksFor (container_words code base₀.capacity) (look_asks code.size k c.stage)) (sym standing.0)
+          (look_words code.size base₀.capacity c.stage standing.1))
+
+      has_so : (s : State (Unit {0}) (View T)) (y : ReadyAt s v key id c m) → Stage base₀ v c m → base₀.capacity ≡ key
+          → HasState y.u.world.kept y.p (state_of_look cells seen m)
+      has_so s y (size, inl h) same =
+          let idle : v.going ≡ None = ap (λ (z : View T). z.going) h.0.is ∙ h.0.idle in
+          let b = y.began idle in
+          let k = kept_there code key b.t b.run in
+          let cells_are : cells ≡ key = sym size ∙ same in
+          subst (λ z. HasState z y.p (state_of_look cells seen m)) (sym (b.kept ∙ ap (λ z. kept_after_begin code z call.start y.p b.t.world.kept) (sym cells_are)))
+          (begins_with which y.p base₀ m b.t.world.kept k.0 k.1 k.2
+          (subst (λ (z : View T). z.party ≡ Some y.p → state_in b.t.world.kept y.p ≡ z.state) h.0.is b.stated)
+          (y.by base₀ (inl h.0)) h.1)
+      has_so s y (size, inr h) same = y.held h.0.going ∙ h.1
+
+  -- ---- it begins
+
+  module _ (m : Showing T) where
+    look_named : (w : LookOf) → names_owner {T = T} (look_start w) ≡ true
+    look_named which_looks.GetState = refl
+    look_named which_looks.UpdateState = refl
+
+    look_flies : (w : LookOf) (capacity : ℕ) → flights.Container (first_call capacity (look_start w)) ≡ (looking code w cells seen).flight (first_look capacity) m
+    look_flies which_looks.GetState capacity = refl
+    look_flies which_looks.UpdateState capacity = refl
+
+    pub state_look_first : (v : View T) → v.capacity ≡ cells → v.going ≡ None → v.other ≡ [] → 0 < v.share.part → BeginsWith code which cells seen which v m
+        → Stage v v (first_look v.capacity) m
+    state_look_first v size idle alone any begins =
+        let named = look_named which in
+        let flies = look_flies which v.capacity in (
+          size,
+          inl (
+            record {
+              is = refl;
+              idle = idle;
+              fresh = alone;
+              standing = (refl, tt);
+              some = any;
+              first = container_first code v call (look_start which) (first_look v.capacity) m refl (λ o p h. h) named flies
+                  ((opening_of kinds.Container).kept v.capacity);
+              starts = container_starts code v call (look_start which) (first_look v.capacity) m refl (λ o p h. h) named flies;
+              wrote = λ p new. refl;
+            },
+            begins,
+          ),
+        )

@@ -1,0 +1,32 @@
+-- What a call has written since it began is what its pass has seen of its party since.
+use Rattle.std.proofs.Common.{◌≡◌, ℕ, Option, Some, None, [], ◌++◌, sym, ap, ◌∙◌, append-nil, fold}
+use Rattle.model.specs.declared.turn.Kind.{Kind}
+use Rattle.model.specs.Coding.{Coding}
+use Rattle.model.specs.Reading.{Span, span_of, own_after, Open}
+use Rattle.history.specs.declared.view.View.{View}
+use Rattle.history.specs.Known.{events_by}
+use Rattle.history.specs.Stages.{Calling, opened, IsUnderWay}
+use Rattle.history.proofs.CallsIn.{span_since}
+
+module _ {T C M E : Type 0} (code : Coding T) (kind : Kind) (call : Calling T C M E) where
+  pub written_since : (base v : View T) (c : C) (m : M) → base.going ≡ None → (under : IsUnderWay code kind call base v c m)
+      → span_of under.party v.seen ≡ fold own_after (Open call.start []) under.wrote
+  written_since base v c m idle under =
+      let p = under.party in
+      let since = under.since in
+      ap (span_of p) (since.is ∙ ap (λ os. (base.seen ++ since.others) ++ (os ++ (since.during ++ []))) (ap (opened p call.start) idle))
+      ∙ (span_since p call.start (base.seen ++ since.others) (since.during ++ [])
+      ∙ ap (fold own_after (Open call.start [])) (ap (events_by p) (append-nil since.during) ∙ since.during_own))
+
+  -- so two tellings of it that begin with it are one
+  pub same_written : (base other v : View T) (c d : C) (m k : M) → base.going ≡ None → other.going ≡ None
+      → (a : IsUnderWay code kind call base v c m) (b : IsUnderWay code kind call other v d k)
+      → fold own_after (Open call.start []) a.wrote ≡ Open call.start a.wrote → fold own_after (Open call.start []) b.wrote ≡ Open call.start b.wrote
+      → (a.party ≡ b.party) × (a.wrote ≡ b.wrote)
+  same_written base other v c d m k idle still a b long longer =
+      let both : ◌≡◌ {A = Option ℕ} (Some a.party) (Some b.party) = sym a.mine ∙ b.mine in
+      let party : a.party ≡ b.party = cc in
+      let spans : ◌≡◌ {A = Span T} (Open call.start a.wrote) (Open call.start b.wrote) = sym long
+      ∙ (sym (written_since base v c m idle a) ∙ (ap (λ q. span_of q v.seen) party ∙ (written_since other v d k still b ∙ longer))) in
+      let wrote : a.wrote ≡ b.wrote = cc in
+      (party, wrote)

@@ -1,0 +1,228 @@
+-- The calls on containers as calls of the model: where each stands, and what it has written there.
+use Rattle.std.specs.Prelude.{◌≡◌, ◌⊎◌, ℕ, ◌<◌, Bool, false, None, IfSome, Ok, Err, List, [], ◌∷◌, ◌++◌, if◌then◌else◌}
+use Rattle.steps.specs.Container.Add.{Added}
+use Rattle.steps.specs.Container.Remove.{Removed}
+use Rattle.steps.specs.Container.Replace.{Replaced}
+use Rattle.steps.specs.declared.container.add.Add.{Add as Adding}
+use Rattle.steps.specs.declared.container.add.AddStage as adds
+use Rattle.steps.specs.declared.container.add.Owned.{Owned}
+use Rattle.steps.specs.declared.container.enums.ContainerAddFailure.TheVariants as failures
+use Rattle.steps.specs.declared.container.remove.Remove.{Remove as Removing}
+use Rattle.steps.specs.declared.container.remove.RemoveStage as removes
+use Rattle.steps.specs.declared.container.replace.Replace.{Replace as Replacing}
+use Rattle.steps.specs.declared.container.replace.ReplaceStage as replaces
+use Rattle.steps.specs.declared.container.replace.Replacement.{Replacement}
+use Rattle.steps.specs.declared.indices.enums.ReleaseMode.{ReleaseMode}
+use Rattle.steps.specs.declared.indices.enums.ReleaseState.{ReleaseState}
+use Rattle.steps.specs.declared.indices.robust.looks.BorrowedIndices.{BorrowedIndices as Counting}
+use Rattle.steps.specs.declared.indices.robust.looks.IsLocked.{IsLocked as Looking}
+use Rattle.steps.specs.declared.indices.robust.release.GiveBack.{GiveBack}
+use Rattle.model.specs.declared.event.Answer.TheVariants.{Truth}
+use Rattle.model.specs.declared.event.Event.{Event}
+use Rattle.model.specs.declared.event.Event.TheVariants.{Filled, Granted, Placed, Hidden}
+use Rattle.model.specs.declared.event.Start.TheVariants.{Container}
+use Rattle.model.specs.declared.families.Flight as flights
+use Rattle.model.specs.declared.families.container.ContainerStart.{ContainerStart}
+use Rattle.model.specs.declared.families.container.ContainerStart.TheVariants.{Add, Remove, Replace, Len, IsEmpty, IsLocked}
+use Rattle.model.specs.declared.families.container.calls.ContainerFlight.TheVariants as calls
+use Rattle.model.specs.declared.families.container.calls.CountOf.{CountOf}
+use Rattle.model.specs.declared.families.container.calls.CountOf.TheVariants as counts
+use Rattle.model.specs.Families.Container.Calls.{added, removed, replaced, counted}
+use Rattle.history.specs.Robust.{AcquireIn, ReleaseIn, CountIn, filled_at, freed_at, ReleaseWrote}
+use Rattle.history.specs.Stages.{Calling}
+
+-- ---- what a call does to the element at an index
+
+module _ {T : Type 0} where
+  abbrev pub when : Bool → Event T → List (Event T)
+  when did e = if did then e ∷ [] else []
+
+  -- it has hidden what stood there, or found nothing to hide
+  abbrev pub HasCleared : ℕ → ℕ → List (Event T) → List (Event T) → Type 0
+  HasCleared p index before es = (hid : Bool) × (es ≡ before ++ when hid (Hidden p index))
+
+  -- and has placed its value, unless something stood there by then
+  abbrev pub HasPut : ℕ → ℕ → T → List (Event T) → List (Event T) → Type 0
+  HasPut p index value before es =
+      (hid : Bool) × (put : Bool)
+      × (es ≡ before ++ (when hid (Hidden p index) ++ when put (Placed p index value)))
+
+-- ---- add
+
+-- where it stands on a container of this capacity, whose values have so many words
+abbrev pub AddIn : ℕ → ℕ → adds.AddStage → Type 0
+AddIn size capacity (adds.TheVariants.Acquires stage) = AcquireIn capacity stage
+AddIn size capacity (adds.TheVariants.LoadsCount index) = index < capacity
+AddIn size capacity (adds.TheVariants.Hides index count) = index < capacity
+AddIn size capacity (adds.TheVariants.Stores index at) = (index < capacity) × (at < size)
+AddIn size capacity (adds.TheVariants.AddsCount index) = index < capacity
+AddIn size capacity (adds.TheVariants.AddsChange index) = index < capacity
+
+module _ {T : Type 0} where
+  abbrev pub taken : ℕ → ℕ → ℕ → List (Event T)
+  taken p index owner = Filled p index owner ∷ Granted p index owner ∷ []
+
+  -- what it has written at this stage
+  abbrev pub AddedAt : ℕ → Owned T → adds.AddStage → List (Event T) → Type 0
+  AddedAt p given (adds.TheVariants.Acquires stage) es = es ≡ filled_at p given.owner stage
+  AddedAt p given (adds.TheVariants.LoadsCount index) es = es ≡ taken p index given.owner
+  AddedAt p given (adds.TheVariants.Hides index count) es = es ≡ taken p index given.owner
+  AddedAt p given (adds.TheVariants.Stores index at) es =
+      HasCleared p index (taken p index given.owner) es
+  AddedAt p given (adds.TheVariants.AddsCount index) es =
+      HasCleared p index (taken p index given.owner) es
+  AddedAt p given (adds.TheVariants.AddsChange index) es =
+      HasPut p index given.value (taken p index given.owner) es
+
+  -- and in all: one that met the lock may have filled an index, which keeps its owner
+  abbrev pub HasAdded : ℕ → ℕ → Owned T → Added → List (Event T) → Type 0
+  HasAdded capacity p given (Ok index) es =
+      (index < capacity) × HasPut p index given.value (taken p index given.owner) es
+  HasAdded capacity p given (Err failures.IsLocked) es =
+      (es ≡ []) ⊎ ((index : ℕ) × (index < capacity) × (es ≡ Filled p index given.owner ∷ []))
+  HasAdded capacity p given (Err failures.OutOfSpace) es = es ≡ []
+
+  abbrev pub adds_value : ℕ → Owned T → Calling T (Adding T) (Unit {0}) Added
+  adds_value size given =
+      record {
+        start = Container (Add given.value given.owner);
+        by = λ was p. IfSome was (λ q. q ≡ p);
+        stands = λ capacity c. (c.capacity ≡ capacity) × AddIn size capacity c.stage;
+        flight = λ c m.
+            flights.TheVariants.Container
+            (calls.Add (record { call = c; given = given; room = m }));
+        answer = λ e m. added e;
+        skips = λ c n. false;
+        left = λ e. ⊥;
+        wrote = λ capacity p from c m es. from ≡ None → AddedAt p given c.stage es;
+        wrote_all = λ capacity p from e m es. from ≡ None → HasAdded capacity p given e es;
+      }
+
+-- ---- remove
+
+-- of an index of the container
+abbrev pub RemoveIn : ℕ → ReleaseMode → removes.RemoveStage → Type 0
+RemoveIn capacity mode removes.TheVariants.Refuses = ⊥
+RemoveIn capacity mode removes.TheVariants.LoadsCount = Unit {0}
+RemoveIn capacity mode (removes.TheVariants.Releases count stage) = ReleaseIn capacity mode stage
+RemoveIn capacity mode (removes.TheVariants.Hides count state) = Unit {0}
+RemoveIn capacity mode (removes.TheVariants.AddsChange state) = Unit {0}
+
+module _ {T : Type 0} where
+  -- it has released the index, and hidden what stood there, or found nothing to hide
+  abbrev pub HasRemovedIt : ℕ → GiveBack → ReleaseState → List (Event T) → Type 0
+  HasRemovedIt p given state es =
+      (before : List (Event T)) × ReleaseWrote p given (Ok state) before
+      × HasCleared p given.index before es
+
+  abbrev pub RemovedAt : ℕ → GiveBack → removes.RemoveStage → List (Event T) → Type 0
+  RemovedAt p given removes.TheVariants.Refuses es = es ≡ []
+  RemovedAt p given removes.TheVariants.LoadsCount es = es ≡ []
+  RemovedAt p given (removes.TheVariants.Releases count stage) es = es ≡ freed_at p given stage
+  RemovedAt p given (removes.TheVariants.Hides count state) es = ReleaseWrote p given (Ok state) es
+  RemovedAt p given (removes.TheVariants.AddsChange state) es = HasRemovedIt p given state es
+
+  -- and in all: nothing where another owner had the index, or none
+  abbrev pub HasRemoved : ℕ → GiveBack → Removed → List (Event T) → Type 0
+  HasRemoved p given (Ok state) es = HasRemovedIt p given state es
+  HasRemoved p given (Err failure) es = es ≡ []
+
+  abbrev pub removes_value : GiveBack → Calling T Removing (Unit {0}) Removed
+  removes_value given =
+      record {
+        start = Container (Remove given.index given.owner given.mode);
+        by = λ was p. IfSome was (λ q. q ≡ p);
+        stands = λ capacity c.
+            (c.capacity ≡ capacity) × (given.index < capacity) × RemoveIn capacity given.mode c.stage;
+        flight = λ c m.
+            flights.TheVariants.Container
+            (calls.Remove (record { call = c; given = given; room = m }));
+        answer = λ e m. removed e;
+        skips = λ c n. false;
+        left = λ e. ⊥;
+        wrote = λ capacity p from c m es. from ≡ None → RemovedAt p given c.stage es;
+        wrote_all = λ capacity p from e m es. from ≡ None → HasRemoved p given e es;
+      }
+
+-- ---- replace
+
+abbrev pub ReplaceIn : ℕ → replaces.ReplaceStage → Type 0
+ReplaceIn size replaces.TheVariants.Refuses = ⊥
+ReplaceIn size replaces.TheVariants.LoadsCell = Unit {0}
+ReplaceIn size replaces.TheVariants.LoadsCount = Unit {0}
+ReplaceIn size (replaces.TheVariants.Hides count) = Unit {0}
+ReplaceIn size (replaces.TheVariants.Stores at) = at < size
+ReplaceIn size replaces.TheVariants.AddsCount = Unit {0}
+ReplaceIn size replaces.TheVariants.AddsChange = Unit {0}
+
+module _ {T : Type 0} where
+  abbrev pub ReplacedAt : ℕ → Replacement T → replaces.ReplaceStage → List (Event T) → Type 0
+  ReplacedAt p given replaces.TheVariants.Refuses es = es ≡ []
+  ReplacedAt p given replaces.TheVariants.LoadsCell es = es ≡ []
+  ReplacedAt p given replaces.TheVariants.LoadsCount es = es ≡ []
+  ReplacedAt p given (replaces.TheVariants.Hides count) es = es ≡ []
+  ReplacedAt p given (replaces.TheVariants.Stores at) es = HasCleared p given.index [] es
+  ReplacedAt p given replaces.TheVariants.AddsCount es = HasCleared p given.index [] es
+  ReplacedAt p given replaces.TheVariants.AddsChange es = HasPut p given.index given.value [] es
+
+  -- and in all: nothing where another owner had the index, or none
+  abbrev pub HasReplaced : ℕ → Replacement T → Replaced → List (Event T) → Type 0
+  HasReplaced p given (Ok done) es = HasPut p given.index given.value [] es
+  HasReplaced p given (Err failure) es = es ≡ []
+
+  abbrev pub replaces_value : ℕ → Replacement T → Calling T (Replacing T) (Unit {0}) Replaced
+  replaces_value size given =
+      record {
+        start = Container (Replace given.index given.value given.owner);
+        by = λ was p. IfSome was (λ q. q ≡ p);
+        stands = λ capacity c.
+            (c.capacity ≡ capacity) × (given.index < capacity) × ReplaceIn size c.stage;
+        flight = λ c m.
+            flights.TheVariants.Container
+            (calls.Replace (record { call = c; given = given; room = m }));
+        answer = λ e m. replaced e;
+        skips = λ c n. false;
+        left = λ e. ⊥;
+        wrote = λ capacity p from c m es. from ≡ None → ReplacedAt p given c.stage es;
+        wrote_all = λ capacity p from e m es. from ≡ None → HasReplaced p given e es;
+      }
+
+-- ---- looks
+
+module _ {T : Type 0} where
+  abbrev pub count_start : CountOf → ContainerStart T
+  count_start counts.Len = Len
+  count_start counts.IsEmpty = IsEmpty
+
+  -- how many indices are filled, or whether none is
+  abbrev pub counts_values : CountOf → Calling T Counting (Unit {0}) ℕ
+  counts_values which =
+      record {
+        start = Container (count_start which);
+        by = λ was p. IfSome was (λ q. q ≡ p);
+        stands = λ capacity c. (c.capacity ≡ capacity) × CountIn capacity c.count;
+        flight = λ c m.
+            flights.TheVariants.Container
+            (calls.Count which (record { call = c; given = tt; room = m }));
+        answer = λ n m. counted which n;
+        skips = λ c n. false;
+        left = λ e. ⊥;
+        wrote = λ capacity p from c m es. es ≡ [];
+        wrote_all = λ capacity p from n m es. es ≡ [];
+      }
+
+  abbrev pub sees_lock : Calling T Looking (Unit {0}) Bool
+  sees_lock =
+      record {
+        start = Container IsLocked;
+        by = λ was p. IfSome was (λ q. q ≡ p);
+        stands = λ capacity c. Unit {0};
+        flight = λ c m.
+            flights.TheVariants.Container
+            (calls.IsLocked (record { call = c; given = tt; room = m }));
+        answer = λ b m. Truth b;
+        skips = λ c n. false;
+        left = λ e. ⊥;
+        wrote = λ capacity p from c m es. es ≡ [];
+        wrote_all = λ capacity p from b m es. es ≡ [];
+      }

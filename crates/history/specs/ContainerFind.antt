@@ -1,0 +1,76 @@
+-- A find on containers as a call of the model. An answer may end it, and then it rests at its question.
+use Rattle.std.specs.Prelude.{◌≡◌, ◌⊎◌, ℕ, zero, suc, ◌+◌, ◌<◌, ◌==◌, if◌then◌else◌, false, None, IfSome, List, [], ◌∷◌, ◌++◌, map}
+use Rattle.steps.specs.Container.Find.{find_kept}
+use Rattle.steps.specs.declared.container.find.Find.{Find as Finding}
+use Rattle.steps.specs.declared.container.find.FindStage as finds
+use Rattle.model.specs.declared.event.Answer.TheVariants.{Number}
+use Rattle.model.specs.declared.event.Event.{Event}
+use Rattle.model.specs.declared.event.Event.TheVariants.{Copied}
+use Rattle.model.specs.declared.event.Start.TheVariants.{Container}
+use Rattle.model.specs.declared.families.Flight as flights
+use Rattle.model.specs.declared.families.container.ContainerStart.TheVariants.{Find}
+use Rattle.model.specs.declared.families.container.calls.ContainerFlight as calls
+use Rattle.model.specs.Coding.{Coding}
+use Rattle.history.specs.Rooms.{room_of}
+use Rattle.history.specs.Stages.{Calling}
+use Rattle.history.specs.Value.{value_of_room}
+
+-- where it stands on a container of this capacity, whose values have so many words
+abbrev pub FindIn : ℕ → ℕ → finds.FindStage → Type 0
+FindIn size capacity (finds.TheVariants.LoadsCell index found) = index < capacity
+FindIn size capacity (finds.TheVariants.LoadsCount index found) = index < capacity
+FindIn size capacity (finds.TheVariants.LoadsWord index found count at) = (index < capacity) × (at < size)
+FindIn size capacity (finds.TheVariants.ChecksCount index found count) = index < capacity
+FindIn size capacity (finds.TheVariants.Asks index found) = index < capacity
+
+-- ---- what it has copied: values at indices
+
+module _ {T : Type 0} where
+  -- of so many indices from this one on it has copied some, each once, ascending
+  abbrev pub HasCopied : ℕ → ℕ → ℕ → List (Event T) → Type 0
+  HasCopied p from zero es = es ≡ []
+  HasCopied p from (suc number) es =
+      HasCopied p from number es
+      ⊎ ((before : List (Event T)) × (value : T) × HasCopied p from number before
+      × (es ≡ before ++ Copied p (from + number) value ∷ []))
+
+  abbrev pub copies_of : ℕ → List (ℕ × T) → List (Event T)
+  copies_of p copies = map (λ (c : ℕ × T). Copied p c.0 c.1) copies
+
+  -- after a step at this stage, with this value in its room: one more where the number is the same still
+  abbrev pub copies_after : finds.FindStage → ℕ → T → List (ℕ × T) → List (ℕ × T)
+  copies_after (finds.TheVariants.ChecksCount index found count) old value copies =
+      if old == count then copies ++ (index, value) ∷ [] else copies
+  copies_after (finds.TheVariants.LoadsCell index found) old value copies = copies
+  copies_after (finds.TheVariants.LoadsCount index found) old value copies = copies
+  copies_after (finds.TheVariants.LoadsWord index found count at) old value copies = copies
+  copies_after (finds.TheVariants.Asks index found) old value copies = copies
+
+-- beside its room, which the program has, it keeps what it has copied, for the proofs alone
+module _ {T R : Type 0} (code : Coding T) (words_in : R → List ℕ) where
+  abbrev pub find_copies : (R → ℕ → ℕ → R) → Finding T R → R × List (ℕ × T) → ℕ → R × List (ℕ × T)
+  find_copies with_word c m old = (
+    find_kept with_word c m.0 old,
+    copies_after c.stage old (value_of_room code words_in m.0) m.1,
+  )
+
+  abbrev pub finds_values : ℕ → Calling T (Finding T R) (R × List (ℕ × T)) ℕ
+  finds_values owner =
+      record {
+        start = Container (Find owner);
+        by = λ was p. IfSome was (λ q. q ≡ p);
+        stands = λ capacity c. (c.capacity ≡ capacity) × FindIn code.size capacity c.stage;
+        flight = λ c m.
+            flights.TheVariants.Container
+            (calls.TheVariants.Find
+            (record {
+              call = record { capacity = c.capacity; stage = c.stage; of = record {} };
+              given = owner;
+              room = room_of code.size (words_in m.0);
+            }));
+        answer = λ n m. Number n;
+        skips = λ c n. false;
+        left = λ e. ⊥;
+        wrote = λ capacity p from c m es. from ≡ None → es ≡ copies_of p m.1;
+        wrote_all = λ capacity p from n m es. from ≡ None → es ≡ copies_of p m.1;
+      }

@@ -1,0 +1,117 @@
+-- A look of a state at its container as a call of the model: where it stands, and what it has written there. It goes on from
+-- the state that its party has in the machine.
+use Rattle.std.specs.Prelude.{◌≡◌, ◌⊎◌, ℕ, ◌<◌, Bool, true, false, Some, None, IfSome, List, []}
+use Rattle.steps.specs.Container.Look.{first_look}
+use Rattle.steps.specs.Container.State.{Numbers, Showing, no_numbers, shows_nothing, shown_at}
+use Rattle.steps.specs.declared.ask.After.TheVariants.{Done}
+use Rattle.steps.specs.declared.container.look.Look.{Look as Looking}
+use Rattle.steps.specs.declared.container.look.LookStage as looks
+use Rattle.steps.specs.declared.container.state.ContainerState.{ContainerState}
+use Rattle.model.specs.declared.event.Event.{Event}
+use Rattle.model.specs.declared.event.Start.TheVariants.{Container}
+use Rattle.model.specs.declared.families.Flight as flights
+use Rattle.model.specs.declared.families.Kept.{Kept}
+use Rattle.model.specs.declared.families.container.ContainerStart.{ContainerStart}
+use Rattle.model.specs.declared.families.container.ContainerStart.TheVariants.{GetState, UpdateState}
+use Rattle.model.specs.declared.families.container.calls.ContainerFlight.TheVariants as calls
+use Rattle.model.specs.declared.families.container.calls.LookOf.{LookOf}
+use Rattle.model.specs.declared.families.container.calls.LookOf.TheVariants as which_looks
+use Rattle.model.specs.declared.turn.Kind.TheVariants as kinds
+use Rattle.model.specs.Coding.{Coding}
+use Rattle.model.specs.Families.Container.Calls.{looked, settled_if}
+use Rattle.model.specs.Families.Container.Looks.{state_in, WasCopied}
+use Rattle.history.specs.declared.view.View.{View}
+use Rattle.history.specs.ContainerFind.{HasCopied}
+use Rattle.history.specs.Settled.{AtWaiting, EndsSettled}
+use Rattle.history.specs.Stages.{Calling, IsFirst, IsUnderWay, Ends}
+
+-- on a container of this capacity, whose values have so many words
+abbrev pub LookIn : ℕ → ℕ → looks.LookStage → Type 0
+LookIn size capacity looks.TheVariants.LoadsChange = Unit {0}
+LookIn size capacity (looks.TheVariants.LoadsCount index) = index < capacity
+LookIn size capacity (looks.TheVariants.LoadsWord index count at) = (index < capacity) × (at < size)
+LookIn size capacity (looks.TheVariants.ChecksCount index count) = index < capacity
+
+module _ {T : Type 0} where
+  abbrev pub look_start : LookOf → ContainerStart T
+  look_start which_looks.GetState = GetState
+  look_start which_looks.UpdateState = UpdateState
+
+  -- what the state had seen when the look began, and what it shows by now
+  abbrev pub state_of_look : ℕ → Numbers → Showing T → ContainerState T
+  state_of_look capacity seen shown =
+      record { container = 0; capacity = capacity; seen = seen; shown = shown }
+
+  -- the machine has it so for the party
+  abbrev pub HasState : Kept T → ℕ → ContainerState T → Type 0
+  HasState kept p state = state_in kept p ≡ Some state
+
+  -- what it has written at this stage
+  abbrev pub LookedAt : ℕ → looks.LookStage → List (Event T) → Type 0
+  LookedAt p looks.TheVariants.LoadsChange es = es ≡ []
+  LookedAt p (looks.TheVariants.LoadsCount index) es = HasCopied p 0 index es
+  LookedAt p (looks.TheVariants.LoadsWord index count at) es = HasCopied p 0 index es
+  LookedAt p (looks.TheVariants.ChecksCount index count) es = HasCopied p 0 index es
+
+  -- and in all: nothing where nothing had changed
+  abbrev pub HasLookedAll : ℕ → ℕ → Bool → List (Event T) → Type 0
+  HasLookedAll capacity p true es = HasCopied p 0 capacity es
+  HasLookedAll capacity p false es = es ≡ []
+
+  abbrev pub looks_at : ℕ → LookOf → ℕ → Numbers → Calling T (Looking T) (Showing T) Bool
+  looks_at size which cells seen =
+      record {
+        start = Container (look_start which);
+        by = λ was p. IfSome was (λ q. q ≡ p);
+        stands = λ capacity c. (c.capacity ≡ capacity) × LookIn size capacity c.stage;
+        flight = λ c m. flights.TheVariants.Container (calls.Look which c);
+        answer = λ changed m. looked which (state_of_look cells seen m) changed;
+        skips = λ c n. false;
+        left = λ e. ⊥;
+        wrote = λ capacity p from c m es. from ≡ None → LookedAt p c.stage es;
+        wrote_all = λ capacity p from changed m es. from ≡ None → HasLookedAll capacity p changed es;
+      }
+
+  -- each value that is shown was copied by the party of the view, from its index
+  abbrev pub ShowsCopied : Showing T → View T → Type 0
+  ShowsCopied m v =
+      (p i : ℕ) (value : T) → v.party ≡ Some p → shown_at m.elements i ≡ Some value → WasCopied p i value v.seen
+
+-- ---- what is known of it
+
+module _ {T : Type 0} (code : Coding T) (which : LookOf) (cells : ℕ) (seen : Numbers) where
+  abbrev pub looking : Calling T (Looking T) (Showing T) Bool
+  looking = looks_at code.size which cells seen
+
+  -- the state with which it begins: a new one, or that of the pass's party
+  abbrev pub BeginsWith : LookOf → View T → Showing T → Type 0
+  BeginsWith which_looks.GetState base m =
+      (seen ≡ no_numbers cells) × (m ≡ shows_nothing code.value_of code.size cells)
+  BeginsWith which_looks.UpdateState base m =
+      (p : ℕ) × (base.party ≡ Some p) × (base.state ≡ Some (state_of_look cells seen m))
+
+  -- it is about to begin, or under way, from the state that its party has
+  abbrev pub StateLooks : View T → View T → Looking T → Showing T → Type 0
+  StateLooks base v c m =
+      (base.capacity ≡ cells)
+      × ((IsFirst code kinds.Container looking base v c m × BeginsWith which base m)
+      ⊎ (IsUnderWay code kinds.Container looking base v c m
+      × (v.state ≡ Some (state_of_look cells seen m))))
+
+  -- it has ended, and its party has the state that it left, which shows what was copied
+  abbrev pub StateLooked : View T → Bool → Showing T → View T → Type 0
+  StateLooked base changed m w =
+      Ends code kinds.Container looking base changed m w
+      × (w.state ≡ Some (settled_if (Done changed) (state_of_look cells seen m)))
+      × ShowsCopied m w
+
+  -- ---- on a pass whose last call may rest
+
+  abbrev pub BeginsLook : View T → Looking T → Showing T → Type 0
+  BeginsLook base c m = (c ≡ first_look base.capacity) × (base.capacity ≡ cells) × BeginsWith which base m
+
+  abbrev pub RestedLooks : View T → View T → Looking T → Showing T → Type 0
+  RestedLooks = AtWaiting code kinds.Container BeginsLook StateLooks
+
+  abbrev pub RestedLooked : View T → Bool → Showing T → View T → Type 0
+  RestedLooked = EndsSettled code kinds.Container StateLooked

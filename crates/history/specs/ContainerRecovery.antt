@@ -1,0 +1,209 @@
+-- A recovery of containers as a call of the model: where it stands, and what it has written there.
+use Rattle.std.specs.Prelude.{◌≡◌, ℕ, ◌<◌, ◌==◌, if◌then◌else◌, Bool, true, false, Option, Some, None, IfSome, List, [], ◌∷◌, ◌++◌}
+use Rattle.steps.specs.Container.Layout.{is_even}
+use Rattle.steps.specs.Container.Recover.{recover_kept}
+use Rattle.steps.specs.declared.container.recover.DeadOwner.{DeadOwner}
+use Rattle.steps.specs.declared.container.recover.Recover.{Recover as Recovering}
+use Rattle.steps.specs.declared.container.recover.RecoverStage as recovers
+use Rattle.steps.specs.declared.indices.enums.ReleaseMode.{ReleaseMode}
+use Rattle.steps.specs.declared.indices.enums.ReleaseMode.TheVariants.{LockIfLastIndex}
+use Rattle.steps.specs.declared.indices.enums.ReleaseState.{ReleaseState}
+use Rattle.steps.specs.declared.indices.robust.parts.Lock as locks
+use Rattle.steps.specs.declared.indices.robust.parts.Lock.{Lock}
+use Rattle.model.specs.declared.event.Answer.TheVariants.{State}
+use Rattle.model.specs.declared.event.Event.{Event}
+use Rattle.model.specs.declared.event.Event.TheVariants.{FreedOf, Asked, Told, Locked, Hidden, Copied, Shown}
+use Rattle.model.specs.declared.event.Start.TheVariants.{Container}
+use Rattle.model.specs.declared.families.Flight as flights
+use Rattle.model.specs.declared.families.container.ContainerStart.TheVariants.{Recover}
+use Rattle.model.specs.declared.families.container.calls.ContainerFlight.TheVariants as calls
+use Rattle.model.specs.Coding.{Coding}
+use Rattle.history.specs.Container.{when}
+use Rattle.history.specs.Robust.{LockIn}
+use Rattle.history.specs.Rooms.{room_of}
+use Rattle.history.specs.Stages.{Calling}
+use Rattle.history.specs.ValueQueue.{value_there}
+
+-- where it stands on a container of this capacity, whose values have so many words: it copies an
+-- element under an odd number
+abbrev pub RecoverIn : ℕ → ℕ → ReleaseMode → recovers.RecoverStage → Type 0
+RecoverIn size capacity mode recovers.TheVariants.LoadsCounter = Unit {0}
+RecoverIn size capacity mode (recovers.TheVariants.LoadsCell index) = index < capacity
+RecoverIn size capacity mode (recovers.TheVariants.LoadsCount index) = index < capacity
+RecoverIn size capacity mode (recovers.TheVariants.LoadsWord index count at) =
+    (index < capacity) × (is_even count ≡ false) × (at < size)
+RecoverIn size capacity mode (recovers.TheVariants.ChecksCount index count) =
+    (index < capacity) × (is_even count ≡ false)
+RecoverIn size capacity mode (recovers.TheVariants.Asks index count) =
+    (index < capacity) × (is_even count ≡ false)
+RecoverIn size capacity mode (recovers.TheVariants.EmptiesCell index count) = index < capacity
+RecoverIn size capacity mode (recovers.TheVariants.Hides index count) = index < capacity
+RecoverIn size capacity mode (recovers.TheVariants.Raises index raise) = index < capacity
+RecoverIn size capacity mode (recovers.TheVariants.Locks index lock) =
+    (mode ≡ LockIfLastIndex) × (index < capacity) × LockIn capacity lock
+RecoverIn size capacity mode recovers.TheVariants.LoadsCounterAgain = Unit {0}
+RecoverIn size capacity mode (recovers.TheVariants.AddsChange state) = Unit {0}
+
+-- How far it came with an index of the owner: it asked about the value that it had copied; it found
+-- that nothing stood there, or was told to free it with the value; it freed it, and has hidden the
+-- value, and locked the set.
+pub data Came (T : Type 0) : Type 0 where
+  HasAsked : T → Came T
+  HasFound : Option T → Came T
+  HasFreed : Option T → (hid locked : Bool) → Came T
+
+module _ {T : Type 0} where
+  -- it hides nothing where nothing stood, and locks in the mode for that alone
+  abbrev pub MayCome : ReleaseMode → Came T → Type 0
+  MayCome mode (HasAsked value) = Unit {0}
+  MayCome mode (HasFound found) = Unit {0}
+  MayCome mode (HasFreed found hid locked) = (found ≡ None → hid ≡ false) × (locked ≡ true → mode ≡ LockIfLastIndex)
+
+  abbrev pub wrote_found : ℕ → ℕ → ℕ → Option T → List (Event T)
+  wrote_found p owner index None = Shown p index ∷ []
+  wrote_found p owner index (Some value) =
+      Copied p index value ∷ Asked p index owner ∷ Told p index owner ∷ []
+
+  -- what it wrote of such an index
+  abbrev pub wrote_of : ℕ → ℕ → ℕ → Came T → List (Event T)
+  wrote_of p owner index (HasAsked value) = Copied p index value ∷ Asked p index owner ∷ []
+  wrote_of p owner index (HasFound found) = wrote_found p owner index found
+  wrote_of p owner index (HasFreed found hid locked) =
+      wrote_found p owner index found
+      ++ FreedOf p index owner ∷ (when hid (Hidden p index) ++ when locked (Locked p))
+
+  -- what it wrote of these indices, of which the last comes first
+  abbrev pub wrote_visits : ℕ → ℕ → List (ℕ × Came T) → List (Event T)
+  wrote_visits p owner [] = []
+  wrote_visits p owner (visit ∷ before) = wrote_visits p owner before ++ wrote_of p owner visit.0 visit.1
+
+  -- ---- how they go on with a step: it comes further with the last of them
+
+  abbrev pub with_last : (Came T → Came T) → List (ℕ × Came T) → List (ℕ × Came T)
+  with_last on [] = []
+  with_last on (visit ∷ before) = (visit.0, on visit.1) ∷ before
+
+  abbrev pub told : Came T → Came T
+  told (HasAsked value) = HasFound (Some value)
+  told (HasFound found) = HasFound found
+  told (HasFreed found hid locked) = HasFreed found hid locked
+
+  abbrev pub freed : Came T → Came T
+  freed (HasAsked value) = HasFreed (Some value) false false
+  freed (HasFound found) = HasFreed found false false
+  freed (HasFreed found hid locked) = HasFreed found hid locked
+
+  abbrev pub hides : Bool → Came T → Came T
+  hides now (HasAsked value) = HasAsked value
+  hides now (HasFound found) = HasFound found
+  hides now (HasFreed found hid locked) = HasFreed found now locked
+
+  abbrev pub came_locked : Came T → Came T
+  came_locked (HasAsked value) = HasAsked value
+  came_locked (HasFound found) = HasFound found
+  came_locked (HasFreed found hid locked) = HasFreed found hid true
+
+  -- under an even number nothing stands
+  abbrev pub seen_under : ℕ → ℕ → List (ℕ × Came T) → List (ℕ × Came T)
+  seen_under index count visits = if is_even count then (index, HasFound None) ∷ visits else visits
+
+  abbrev pub locked_with : Lock → ℕ → List (ℕ × Came T) → List (ℕ × Came T)
+  locked_with (locks.TheVariants.Counts count) old visits = visits
+  locked_with (locks.TheVariants.ExchangesCounter counter) old visits =
+      if old == counter then with_last came_locked visits else visits
+
+  -- with this value in its room
+  abbrev pub visits_after : ℕ → recovers.RecoverStage → ℕ → T → List (ℕ × Came T) → List (ℕ × Came T)
+  visits_after owner recovers.TheVariants.LoadsCounter old value visits = visits
+  visits_after owner (recovers.TheVariants.LoadsCell index) old value visits = visits
+  visits_after owner (recovers.TheVariants.LoadsCount index) old value visits = seen_under index old visits
+  visits_after owner (recovers.TheVariants.LoadsWord index count at) old value visits = visits
+  visits_after owner (recovers.TheVariants.ChecksCount index count) old value visits =
+      if old == count then (index, HasAsked value) ∷ visits else seen_under index old visits
+  visits_after owner (recovers.TheVariants.Asks index count) old value visits = visits
+  visits_after owner (recovers.TheVariants.EmptiesCell index count) old value visits =
+      if old == owner then with_last freed visits else with_last told visits
+  visits_after owner (recovers.TheVariants.Hides index count) old value visits = with_last (hides (old == count)) visits
+  visits_after owner (recovers.TheVariants.Raises index raise) old value visits = visits
+  visits_after owner (recovers.TheVariants.Locks index lock) old value visits = locked_with lock old visits
+  visits_after owner recovers.TheVariants.LoadsCounterAgain old value visits = visits
+  visits_after owner (recovers.TheVariants.AddsChange state) old value visits = visits
+
+  -- ---- which they are at a stage
+
+  -- it is to be freed under this number: of a yes only the call knows as yet
+  abbrev pub IsToFree : ℕ → Came T → Type 0
+  IsToFree count (HasAsked value) = is_even count ≡ false
+  IsToFree count (HasFound None) = is_even count ≡ true
+  IsToFree count (HasFound (Some value)) = ⊥
+  IsToFree count (HasFreed found hid locked) = ⊥
+
+  abbrev pub IsFreed : ℕ → List (ℕ × Came T) → Type 0
+  IsFreed index visits =
+      (found : Option T) × (hid : Bool) × (before : List (ℕ × Came T))
+      × (visits ≡ (index, HasFreed found hid false) ∷ before) × (found ≡ None → hid ≡ false)
+
+  abbrev pub VisitsAt : recovers.RecoverStage → T → List (ℕ × Came T) → Type 0
+  VisitsAt recovers.TheVariants.LoadsCounter value visits = visits ≡ []
+  VisitsAt (recovers.TheVariants.LoadsCell index) value visits = Unit {0}
+  VisitsAt (recovers.TheVariants.LoadsCount index) value visits = Unit {0}
+  VisitsAt (recovers.TheVariants.LoadsWord index count at) value visits = Unit {0}
+  VisitsAt (recovers.TheVariants.ChecksCount index count) value visits = Unit {0}
+  VisitsAt (recovers.TheVariants.Asks index count) value visits =
+      (before : List (ℕ × Came T)) × (visits ≡ (index, HasAsked value) ∷ before)
+  VisitsAt (recovers.TheVariants.EmptiesCell index count) value visits =
+      (came : Came T) × (before : List (ℕ × Came T)) × (visits ≡ (index, came) ∷ before) × IsToFree count came
+  VisitsAt (recovers.TheVariants.Hides index count) value visits =
+      (gone : T) × (before : List (ℕ × Came T)) × (visits ≡ (index, HasFreed (Some gone) false false) ∷ before)
+  VisitsAt (recovers.TheVariants.Raises index raise) value visits = IsFreed index visits
+  VisitsAt (recovers.TheVariants.Locks index lock) value visits = IsFreed index visits
+  VisitsAt recovers.TheVariants.LoadsCounterAgain value visits = Unit {0}
+  VisitsAt (recovers.TheVariants.AddsChange state) value visits = Unit {0}
+
+  -- a yes that it has heard
+  abbrev pub told_yet : ℕ → ℕ → recovers.RecoverStage → List (Event T)
+  told_yet p owner recovers.TheVariants.LoadsCounter = []
+  told_yet p owner (recovers.TheVariants.LoadsCell index) = []
+  told_yet p owner (recovers.TheVariants.LoadsCount index) = []
+  told_yet p owner (recovers.TheVariants.LoadsWord index count at) = []
+  told_yet p owner (recovers.TheVariants.ChecksCount index count) = []
+  told_yet p owner (recovers.TheVariants.Asks index count) = []
+  told_yet p owner (recovers.TheVariants.EmptiesCell index count) =
+      if is_even count then [] else Told p index owner ∷ []
+  told_yet p owner (recovers.TheVariants.Hides index count) = []
+  told_yet p owner (recovers.TheVariants.Raises index raise) = []
+  told_yet p owner (recovers.TheVariants.Locks index lock) = []
+  told_yet p owner recovers.TheVariants.LoadsCounterAgain = []
+  told_yet p owner (recovers.TheVariants.AddsChange state) = []
+
+-- it copies by way of a room that has these words, and beside it keeps what it did, for the proofs alone
+module _ {T R : Type 0} (code : Coding T) (words_in : R → List ℕ) where
+  abbrev pub recover_visits : (R → ℕ → ℕ → R) → DeadOwner → Recovering T R → R × List (ℕ × Came T) → ℕ
+      → R × List (ℕ × Came T)
+  recover_visits with_word given c m old = (
+    recover_kept with_word c m.0 old,
+    visits_after given.owner c.stage old (value_there code words_in m.0) m.1,
+  )
+
+  abbrev pub recovers_values : DeadOwner → Calling T (Recovering T R) (R × List (ℕ × Came T)) ReleaseState
+  recovers_values given =
+      record {
+        start = Container (Recover given.owner given.mode);
+        by = λ was p. IfSome was (λ q. q ≡ p);
+        stands = λ capacity c.
+            (c.capacity ≡ capacity) × RecoverIn code.size capacity given.mode c.stage;
+        flight = λ c m. flights.TheVariants.Container
+            (calls.Recover
+            (record {
+              call = record { capacity = c.capacity; stage = c.stage; of = record {} };
+              given = given;
+              room = room_of code.size (words_in m.0);
+            }));
+        answer = λ e m. State e;
+        skips = λ c n. false;
+        left = λ e. ⊥;
+        wrote = λ capacity p from c m es. from ≡ None
+            → VisitsAt c.stage (value_there code words_in m.0) m.1
+            × (es ≡ wrote_visits p given.owner m.1 ++ told_yet p given.owner c.stage);
+        wrote_all = λ capacity p from e m es. from ≡ None → es ≡ wrote_visits p given.owner m.1;
+      }
