@@ -16,6 +16,16 @@ mod call;
 mod kept;
 mod user;
 
+/// Plays the block on a container of threads, and on one of one caller.
+fn plays_both<T: Numbered>(
+    rt: &impl Wait,
+    scene: Scene<'_>,
+    stage: &mut Stage,
+    user: Option<User<'_, T>>,
+) -> Made {
+    plays::<ContainerCall, Alone<T>, User<'_, T>>(rt, scene, stage, user)
+}
+
 /// One of threads.
 struct Heap<T> {
     values: PhantomData<T>,
@@ -25,7 +35,7 @@ impl<T: Numbered> Form for Heap<T> {
     fn plays(rt: &impl Wait, scene: Scene<'_>, stage: &mut Stage) -> Made {
         let (container, pass) = Container::<T>::new(scene.alloc, scene.capacity, scene.number)?;
         let user = User::new(rt, scene, &container, pass);
-        plays::<ContainerCall, Alone<T>, _>(rt, scene, stage, user)
+        plays_both(rt, scene, stage, user)
     }
 }
 
@@ -38,7 +48,7 @@ impl<T: Numbered, const CAPACITY: usize> Form for Fixed<T, CAPACITY> {
     fn plays(rt: &impl Wait, scene: Scene<'_>, stage: &mut Stage) -> Made {
         let (container, pass) = FixedSizeContainer::<T, CAPACITY>::new(scene.alloc, scene.number)?;
         let user = User::new(rt, scene, &container, pass);
-        plays::<ContainerCall, Alone<T>, _>(rt, scene, stage, user)
+        plays_both(rt, scene, stage, user)
     }
 }
 

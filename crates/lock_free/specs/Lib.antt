@@ -6,6 +6,7 @@ pub use Rattle.lock_free_owners.specs.RobustUniqueIndexSet
 pub use Rattle.lock_free_owners.specs.Container
 pub use Rattle.steps.specs.Enums
 pub use Rattle.steps.specs.Container.State as ContainerState
+pub use Rattle.history.specs.ContainerLooks as HistoryLooks
 pub use Rattle.history.specs.History
 pub use Rattle.history.specs.Known as HistoryKnown
 pub use Rattle.model.specs.Coding
@@ -19,7 +20,6 @@ pub use Rattle.atomic_table.specs.Seated.{TableId}
 pub use Rattle.model.specs.declared.event.Event
 pub use Rattle.history.specs.declared.view as HistoryView
 pub use Rattle.lock_free_queues.specs.declared.spsc.ring as QueueEnds
-pub use Rattle.lock_free_owners.specs.declared.robust.view as RobustView
 pub use Rattle.lock_free.specs.declared.spsc.loan.places.Place
 pub use Rattle.lock_free_sp.specs.declared.share.Share
 pub use Rattle.steps.specs.declared.enums.UniqueIndexCreationError

@@ -1,8 +1,14 @@
 pub mod Names
-pub mod Calls
+pub mod Idle
+pub mod Told
+pub mod Turns
+pub mod Bare
+pub mod LookTurns
+pub mod FindTurns
+pub mod FindTold
+pub mod RecoverTurns
+pub mod RecoverTold
 pub mod Callable
-pub mod Stages
 pub mod Visits
 pub mod Questions
-pub mod Recovery
 pub mod Handles

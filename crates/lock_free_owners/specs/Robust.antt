@@ -1,8 +1,6 @@
-pub mod Views
-pub mod Kept
-pub mod Calls
 pub mod Stages
 pub mod Callable
 pub mod Told
+pub mod Finding
 pub mod Turns
 pub mod Handles

@@ -1,15 +1,35 @@
-//! What one history of a robust unique index set says: a law of every history that a pass has seen. The function does
-//! nothing: its contract is the law, whose proof is a lemma that a client's proof can cite.
+//! What one history of a robust unique index set says, and of a container: laws of every history that a pass has seen. The
+//! functions do nothing: the contract of each is the law, whose proof is a lemma that a client's proof can cite.
 ghost use Rattle.std.specs.Prelude.{ℕ, List};
 ghost use Rattle.model.specs.declared.event.Event.{Event};
 ghost use Rattle.model.specs.declared.turn.Kind.TheVariants as kinds;
-ghost use Rattle.model.specs.Coding.{one_word};
+ghost use Rattle.model.specs.Coding.{Coding, one_word};
+ghost use Rattle.model.specs.Families.Container.Promises.{IsProperRun, IsContained};
+ghost use Rattle.container_laws.specs.Open.{IsFaithfulRun};
 ghost use Rattle.history.specs.History.{IsHistory};
 ghost use Rattle.lock_free_owners.specs.Robust.Told.{IsSound};
+ghost use Rattle.lock_free_owners.specs.Container.Told as containers;
 
 /// Each event does to the set what it may, a recovery asks about what has the owner named, and each answer is right; and
 /// where nobody acts for an owner who is gone nor gives back what is not his, no index is granted that somebody holds.
 pub fn histories_are_sound()
     ensures { (capacity : ℕ) (events : List (Event ℕ)) → IsHistory one_word kinds.Robust capacity events
         → IsSound capacity events }
+{}
+
+/// The same of a container: each event does to its set of indices what it may, a recovery asks about what its owner had and
+/// frees what it was told to or was shown, and each answer is right; and where nobody acts for an owner who is gone nor
+/// gives back what is not his, no index is granted that somebody holds.
+pub fn container_histories_are_sound<T>()
+    ensures { (code : Coding T) (capacity : ℕ) (events : List (Event T))
+        → IsHistory code kinds.Container capacity events → containers.IsSound code capacity events }
+{}
+
+/// And what stands in it: where a remove that frees, and a replace, is begun as it may be, and nobody takes a step for an
+/// owner who is gone, in so few turns that no number of an element has come round, each add and replace that succeeded has
+/// placed its value, and what is copied stands there, whole.
+pub fn container_histories_are_contained<T>()
+    ensures { (code : Coding T) (capacity : ℕ) (events : List (Event T))
+        → (h : IsHistory code kinds.Container capacity events)
+        → IsProperRun h.trace → IsFaithfulRun h.trace h.run.reached → IsContained h.trace }
 {}

@@ -1,10 +1,8 @@
-//! Indices that have owners, shared between threads: a robust unique index set, and a container over its rule. The
-//! indices of an owner that is dead are recovered.
+//! Indices that have owners, shared between threads: a robust unique index set, and a container of values at such indices,
+//! each on one history. The indices of an owner that is dead are recovered.
 //!
 //! `lock_free` hands these modules on under their own paths.
 #![tactic(auto)]
 
-mod container;
 pub mod laws;
 pub mod mpmc;
-mod robust;

@@ -11,17 +11,18 @@ use calls::numbered::Numbered;
 use calls::play::Answers;
 use calls::said::{ended, goes_on};
 use calls::stage::Scene;
-use calls::two::Two;
 use lock_free_owners::mpmc::container::{
     Container, ContainerHandle, ContainerState, Handle, OwnerId, Pass,
 };
+use std::mem;
 use std::sync::Wait;
 use steps::indices::enums::ReleaseMode;
 
 /// Who uses a container of threads, and the state that was taken last.
 #[derive(Drop)]
 pub struct User<'a, T: Numbered> {
-    two: Two<Handle<'a, T>>,
+    now: Handle<'a, T>,
+    other: Handle<'a, T>,
     state: ContainerState<T>,
     kept: Kept<T>,
     number: u64,
@@ -43,7 +44,8 @@ impl<'a, T: Numbered> User<'a, T> {
         let mut now = container.handle(pass);
         let state = now.get_state(rt).ok()?;
         Some(User {
-            two: Two::new(now, container.handle(other)),
+            now,
+            other: container.handle(other),
             state,
             kept: Kept::new(scene.alloc, scene.number, scene.capacity)?,
             number: scene.number,
@@ -52,7 +54,7 @@ impl<'a, T: Numbered> User<'a, T> {
 
     fn adds(&mut self, rt: &impl Wait, number: u64, owner: OwnerId, answer: &mut Answer) {
         let value = T::of_number(number);
-        added(self.two.now.add(rt, value, owner), answer);
+        added(self.now.add(rt, value, owner), answer);
     }
 
     fn removes(
@@ -62,17 +64,17 @@ impl<'a, T: Numbered> User<'a, T> {
         mode: ReleaseMode,
         answer: &mut Answer,
     ) {
-        removed(self.two.now.remove(rt, handle, mode), answer);
+        removed(self.now.remove(rt, handle, mode), answer);
     }
 
     fn replaces(&mut self, handle: ContainerHandle, number: u64, answer: &mut Answer) {
         let value = T::of_number(number);
-        replaced(self.two.now.replace(handle, value), answer);
+        replaced(self.now.replace(handle, value), answer);
     }
 
     /// Takes a state anew.
     fn gets_state(&mut self, rt: &impl Wait, answer: &mut Answer) {
-        match self.two.now.get_state(rt) {
+        match self.now.get_state(rt) {
             Ok(state) => self.state = state,
             Err(_) => answer.word("no_memory"),
         }
@@ -80,8 +82,8 @@ impl<'a, T: Numbered> User<'a, T> {
 
     /// Brings the state up to date.
     fn updates(&mut self, rt: &impl Wait, answer: &mut Answer) {
-        if self.two.now.is_state_of(&self.state) {
-            answer.truth(self.two.now.update_state(rt, &mut self.state));
+        if self.now.is_state_of(&self.state) {
+            answer.truth(self.now.update_state(rt, &mut self.state));
         } else {
             answer.refused();
         }
@@ -112,7 +114,7 @@ impl<'a, T: Numbered> User<'a, T> {
     fn finds(&mut self, owner: OwnerId, stop: u64, answer: &mut Answer) {
         let mut number = 0u64;
         let container = self.number;
-        let came = self.two.now.find(owner, |value, handle| {
+        let came = self.now.find(owner, |value, handle| {
             number = number.wrapping_add(1);
             found(value, handle, owner, container, answer);
             goes_on(number, stop)
@@ -125,7 +127,7 @@ impl<'a, T: Numbered> User<'a, T> {
         let Recovery { owner, frees, mode } = how;
         let mut answers = Asked::new(frees);
         let mut asked = Heard::new(answer.alloc());
-        let state = self.two.now.recover(
+        let state = self.now.recover(
             rt,
             owner,
             |value| {
@@ -153,15 +155,15 @@ impl<'a, T: Numbered> Answers<ContainerCall> for User<'a, T> {
             ContainerCall::State(at) => self.kept.turns(&mut self.state, at),
             ContainerCall::Find(owner, stop) => self.finds(owner, stop, answer),
             ContainerCall::Recover(how) => self.recovers(rt, how, answer),
-            ContainerCall::Len => answer.number(self.two.now.len(rt) as u64),
-            ContainerCall::IsEmpty => answer.truth(self.two.now.is_empty(rt)),
-            ContainerCall::IsLocked => answer.truth(self.two.now.is_locked()),
-            ContainerCall::Capacity => answer.number(self.two.now.capacity() as u64),
+            ContainerCall::Len => answer.number(self.now.len(rt) as u64),
+            ContainerCall::IsEmpty => answer.truth(self.now.is_empty(rt)),
+            ContainerCall::IsLocked => answer.truth(self.now.is_locked()),
+            ContainerCall::Capacity => answer.number(self.now.capacity() as u64),
         }
     }
 
     fn turns(&mut self) -> bool {
-        self.two.turn();
+        mem::swap(&mut self.now, &mut self.other);
         true
     }
 }

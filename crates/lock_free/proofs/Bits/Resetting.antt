@@ -137,7 +137,7 @@ is_call =
       finds = λ c m n small t. tt;
       leaves = λ c a n t e. absurd (cc);
       tells = λ capacity p from c d m n es stands wrote e none. (let h = subst (λ a. Stands capacity p a (reset_so_far p c.stage ++ set_effects p (resets_next.flight c m) n)) e (stands_on capacity p n m c stands) in ap (λ zs. zs ++ set_effects p (resets_next.flight c m) n) (wrote none) ∙ h.2);
-      tells_all = λ capacity p from c o m n es stands skip wrote e. (
+      tells_all = λ capacity p from c o m n es stands skip wrote e still. (
           let h = subst (λ a. Stands capacity p a (reset_so_far p c.stage ++ set_effects p (resets_next.flight c m) n)) e (stands_on capacity p n m c stands) in
           (h.0, λ none. ap (λ zs. zs ++ set_effects p (resets_next.flight c m) n) (wrote none) ∙ h.1));
     }

@@ -108,7 +108,7 @@ module _ (place : ℕ) where
         finds = λ c m n small t. tt;
         leaves = λ c a n t e. absurd (cc);
         tells = λ capacity p from c d m n es stands wrote e. ap (λ zs. zs ++ set_effects p ((sets_place place).flight c m) n) wrote ∙ subst (λ a. Wrote p a (set_effects p ((sets_place place).flight c m) n)) e (writes p c m n);
-        tells_all = λ capacity p from c b m n es stands skip wrote e. ap (λ zs. zs ++ set_effects p ((sets_place place).flight c m) n) wrote ∙ subst (λ a. Wrote p a (set_effects p ((sets_place place).flight c m) n)) e (writes p c m n);
+        tells_all = λ capacity p from c b m n es stands skip wrote e still. ap (λ zs. zs ++ set_effects p ((sets_place place).flight c m) n) wrote ∙ subst (λ a. Wrote p a (set_effects p ((sets_place place).flight c m) n)) e (writes p c m n);
       }
 
   pub set_keeps : KeepsRule (λ (z : View ℕ). z.capacity) (At one_word kinds.Bits (sets_place place)) (Ends one_word kinds.Bits (sets_place place)) (λ key. 1 + elements key + 1) (λ key. key) (λ key. IsMachine one_word kinds.Bits key) (λ c. set_want c place) (λ c n. set_after c place n) (λ c m n. m)

@@ -39,7 +39,7 @@ module _ (place : ℕ) where
         finds = λ c m n small t. tt;
         leaves = λ c a n t e. absurd (cc);
         tells = λ capacity p from c d m n es stands wrote e. absurd (cc);
-        tells_all = λ capacity p from c e m n es stands skip wrote is. ap (λ zs. zs ++ Counted p place ∷ []) wrote;
+        tells_all = λ capacity p from c e m n es stands skip wrote is still. ap (λ zs. zs ++ Counted p place ∷ []) wrote;
       }
     where
       hears : (c : counting.Set) (a : Ask) (n : ℕ) → set_want c place ≡ wants.Ask a → set_after c (answered a.op n) ≡ set_after c n

@@ -104,7 +104,7 @@ module _ (flight : Emptying → OneWord → Flight ℕ) (writes : ℕ → ℕ �
                   let here : c.word ≡ word_of first from = omega arith in
                   all_of p c m n (word_of first from) here es (wrote.1 here),
             ));
-        tells_all = λ capacity p from c e m n es stands skip wrote is last. (
+        tells_all = λ capacity p from c e m n es stands skip wrote is still last. (
             let far = ends_last c n e is in
             let within = stands.2 in
             let end : c.end ≡ end_of capacity = stands.0 in

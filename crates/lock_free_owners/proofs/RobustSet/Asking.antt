@@ -1,5 +1,5 @@
 -- Where a recovery asks about an index, or has been told to free it, the set was not locked when it began.
-use Rattle.std.proofs.Common.{◌≡◌, inl, inr, ℕ, ◌+◌, ◌==◌, nat_lt, Bool, true, false, Option, Some, None, List, [], ◌∷◌, ◌++◌, refl, sym, ap, subst, ◌∙◌, append_assoc}
+use Rattle.std.proofs.Common.{◌≡◌, inl, inr, ℕ, ◌+◌, ◌<◌, ◌==◌, nat_lt, Bool, true, false, true≢false, refl, arith, Option, Some, None, List, [], ◌∷◌, ◌++◌, sym, ap, subst, ◌∙◌, append_assoc}
 use Rattle.steps.specs.Indices.Robust.Parts.{raise_want, lock_want}
 use Rattle.steps.specs.Indices.Robust.Recover.{at_recover, recover_asks, recover_comes_to, recover_takes}
 use Rattle.steps.specs.Picks.{by_test}
@@ -16,8 +16,7 @@ use Rattle.steps.specs.declared.indices.robust.recover.Recover.{Recover as Recov
 use Rattle.steps.specs.declared.indices.robust.recover.RecoverStage.{RecoverStage}
 use Rattle.steps.specs.declared.indices.robust.recover.RecoverStage.TheVariants as recovers
 use Rattle.model.specs.declared.event.Event.{Event}
-use Rattle.model.specs.declared.event.Event.TheVariants.{Begun, Asked}
-use Rattle.model.specs.declared.event.Start.{Start}
+use Rattle.model.specs.declared.event.Event.TheVariants.{Begun, Asked, Told}
 use Rattle.model.specs.declared.event.Start.TheVariants.{Robust}
 use Rattle.model.specs.declared.families.Flight.{Flight}
 use Rattle.model.specs.declared.families.Flight.TheVariants as flights
@@ -27,35 +26,18 @@ use Rattle.model.specs.declared.turn.Kind.TheVariants as kinds
 use Rattle.model.specs.Coding.{one_word}
 use Rattle.model.specs.Families.{is_question}
 use Rattle.model.specs.Families.Indices.Reading.{is_locked}
-use Rattle.model.specs.Moments.{BeginsNone}
 use Rattle.model.specs.Reading.{Each}
 use Rattle.model.specs.Turns.{number_of}
 use Rattle.robust_laws.specs.Gone.{Word, AsksBy}
 use Rattle.history.specs.declared.view.View.{View}
-use Rattle.history.specs.History.{IsHistory, IsBeginning}
-use Rattle.history.specs.Robust.{recovers_owned, RecoverIn, RecoveredAt}
+use Rattle.history.specs.History.{IsHistory}
+use Rattle.history.specs.Robust.{recovers_owned, RecoverIn, Came, HasAsked, WasTold, HasFreed, HasLocked, Visit, visit, VisitsAt, visits_taken, visits_after, wrote_to, wrote_by, wrote_now}
+use Rattle.history.proofs.RobustVisits.{one_more, wider, wrote_last}
 use Rattle.history.specs.Stages.{Since, opened, IsUnderWay, IsFirst}
 use Rattle.history.proofs.Robusts.{is_open_set}
 use Rattle.lock_free_owners.specs.Robust.Turns.{RecoverAt}
-use Rattle.lock_free_owners.proofs.RobustSet.Events.{find_own, not_locked}
-use Rattle.lock_free_owners.proofs.Rules.Robust.Recovering.{Knows}
-
--- ---- a moment of a call comes after what stood before its begin
-
-module _ (p : ℕ) (start : Start ℕ) (since : List (Event ℕ)) where
-  none_begun : (before : List (Event ℕ)) → BeginsNone p (before ++ Begun p start ∷ since) → ⊥
-  none_begun [] h = h.0 refl
-  none_begun (Begun q other ∷ before) h = none_begun before h.1
-  none_begun (e ∷ before) h = none_begun before h
-
-  covers : (before part rest : List (Event ℕ)) → before ++ Begun p start ∷ since ≡ part ++ rest → BeginsNone p rest → IsBeginning before part
-  covers [] part rest is none = record { rest = part; is = refl }
-  covers (e ∷ before) [] rest is none = absurd (none_begun (e ∷ before) (subst (BeginsNone p) (sym is) none))
-  covers (e ∷ before) (x ∷ part) rest is none =
-      let same : e ≡ x = cc in
-      let more : before ++ Begun p start ∷ since ≡ part ++ rest = cc in
-      let longer = covers before part rest more none in
-      record { rest = longer.rest; is = ap (λ z. z ∷ part) (sym same) ∙ ap (λ zs. e ∷ zs) longer.is }
+use Rattle.lock_free_owners.proofs.RobustSet.Events.{find_own, not_locked, covers}
+use Rattle.lock_free_owners.proofs.Rules.Robust.Recovering.{IsOpenAt, Knows}
 
 -- ---- which stage asks
 
@@ -79,62 +61,96 @@ module _ (mode : ReleaseMode) (base v : View ℕ) (idle : base.going ≡ None) w
   shut = is_locked base.seen
 
   -- it has asked about an index
-  asked_open : (p index owner : ℕ) (wrote first rest : List (Event ℕ)) → Since p (Robust (Recover mode)) wrote [] base v
+  asked_open : (p index owner : ℕ) (wrote first rest last : List (Event ℕ)) → Since p (Robust (Recover mode)) wrote last base v
       → IsHistory one_word kinds.Robust base.capacity v.seen → wrote ≡ first ++ Asked p index owner ∷ rest → shut ≡ false
-  asked_open p index owner wrote first rest since h is =
+  asked_open p index owner wrote first rest last since h is =
       let begin : Event ℕ = Begun p (Robust (Recover mode)) in
       let asks : Event ℕ = Asked p index owner in
       let others : List (Event ℕ) = base.seen ++ since.others in
       let opens : opened p (Robust (Recover mode)) base.going ≡ begin ∷ [] = ap (opened p (Robust (Recover mode))) idle in
       let part = find_own p since.during first rest asks (since.during_own ∙ is) in
-      let whole : v.seen ≡ (others ++ begin ∷ part.0) ++ asks ∷ (part.1 ++ []) =
+      let whole : v.seen ≡ (others ++ begin ∷ part.0) ++ asks ∷ (part.1 ++ last) =
       since.is
-      ∙ (ap (λ os. others ++ (os ++ (since.during ++ []))) opens
-      ∙ (ap (λ ds. others ++ begin ∷ (ds ++ [])) part.2
-      ∙ (ap (λ zs. others ++ begin ∷ zs) (append_assoc part.0 (asks ∷ part.1) [])
-      ∙ sym (append_assoc others (begin ∷ part.0) (asks ∷ (part.1 ++ []))))))
+      ∙ (ap (λ os. others ++ (os ++ (since.during ++ last))) opens
+      ∙ (ap (λ ds. others ++ begin ∷ (ds ++ last)) part.2
+      ∙ (ap (λ zs. others ++ begin ∷ zs) (append_assoc part.0 (asks ∷ part.1) last)
+      ∙ sym (append_assoc others (begin ∷ part.0) (asks ∷ (part.1 ++ last))))))
       in
       let each : Each (AsksBy Word) v.seen = subst (Each (AsksBy Word)) (sym h.is) (is_open_set one_word base.capacity h.trace h.run).asks in
-      let once = (each (others ++ begin ∷ part.0) (part.1 ++ []) asks whole).1 in
+      let once = (each (others ++ begin ∷ part.0) (part.1 ++ last) asks whole).1 in
       let after = covers p (Robust (Recover mode)) part.0 others once.part once.rest once.is once.within in
       not_locked (record { rest = since.others ++ after.rest; is = after.is ∙ append_assoc base.seen since.others after.rest }) once.held
 
-  knows_under : (c : Recovering) (m : Unit {0}) → IsUnderWay one_word kinds.Robust (recovers_owned mode) base v c m → Knows base.capacity shut c.stage
-  knows_under c m under = go c.stage under.standing.1 (under.tells idle)
+  knows_under : (c : Recovering) (m : List Visit) → IsUnderWay one_word kinds.Robust (recovers_owned mode) base v c m
+      → Knows base.capacity mode shut c.stage m
+  knows_under c m under = (let so = under.tells idle in (go c.stage under.standing.1 so.0 so.1, so.0))
     where
-      go : (stage : RecoverStage) → RecoverIn base.capacity mode stage → RecoveredAt base.capacity under.party mode stage under.wrote
-          → Knows base.capacity shut stage
-      go recovers.LoadsCounter low at = tt
-      go (recovers.LoadsCell index) low at = tt
-      go (recovers.Asks index owner) low at = (asked_open under.party index owner under.wrote at.before _ under.since under.history at.is, low)
-      go (recovers.EmptiesCell index owner) low at = (asked_open under.party index owner under.wrote at.before _ under.since under.history at.is, low)
-      go (recovers.Raises index raise) low at = tt
-      go (recovers.Locks index lock) low at = tt
-      go recovers.LoadsCounterAgain low at = tt
+      p : ℕ
+      p = under.party
 
-  abbrev KnowsOn : After Recovering ReleaseState → Type 0
-  KnowsOn (GoOn d) = Knows base.capacity shut d.stage
-  KnowsOn (Done e) = Unit {0}
+      open_by : (index owner : ℕ) (first rest : List (Event ℕ)) → under.wrote ≡ first ++ Asked p index owner ∷ rest → shut ≡ false
+      open_by index owner first rest is = asked_open p index owner under.wrote first rest [] under.since under.history is
 
-  knows_heard : (c : Recovering) (stage : RecoverStage) (n : ℕ) → is_question (recover_asks stage) ≡ true → Knows base.capacity shut stage
-      → KnowsOn (recover_takes c stage mode n)
-  knows_heard c recovers.LoadsCounter n due at = absurd (cc)
-  knows_heard c (recovers.LoadsCell index) n due at = absurd (cc)
-  knows_heard c (recovers.Asks index owner) n due at =
-      by_test KnowsOn (n == 0) (recover_comes_to c (index + 1)) (GoOn (at_recover c (recovers.EmptiesCell index owner)))
-      (λ t. by_test (λ (stage : RecoverStage). KnowsOn (GoOn (at_recover c stage))) (nat_lt (index + 1) c.capacity) (recovers.LoadsCell (index + 1))
-      recovers.LoadsCounterAgain (λ u. tt) (λ u. tt))
-      (λ t. at)
-  knows_heard c (recovers.EmptiesCell index owner) n due at = absurd (cc)
-  knows_heard c (recovers.Raises index raise) n due at = absurd (raise_asks_none raise due)
-  knows_heard c (recovers.Locks index lock) n due at = absurd (lock_asks_none lock due)
-  knows_heard c recovers.LoadsCounterAgain n due at = absurd (cc)
+      go : (stage : RecoverStage) → RecoverIn base.capacity mode stage → VisitsAt base.capacity mode stage m
+          → under.wrote ≡ wrote_by p m ++ wrote_now p stage → IsOpenAt base.capacity shut stage
+      go recovers.LoadsCounter low at is = tt
+      go (recovers.LoadsCell index) low at is = tt
+      go (recovers.Asks index owner) low at is = (open_by index owner (wrote_by p m) [] is, low)
+      go (recovers.EmptiesCell index owner) low at is = (
+        open_by index owner (wrote_by p at.before) (Told p index owner ∷ [])
+            (is
+            ∙ (ap (λ vs. wrote_by p vs ++ Told p index owner ∷ []) at.is
+            ∙ (ap (λ zs. zs ++ Told p index owner ∷ []) (wrote_last p at.before (visit index owner HasAsked))
+            ∙ append_assoc (wrote_by p at.before) (Asked p index owner ∷ []) (Told p index owner ∷ [])))),
+        low,
+      )
+      go (recovers.Raises index raise) low at is = tt
+      go (recovers.Locks index lock) low at is = tt
+      go recovers.LoadsCounterAgain low at is = tt
 
-  first_stage : (c : Recovering) (m : Unit {0}) → IsFirst one_word kinds.Robust (recovers_owned mode) base v c m → c.stage ≡ recovers.LoadsCounter
-  first_stage c m first = sym (ap stage_in first.first)
+  abbrev KnowsOn : After Recovering ReleaseState → List Visit → Type 0
+  KnowsOn (GoOn d) visits = Knows base.capacity mode shut d.stage visits
+  KnowsOn (Done e) visits = Unit {0}
 
-  pub knows : (c : Recovering) → RecoverAt mode base v c tt → Knows base.capacity shut c.stage
-  knows c (inl (inl first)) = subst (Knows base.capacity shut) (sym (first_stage c tt first)) tt
-  knows c (inl (inr under)) = knows_under c tt under
-  knows c (inr heard) = subst KnowsOn heard.goes (knows_heard heard.asking heard.asking.stage (number_of heard.said) heard.asks
-      (knows_under heard.asking heard.room heard.before))
+  knows_heard : (c : Recovering) (stage : RecoverStage) (m : List Visit) (n : ℕ) → is_question (recover_asks stage) ≡ true
+      → Knows base.capacity mode shut stage m → KnowsOn (recover_takes c stage mode n) (visits_taken stage m n)
+  knows_heard c recovers.LoadsCounter m n due at = absurd (cc)
+  knows_heard c (recovers.LoadsCell index) m n due at = absurd (cc)
+  knows_heard c (recovers.Asks index owner) m n due at =
+      let more : List Visit = m ++ visit index owner HasAsked ∷ [] in
+      let past = one_more mode index owner HasAsked m tt at.1 in
+      let low : index < base.capacity = at.0.1 in
+      by_test (λ (a : After Recovering ReleaseState). KnowsOn a more) (n == 0) (recover_comes_to c (index + 1))
+      (GoOn (at_recover c (recovers.EmptiesCell index owner)))
+      (λ t. by_test (λ (stage : RecoverStage). KnowsOn (GoOn (at_recover c stage)) more) (nat_lt (index + 1) c.capacity) (recovers.LoadsCell (index + 1))
+      recovers.LoadsCounterAgain (λ u. (tt, past)) (λ u. (tt, wider mode (index + 1) base.capacity more (omega arith) past)))
+      (λ t. (at.0, record { before = m; passed = at.1; is = refl }))
+  knows_heard c (recovers.EmptiesCell index owner) m n due at = absurd (cc)
+  knows_heard c (recovers.Raises index raise) m n due at = absurd (raise_asks_none raise due)
+  knows_heard c (recovers.Locks index lock) m n due at = absurd (lock_asks_none lock due)
+  knows_heard c recovers.LoadsCounterAgain m n due at = absurd (cc)
+
+  first_stage : (c : Recovering) (m : List Visit) → IsFirst one_word kinds.Robust (recovers_owned mode) base v c m → recovers.LoadsCounter ≡ c.stage
+  first_stage c m first = ap stage_in first.first
+
+  pub knows : (c : Recovering) (m : List Visit) → RecoverAt mode base v c m → Knows base.capacity mode shut c.stage m
+  knows c m (inl (inl first)) =
+      subst (λ stage. VisitsAt base.capacity mode stage m → Knows base.capacity mode shut stage m) (first_stage c m first) (λ at. (tt, at))
+      (first.wrote 0 refl).0
+  knows c m (inl (inr under)) = knows_under c m under
+  knows c m (inr heard) =
+      subst (KnowsOn (GoOn c)) (sym heard.keeps)
+      (subst (λ a. KnowsOn a (visits_after heard.asking heard.room (number_of heard.said))) heard.goes
+      (knows_heard heard.asking heard.asking.stage heard.room (number_of heard.said) heard.asks (knows_under heard.asking heard.room heard.before)))
+
+  -- one that met the lock at once has visited none
+  pub visits_none : (p : ℕ) (visits : List Visit) (wrote last : List (Event ℕ)) → Since p (Robust (Recover mode)) wrote last base v
+      → IsHistory one_word kinds.Robust base.capacity v.seen → wrote ≡ wrote_by p visits → shut ≡ true → visits ≡ []
+  visits_none p [] wrote last since h is lock = refl
+  visits_none p (z ∷ visits) wrote last since h is lock = absurd (true≢false (sym lock ∙ go z.came is))
+    where
+      go : (came : Came) → wrote ≡ wrote_to p z.index z.owner came ++ wrote_by p visits → shut ≡ false
+      go HasAsked so = asked_open p z.index z.owner wrote [] _ last since h so
+      go WasTold so = asked_open p z.index z.owner wrote [] _ last since h so
+      go HasFreed so = asked_open p z.index z.owner wrote [] _ last since h so
+      go HasLocked so = asked_open p z.index z.owner wrote [] _ last since h so

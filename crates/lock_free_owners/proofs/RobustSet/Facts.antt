@@ -25,11 +25,13 @@ use Rattle.lock_free_sp.specs.Shares.{IsAll}
 use Rattle.history.specs.declared.view.View.{View}
 use Rattle.history.specs.History.{IsHistory, Called, IsBeginning}
 use Rattle.history.specs.Passes.{Goes}
-use Rattle.history.specs.Robust.{takes_owned, gives_owned, recovers_owned, counts_owned, looks_owned}
+use Rattle.history.specs.Robust.{takes_owned, gives_owned, recovers_owned, counts_owned, looks_owned, Visit, wrote_by}
 use Rattle.history.specs.Stages.{Calling, Ends, opened}
 use Rattle.history.specs.Views.{Looks}
 use Rattle.history.proofs.Called.{called}
 use Rattle.lock_free_owners.specs.Robust.Told.{HasTaken, HasGiven, HasRecovered, HasCounted, HasLooked, WroteAt, WasFilled, WasGranted, WasFreed, IsSound, Answered, WasRefused, HasReleased, FoundLock, FoundState}
+use Rattle.lock_free_owners.specs.Robust.Callable.{HasVisited}
+use Rattle.lock_free_owners.proofs.RobustSet.Asking.{visits_none}
 use Rattle.lock_free_owners.proofs.RobustSet.Sound.{sound_history}
 use Rattle.lock_free_owners.proofs.RobustSet.Events.{find_own, lock_stays, not_locked}
 
@@ -82,8 +84,8 @@ last_of : {start : RobustStart} {answer : Answer ℕ} {old new : View ℕ} → (
 last_of {start} {answer} {old} {new} a = record { rest = Finished a.by (Robust start) answer ∷ []; is = a.is }
 
 -- what any call leaves of what a pass knows
-module _ {C E : Type 0} (call : Calling ℕ C (Unit {0}) E) where
-  pub goes : (base w : View ℕ) (e : E) (m : Unit {0}) → Ends one_word kinds.Robust call base e m w → Goes one_word kinds.Robust base.capacity base w
+module _ {C M E : Type 0} (call : Calling ℕ C M E) where
+  pub goes : (base w : View ℕ) (e : E) (m : M) → Ends one_word kinds.Robust call base e m w → Goes one_word kinds.Robust base.capacity base w
   goes base w e m ends =
       let more = opened ends.party call.start base.going ++ (ends.since.during ++ Finished ends.party call.start (call.answer e m) ∷ []) in
       record {
@@ -257,27 +259,37 @@ module _ (base w : View ℕ) (m : Unit {0}) (idle : base.going ≡ None) where
   looked_lock true ends = (let a = looked_answered true ends in lock_stays (last_of a) (sym a.right))
   looked_lock false ends = (let a = looked_answered false ends in not_locked a.since (sym a.right))
 
-  -- ---- recover
+-- ---- recover
 
-  module _ (mode : ReleaseMode) where
-    pub recovered : (state : ReleaseState) → Ends one_word kinds.Robust (recovers_owned mode) base state m w → HasRecovered mode state base w
-    recovered state ends = record {
-      by = ends.party;
-      mine = ends.mine;
-      wrote = ends.wrote;
-      tells = ends.tells idle;
-      called = called one_word kinds.Robust
-          (recovers_owned mode) base w state m idle ends;
-    }
+module _ (base w : View ℕ) (idle : base.going ≡ None) (mode : ReleaseMode) (state : ReleaseState) (visits : List Visit)
+    (ends : Ends one_word kinds.Robust (recovers_owned mode) base state visits w) where
+  recover_called : Called ends.party (Robust (Recover mode)) (State state) (wrote_by ends.party visits) base w
+  recover_called =
+      subst (λ es. Called ends.party (Robust (Recover mode)) (State state) es base w) (ends.tells idle).1
+      (called one_word kinds.Robust (recovers_owned mode) base w state visits idle ends)
 
-    pub recovered_answered : (state : ReleaseState) → Ends one_word kinds.Robust (recovers_owned mode) base state m w
-        → Answered (Recover mode) (State state) base w
-    recovered_answered state ends =
-        (let t = recovered state ends in answered_by base w ends.history t.by (Recover mode) (State state) t.wrote t.called)
+  pub recovered : {F S : Type 0} (step : F → ℕ → ℕ → Bool → F → Type 0) (tell : S → ℕ → ℕ → S → Type 0) (f q : F) (s y : S)
+      → HasVisited step tell f s visits q y → HasRecovered step tell mode state f s q y base w
+  recovered step tell f q s y visited =
+      record {
+        by = ends.party;
+        mine = ends.mine;
+        visits = visits;
+        ascend = (ends.tells idle).0;
+        called = recover_called;
+        visited = visited;
+        nothing = visits_none mode base w idle ends.party visits ends.wrote _ ends.since ends.history (ends.tells idle).1;
+      }
 
-    pub recovered_lock : (state : ReleaseState) → Ends one_word kinds.Robust (recovers_owned mode) base state m w → FoundState state base w
-    recovered_lock states.Locked ends = (let a = recovered_answered states.Locked ends in lock_stays (last_of a) a.right)
-    recovered_lock states.Unlocked ends = (let a = recovered_answered states.Unlocked ends in not_locked a.since a.right.0)
+  pub recovered_answered : Answered (Recover mode) (State state) base w
+  recovered_answered = answered_by base w ends.history ends.party (Recover mode) (State state) (wrote_by ends.party visits) recover_called
+
+pub recovered_lock : (base w : View ℕ) (idle : base.going ≡ None) (mode : ReleaseMode) (state : ReleaseState) (visits : List Visit)
+    → Ends one_word kinds.Robust (recovers_owned mode) base state visits w → FoundState state base w
+recovered_lock base w idle mode states.Locked visits ends =
+    (let a = recovered_answered base w idle mode states.Locked visits ends in lock_stays (last_of a) a.right)
+recovered_lock base w idle mode states.Unlocked visits ends =
+    (let a = recovered_answered base w idle mode states.Unlocked visits ends in not_locked a.since a.right.0)
 
 -- ---- find
 

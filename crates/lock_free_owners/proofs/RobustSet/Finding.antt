@@ -1,7 +1,6 @@
 -- A find between two turns: one list of indices, with which its closure was called, and of which it tells what the
 -- history said.
-use Rattle.std.proofs.Common.{◌≡◌, ◌≢◌, ◌⊎◌, inl, inr, ℕ, ◌+◌, ◌^◌, ◌<◌, ◌≤◌, nat_lt, Some, List, [], ◌∷◌, ◌++◌, length, refl, sym, ap, ◌∙◌, subst, length-append, arith}
-use Rattle.std.specs.List.{All}
+use Rattle.std.proofs.Common.{◌≡◌, ◌≢◌, ◌⊎◌, inl, inr, ℕ, ◌+◌, ◌-◌, ◌*◌, ◌^◌, ◌<◌, ◌≤◌, nat_lt, Some, List, [], ◌∷◌, ◌++◌, refl, sym, ◌∙◌, subst, length-append, arith}
 use Rattle.std.proofs.lemmas.Bool.Decides.{nat_tests}
 use Rattle.std.proofs.lemmas.Fn.{FoldsTo-push}
 use Rattle.std.proofs.lemmas.List.Elements.{All-nil}
@@ -14,52 +13,65 @@ use Rattle.steps.specs.declared.indices.robust.find.Find.{Find}
 use Rattle.steps.specs.declared.indices.robust.find.FindStage.{FindStage}
 use Rattle.steps.specs.declared.indices.robust.find.FindStage.TheVariants as finds
 use Rattle.steps.specs.Indices.Robust.Parts.{cell_word, empty, one_more}
-use Rattle.steps.specs.Indices.Robust.Find.{at_find, first_find, find_comes_to, find_takes}
+use Rattle.steps.specs.Indices.Robust.Find.{at_find, first_find, find_comes_to, find_takes, find_left}
 use Rattle.model.specs.declared.event.Event.{Event}
 use Rattle.model.specs.declared.turn.Kind.TheVariants as kinds
 use Rattle.model.specs.Coding.{one_word}
 use Rattle.model.specs.Families.Indices.Robust.Reading.{filled_of}
-use Rattle.lock_free_sp.specs.Callable.{Ascends, TakesPlaces}
+use Rattle.lock_free_sp.specs.Callable.{TakesPlaces}
 use Rattle.history.specs.declared.view.View.{View}
-use Rattle.history.specs.Finds.{WereOwned}
 use Rattle.history.specs.History.{IsBeginning}
 use Rattle.history.specs.Views.{Looks, LooksAt}
 use Rattle.history.proofs.Finds.{tells_owner, tells_other, owned_none, owned_later, owned_more, owned_past}
 use Rattle.history.proofs.Looking.{looks_then}
-use Rattle.lock_free_owners.specs.Robust.Callable.{WentOn, HasFound}
+use Rattle.lock_free_owners.specs.Robust.Callable.{HasFound}
 use Rattle.lock_free_owners.specs.Robust.Stages.{says}
-use Rattle.lock_free_owners.specs.Robust.Turns.{FindAsks, FindMoves}
+use Rattle.lock_free_owners.specs.Robust.Finding.{FindAsks, GoesDown, Searching, Onward}
+use Rattle.lock_free_owners.specs.Robust.Finding as finding
 use Rattle.lock_free_owners.proofs.Rules.Robust.Finding.{ascend_push, below_push, below_more}
 
+-- a find that comes to a cell
+abbrev pub at_cell : ℕ → ℕ → ℕ → Find
+at_cell capacity so_many index = record { capacity = capacity; stage = finds.LoadsCell index so_many }
+
+-- ---- fewer steps are left behind each
+
+comes_down : (c : Find) (cap left index found : ℕ) → c.capacity ≡ cap → 2 * (cap - index) + 1 < left → GoesDown cap left (find_comes_to c index found)
+comes_down c cap left index found is low =
+    by_test (λ (a : After Find ℕ). GoesDown cap left a) (nat_lt index c.capacity) (GoOn (at_find c (finds.LoadsCell index found))) (Done found)
+    (λ t. low)
+    (λ t. tt)
+
+module _ (c : Find) (cap : ℕ) (is : c.capacity ≡ cap) where
+  -- from a cell that it has come to
+  pub load_down : (first so_many index found owner k : ℕ) → first ≤ index → index < cap
+      → GoesDown cap (find_left cap (finds.LoadsCell first so_many)) (find_takes c (finds.LoadsCell index found) owner k)
+  load_down first so_many index found owner k up low =
+      by_eq (λ (a : After Find ℕ). GoesDown cap (find_left cap (finds.LoadsCell first so_many)) a) k owner
+      (GoOn (at_find c (finds.Asks index (one_more found)))) (find_comes_to c (index + 1) found)
+      (λ e. omega arith)
+      (λ ne. comes_down c cap (2 * (cap - first) + 1) (index + 1) found is (omega arith))
+
+  pub ask_down : (index found owner : ℕ) (answer : CallbackProgression) → index < cap
+      → GoesDown cap (find_left cap (finds.Asks index found)) (find_takes c (finds.Asks index found) owner (says answer))
+  ask_down index found owner Continue low = comes_down c cap (2 * (cap - index)) (index + 1) found is (omega arith)
+  ask_down index found owner Stop low = tt
+
 module _ {F : Type 0} (step : F → ℕ → CallbackProgression → F → Type 0) (cap owner : ℕ) (base : View ℕ) (f : F) where
-  -- the calls from f on that led to p: one at each of these n indices, all below this one
-  pub record Came (low n : ℕ) (es : List (Event ℕ)) (p : F) : Type 0 where
-    pub indices : List ℕ
-    pub calls : WentOn step f indices p
-    pub ascend : Ascends cap indices
-    pub below : All (λ x. x < low) indices
-    pub count : length indices ≡ n
-    pub few : n ≤ low
-    pub owned : WereOwned owner low indices base.seen es
+  abbrev Came : ℕ → ℕ → List (Event ℕ) → F → Type 0
+  Came = finding.Came step cap owner base f
 
   abbrev Looked : View ℕ → Type 0
   Looked v = Looks one_word kinds.Robust cap base v
 
-  -- before its first look the view stays
-  abbrev pub SoFar : FindStage → View ℕ → F → Type 0
-  SoFar (finds.LoadsCell index found) v p = (index < cap) × ((v ≡ base) ⊎ Looked v) × Came index found v.seen p
-  SoFar (finds.Asks index found) v p =
-      (index < cap) × Looked v × (filled_of index v.seen ≡ Some owner) × ((n : ℕ) × (n + 1 ≡ found) × Came index n v.seen p)
+  abbrev SoFar : FindStage → View ℕ → F → Type 0
+  SoFar = finding.SoFar step cap owner base f
 
-  pub record Searching (v : View ℕ) (c : Find) (p : F) : Type 0 where
-    pub known : v.capacity ≡ cap
-    pub some : 0 < v.share.part
-    pub standing : c.capacity ≡ cap
-    pub so_far : SoFar c.stage v p
+  abbrev Search : View ℕ → Find → F → Type 0
+  Search = Searching step cap owner base f
 
-  abbrev pub Onward : After Find ℕ → View ℕ → F → Type 0
-  Onward (GoOn d) w q = Searching w d q
-  Onward (Done n) w q = Looked w × HasFound step cap owner f n q base.seen w.seen
+  abbrev On : After Find ℕ → View ℕ → F → Type 0
+  On = Onward step cap owner base f
 
   -- ---- the list
 
@@ -144,14 +156,14 @@ module _ {F : Type 0} (step : F → ℕ → CallbackProgression → F → Type 0
 
   -- it has come past the indices below this one
   comes : (w : View ℕ) (c : Find) (index found : ℕ) (q : F) → Looked w → w.capacity ≡ cap → 0 < w.share.part → c.capacity ≡ cap → index ≤ cap
-      → Came index found w.seen q → Onward (find_comes_to c index found) w q
+      → Came index found w.seen q → On (find_comes_to c index found) w q
   comes w c index found q looked known some standing low h =
-      by_test (λ (a : After Find ℕ). Onward a w q) (nat_lt index c.capacity) (GoOn (at_find c (finds.LoadsCell index found))) (Done found)
+      by_test (λ (a : After Find ℕ). On a w q) (nat_lt index c.capacity) (GoOn (at_find c (finds.LoadsCell index found))) (Done found)
       (λ t. (let below : index < c.capacity = grind (arith, nat_tests) in
       record { known = known; some = some; standing = standing; so_far = (omega arith, inr looked, h) }))
       (λ t. (let past : c.capacity ≤ index = grind (arith, nat_tests) in (looked, found_all index found w.seen q h (omega arith))))
 
-  module _ (small : cap < 2 ^ 32) (fits : owner < empty) (v w : View ℕ) (c : Find) (p : F) (h : Searching v c p) where
+  module _ (small : cap < 2 ^ 32) (fits : owner < empty) (v w : View ℕ) (c : Find) (p : F) (h : Search v c p) where
     module _ (index found k : ℕ) (at : SoFar (finds.LoadsCell index found) v p) (looks : LooksAt one_word kinds.Robust cap (cell_word index) v k w) where
       looked_then : Looked w
       looked_then = go at.1
@@ -163,13 +175,13 @@ module _ {F : Type 0} (step : F → ℕ → CallbackProgression → F → Type 0
       came_there : Came index found w.seen p
       came_there = came_later index found v.seen p at.2 w.seen looks.looks.mine
 
-      loaded : Onward (find_takes c (finds.LoadsCell index found) owner k) w p
+      pub loaded : On (find_takes c (finds.LoadsCell index found) owner k) w p
       loaded =
           let known = looks.looks.capacity ∙ h.known in
           let some = subst (λ s. 0 < s.part) (sym looks.looks.share) h.some in
           let few = came_there.few in
           let low = at.0 in
-          by_eq (λ (a : After Find ℕ). Onward a w p) k owner (GoOn (at_find c (finds.Asks index (one_more found)))) (find_comes_to c (index + 1) found)
+          by_eq (λ (a : After Find ℕ). On a w p) k owner (GoOn (at_find c (finds.Asks index (one_more found)))) (find_comes_to c (index + 1) found)
           (λ e. record {
             known = known;
             some = some;
@@ -179,8 +191,8 @@ module _ {F : Type 0} (step : F → ℕ → CallbackProgression → F → Type 0
           (λ ne. comes w c (index + 1) found p looked_then known some h.standing (omega arith)
           (came_past index found w.seen p came_there looked_then.mine (tells_other one_word cap index k at.0 v w looks owner ne)))
 
-    heard : (index found : ℕ) (answer : CallbackProgression) (q : F) → SoFar (finds.Asks index found) v p → step p index answer q
-        → Onward (find_takes c (finds.Asks index found) owner (says answer)) v q
+    pub heard : (index found : ℕ) (answer : CallbackProgression) (q : F) → SoFar (finds.Asks index found) v p → step p index answer q
+        → On (find_takes c (finds.Asks index found) owner (says answer)) v q
     heard index found Continue q at hit =
         let low = at.0 in
         let asked = at.3 in
@@ -188,30 +200,15 @@ module _ {F : Type 0} (step : F → ℕ → CallbackProgression → F → Type 0
         (subst (λ n. Came (index + 1) n v.seen q) asked.1 (came_more index asked.0 v.seen p asked.2 at.1.mine q at.0 at.2 hit))
     heard index found Stop q at hit = (at.1, found_last index at.3.0 v.seen p at.3.2 at.1.mine found q at.0 at.3.1 at.2 hit)
 
-    by_stage : (stage : FindStage) → c.stage ≡ stage → SoFar stage v p → (q : F) (a : After Find ℕ) → FindMoves step c owner stage v p a w q
-        → Onward a w q
-    by_stage (finds.LoadsCell index found) is at q a moves =
-        let same : p ≡ q = sym moves.0 in
-        subst (Onward a w) same
-        (subst (λ (z : After Find ℕ). Onward z w p) (ap (λ s. find_takes c s owner moves.1.0) (sym is) ∙ sym moves.1.2)
-        (loaded index found moves.1.0 at (subst (λ n. LooksAt one_word kinds.Robust n (cell_word index) v moves.1.0 w) h.known moves.1.1)))
-    by_stage (finds.Asks index found) is at q a moves =
-        subst (λ (z : View ℕ). Onward a z q) (sym moves.0)
-        (subst (λ (z : After Find ℕ). Onward z v q) (ap (λ s. find_takes c s owner (says moves.1.0)) (sym is) ∙ sym moves.1.2)
-        (heard index found moves.1.0 q at moves.1.1))
-
-    pub onward : (q : F) (a : After Find ℕ) → FindMoves step c owner c.stage v p a w q → Onward a w q
-    onward = by_stage c.stage refl h.so_far
-
-  pub starts : (c : Find) → c ≡ first_find cap → base.capacity ≡ cap → 0 < base.share.part → 0 < cap → Searching base c f
+  pub starts : (c : Find) → c ≡ first_find cap → base.capacity ≡ cap → 0 < base.share.part → 0 < cap → Search base c f
   starts c is known some any =
-      subst (λ (d : Find). Searching base d f) (sym is) (record { known = known; some = some; standing = refl; so_far = (any, inl refl, came_none) })
+      subst (λ (d : Find). Search base d f) (sym is) (record { known = known; some = some; standing = refl; so_far = (any, inl refl, came_none) })
 
   -- the closure may be called with the index that it has come to
-  pub may_go : {pre : F → ℕ → Type 0} (v : View ℕ) (c : Find) (p : F) → TakesPlaces pre (λ p x q. step p x Continue q) cap f → Searching v c p
-      → FindAsks pre v c.stage p
+  pub may_go : {pre : F → ℕ → Type 0} (v : View ℕ) (c : Find) (p : F) → TakesPlaces pre (λ p x q. step p x Continue q) cap f → Search v c p
+      → FindAsks pre cap c.stage p
   may_go {pre} v c p takes h = go c.stage h.so_far
     where
-      go : (stage : FindStage) → SoFar stage v p → FindAsks pre v stage p
-      go (finds.LoadsCell index found) at = subst (λ n. index < n) (sym h.known) at.0
-      go (finds.Asks index found) at = (let so = at.3.2 in takes.at so.indices p index so.calls so.ascend so.below at.0)
+      go : (stage : FindStage) → SoFar stage v p → FindAsks pre cap stage p
+      go (finds.LoadsCell index found) at = at.0
+      go (finds.Asks index found) at = (let so = at.3.2 in (at.0, takes.at so.indices p index so.calls so.ascend so.below at.0))

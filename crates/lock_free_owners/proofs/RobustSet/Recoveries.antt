@@ -1,65 +1,118 @@
--- A recovery between two turns: where it stands on the history, and what its closures were called with.
-use Rattle.std.proofs.Common.{◌≡◌, ℕ, Bool, false, None, refl, sym, subst}
-use Rattle.steps.specs.Indices.Robust.Recover.{first_recover}
+-- A recovery between two turns: where it stands on the history with its visits, and what its closures were called with.
+use Rattle.std.proofs.Common.{◌≡◌, ℕ, Bool, true, false, None, List, [], refl, sym, ap, subst, ◌∙◌}
+use Rattle.steps.specs.Indices.Robust.Recover.{first_recover, recover_asks, recover_takes, recover_after}
 use Rattle.steps.specs.declared.ask.After.{After}
 use Rattle.steps.specs.declared.ask.After.TheVariants.{GoOn, Done}
 use Rattle.steps.specs.declared.indices.enums.ReleaseMode.{ReleaseMode}
 use Rattle.steps.specs.declared.indices.enums.ReleaseState.{ReleaseState}
 use Rattle.steps.specs.declared.indices.robust.recover.Recover.{Recover as Recovering}
+use Rattle.steps.specs.declared.indices.robust.recover.RecoverStage.TheVariants as recovers
+use Rattle.model.specs.Coding.{one_word}
+use Rattle.model.specs.Families.{is_question}
+use Rattle.model.specs.Turns.{number_of}
 use Rattle.model.specs.Families.Indices.Reading.{is_locked}
+use Rattle.lock_free_sp.specs.Driver.{Next}
 use Rattle.history.specs.declared.view.View.{View}
+use Rattle.history.specs.Robust.{Visit, visits_after}
+use Rattle.history.proofs.RobustRecoveries.{recover_hears}
 use Rattle.lock_free_owners.specs.Robust.Callable.{TakesQuestions, TakesFreed, HasVisited}
 use Rattle.lock_free_owners.specs.Robust.Stages.{RecoverAsks, RecoverMoves}
-use Rattle.lock_free_owners.specs.Robust.Turns.{RecoverAt, RecoverEnds, RecoverGoes}
+use Rattle.lock_free_owners.specs.Robust.Turns.{RecoverAt, RecoverEnds, RecoverGoes, RecoverSteps}
 use Rattle.lock_free_owners.proofs.RobustSet.Asking.{knows}
-use Rattle.lock_free_owners.proofs.RobustSet.Turns.{gone_on, has_ended}
-use Rattle.lock_free_owners.proofs.Rules.Robust.Recovering.{Knows, Between, Moves, between, ended, goes_or_stays, ends_or_stays, may_ask}
+use Rattle.lock_free_owners.proofs.Rules.Robust.Recovering.{Knows, SoFar, Onward, Visited, onward, may_ask, proper}
+
+module _ {F S : Type 0} (step : F → ℕ → ℕ → Bool → F → Type 0) (tell : S → ℕ → ℕ → S → Type 0) (cap : ℕ) (mode : ReleaseMode) (base : View ℕ) (f : F)
+    (s : S) where
+  abbrev pub StandsSo : View ℕ → Recovering → F → S → Type 0
+  StandsSo v call p x =
+      (visits : List Visit) × RecoverAt mode base v call visits × SoFar step tell cap (is_locked base.seen) f s call.stage visits p x
+
+  -- it has ended
+  abbrev pub EndsSo : View ℕ → ReleaseState → F → S → Type 0
+  EndsSo w state q y = (visits : List Visit) × RecoverEnds mode base state visits w × HasVisited step tell f s visits q y
 
 module _ {F S : Type 0} (step : F → ℕ → ℕ → Bool → F → Type 0) (tell : S → ℕ → ℕ → S → Type 0) (cap : ℕ) (mode : ReleaseMode) (base : View ℕ)
     (idle : base.going ≡ None) (known : base.capacity ≡ cap) (f : F) (s : S) where
   abbrev shut : Bool
   shut = is_locked base.seen
 
-  abbrev pub StandsSo : View ℕ → Recovering → F → S → Type 0
-  StandsSo v call p x = RecoverAt mode base v call tt × Between step tell cap shut f s call p x
+  abbrev Stands : View ℕ → Recovering → F → S → Type 0
+  Stands = StandsSo step tell cap mode base f s
 
-  knows_there : (v : View ℕ) (call : Recovering) → RecoverAt mode base v call tt → Knows cap shut call.stage
-  knows_there v call at = subst (λ n. Knows n shut call.stage) known (knows mode base v idle call at)
+  abbrev Ended : View ℕ → ReleaseState → F → S → Type 0
+  Ended = EndsSo step tell cap mode base f s
 
-  pub stands_first : (call : Recovering) → call ≡ first_recover cap → RecoverAt mode base base (first_recover cap) tt → StandsSo base call f s
-  stands_first call is at = subst (λ d. StandsSo base d f s) (sym is) (at, (refl, refl))
+  knows_there : (visits : List Visit) (v : View ℕ) (call : Recovering) → RecoverAt mode base v call visits → Knows cap mode shut call.stage visits
+  knows_there visits v call at = subst (λ n. Knows n mode shut call.stage visits) known (knows mode base v idle call visits at)
 
-  module _ (v w : View ℕ) (call : Recovering) (after : After Recovering ReleaseState) (goes : RecoverGoes mode v call after w) where
-    pub moves_on : (next : Recovering) (p q : F) (x y : S) → StandsSo v call p x → RecoverMoves step tell call mode call.stage p x after q y
-        → after ≡ GoOn next → StandsSo w next q y
-    moves_on next p q x y so moves is = (
-      gone_on (RecoverAt mode) (RecoverEnds mode) base v w call next after goes is so.0,
-      between step tell cap shut f s call next mode p q x y after (knows_there v call so.0) so.1 moves is,
+  pub stands_first : (call : Recovering) → call ≡ first_recover cap → RecoverAt mode base base (first_recover cap) [] → Stands base call f s
+  stands_first call is at = subst (λ d. Stands base d f s) (sym is) ([], at, (refl, refl))
+
+  has_visited : (visits : List Visit) (q : F) (y : S) → Visited step tell cap shut f s visits q y → HasVisited step tell f s visits q y
+  has_visited visits q y h =
+      record { asked = h.2.questions; told = h.2.calls; owned = proper step tell cap shut f s visits h.0 h.1 q y h.2 }
+
+  -- the first step
+  pub counter_moves : (call : Recovering) (after : After Recovering ReleaseState) (k : ℕ) → call ≡ first_recover cap → after ≡ recover_after call mode k
+      → (p : F) (x : S) → RecoverMoves step tell call mode call.stage k p x after p x
+  counter_moves call after k is goes p x =
+      subst (λ d. after ≡ recover_after d mode k → RecoverMoves step tell d mode d.stage k p x after p x) (sym is) (λ e. (refl, refl, e)) goes
+
+  -- a step that it has heard this at
+  module _ (v w : View ℕ) (call : Recovering) (after : After Recovering ReleaseState) (k : ℕ) (goes : RecoverSteps mode v call k after w)
+      (p q : F) (x y : S) (so : Stands v call p x) (moves : RecoverMoves step tell call mode call.stage k p x after q y) where
+    abbrev then : List Visit
+    then = visits_after call so.0 k
+
+    now_at : (a : After Recovering ReleaseState) → after ≡ a → Next (λ (z : View ℕ). z.capacity) (RecoverAt mode) (RecoverEnds mode) base a then w
+        × Onward step tell cap shut f s a then q y
+    now_at a is = (
+      subst (λ z. Next (λ (n : View ℕ). n.capacity) (RecoverAt mode) (RecoverEnds mode) base z then w) is (goes base so.0 idle so.1),
+      subst (λ z. Onward step tell cap shut f s z then q y) is
+          (onward step tell cap shut f s call mode so.0 k (knows_there so.0 v call so.1) p q x y after so.2 moves),
     )
 
-    pub moves_end : (state : ReleaseState) (p q : F) (x y : S) → StandsSo v call p x → RecoverMoves step tell call mode call.stage p x after q y
-        → after ≡ Done state → RecoverEnds mode base state tt w × HasVisited step tell cap shut f s q y
-    moves_end state p q x y so moves is = (
-      has_ended (RecoverAt mode) (RecoverEnds mode) base v w call state after goes is so.0,
-      ended step tell cap shut f s call mode state p q x y after (knows_there v call so.0) so.1 moves is,
+    pub moves_on : (next : Recovering) → after ≡ GoOn next → Stands w next q y
+    moves_on next is = (let now = now_at (GoOn next) is in (then, now.0, now.1))
+
+    pub moves_end : (state : ReleaseState) → after ≡ Done state → Ended w state q y
+    moves_end state is = (let now = now_at (Done state) is in (then, now.0, has_visited then q y now.1))
+
+  -- a step that may leave the call as it is, and leaves its visits
+  module _ (v w : View ℕ) (call : Recovering) (after : After Recovering ReleaseState) (goes : RecoverGoes mode v call (λ visits. visits) after w)
+      (p : F) (x : S) (so : Stands v call p x) (still : Onward step tell cap shut f s after so.0 p x) where
+    still_at : (a : After Recovering ReleaseState) → after ≡ a
+        → Next (λ (z : View ℕ). z.capacity) (RecoverAt mode) (RecoverEnds mode) base a so.0 w × Onward step tell cap shut f s a so.0 p x
+    still_at a is = (
+      subst (λ z. Next (λ (n : View ℕ). n.capacity) (RecoverAt mode) (RecoverEnds mode) base z so.0 w) is (goes base so.0 idle so.1),
+      subst (λ z. Onward step tell cap shut f s z so.0 p x) is still,
     )
 
-    -- a step that may leave the call as it is
-    pub stays_on : (next : Recovering) (p : F) (x : S) → StandsSo v call p x → Moves step tell cap shut f s call mode call.stage p x after
-        → after ≡ GoOn next → StandsSo w next p x
-    stays_on next p x so moves is = (
-      gone_on (RecoverAt mode) (RecoverEnds mode) base v w call next after goes is so.0,
-      goes_or_stays step tell cap shut f s call next mode p x after (knows_there v call so.0) so.1 moves is,
-    )
+    pub stays_on : (next : Recovering) → after ≡ GoOn next → Stands w next p x
+    stays_on next is = (let now = still_at (GoOn next) is in (so.0, now.0, now.1))
 
-    pub stays_end : (state : ReleaseState) (p : F) (x : S) → StandsSo v call p x → Moves step tell cap shut f s call mode call.stage p x after
-        → after ≡ Done state → RecoverEnds mode base state tt w × HasVisited step tell cap shut f s p x
-    stays_end state p x so moves is = (
-      has_ended (RecoverAt mode) (RecoverEnds mode) base v w call state after goes is so.0,
-      ends_or_stays step tell cap shut f s call mode state p x after (knows_there v call so.0) so.1 moves is,
-    )
+    pub stays_end : (state : ReleaseState) → after ≡ Done state → Ended w state p x
+    stays_end state is = (let now = still_at (Done state) is in (so.0, now.0, has_visited so.0 p x now.1))
 
   pub asks_there : {pre : F → ℕ → ℕ → Type 0} {may : S → ℕ → ℕ → Type 0} (v : View ℕ) (call : Recovering) (p : F) (x : S)
-      → (shut ≡ false → TakesQuestions pre step cap f) → (shut ≡ false → TakesFreed step may tell cap f s) → StandsSo v call p x
+      → (shut ≡ false → TakesQuestions pre step cap f) → (shut ≡ false → TakesFreed step may tell cap f s) → Stands v call p x
       → RecoverAsks pre may call.stage p x
-  asks_there v call p x questions freed so = may_ask step tell cap shut f s questions freed call.stage (knows_there v call so.0) p x so.1
+  asks_there v call p x questions freed so =
+      may_ask step tell cap shut f s mode questions freed call.stage so.0 (knows_there so.0 v call so.1) p x so.2
+
+-- ---- an answer
+
+module _ (mode : ReleaseMode) (base v : View ℕ) (call : Recovering) (visits : List Visit) (index owner : ℕ) (is : call.stage ≡ recovers.Asks index owner)
+    (said : Bool) where
+  lasts : (b : Bool) (state : ReleaseState) → recover_takes call (recovers.Asks index owner) mode (number_of b) ≡ Done state → ⊥
+  lasts true state e = absurd (cc)
+  lasts false state e = absurd (cc)
+
+  pub said_goes : RecoverAt mode base v call visits → Next (λ (z : View ℕ). z.capacity) (RecoverAt mode) (RecoverEnds mode) base
+      (recover_after call mode (number_of said)) (visits_after call visits (number_of said)) v
+  said_goes at = go (recover_after call mode (number_of said)) refl
+    where
+      go : (a : After Recovering ReleaseState) → recover_after call mode (number_of said) ≡ a
+          → Next (λ (z : View ℕ). z.capacity) (RecoverAt mode) (RecoverEnds mode) base a (visits_after call visits (number_of said)) v
+      go (GoOn d) e = recover_hears one_word mode base v call d visits said (ap (λ stage. is_question (recover_asks stage)) is) e at
+      go (Done state) e = absurd (lasts said state (ap (λ stage. recover_takes call stage mode (number_of said)) (sym is) ∙ e))

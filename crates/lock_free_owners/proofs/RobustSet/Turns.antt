@@ -22,12 +22,12 @@ use Rattle.lock_free_sp.specs.Driver.{Next}
 use Rattle.history.specs.declared.view.View.{View}
 use Rattle.lock_free_owners.specs.Robust.Turns.{Goes}
 
-module _ {C E : Type 0} (at : View ℕ → View ℕ → C → Unit {0} → Type 0) (ends : View ℕ → E → Unit {0} → View ℕ → Type 0) where
-  pub gone_on : (base v w : View ℕ) (c d : C) (a : After C E) → Goes at ends v c a w → a ≡ GoOn d → at base v c tt → at base w d tt
-  gone_on base v w c d a goes is here = subst (λ z. Next (λ (x : View ℕ). x.capacity) at ends base z tt w) is (goes base here)
+module _ {T C E : Type 0} (at : View T → View T → C → Unit {0} → Type 0) (ends : View T → E → Unit {0} → View T → Type 0) where
+  pub gone_on : (base v w : View T) (c d : C) (a : After C E) → Goes at ends v c a w → a ≡ GoOn d → at base v c tt → at base w d tt
+  gone_on base v w c d a goes is here = subst (λ z. Next (λ (x : View T). x.capacity) at ends base z tt w) is (goes base here)
 
-  pub has_ended : (base v w : View ℕ) (c : C) (e : E) (a : After C E) → Goes at ends v c a w → a ≡ Done e → at base v c tt → ends base e tt w
-  has_ended base v w c e a goes is here = subst (λ z. Next (λ (x : View ℕ). x.capacity) at ends base z tt w) is (goes base here)
+  pub has_ended : (base v w : View T) (c : C) (e : E) (a : After C E) → Goes at ends v c a w → a ≡ Done e → at base v c tt → ends base e tt w
+  has_ended base v w c e a goes is here = subst (λ z. Next (λ (x : View T). x.capacity) at ends base z tt w) is (goes base here)
 
 -- ---- an exchange of a cell leads to the next cell, or to no cell
 

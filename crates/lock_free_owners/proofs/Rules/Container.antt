@@ -1,10 +1,6 @@
-pub mod Steps
+pub mod Bare
 pub mod Places
-pub mod AddRuns
-pub mod RemoveRuns
-pub mod ReplaceRuns
 pub mod LookRuns
 pub mod FindRuns
 pub mod Finding
-pub mod RecoverRuns
 pub mod Recovering

@@ -1,7 +1,2 @@
-pub mod Steps
-pub mod Parts
-pub mod LookRuns
-pub mod AcquireRuns
-pub mod ReleaseRuns
 pub mod Finding
 pub mod Recovering

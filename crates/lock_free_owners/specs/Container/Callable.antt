@@ -33,20 +33,24 @@ pub record TakesVisits {F T : Type 0} (pre : F → T → ContainerHandle → Typ
       → All (λ (y : Visit T). y.handle.index < x.handle.index) before
       → mine x.handle → pre now x.value x.handle
 
--- a find came to n indices: to these, at some of which it called the closure, which was told to go
--- on at each but the last one, or at each; where it was told to stop it came to no further index
+-- it was told to go on at each but the last one, on which it was told to stop, and it came to no further index
+pub record WasStopped {F T : Type 0} (step : F → T → ContainerHandle → CallbackProgression → F → Type 0)
+    (f : F) (indices : List ℕ) (visits : List (Visit T)) (last : F) : Type 0 where
+  pub before : List (Visit T)
+  pub now : F
+  pub calls : FoldsTo (goes_on step) f before now
+  pub x : Visit T
+  pub is : visits ≡ before ++ x ∷ []
+  pub stops : step now x.value x.handle Stop last
+  pub highest : All (λ i. i ≤ x.handle.index) indices
+
+-- a find came to n indices: at these of them it called the closure, which was told to go on at each, or was told to stop
 pub record HasFound {F T : Type 0}
     (step : F → T → ContainerHandle → CallbackProgression → F → Type 0) (capacity : ℕ)
-    (mine : ContainerHandle → Type 0) (f : F) (n : ℕ) (last : F) : Type 0 where
+    (mine : ContainerHandle → Type 0) (f : F) (n : ℕ) (visits : List (Visit T)) (last : F) : Type 0 where
   pub indices : List ℕ
   pub ascend : Ascends capacity indices
   pub number : length indices ≡ n
-  pub visits : List (Visit T)
   pub visits_ascend : VisitsAscend mine visits
   pub among : All (λ (x : Visit T). Contains indices x.handle.index) visits
-  pub now : F
-  pub calls : FoldsTo (goes_on step) f visits now
-  pub ended : (now ≡ last)
-      ⊎ ((x : Visit T) × step now x.value x.handle Stop last
-      × VisitsAscend mine (visits ++ x ∷ []) × Contains indices x.handle.index
-      × All (λ i. i ≤ x.handle.index) indices)
+  pub calls : FoldsTo (goes_on step) f visits last ⊎ WasStopped step f indices visits last

@@ -1,6 +1,6 @@
 -- A handle of a container: the container, and the pass that its calls are made with. T is the type of its values.
 use Rattle.steps.specs.declared.words.Words.{Ghosts}
-use Rattle.lock_free_owners.specs.declared.robust.view.View.{View}
+use Rattle.history.specs.declared.view.View.{View}
 use Rattle.lock_free_owners.specs.declared.mpmc.container.Container.{Container}
 use Rattle.lock_free_owners.specs.declared.mpmc.container.Pass.{Pass}
 use Rattle.lock_free_owners.specs.declared.mpmc.container.handles.Handle.{Handle}
@@ -13,6 +13,6 @@ module _ {T : Type 0} {words : Ghosts T} where
   abbrev pub pass_in : Handle T words → Pass T words
   pass_in h = h.pass
 
-  -- what its pass knows
-  abbrev pub knows : Handle T words → View
+  -- all that its pass knows
+  abbrev pub knows : Handle T words → View T
   knows h = view h.pass

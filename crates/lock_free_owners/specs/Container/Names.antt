@@ -1,14 +1,20 @@
 -- The words of the contracts of a container: what names it, which pass, handle and state are for it,
 -- and what a pass knows. T is the type of its values.
-use Rattle.std.specs.Prelude.{◌≡◌, ℕ, ◌-◌, ◌^◌, ◌<◌, Option}
+use Rattle.std.specs.Prelude.{◌≡◌, ℕ, ◌-◌, ◌^◌, ◌<◌, Option, Some, None, List}
 use Rattle.std.specs.Arc.{arc_value}
 use Rattle.steps.specs.Enums.{capacity_refusal}
 use Rattle.steps.specs.declared.enums.UniqueIndexCreationError.{UniqueIndexCreationError}
 use Rattle.steps.specs.declared.words.Words.{Ghosts}
 use Rattle.steps.specs.declared.container.handle.ContainerHandle.{ContainerHandle}
 use Rattle.steps.specs.declared.container.state.ContainerState.{ContainerState}
+use Rattle.model.specs.declared.event.Event.{Event}
+use Rattle.model.specs.declared.turn.Kind.TheVariants as kinds
+use Rattle.model.specs.Coding.{Coding, coding_of}
 use Rattle.lock_free_sp.specs.Sets.{SetId}
-use Rattle.lock_free_owners.specs.declared.robust.view.View.{View}
+use Rattle.lock_free_sp.specs.declared.share.Share.{Share}
+use Rattle.history.specs.declared.view.View.{View}
+use Rattle.history.specs.History.{IsHistory}
+use Rattle.history.specs.Passes as passes
 use Rattle.lock_free_owners.specs.declared.mpmc.container.Container.{Container}
 use Rattle.lock_free_owners.specs.declared.mpmc.container.FixedSizeContainer.{FixedSizeContainer}
 use Rattle.lock_free_owners.specs.declared.mpmc.container.Pass.{Pass}
@@ -41,20 +47,61 @@ module _ {T : Type 0} where
   abbrev pub IsStateOf : Container T → ContainerState T → Type 0
   IsStateOf s state = (state.container ≡ number_of s) × (state.capacity ≡ capacity_of s)
 
+  -- the state as a history has it, where no container has a number
+  abbrev pub unnumbered : ContainerState T → ContainerState T
+  unnumbered state = record state { container = 0 }
+
   -- the state shows what it showed, and has seen what it had seen
   abbrev pub IsLeft : ContainerState T → ContainerState T → Type 0
   IsLeft old new = (new.shown.elements ≡ old.shown.elements) × (new.seen ≡ old.seen)
 
 module _ {T : Type 0} {words : Ghosts T} where
-  -- what a pass knows, and which container it is for
-  abbrev pub view : Pass T words → View
+  -- how the values of a pass's container are written in words
+  abbrev pub code_of : Pass T words → Coding T
+  code_of p = coding_of words.WORDS words.words_of words.value_of
+
+  -- all that a pass knows
+  abbrev pub view : Pass T words → View T
   view p = p.token.seated.seat.me.0
 
+  -- the beginning of the history that it has seen
+  abbrev pub history : Pass T words → List (Event T)
+  history p = (view p).seen
+
+  -- the events of its own calls, and of those of the passes that it took in
+  abbrev pub made : Pass T words → List (Event T)
+  made p = (view p).made
+
+  -- its share of the right to know the whole
+  abbrev pub share : Pass T words → Share
+  share p = (view p).share
+
+  -- which container it is for
   abbrev pub container_of : Pass T words → SetId
   container_of p = record { table = p.token.seated.seat.table_id; capacity = p.token.capacity }
 
   abbrev pub IsPassOf : Container T → Pass T words → Type 0
   IsPassOf s p = container_of p ≡ container_id s
+
+  -- the state is the one that the pass has: as it was left by the latest look that the pass made of the state that it had
+  -- got last
+  abbrev pub IsLatest : Pass T words → ContainerState T → Type 0
+  IsLatest p state =
+      (by : ℕ) × ((view p).party ≡ Some by) × ((view p).state ≡ Some (unnumbered state))
+
+  -- it has seen a history of its container
+  abbrev pub HasHistory : Pass T words → Type 0
+  HasHistory p = IsHistory (code_of p) kinds.Container (container_of p).capacity (history p)
+
+  -- with the whole share, the history is what it made
+  abbrev pub MissesNothing : Pass T words → Type 0
+  MissesNothing p = passes.MissesNothing (view p)
+
+  -- what each call leaves of a pass, and what the pass knows from then on
+  pub record GoesOn (old new : Pass T words) : Type 0 where
+    pub container : container_of new ≡ container_of old
+    pub idle : (view new).going ≡ None
+    pub goes : passes.Goes (code_of old) kinds.Container (container_of old).capacity (view old) (view new)
 
 module _ {T : Type 0} {CAPACITY : ℕ} where
   -- the container of one whose capacity is part of its type

@@ -1,6 +1,6 @@
 -- What the closure of a recovery of a container is called with: values at indices that ascend below
 -- the capacity, each at most once. T is the type of its values.
-use Rattle.std.specs.Prelude.{◌≡◌, ℕ, ◌<◌, ◌≤◌, Bool, true, List, [], length, All, AllPairs}
+use Rattle.std.specs.Prelude.{ℕ, ◌<◌, Bool, List, length, All, AllPairs}
 use Rattle.std.specs.List.{FoldsTo}
 
 -- a question about the value at an index, and the answer
@@ -27,13 +27,3 @@ pub record TakesValues {F T : Type 0} (pre : F → T → Type 0) (step : F → T
       → FoldsTo (asks step) f before now → AnswersAscend capacity before
       → All (λ (a : Answered T). a.index < index) before → index < capacity
       → length before < capacity → pre now value
-
--- a recovery asked these questions, at most one for each index, and none where the lock was seen
--- before; they made the closure what it is at the end
-pub record HasAsked {F T : Type 0} (step : F → T → Bool → F → Type 0) (capacity : ℕ)
-    (locked : Bool) (f last : F) : Type 0 where
-  pub asked : List (Answered T)
-  pub questions : FoldsTo (asks step) f asked last
-  pub ascend : AnswersAscend capacity asked
-  pub few : length asked ≤ capacity
-  pub nothing : locked ≡ true → asked ≡ []

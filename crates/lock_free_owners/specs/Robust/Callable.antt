@@ -1,6 +1,6 @@
 -- What the closures of a find and of a recovery are called with: indices that ascend below the
 -- capacity, each at most once; and what a find tells of these.
-use Rattle.std.specs.Prelude.{◌≡◌, ℕ, ◌+◌, ◌<◌, ◌⊎◌, Bool, true, List, [], ◌∷◌, ◌++◌, length, All, AllPairs, Contains}
+use Rattle.std.specs.Prelude.{◌≡◌, ℕ, ◌+◌, ◌<◌, ◌⊎◌, Bool, true, false, List, [], ◌∷◌, ◌++◌, length, map, filter, All, AllPairs, Contains}
 use Rattle.std.specs.List.{FoldsTo}
 use Rattle.steps.specs.Indices.Robust.Parts.{empty}
 use Rattle.steps.specs.declared.enums.CallbackProgression.{CallbackProgression}
@@ -8,6 +8,7 @@ use Rattle.steps.specs.declared.enums.CallbackProgression.TheVariants.{Continue,
 use Rattle.model.specs.declared.event.Event.{Event}
 use Rattle.lock_free_sp.specs.Callable.{Ascends}
 use Rattle.history.specs.Finds.{WereOwned}
+use Rattle.history.specs.Robust.{Visit, Came, HasAsked, WasTold}
 
 -- ---- find
 
@@ -94,16 +95,35 @@ pub record TakesFreed {F S : Type 0} (step : F → ℕ → ℕ → Bool → F �
       → All (λ (x : Owned). x.index < o.index) before
       → IsOwned capacity o → pre now o.owner o.index
 
--- what a recovery asked about, and what it told of: only that about which there was a yes, and
--- nothing where the lock was seen before; these calls made the closures what they are at the end
+-- ---- what the closures were called with at the visits of a recovery
+
+abbrev pub was_told : Came → Bool
+was_told HasAsked = false
+was_told came = true
+
+abbrev pub was_freed : Came → Bool
+was_freed HasAsked = false
+was_freed WasTold = false
+was_freed came = true
+
+abbrev pub owned_at : Visit → Owned
+owned_at v = record { owner = v.owner; index = v.index }
+
+abbrev pub question_at : Visit → Asked
+question_at v = record { of = owned_at v; yes = was_told v.came }
+
+-- the first one about each, with its answer
+abbrev pub questions_of : List Visit → List Asked
+questions_of visits = map question_at visits
+
+-- the second one with those that were freed
+abbrev pub freed_of : List Visit → List Owned
+freed_of visits = map owned_at (filter (λ (v : Visit). was_freed v.came) visits)
+
+-- so called, the two became these; and each visit has an owner that may be one
 pub record HasVisited {F S : Type 0} (step : F → ℕ → ℕ → Bool → F → Type 0)
-    (tell : S → ℕ → ℕ → S → Type 0) (capacity : ℕ) (locked : Bool) (f : F) (s : S)
-    (f_last : F) (s_last : S) : Type 0 where
-  pub asked : List Asked
-  pub told : List Owned
-  pub questions : FoldsTo (asks step) f asked f_last
-  pub calls : FoldsTo (tells tell) s told s_last
-  pub asked_ascend : QuestionsAscend capacity asked
-  pub told_ascend : TheyAscend capacity told
-  pub agreed : All (WasAgreed asked) told
-  pub nothing : locked ≡ true → asked ≡ []
+    (tell : S → ℕ → ℕ → S → Type 0) (f : F) (s : S) (visits : List Visit) (f_last : F) (s_last : S)
+    : Type 0 where
+  pub asked : FoldsTo (asks step) f (questions_of visits) f_last
+  pub told : FoldsTo (tells tell) s (freed_of visits) s_last
+  pub owned : All (λ (v : Visit). v.owner < empty) visits

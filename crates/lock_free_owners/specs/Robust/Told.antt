@@ -30,6 +30,7 @@ use Rattle.robust_laws.specs.Gone.{Word, IsHonest, AsksBy, AnswersBy}
 use Rattle.history.specs.declared.view.View.{View}
 use Rattle.history.specs.History.{Called, IsBeginning, IsRun}
 use Rattle.history.specs.Robust as robust
+use Rattle.lock_free_owners.specs.Robust.Callable.{HasVisited}
 
 -- one call of the history, by a party of the pass, and what it wrote
 pub record HasMade (start : RobustStart) (answer : Answer ℕ) (Wrote : ℕ → List (Event ℕ) → Type 0)
@@ -52,11 +53,20 @@ HasGiven given answer =
     HasMade (Release given.index given.owner given.mode) (release_answer answer)
     (λ by es. robust.ReleaseWrote by given answer es)
 
--- a recovery asks about indices, is told to free some, and frees of them
-abbrev pub HasRecovered : ReleaseMode → ReleaseState → View ℕ → View ℕ → Type 0
-HasRecovered mode state old =
-    HasMade (Recover mode) (State state)
-    (λ by es. robust.RecoveryWrote old.capacity by mode state es) old
+-- A recovery is one call of the history, and its closures were called as that says. It came to each of these visits in
+-- turn: their indices ascend below the capacity, and what it wrote is just what it did with each, as far as it came. Its
+-- first closure was asked about just these, and said yes to those that it was told to free; its second was told of just
+-- those that it freed. This is what became of the two. Where the lock had been seen before there is none.
+pub record HasRecovered {F S : Type 0} (step : F → ℕ → ℕ → Bool → F → Type 0)
+    (tell : S → ℕ → ℕ → S → Type 0) (mode : ReleaseMode) (state : ReleaseState)
+    (f : F) (s : S) (f_last : F) (s_last : S) (old new : View ℕ) : Type 0 where
+  pub by : ℕ
+  pub mine : new.party ≡ Some by
+  pub visits : List robust.Visit
+  pub ascend : robust.AreVisits mode old.capacity visits
+  pub called : Called by (Robust (Recover mode)) (State state) (robust.wrote_by by visits) old new
+  pub visited : HasVisited step tell f s visits f_last s_last
+  pub nothing : is_locked old.seen ≡ true → visits ≡ []
 
 abbrev pub HasCounted : ℕ → View ℕ → View ℕ → Type 0
 HasCounted number = HasMade BorrowedIndices (Number number) (λ by es. es ≡ [])
@@ -64,35 +74,36 @@ HasCounted number = HasMade BorrowedIndices (Number number) (λ by es. es ≡ []
 abbrev pub HasLooked : Bool → View ℕ → View ℕ → Type 0
 HasLooked locked = HasMade IsLocked (Truth locked) (λ by es. es ≡ [])
 
--- what was so of the history when the call wrote this event
-pub record WroteAt (event : ℕ → Event ℕ) (Before : ℕ → List (Event ℕ) → Type 0)
-    (old new : View ℕ) : Type 0 where
-  pub by : ℕ
-  pub before : List (Event ℕ)
-  pub after : List (Event ℕ)
-  pub is : new.seen ≡ before ++ event by ∷ after
-  pub since : IsBeginning old.seen before
-  pub held : Before by before
+module _ {T : Type 0} where
+  -- what was so of the history when the call wrote this event
+  pub record WroteAt (event : ℕ → Event T) (Before : ℕ → List (Event T) → Type 0)
+      (old new : View T) : Type 0 where
+    pub by : ℕ
+    pub before : List (Event T)
+    pub after : List (Event T)
+    pub is : new.seen ≡ before ++ event by ∷ after
+    pub since : IsBeginning old.seen before
+    pub held : Before by before
 
--- the index had no owner then, and the set was not locked at some moment of the call
-abbrev pub WasFilled : ℕ → ℕ → View ℕ → View ℕ → Type 0
-WasFilled index owner old new =
-    WroteAt (λ by. Filled by index owner)
-    (λ by before. (index < old.capacity) × (filled_of index before ≡ None)
-    × HeldOnce by IsUnlocked before) old new
+  -- the index had no owner then, and the set was not locked at some moment of the call
+  abbrev pub WasFilled : ℕ → ℕ → View T → View T → Type 0
+  WasFilled index owner old new =
+      WroteAt (λ by. Filled by index owner)
+      (λ by before. (index < old.capacity) × (filled_of index before ≡ None)
+      × HeldOnce by IsUnlocked before) old new
 
--- the set was not locked then, and nobody held the index, where nobody acts for an owner who is gone
--- nor gives back what is not his
-abbrev pub WasGranted : ℕ → ℕ → View ℕ → View ℕ → Type 0
-WasGranted index owner old new =
-    WroteAt (λ by. Granted by index owner)
-    (λ by before. IsUnlocked before
-    × (IsProper new.seen → IsHonest new.seen → holder_of index before ≡ None)) old new
+  -- the set was not locked then, and nobody held the index, where nobody acts for an owner who is gone
+  -- nor gives back what is not his
+  abbrev pub WasGranted : ℕ → ℕ → View T → View T → Type 0
+  WasGranted index owner old new =
+      WroteAt (λ by. Granted by index owner)
+      (λ by before. IsUnlocked before
+      × (IsProper new.seen → IsHonest new.seen → holder_of index before ≡ None)) old new
 
--- the index had this owner then
-abbrev pub WasFreed : ℕ → ℕ → View ℕ → View ℕ → Type 0
-WasFreed index owner =
-    WroteAt (λ by. FreedOf by index owner) (λ by before. filled_of index before ≡ Some owner)
+  -- the index had this owner then
+  abbrev pub WasFreed : ℕ → ℕ → View T → View T → Type 0
+  WasFreed index owner =
+      WroteAt (λ by. FreedOf by index owner) (λ by before. filled_of index before ≡ Some owner)
 
 -- a set with this history may have its counter at its end
 pub record IsWorn (capacity : ℕ) (events : List (Event ℕ)) : Type 0 where
@@ -128,16 +139,17 @@ pub record WasRefused (owner : ℕ) (failure : UniqueIndexSetAcquireFailure) (ol
   pub unlocked : failure ≡ failures.OutOfIndices → is_locked old.seen ≡ false
   pub locked : failure ≡ failures.IsLocked → is_locked new.seen ≡ true
 
--- a release: Locked in mode LockIfLastIndex alone, and there wherever the lock was seen
-abbrev pub HasReleased : ReleaseState → ReleaseMode → View ℕ → View ℕ → Type 0
-HasReleased states.Locked mode old new = (is_locked new.seen ≡ true) × (mode ≡ LockIfLastIndex)
-HasReleased states.Unlocked mode old new = mode ≡ LockIfLastIndex → is_locked old.seen ≡ false
+module _ {T : Type 0} where
+  -- a release: Locked in mode LockIfLastIndex alone, and there wherever the lock was seen
+  abbrev pub HasReleased : ReleaseState → ReleaseMode → View T → View T → Type 0
+  HasReleased states.Locked mode old new = (is_locked new.seen ≡ true) × (mode ≡ LockIfLastIndex)
+  HasReleased states.Unlocked mode old new = mode ≡ LockIfLastIndex → is_locked old.seen ≡ false
 
--- an answer that the set is locked, or is not
-abbrev pub FoundLock : Bool → View ℕ → View ℕ → Type 0
-FoundLock true old new = is_locked new.seen ≡ true
-FoundLock false old new = is_locked old.seen ≡ false
+  -- an answer that the set is locked, or is not
+  abbrev pub FoundLock : Bool → View T → View T → Type 0
+  FoundLock true old new = is_locked new.seen ≡ true
+  FoundLock false old new = is_locked old.seen ≡ false
 
-abbrev pub FoundState : ReleaseState → View ℕ → View ℕ → Type 0
-FoundState states.Locked = FoundLock true
-FoundState states.Unlocked = FoundLock false
+  abbrev pub FoundState : ReleaseState → View T → View T → Type 0
+  FoundState states.Locked = FoundLock true
+  FoundState states.Unlocked = FoundLock false

@@ -1,17 +1,12 @@
 -- What is known between two turns of a call on a robust unique index set, whatever the view with which
 -- it began.
-use Rattle.std.specs.Prelude.{◌≡◌, ℕ, ◌+◌, ◌<◌}
+use Rattle.std.specs.Prelude.{◌≡◌, ℕ, ◌+◌, None, List}
 use Rattle.steps.specs.Indices.Robust.Acquire.{Acquired}
-use Rattle.steps.specs.Indices.Robust.Find.{find_after}
-use Rattle.steps.specs.Indices.Robust.Parts.{cell_word}
 use Rattle.steps.specs.Indices.Robust.Recover.{recover_after}
 use Rattle.steps.specs.declared.ask.After.{After}
-use Rattle.steps.specs.declared.enums.CallbackProgression.{CallbackProgression}
 use Rattle.steps.specs.declared.indices.enums.ReleaseMode.{ReleaseMode}
 use Rattle.steps.specs.declared.indices.enums.ReleaseState.{ReleaseState}
 use Rattle.steps.specs.declared.indices.robust.acquire.Acquire.{Acquire}
-use Rattle.steps.specs.declared.indices.robust.find.Find.{Find}
-use Rattle.steps.specs.declared.indices.robust.find.FindStage as finds
 use Rattle.steps.specs.declared.indices.robust.looks.BorrowedIndices.{BorrowedIndices}
 use Rattle.steps.specs.declared.indices.robust.recover.Recover.{Recover}
 use Rattle.model.specs.declared.turn.Kind.TheVariants as kinds
@@ -20,10 +15,8 @@ use Rattle.lock_free_sp.specs.Driver.{Next}
 use Rattle.lock_free_sp.specs.Seats.{seen, table_of, key_of}
 use Rattle.lock_free_sp.specs.declared.driver.seated.Seated.{Seated}
 use Rattle.history.specs.declared.view.View.{View}
-use Rattle.history.specs.Robust.{takes_owned, counts_owned, recovers_owned}
+use Rattle.history.specs.Robust.{takes_owned, counts_owned, recovers_owned, Visit, visits_after}
 use Rattle.history.specs.Stages.{At, AtAsked, Ends}
-use Rattle.history.specs.Views.{LooksAt}
-use Rattle.lock_free_owners.specs.Robust.Stages.{says}
 
 -- the counter, and a cell for each index
 abbrev pub size : ℕ → ℕ
@@ -35,16 +28,16 @@ IsBoard s =
     ((table_of s).words ≡ size (seen s).capacity + 1) × (key_of s ≡ (seen s).capacity)
 
 -- of a call that stands so, and ends so
-module _ {C E : Type 0} (at : View ℕ → View ℕ → C → Unit {0} → Type 0)
-    (ends : View ℕ → E → Unit {0} → View ℕ → Type 0) where
+module _ {T C E : Type 0} (at : View T → View T → C → Unit {0} → Type 0)
+    (ends : View T → E → Unit {0} → View T → Type 0) where
   -- it may take a turn
-  abbrev pub Stands : View ℕ → C → Type 0
-  Stands v call = (base : View ℕ) × at base v call tt
+  abbrev pub Stands : View T → C → Type 0
+  Stands v call = (base : View T) × at base v call tt
 
   -- how it has gone on since
-  abbrev pub Goes : View ℕ → C → After C E → View ℕ → Type 0
+  abbrev pub Goes : View T → C → After C E → View T → Type 0
   Goes v call after w =
-      (base : View ℕ) → at base v call tt → Next (λ (z : View ℕ). z.capacity) at ends base after tt w
+      (base : View T) → at base v call tt → Next (λ (z : View T). z.capacity) at ends base after tt w
 
 -- ---- acquire
 
@@ -74,36 +67,33 @@ BorrowedStands = Stands CountAt CountEnds
 abbrev pub BorrowedGoes : View ℕ → BorrowedIndices → After BorrowedIndices ℕ → View ℕ → Type 0
 BorrowedGoes = Goes CountAt CountEnds
 
--- ---- find
-
-module _ {F : Type 0} where
-  -- what a turn asks: that it has come to an index that there is, and that the closure may be called with it
-  abbrev pub FindAsks : (F → ℕ → Type 0) → View ℕ → finds.FindStage → F → Type 0
-  FindAsks pre v (finds.TheVariants.LoadsCell index found) f = index < v.capacity
-  FindAsks pre v (finds.TheVariants.Asks index found) f = pre f index
-
-  -- what it does: it looks at the cell, or calls the closure; and how the call goes on
-  abbrev pub FindMoves : (F → ℕ → CallbackProgression → F → Type 0) → Find → ℕ → finds.FindStage
-      → View ℕ → F → After Find ℕ → View ℕ → F → Type 0
-  FindMoves step call owner (finds.TheVariants.LoadsCell index found) v f after w g =
-      (g ≡ f) × ((k : ℕ) × LooksAt one_word kinds.Robust v.capacity (cell_word index) v k w
-      × (after ≡ find_after call owner k))
-  FindMoves step call owner (finds.TheVariants.Asks index found) v f after w g =
-      (w ≡ v) × ((a : CallbackProgression) × step f index a g
-      × (after ≡ find_after call owner (says a)))
-
 -- ---- recover
 
-abbrev pub RecoverAt : ReleaseMode → View ℕ → View ℕ → Recover → Unit {0} → Type 0
+abbrev pub RecoverAt : ReleaseMode → View ℕ → View ℕ → Recover → List Visit → Type 0
 RecoverAt mode =
-    AtAsked one_word kinds.Robust (λ c n. recover_after c mode n) (λ c m n. m) (recovers_owned mode)
+    AtAsked one_word kinds.Robust (λ c n. recover_after c mode n) visits_after (recovers_owned mode)
 
-abbrev pub RecoverEnds : ReleaseMode → View ℕ → ReleaseState → Unit {0} → View ℕ → Type 0
+abbrev pub RecoverEnds : ReleaseMode → View ℕ → ReleaseState → List Visit → View ℕ → Type 0
 RecoverEnds mode = Ends one_word kinds.Robust (recovers_owned mode)
 
+-- it may take a turn, whatever its visits so far
 abbrev pub RecoverStands : ReleaseMode → View ℕ → Recover → Type 0
-RecoverStands mode = Stands (RecoverAt mode) (RecoverEnds mode)
+RecoverStands mode v call =
+    (base : View ℕ) × (visits : List Visit) × (base.going ≡ None) × RecoverAt mode base v call visits
 
-abbrev pub RecoverGoes : ReleaseMode → View ℕ → Recover → After Recover ReleaseState → View ℕ
+-- how it has gone on since, and what its visits have become
+abbrev pub RecoverGoes : ReleaseMode → View ℕ → Recover → (List Visit → List Visit)
+    → After Recover ReleaseState → View ℕ → Type 0
+RecoverGoes mode v call grown after w =
+    (base : View ℕ) (visits : List Visit) → base.going ≡ None → RecoverAt mode base v call visits
+    → Next (λ (z : View ℕ). z.capacity) (RecoverAt mode) (RecoverEnds mode) base after (grown visits) w
+
+-- by a step at which it has heard this
+abbrev pub RecoverSteps : ReleaseMode → View ℕ → Recover → ℕ → After Recover ReleaseState → View ℕ
     → Type 0
-RecoverGoes mode = Goes (RecoverAt mode) (RecoverEnds mode)
+RecoverSteps mode v call k = RecoverGoes mode v call (λ visits. visits_after call visits k)
+
+-- what a step tells of the views
+abbrev pub RecoverTells : ReleaseMode → Recover → View ℕ → ℕ → View ℕ → Type 0
+RecoverTells mode call v n w =
+    (w.capacity ≡ v.capacity) × RecoverSteps mode v call n (recover_after call mode n) w

@@ -2,26 +2,30 @@
 //! was brought up to date. A container can be locked. The indices of an owner that is dead are recovered.
 //!
 //! Each call but `capacity` and `is_state_of` is made with a pass of its container, which is the caller's concern. A pass
-//! tells whether the lock was seen: from then on the calls that are made with it find the container locked.
+//! knows a beginning of the container's one history, and what of it is its own doing; once it has seen the lock the calls
+//! that are made with it find the container locked.
 //!
 //! Three things are the caller's concern besides, which no contract asks for: a handle is given back at most once, by
 //! its holder; no remove and no replace of a handle is begun while a replace of it is under way; and nobody acts for an
 //! owner once its recovery has begun. Where a caller breaks them each call still answers as its contract says, but a
 //! value can be torn, stay hidden, or be that of another.
-use crate::container::rule::Board;
-use crate::container::token::Token;
+use self::rule::Board;
+use self::token::Token;
 use std::alloc::Global;
 use std::sync::Arc;
 use steps::words::Words;
 
 mod calls;
 mod counts;
+mod drives;
 mod fixed;
 mod handles;
 mod looks;
 mod make;
 mod passes;
 mod recovery;
+pub mod rule;
+pub mod token;
 mod visits;
 
 pub use handles::Handle;
@@ -47,8 +51,9 @@ pub struct FixedSizeContainer<T: Words, const CAPACITY: usize> {
     container: Container<T>,
 }
 
-/// What a caller knows of a container: whether it has seen the lock. Each call is made with a pass of its container,
-/// which is the caller's concern, and only the caller's own calls change it. This project's own.
+/// What a caller makes each call on a container with: it says which container it is for, how much of the container's
+/// history it has seen, and what of it is its own doing. Each call is made with a pass of its container, which is the
+/// caller's concern. This project's own.
 #[derive(Drop)]
 pub struct Pass<T: Words> {
     token: Token<T>,

@@ -80,7 +80,7 @@ module _ {T : Type 0} (code : Coding T) (value : ℕ) where
         finds = h.finds;
         leaves = h.leaves;
         tells = h.tells;
-        tells_all = λ capacity p from c e m n es late t stands skip wrote waits met is. (acts c e n c.stage stands.2 skip is, h.tells_all capacity p from c e m n es late t stands skip wrote waits met is);
+        tells_all = λ capacity p from c e m n es late t stands skip wrote waits met is still. (acts c e n c.stage stands.2 skip is, h.tells_all capacity p from c e m n es late t stands skip wrote waits met is still);
       }
 
   pub told_keeps : KeepsRule (λ (z : View T). z.capacity) (At code kinds.Overflow pushing) (Over code kinds.Overflow pushing) (λ key. 4 + (key + 1) + 1) (λ key. key) (λ key. IsMachine code kinds.Overflow key) (λ c. push_want c value) push_after push_kept

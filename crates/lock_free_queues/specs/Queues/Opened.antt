@@ -64,6 +64,7 @@ module _ {T : Type 0} where
         other = [];
         made = opened answer item (position_at capacity position);
         going = None;
+        state = None;
       }
 
   -- of a bounded queue

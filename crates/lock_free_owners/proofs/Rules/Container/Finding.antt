@@ -1,8 +1,9 @@
 -- What the closure of a find on a container was called with so far.
-use Rattle.std.proofs.Common.{◌≡◌, ℕ, ◌+◌, ◌^◌, ◌<◌, ◌≤◌, nat_lt, inl, inr, List, [], ◌∷◌, ◌++◌, length, refl, sym, ap, ◌∙◌, subst, arith, length-append}
+use Rattle.std.proofs.Common.{◌≡◌, ℕ, ◌+◌, ◌^◌, ◌<◌, ◌≤◌, ◌==◌, nat_lt, Bool, true, false, inl, inr, List, [], ◌∷◌, ◌++◌, length, refl, sym, ap, subst, ◌∙◌, arith, length-append}
 use Rattle.std.specs.Prelude.{Contains}
 use Rattle.std.specs.List.{All, FoldsTo}
 use Rattle.std.proofs.lemmas.Fn.{FoldsTo-push}
+use Rattle.std.proofs.lemmas.List.{map-append}
 use Rattle.std.proofs.lemmas.List.Elements.{All-nil, All-push, All-weaker, Contains-push, Contains-append_left}
 use Rattle.std.proofs.lemmas.List.Quantifiers.{all_pairs_push}
 use Rattle.steps.specs.Picks.{by_test, by_eq}
@@ -15,52 +16,64 @@ use Rattle.steps.specs.declared.container.find.Find.{Find}
 use Rattle.steps.specs.declared.container.find.FindStage as finds
 use Rattle.steps.specs.Indices.Robust.Parts.{one_more}
 use Rattle.steps.specs.Container.Layout.{is_even}
-use Rattle.steps.specs.Container.Find.{at_find, find_comes_to, find_takes, find_after}
-use Rattle.lock_free_owners.specs.declared.robust.view.View.{View}
+use Rattle.steps.specs.Container.Find.{at_find, find_comes_to, find_keeps, find_takes}
+use Rattle.history.specs.ContainerFind.{copies_after}
 use Rattle.lock_free_sp.specs.Callable.{Ascends}
-use Rattle.lock_free_owners.specs.Robust.Stages.{says}
 use Rattle.lock_free_owners.specs.Container.Callable.{Visit, VisitsAscend, goes_on, TakesVisits, HasFound}
-use Rattle.lock_free_owners.specs.Container.Visits.{FindStage, FindStands, FindAsks, FindGoes, FindMoves, named}
+use Rattle.lock_free_owners.specs.Container.Visits.{FindStage, FindAsks, IsNamed, named, visits_of}
 use Rattle.lock_free_owners.proofs.Rules.Robust.Finding.{ascend_push, below_push, below_more}
 
-module _ {T F : Type 0} (step : F → T → ContainerHandle → CallbackProgression → F → Type 0) (cap : ℕ) (mine : ContainerHandle → Type 0) (f : F) where
+module _ {T F : Type 0} (step : F → T → ContainerHandle → CallbackProgression → F → Type 0) (cap owner id : ℕ) (f : F) where
+  abbrev mine : ContainerHandle → Type 0
+  mine = IsNamed cap owner id
+
   abbrev Below : ℕ → List (Visit T) → Type 0
   Below low xs = All (λ (x : Visit T). x.handle.index < low) xs
 
   abbrev Among : List ℕ → List (Visit T) → Type 0
   Among indices xs = All (λ (x : Visit T). Contains indices x.handle.index) xs
 
+  abbrev at_index : ℕ → T → Visit T
+  at_index low value = record { value = value; handle = named low owner id }
+
+  abbrev told : List (ℕ × T) → List (Visit T)
+  told copies = visits_of owner id copies
+
+  -- one copy more is one visit more
+  told_push : (before : List (ℕ × T)) (index : ℕ) (value : T) → told (before ++ (index, value) ∷ []) ≡ told before ++ at_index index value ∷ []
+  told_push before index value = map-append (λ (c : ℕ × T). at_index c.0 c.1) before ((index, value) ∷ [])
+
   -- the calls from f on that led to p, among n indices below this one
-  pub record Came (low n : ℕ) (p : F) : Type 0 where
+  pub record Came (low n : ℕ) (visits : List (Visit T)) (p : F) : Type 0 where
     pub indices : List ℕ
     pub ascend : Ascends cap indices
     pub below : All (λ x. x < low) indices
     pub count : length indices ≡ n
-    pub visits : List (Visit T)
     pub visits_ascend : VisitsAscend mine visits
     pub visits_below : Below low visits
     pub among : Among indices visits
     pub calls : FoldsTo (goes_on step) f visits p
 
   -- this index is counted, and not yet asked about
-  abbrev pub Counted : ℕ → ℕ → F → Type 0
-  Counted index found p = (n : ℕ) × (n + 1 ≡ found) × Came index n p
+  abbrev pub Counted : ℕ → ℕ → List (ℕ × T) → F → Type 0
+  Counted index found copies p = (n : ℕ) × (n + 1 ≡ found) × Came index n (told copies) p
 
-  abbrev pub SoFar : finds.FindStage → F → Type 0
-  SoFar (finds.TheVariants.LoadsCell index found) p = Came index found p
-  SoFar (finds.TheVariants.LoadsCount index found) p = Counted index found p
-  SoFar (finds.TheVariants.LoadsWord index found count at) p = Counted index found p
-  SoFar (finds.TheVariants.ChecksCount index found count) p = Counted index found p
-  SoFar (finds.TheVariants.Asks index found) p = Counted index found p
+  -- it has copied these, and with the last of them, which is in its room, it still has to call the closure
+  abbrev pub SoFar : finds.FindStage → List (ℕ × T) → T → F → Type 0
+  SoFar (finds.TheVariants.LoadsCell index found) copies value p = Came index found (told copies) p
+  SoFar (finds.TheVariants.LoadsCount index found) copies value p = Counted index found copies p
+  SoFar (finds.TheVariants.LoadsWord index found count at) copies value p = Counted index found copies p
+  SoFar (finds.TheVariants.ChecksCount index found count) copies value p = Counted index found copies p
+  SoFar (finds.TheVariants.Asks index found) copies value p =
+      (before : List (ℕ × T)) × (copies ≡ before ++ (index, value) ∷ []) × Counted index found before p
 
-  pub came_none : (low : ℕ) → Came low 0 f
+  pub came_none : (low : ℕ) → Came low 0 [] f
   came_none low =
       record {
         indices = [];
         ascend = ((λ i j d lt within. absurd (omega arith)), All-nil (λ x. x < cap));
         below = All-nil (λ x. x < low);
         count = refl;
-        visits = [];
         visits_ascend = ((λ i j d lt within. absurd (omega arith)), All-nil (λ (x : Visit T). mine x.handle));
         visits_below = All-nil (λ (x : Visit T). x.handle.index < low);
         among = All-nil (λ (x : Visit T). Contains [] x.handle.index);
@@ -71,25 +84,25 @@ module _ {T F : Type 0} (step : F → T → ContainerHandle → CallbackProgress
   higher low xs h = All-weaker (λ (x : Visit T). x.handle.index < low) (λ (x : Visit T). x.handle.index < low + 1) (λ x l. omega arith) xs h
 
   wider : (indices : List ℕ) (index : ℕ) (xs : List (Visit T)) → Among indices xs → Among (indices ++ index ∷ []) xs
-  wider indices index xs h = All-weaker (λ (x : Visit T). Contains indices x.handle.index) (λ (x : Visit T). Contains (indices ++ index ∷ []) x.handle.index) (λ x i. Contains-append_left indices (index ∷ []) x.handle.index i) xs h
+  wider indices index xs h = All-weaker (λ (x : Visit T). Contains indices x.handle.index) (λ (x : Visit T). Contains
+      (indices ++ index ∷ []) x.handle.index) (λ x i. Contains-append_left indices (index ∷ []) x.handle.index i) xs h
 
-  came_on : (low n : ℕ) (p : F) → Came low n p → Came (low + 1) n p
-  came_on low n p h =
+  came_on : (low n : ℕ) (visits : List (Visit T)) (p : F) → Came low n visits p → Came (low + 1) n visits p
+  came_on low n visits p h =
       record {
         indices = h.indices;
         ascend = h.ascend;
         below = below_more h.indices low h.below;
         count = h.count;
-        visits = h.visits;
         visits_ascend = h.visits_ascend;
-        visits_below = higher low h.visits h.visits_below;
+        visits_below = higher low visits h.visits_below;
         among = h.among;
         calls = h.calls;
       }
 
   -- an index that is counted alone
-  came_by : (low n : ℕ) (p : F) → low < cap → Came low n p → Came (low + 1) (n + 1) p
-  came_by low n p within h =
+  came_by : (low n : ℕ) (visits : List (Visit T)) (p : F) → low < cap → Came low n visits p → Came (low + 1) (n + 1) visits p
+  came_by low n visits p within h =
       let longer = length-append h.indices (low ∷ []) in
       let count = h.count in
       record {
@@ -97,145 +110,155 @@ module _ {T F : Type 0} (step : F → T → ContainerHandle → CallbackProgress
         ascend = ascend_push cap h.indices low h.ascend h.below within;
         below = below_push h.indices low h.below;
         count = omega arith;
-        visits = h.visits;
         visits_ascend = h.visits_ascend;
-        visits_below = higher low h.visits h.visits_below;
-        among = wider h.indices low h.visits h.among;
+        visits_below = higher low visits h.visits_below;
+        among = wider h.indices low visits h.among;
         calls = h.calls;
       }
 
-  found_all : (low n : ℕ) (p : F) → Came low n p → HasFound step cap mine f n p
-  found_all low n p h =
+  found_all : (low n : ℕ) (visits : List (Visit T)) (p : F) → Came low n visits p → HasFound step cap mine f n visits p
+  found_all low n visits p h =
       record {
         indices = h.indices;
         ascend = h.ascend;
         number = h.count;
-        visits = h.visits;
         visits_ascend = h.visits_ascend;
         among = h.among;
-        now = p;
-        calls = h.calls;
-        ended = inl refl;
+        calls = inl h.calls;
       }
 
-  module _ (size owner id : ℕ) (own : (index : ℕ) → index < cap → mine (named index owner id)) where
-    abbrev at_index : ℕ → T → Visit T
-    at_index low value = record { value = value; handle = named low owner id }
+  -- a step at a word, which leaves it
+  abbrev pub IsQuiet : finds.FindStage → Type 0
+  IsQuiet (finds.TheVariants.Asks index found) = ⊥
+  IsQuiet stage = Unit {0}
 
-    ascend_more : (low : ℕ) (value : T) (xs : List (Visit T)) → low < cap → VisitsAscend mine xs → Below low xs → VisitsAscend mine (xs ++ at_index low value ∷ [])
-    ascend_more low value xs within h below =
-        (all_pairs_push (λ (x y : Visit T). x.handle.index < y.handle.index) xs (at_index low value) h.0 below, All-push (λ (x : Visit T). mine x.handle) xs (at_index low value) h.1 (own low within))
+  own : (index : ℕ) → index < cap → mine (named index owner id)
+  own index within = ((refl, within), refl)
 
-    -- an index whose value was handed over
-    came_more : (low n : ℕ) (value : T) (p q : F) → low < cap → step p value (named low owner id) Continue q → Came low n p → Came (low + 1) (n + 1) q
-    came_more low n value p q within hit h =
-        let x : Visit T = at_index low value in
-        let longer = length-append h.indices (low ∷ []) in
-        let count = h.count in
-        record {
-          indices = h.indices ++ low ∷ [];
-          ascend = ascend_push cap h.indices low h.ascend h.below within;
-          below = below_push h.indices low h.below;
-          count = omega arith;
-          visits = h.visits ++ x ∷ [];
-          visits_ascend = ascend_more low value h.visits within h.visits_ascend h.visits_below;
-          visits_below = All-push (λ (y : Visit T). y.handle.index < low + 1) h.visits x (higher low h.visits h.visits_below) (omega arith);
-          among = All-push (λ (y : Visit T). Contains (h.indices ++ low ∷ []) y.handle.index) h.visits x (wider h.indices low h.visits h.among) (Contains-push h.indices low);
-          calls = FoldsTo-push (goes_on step) f h.visits p x q h.calls hit;
-        }
+  ascend_more : (low : ℕ) (value : T) (xs : List (Visit T)) → low < cap → VisitsAscend mine xs → Below low xs
+      → VisitsAscend mine (xs ++ at_index low value ∷ [])
+  ascend_more low value xs within h below = (
+    all_pairs_push (λ (x y : Visit T). x.handle.index < y.handle.index) xs (at_index low value) h.0 below,
+    All-push (λ (x : Visit T). mine x.handle) xs (at_index low value) h.1 (own low within),
+  )
 
-    found_last : (low n found : ℕ) (value : T) (p q : F) → low < cap → n + 1 ≡ found → step p value (named low owner id) Stop q → Came low n p → HasFound step cap mine f found q
-    found_last low n found value p q within more hit h =
-        let longer = length-append h.indices (low ∷ []) in
-        let count = h.count in
-        record {
-          indices = h.indices ++ low ∷ [];
-          ascend = ascend_push cap h.indices low h.ascend h.below within;
-          number = omega arith;
-          visits = h.visits;
-          visits_ascend = h.visits_ascend;
-          among = wider h.indices low h.visits h.among;
+  among_more : (indices : List ℕ) (low : ℕ) (value : T) (xs : List (Visit T)) → Among indices xs → Among (indices ++ low ∷ []) (xs ++ at_index low value ∷ [])
+  among_more indices low value xs h =
+      All-push (λ (y : Visit T). Contains (indices ++ low ∷ []) y.handle.index) xs (at_index low value) (wider indices low xs h) (Contains-push indices low)
+
+  -- an index whose value was handed over
+  came_more : (low n : ℕ) (value : T) (visits : List (Visit T)) (p q : F) → low < cap → step p value (named low owner id) Continue q → Came low n visits p
+      → Came (low + 1) (n + 1) (visits ++ at_index low value ∷ []) q
+  came_more low n value visits p q within hit h =
+      let x : Visit T = at_index low value in
+      let longer = length-append h.indices (low ∷ []) in
+      let count = h.count in
+      record {
+        indices = h.indices ++ low ∷ [];
+        ascend = ascend_push cap h.indices low h.ascend h.below within;
+        below = below_push h.indices low h.below;
+        count = omega arith;
+        visits_ascend = ascend_more low value visits within h.visits_ascend h.visits_below;
+        visits_below = All-push (λ (y : Visit T). y.handle.index < low + 1) visits x (higher low visits h.visits_below) (omega arith);
+        among = among_more h.indices low value visits h.among;
+        calls = FoldsTo-push (goes_on step) f visits p x q h.calls hit;
+      }
+
+  found_last : (low n found : ℕ) (value : T) (visits : List (Visit T)) (p q : F) → low < cap → n + 1 ≡ found → step p value (named low owner id) Stop q
+      → Came low n visits p → HasFound step cap mine f found (visits ++ at_index low value ∷ []) q
+  found_last low n found value visits p q within more hit h =
+      let longer = length-append h.indices (low ∷ []) in
+      let count = h.count in
+      record {
+        indices = h.indices ++ low ∷ [];
+        ascend = ascend_push cap h.indices low h.ascend h.below within;
+        number = omega arith;
+        visits_ascend = ascend_more low value visits within h.visits_ascend h.visits_below;
+        among = among_more h.indices low value visits h.among;
+        calls = inr (record {
+          before = visits;
           now = p;
           calls = h.calls;
-          ended = inr (
-            at_index low value,
-            hit,
-            ascend_more low value h.visits within h.visits_ascend h.visits_below,
-            Contains-push h.indices low,
-            All-push (λ i. i ≤ low) h.indices low (All-weaker (λ i. i < low) (λ i. i ≤ low) (λ i l. omega arith) h.indices h.below) (omega arith),
-          );
-        }
+          x = at_index low value;
+          is = refl;
+          stops = hit;
+          highest = All-push (λ i. i ≤ low) h.indices low (All-weaker (λ i. i < low) (λ i. i ≤ low) (λ i l. omega arith) h.indices h.below) (omega arith);
+        });
+      }
 
-    -- the closure may be called at the index that it has come to
-    pub may_ask : {pre : F → T → ContainerHandle → Type 0} → TakesVisits pre step mine f → (v : View) → v.capacity ≡ cap → (stage : finds.FindStage) → FindStage size v stage → (p : F) → SoFar stage p → FindAsks pre owner id stage p
-    may_ask takes v same (finds.TheVariants.LoadsCell index found) at p so = tt
-    may_ask takes v same (finds.TheVariants.LoadsCount index found) at p so = tt
-    may_ask takes v same (finds.TheVariants.LoadsWord index found count place) at p so = tt
-    may_ask takes v same (finds.TheVariants.ChecksCount index found count) at p so = tt
-    may_ask takes v same (finds.TheVariants.Asks index found) at p so =
-        λ value. takes.at so.2.visits p (at_index index value) so.2.calls so.2.visits_ascend so.2.visits_below (own index (let l = at.0 in omega arith))
+  -- the closure may be called at the index that it has come to
+  pub may_ask : {pre : F → T → ContainerHandle → Type 0} → TakesVisits pre step mine f → (size : ℕ) (stage : finds.FindStage)
+      → FindStage size cap stage → (copies : List (ℕ × T)) (value : T) (p : F) → SoFar stage copies value p → FindAsks pre owner id stage value p
+  may_ask takes size (finds.TheVariants.LoadsCell index found) at copies value p so = tt
+  may_ask takes size (finds.TheVariants.LoadsCount index found) at copies value p so = tt
+  may_ask takes size (finds.TheVariants.LoadsWord index found count place) at copies value p so = tt
+  may_ask takes size (finds.TheVariants.ChecksCount index found count) at copies value p so = tt
+  may_ask takes size (finds.TheVariants.Asks index found) at copies value p so =
+      let came = so.2.2 in
+      takes.at (told so.0) p (at_index index value) came.calls came.visits_ascend came.visits_below (own index at.0)
 
-    module _ {R : Type 0} where
-      abbrev pub Onward : After (Find T R) ℕ → F → Type 0
-      Onward (GoOn d) q = SoFar d.stage q
-      Onward (Done n) q = HasFound step cap mine f n q
+  module _ {R : Type 0} where
+    -- where no answer stops it, it has come past all of them at its end
+    abbrev pub Onward : After (Find T R) ℕ → List (ℕ × T) → T → F → Type 0
+    Onward (GoOn d) copies value q = SoFar d.stage copies value q
+    Onward (Done n) copies value q = HasFound step cap mine f n (told copies) q
 
-      comes : (c : Find T R) (index found : ℕ) (q : F) → Came index found q → Onward (find_comes_to c index found) q
-      comes c index found q h =
-          by_test (λ a. Onward a q) (nat_lt index c.capacity) (GoOn (at_find c (finds.TheVariants.LoadsCell index found))) (Done found)
+    module _ (size : ℕ) (c : Find T R) where
+      comes : (index found : ℕ) (copies : List (ℕ × T)) (value : T) (q : F) → Came index found (told copies) q
+          → Onward (find_comes_to c index found) copies value q
+      comes index found copies value q h =
+          by_test (λ a. Onward a copies value q) (nat_lt index c.capacity) (GoOn (at_find c (finds.TheVariants.LoadsCell index found))) (Done found)
           (λ t. h)
-          (λ t. found_all index found q h)
+          (λ t. found_all index found (told copies) q h)
 
       -- past an index that is counted
-      passes : (c : Find T R) (index found : ℕ) (p : F) → index < cap → Counted index found p → Onward (find_comes_to c (index + 1) found) p
-      passes c index found p within h = comes c (index + 1) found p (subst (λ z. Came (index + 1) z p) h.1 (came_by index h.0 p within h.2))
+      passes : (index found : ℕ) (copies : List (ℕ × T)) (value : T) (p : F) → index < cap → Counted index found copies p
+          → Onward (find_comes_to c (index + 1) found) copies value p
+      passes index found copies value p within h =
+          comes (index + 1) found copies value p (subst (λ z. Came (index + 1) z (told copies) p) h.1 (came_by index h.0 (told copies) p within h.2))
 
       -- ---- what a step leaves, by what it did with the closure
 
-      asked : (c : Find T R) (index found : ℕ) (value : T) (answer : CallbackProgression) (p q : F) → index < cap → step p value (named index owner id) answer q → Counted index found p
-          → Onward (find_takes size c (finds.TheVariants.Asks index found) owner (says answer)) q
-      asked c index found value Continue p q within hit h = comes c (index + 1) found q (subst (λ z. Came (index + 1) z q) h.1 (came_more index h.0 value p q within hit h.2))
-      asked c index found value Stop p q within hit h = found_last index h.0 found value p q within h.1 hit h.2
+      module _ (value_of : R → T) (with_word : R → ℕ → ℕ → R) where
+        abbrev pub StepsOnward : finds.FindStage → List (ℕ × T) → R → ℕ → F → Type 0
+        StepsOnward stage copies room k p =
+            Onward (find_takes size c stage owner k) (copies_after stage k (value_of room) copies) (value_of (find_keeps with_word stage room k)) p
 
-      went : (c : Find T R) (stage : finds.FindStage) → c.stage ≡ stage → (p q : F) (a : After (Find T R) ℕ) → ((k : ℕ) → Onward (find_takes size c stage owner k) p) → FindGoes size c owner p a q → Onward a q
-      went c stage is p q a goes m =
-          subst (Onward a) (sym m.0) (subst (λ z. Onward z p) (ap (λ s. find_takes size c s owner m.1.0) (sym is) ∙ sym m.1.1) (goes m.1.0))
+        pub quietly : cap < 2 ^ 32 → (stage : finds.FindStage) → IsQuiet stage → FindStage size cap stage → (copies : List (ℕ × T)) (room : R) (p : F) (k : ℕ)
+            → SoFar stage copies (value_of room) p → StepsOnward stage copies room k p
+        quietly small (finds.TheVariants.LoadsCell index found) still at copies room p k so =
+            by_eq (λ a. Onward a copies (value_of room) p) k owner (GoOn (at_find c (finds.TheVariants.LoadsCount index (one_more found)))) (find_comes_to c (index + 1) found)
+            (λ e. (found, (let l = at.0 in let few = at.1 in omega arith), so))
+            (λ ne. comes (index + 1) found copies (value_of room) p (came_on index found (told copies) p so))
+        quietly small (finds.TheVariants.LoadsCount index found) still at copies room p k so =
+            by_test (λ a. Onward a copies (value_of room) p) (is_even k) (find_comes_to c (index + 1) found) (GoOn (at_find c (finds.TheVariants.LoadsWord index found k 0)))
+            (λ t. passes index found copies (value_of room) p at.0 so)
+            (λ t. so)
+        quietly small (finds.TheVariants.LoadsWord index found count place) still at copies room p k so =
+            by_test (λ a. Onward a copies (value_of (with_word room place k)) p) (nat_lt (place + 1) size)
+            (GoOn (at_find c (finds.TheVariants.LoadsWord index found count (place + 1)))) (GoOn (at_find c (finds.TheVariants.ChecksCount index found count)))
+            (λ t. so)
+            (λ t. so)
+        quietly small (finds.TheVariants.ChecksCount index found count) still at copies room p k so = go (k == count) refl
+          where
+            go : (b : Bool) → (k == count) ≡ b → StepsOnward (finds.TheVariants.ChecksCount index found count) copies room k p
+            go true t = rw t (copies, refl, so)
+            go false t = rw t (passes index found copies (value_of room) p at.0 so)
+        quietly small (finds.TheVariants.Asks index found) still at copies room p k so = absurd still
 
-      by_stage : (c : Find T R) (stage : finds.FindStage) → c.stage ≡ stage → (v : View) → v.capacity ≡ cap → cap < 2 ^ 32 → FindStage size v stage
-          → (p q : F) (a : After (Find T R) ℕ) → SoFar stage p → FindMoves step size id c owner stage p a q → Onward a q
-      by_stage c (finds.TheVariants.LoadsCell index found) is v same small at p q a so m =
-          went c (finds.TheVariants.LoadsCell index found) is p q a
-          (λ k. by_eq (λ a. Onward a p) k owner (GoOn (at_find c (finds.TheVariants.LoadsCount index (one_more found)))) (find_comes_to c (index + 1) found)
-          (λ e. (found, (let l = at.0 in let few = at.1 in omega arith), so))
-          (λ ne. comes c (index + 1) found p (came_on index found p so))) m
-      by_stage c (finds.TheVariants.LoadsCount index found) is v same small at p q a so m =
-          went c (finds.TheVariants.LoadsCount index found) is p q a
-          (λ k. by_test (λ a. Onward a p) (is_even k) (find_comes_to c (index + 1) found) (GoOn (at_find c (finds.TheVariants.LoadsWord index found k 0)))
-          (λ t. passes c index found p (let l = at.0 in omega arith) so)
-          (λ t. so)) m
-      by_stage c (finds.TheVariants.LoadsWord index found count place) is v same small at p q a so m =
-          went c (finds.TheVariants.LoadsWord index found count place) is p q a
-          (λ k. by_test (λ a. Onward a p) (nat_lt (place + 1) size) (GoOn (at_find c (finds.TheVariants.LoadsWord index found count (place + 1)))) (GoOn (at_find c (finds.TheVariants.ChecksCount index found count)))
-          (λ t. so)
-          (λ t. so)) m
-      by_stage c (finds.TheVariants.ChecksCount index found count) is v same small at p q a so m =
-          went c (finds.TheVariants.ChecksCount index found count) is p q a
-          (λ k. by_eq (λ a. Onward a p) k count (GoOn (at_find c (finds.TheVariants.Asks index found))) (find_comes_to c (index + 1) found)
-          (λ e. so)
-          (λ ne. passes c index found p (let l = at.0 in omega arith) so)) m
-      by_stage c (finds.TheVariants.Asks index found) is v same small at p q a so m =
-          subst (λ z. Onward z q) (ap (λ s. find_takes size c s owner (says m.1)) (sym is) ∙ sym m.3) (asked c index found m.0 m.1 p q (let l = at.0 in omega arith) m.2 so)
+      -- it is told to go on
+      pub told_on : (index found : ℕ) (copies : List (ℕ × T)) (value : T) (p q : F) → index < cap → step p value (named index owner id) Continue q
+          → SoFar (finds.TheVariants.Asks index found) copies value p → Onward (find_comes_to c (index + 1) found) copies value q
+      told_on index found copies value p q within hit so =
+          let h = so.2 in
+          let visits : told so.0 ++ at_index index value ∷ [] ≡ told copies = sym (ap told so.1 ∙ told_push so.0 index value) in
+          comes (index + 1) found copies value q (subst (λ z. Came (index + 1) z (told copies) q) h.1
+          (subst (λ vs. Came (index + 1) (h.0 + 1) vs q) visits (came_more index h.0 value (told so.0) p q within hit h.2)))
 
-      pub onward : (c : Find T R) (v : View) → v.capacity ≡ cap → cap < 2 ^ 32 → FindStands size v c → (p q : F) (a : After (Find T R) ℕ) → SoFar c.stage p → FindMoves step size id c owner c.stage p a q → Onward a q
-      onward c v same small at = by_stage c c.stage refl v same small at.1
-
-      -- whatever it did with the closure, it went on as its table says
-      goes_at : (c : Find T R) (stage : finds.FindStage) (p q : F) (a : After (Find T R) ℕ) → FindMoves step size id c owner stage p a q → (k : ℕ) × (a ≡ find_after size c owner k)
-      goes_at c (finds.TheVariants.LoadsCell index found) p q a m = m.1
-      goes_at c (finds.TheVariants.LoadsCount index found) p q a m = m.1
-      goes_at c (finds.TheVariants.LoadsWord index found count place) p q a m = m.1
-      goes_at c (finds.TheVariants.ChecksCount index found count) p q a m = m.1
-      goes_at c (finds.TheVariants.Asks index found) p q a m = (says m.1, m.3)
-
-      pub goes_by : (c : Find T R) (p q : F) (a : After (Find T R) ℕ) → FindMoves step size id c owner c.stage p a q → (k : ℕ) × (a ≡ find_after size c owner k)
-      goes_by c = goes_at c c.stage
+  -- or to stop
+  pub told_to_stop : (index found : ℕ) (copies : List (ℕ × T)) (value : T) (p q : F) → index < cap → step p value (named index owner id) Stop q
+      → SoFar (finds.TheVariants.Asks index found) copies value p → HasFound step cap mine f found (told copies) q
+  told_to_stop index found copies value p q within hit so =
+      let h = so.2 in
+      let visits : told so.0 ++ at_index index value ∷ [] ≡ told copies = sym (ap told so.1 ∙ told_push so.0 index value) in
+      subst (λ vs. HasFound step cap mine f found vs q) visits (found_last index h.0 found value (told so.0) p q within h.1 hit h.2)

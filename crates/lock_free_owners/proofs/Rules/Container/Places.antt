@@ -3,16 +3,16 @@ use Rattle.std.proofs.Common.{◌≡◌, ℕ, suc, ◌+◌, ◌*◌, ◌<◌, �
 use Rattle.std.proofs.Math.Nat.{mul-suc, mul-le-mul_left}
 use Rattle.steps.specs.Container.Layout.{change_word, count_word, element_word, total_words}
 
-in_counts : (cap m index words : ℕ) → words ≡ 2 + (cap + cap) + m → index < cap → 2 + cap + index < words
+in_counts : (cap m index words : ℕ) → words ≡ 2 + (cap + cap) + m + 1 → index < cap → 2 + cap + index < words
 in_counts cap m index words e l = omega arith
 
-in_change : (cap m words : ℕ) → words ≡ 2 + (cap + cap) + m → 1 + cap < words
+in_change : (cap m words : ℕ) → words ≡ 2 + (cap + cap) + m + 1 → 1 + cap < words
 in_change cap m words e = omega arith
 
-in_elements : (cap m n at words : ℕ) → words ≡ 2 + (cap + cap) + m → n + at < m → 2 + (cap + cap) + (n + at) < words
+in_elements : (cap m n at words : ℕ) → words ≡ 2 + (cap + cap) + m + 1 → n + at < m → 2 + (cap + cap) + (n + at) < words
 in_elements cap m n at words e l = omega arith
 
-in_cells : (cap m index words : ℕ) → words ≡ 2 + (cap + cap) + m → index < cap → 1 + index < words
+in_cells : (cap m index words : ℕ) → words ≡ 2 + (cap + cap) + m + 1 → index < cap → 1 + index < words
 in_cells cap m index words e l = omega arith
 
 before : (size n m at : ℕ) → n + size ≤ m → at < size → n + at < m
@@ -27,10 +27,7 @@ row size index cap l =
     joined : (a b c : ℕ) → a ≤ b → a ≡ c → c ≤ b
     joined a b c l e = omega arith
 
-pub two_more : (a b : ℕ) → 1 ≤ 2 + a + b
-two_more a b = omega arith
-
-module _ (cap size words : ℕ) (sized : words ≡ total_words cap size) where
+module _ (cap size words : ℕ) (sized : words ≡ total_words cap size + 1) where
   pub cell_fits : (index : ℕ) → index < cap → 1 + index < words
   cell_fits index l = in_cells cap (size * cap) index words sized l
 
@@ -42,13 +39,3 @@ module _ (cap size words : ℕ) (sized : words ≡ total_words cap size) where
 
   pub element_fits : (index at : ℕ) → index < cap → at < size → element_word cap size index at < words
   element_fits index at l k = in_elements cap (size * cap) (size * index) at words sized (before size (size * index) (size * cap) at (row size index cap l) k)
-
-wide : (cap m : ℕ) → 1 + cap ≤ 2 + (cap + cap) + m
-wide cap m = omega arith
-
--- the words of the set are among them
-pub set_in : (cap size : ℕ) → 1 + cap ≤ total_words cap size
-set_in cap size = wide cap (size * cap)
-
-pub some_in : (cap size : ℕ) → 0 < total_words cap size
-some_in cap size = two_more (cap + cap) (size * cap)

@@ -1,5 +1,5 @@
 -- What the closure of a recovery on a container was asked so far.
-use Rattle.std.proofs.Common.{◌≡◌, ℕ, ◌+◌, ◌<◌, ◌≤◌, nat_lt, Bool, true, false, true≢false, List, [], ◌∷◌, ◌++◌, length, refl, sym, ap, ◌∙◌, subst, arith, if◌then◌else◌, length-append}
+use Rattle.std.proofs.Common.{◌≡◌, ℕ, ◌+◌, ◌<◌, ◌≤◌, nat_lt, Bool, true, false, true≢false, ◌==◌, Some, None, List, [], ◌∷◌, ◌++◌, length, append-nil, refl, sym, ap, ◌∙◌, subst, arith, if◌then◌else◌, length-append}
 use Rattle.std.specs.List.{All, FoldsTo}
 use Rattle.std.proofs.lemmas.Fn.{FoldsTo-push}
 use Rattle.std.proofs.lemmas.List.Elements.{All-nil, All-push, All-weaker}
@@ -16,180 +16,295 @@ use Rattle.steps.specs.declared.indices.robust.parts.Lock as locks
 use Rattle.steps.specs.declared.container.recover.Recover.{Recover}
 use Rattle.steps.specs.declared.container.recover.DeadOwner.{DeadOwner}
 use Rattle.steps.specs.declared.container.recover.RecoverStage as recovers
-use Rattle.steps.specs.Indices.Robust.Parts.{locked, raise_after, lock_after}
+use Rattle.steps.specs.Indices.Robust.Parts.{locked, raise_after, first_lock, lock_after}
 use Rattle.steps.specs.Container.Layout.{is_even}
-use Rattle.steps.specs.Container.Recover.{goes_to, recover_comes_to, recover_sees, recover_ends, recover_raised, recover_locked, recover_raises, recover_takes}
-use Rattle.lock_free_owners.specs.declared.robust.view.View.{View}
-use Rattle.lock_free_owners.specs.Container.Questions.{Answered, AnswersAscend, asks, TakesValues, HasAsked}
-use Rattle.lock_free_owners.specs.Container.Recovery.{RecoverStage, RecoverStands, RecoverAsks, RecoverMoves, GoesQuietly}
+use Rattle.steps.specs.Container.Recover.{goes_to, recover_comes_to, recover_sees, recover_ends, recover_raised, recover_locked, recover_raises, recover_keeps, recover_takes}
+use Rattle.history.specs.ContainerRecovery.{RecoverIn, Came, HasFound, HasFreed, MayCome, with_last, told, freed, hides, came_locked, seen_under, visits_after, IsToFree, IsFreed}
+use Rattle.history.specs.ContainerRecovery as came
+use Rattle.history.proofs.CallsIn.{by_bool}
+use Rattle.lock_free_owners.specs.Container.Questions.{Answered, AnswersAscend, asks, TakesValues}
+use Rattle.lock_free_owners.specs.Container.RecoverTold.{question_at, questions_of, AreVisits}
+use Rattle.lock_free_owners.specs.Container.RecoverTurns.{RecoverAsks}
 
-module _ {T F : Type 0} (step : F → T → Bool → F → Type 0) (cap : ℕ) (base : View) (f : F) where
+module _ {T F : Type 0} (step : F → T → Bool → F → Type 0) (cap : ℕ) (shut : Bool) (given : DeadOwner) (f : F) where
+  abbrev Visits : Type 0
+  Visits = List (ℕ × Came T)
+
   abbrev Below : ℕ → List (Answered T) → Type 0
   Below low xs = All (λ (a : Answered T). a.index < low) xs
 
-  -- the questions that led to p, at indices below this one
-  pub record Asked (low : ℕ) (p : F) : Type 0 where
-    pub asked : List (Answered T)
-    pub questions : FoldsTo (asks step) f asked p
-    pub ascend : AnswersAscend cap asked
-    pub below : Below low asked
-    pub few : length asked ≤ low
+  -- the questions that led to p, of visits at indices below this one
+  pub record Asked (low : ℕ) (visits : Visits) (p : F) : Type 0 where
+    pub are : AreVisits given.mode low visits
+    pub questions : FoldsTo (asks step) f (questions_of visits) p
+    pub ascend : AnswersAscend cap (questions_of visits)
+    pub below : Below low (questions_of visits)
+    pub few : length (questions_of visits) ≤ low
+    pub nothing : shut ≡ true → questions_of visits ≡ []
 
   no_answers : AnswersAscend {T = T} cap []
   no_answers = ((λ i j d lt within. absurd (omega arith)), All-nil (λ (a : Answered T). a.index < cap))
 
-  none : (low : ℕ) (p : F) → p ≡ f → Asked low p
+  none : (low : ℕ) (p : F) → p ≡ f → Asked low [] p
   none low p e =
       record {
-        asked = [];
+        are = tt;
         questions = sym e;
         ascend = no_answers;
         below = All-nil (λ (a : Answered T). a.index < low);
         few = omega arith;
+        nothing = λ t. refl;
       }
 
-  abbrev Whole : F → Type 0
-  Whole p = HasAsked step cap base.locked f p
+  higher : (low high : ℕ) → low ≤ high → (visits : Visits) → AreVisits given.mode low visits → AreVisits given.mode high visits
+  higher low high up [] h = tt
+  higher low high up (visit ∷ before) h = ((let l = h.0 in omega arith), h.1, h.2)
 
-  abbrev pub SoFar : recovers.RecoverStage → F → Type 0
-  SoFar recovers.TheVariants.LoadsCounter p = p ≡ f
-  SoFar (recovers.TheVariants.LoadsCell index) p = Asked index p
-  SoFar (recovers.TheVariants.LoadsCount index) p = Asked index p
-  SoFar (recovers.TheVariants.LoadsWord index count at) p = Asked index p
-  SoFar (recovers.TheVariants.ChecksCount index count) p = Asked index p
-  SoFar (recovers.TheVariants.Asks index count) p = Asked index p
-  SoFar (recovers.TheVariants.EmptiesCell index count) p = Asked (index + 1) p
-  SoFar (recovers.TheVariants.Hides index count) p = Asked (index + 1) p
-  SoFar (recovers.TheVariants.Raises index raise) p = Asked (index + 1) p
-  SoFar (recovers.TheVariants.Locks index lock) p = Asked (index + 1) p
-  SoFar recovers.TheVariants.LoadsCounterAgain p = Asked cap p
-  SoFar (recovers.TheVariants.AddsChange state) p = Whole p
-
-  widen : (low high : ℕ) (p : F) → low ≤ high → Asked low p → Asked high p
-  widen low high p up h =
+  widen : (low high : ℕ) (visits : Visits) (p : F) → low ≤ high → Asked low visits p → Asked high visits p
+  widen low high visits p up h =
       record {
-        asked = h.asked;
+        are = higher low high up visits h.are;
         questions = h.questions;
         ascend = h.ascend;
-        below = All-weaker (λ (a : Answered T). a.index < low) (λ (a : Answered T). a.index < high) (λ a l. omega arith) h.asked h.below;
+        below = All-weaker (λ (a : Answered T). a.index < low) (λ (a : Answered T). a.index < high) (λ a l. omega arith) (questions_of visits) h.below;
         few = (let l = h.few in omega arith);
+        nothing = h.nothing;
       }
 
-  whole : (p : F) (low : ℕ) → low ≤ cap → base.locked ≡ false → Asked low p → Whole p
-  whole p low within free h =
+  -- the same of visits with the same questions
+  with_same : (low : ℕ) (xs ys : Visits) (p : F) → questions_of xs ≡ questions_of ys → AreVisits given.mode low ys → Asked low xs p → Asked low ys p
+  with_same low xs ys p same are h =
       record {
-        asked = h.asked;
-        questions = h.questions;
-        ascend = h.ascend;
-        few = (let l = h.few in omega arith);
+        are = are;
+        questions = subst (λ qs. FoldsTo (asks step) f qs p) same h.questions;
+        ascend = subst (λ qs. AnswersAscend cap qs) same h.ascend;
+        below = subst (λ qs. Below low qs) same h.below;
+        few = subst (λ qs. length qs ≤ low) same h.few;
+        nothing = λ t. sym same ∙ h.nothing t;
+      }
+
+  -- it comes further with the last of them, and nothing is asked anew
+  further : (index : ℕ) (came next : Came T) (before : Visits) (p : F) → question_at index came ≡ question_at index next → MayCome given.mode next
+      → Asked (index + 1) ((index, came) ∷ before) p → Asked (index + 1) ((index, next) ∷ before) p
+  further index came next before p same may h =
+      with_same (index + 1) ((index, came) ∷ before) ((index, next) ∷ before) p (ap (λ qs. questions_of before ++ qs) same) (h.are.0, may, h.are.2) h
+
+  -- it comes to an index at which nothing stands
+  comes_none : (index : ℕ) (before : Visits) (p : F) → Asked index before p → Asked (index + 1) ((index, HasFound None) ∷ before) p
+  comes_none index before p h =
+      let wide = widen index (index + 1) before p (omega arith) h in
+      with_same (index + 1) before ((index, HasFound None) ∷ before) p (sym (append-nil (questions_of before))) (omega arith, tt, h.are) wide
+
+  -- one question more
+  more : (index : ℕ) (value : T) (answer : Bool) (came : Came T) (before : Visits) (p q : F)
+      → question_at index came ≡ record { index = index; value = value; yes = answer } ∷ [] → MayCome given.mode came → shut ≡ false → index < cap
+      → step p value answer q → Asked index before p → Asked (index + 1) ((index, came) ∷ before) q
+  more index value answer came before p q is may free within hit h =
+      let a : Answered T = record { index = index; value = value; yes = answer } in
+      let asked : List (Answered T) = questions_of before in
+      let longer = length-append asked (a ∷ []) in
+      let l = h.few in
+      let same : asked ++ a ∷ [] ≡ questions_of ((index, came) ∷ before) = ap (λ qs. asked ++ qs) (sym is) in
+      record {
+        are = (omega arith, may, h.are);
+        questions = subst (λ qs. FoldsTo (asks step) f qs q) same (FoldsTo-push (asks step) f asked p a q h.questions hit);
+        ascend = subst (λ qs. AnswersAscend cap qs) same (
+          all_pairs_push (λ (x y : Answered T). x.index < y.index) asked a h.ascend.0 h.below,
+          All-push (λ (x : Answered T). x.index < cap) asked a h.ascend.1 within,
+        );
+        below = subst (λ qs. Below (index + 1) qs) same (All-push (λ (x : Answered T). x.index < index + 1) asked a
+            (All-weaker (λ (x : Answered T). x.index < index) (λ (x : Answered T). x.index < index + 1) (λ x l. omega arith) asked h.below) (omega arith));
+        few = subst (λ qs. length qs ≤ index + 1) same (omega arith);
         nothing = λ t. absurd (true≢false (sym t ∙ free));
       }
 
-  whole_none : (p : F) → p ≡ f → Whole p
-  whole_none p e = record { asked = []; questions = sym e; ascend = no_answers; few = omega arith; nothing = λ t. refl }
+  -- where the call stands, with these visits, and with this value in its room
+  abbrev pub SoFar : recovers.RecoverStage → Visits → T → F → Type 0
+  SoFar recovers.TheVariants.LoadsCounter visits value p = (p ≡ f) × (visits ≡ [])
+  SoFar (recovers.TheVariants.LoadsCell index) visits value p = Asked index visits p
+  SoFar (recovers.TheVariants.LoadsCount index) visits value p = Asked index visits p
+  SoFar (recovers.TheVariants.LoadsWord index count at) visits value p = Asked index visits p
+  SoFar (recovers.TheVariants.ChecksCount index count) visits value p = Asked index visits p
+  SoFar (recovers.TheVariants.Asks index count) visits value p =
+      (before : Visits) × (visits ≡ (index, came.HasAsked value) ∷ before) × Asked index before p
+  SoFar (recovers.TheVariants.EmptiesCell index count) visits value p =
+      (now : Came T) × (before : Visits) × (visits ≡ (index, now) ∷ before) × IsToFree count now
+      × Asked (index + 1) ((index, told now) ∷ before) p
+  SoFar (recovers.TheVariants.Hides index count) visits value p =
+      (gone : T) × (before : Visits) × (visits ≡ (index, HasFreed (Some gone) false false) ∷ before) × Asked (index + 1) visits p
+  SoFar (recovers.TheVariants.Raises index raise) visits value p = IsFreed index visits × Asked (index + 1) visits p
+  SoFar (recovers.TheVariants.Locks index lock) visits value p = IsFreed index visits × Asked (index + 1) visits p
+  SoFar recovers.TheVariants.LoadsCounterAgain visits value p = Asked cap visits p
+  SoFar (recovers.TheVariants.AddsChange state) visits value p = Asked cap visits p
 
-  -- one question more
-  more : (index : ℕ) (value : T) (answer : Bool) (p q : F) → index < cap → step p value answer q → Asked index p → Asked (index + 1) q
-  more index value answer p q within hit h =
-      let a : Answered T = record { index = index; value = value; yes = answer } in
-      let longer = length-append h.asked (a ∷ []) in
-      let l = h.few in
-      record {
-        asked = h.asked ++ a ∷ [];
-        questions = FoldsTo-push (asks step) f h.asked p a q h.questions hit;
-        ascend = (all_pairs_push (λ (x y : Answered T). x.index < y.index) h.asked a h.ascend.0 h.below, All-push (λ (x : Answered T). x.index < cap) h.asked a h.ascend.1 within);
-        below = All-push (λ (x : Answered T). x.index < index + 1) h.asked a (All-weaker (λ (x : Answered T). x.index < index) (λ (x : Answered T). x.index < index + 1) (λ x l. omega arith) h.asked h.below) (omega arith);
-        few = omega arith;
-      }
+  -- where it asks the container was not locked when it began
+  abbrev pub Knows : recovers.RecoverStage → Type 0
+  Knows (recovers.TheVariants.Asks index count) = shut ≡ false
+  Knows stage = Unit {0}
 
-  -- the closure may be asked about any value
-  pub may_ask : {pre : F → T → Type 0} (size : ℕ) → (base.locked ≡ false → TakesValues pre step cap f) → (v : View) → v.capacity ≡ cap → (stage : recovers.RecoverStage) → RecoverStage size base v stage → (p : F) → SoFar stage p → RecoverAsks pre stage p
-  may_ask size takes v same recovers.TheVariants.LoadsCounter at p so = tt
-  may_ask size takes v same (recovers.TheVariants.LoadsCell index) at p so = tt
-  may_ask size takes v same (recovers.TheVariants.LoadsCount index) at p so = tt
-  may_ask size takes v same (recovers.TheVariants.LoadsWord index count place) at p so = tt
-  may_ask size takes v same (recovers.TheVariants.ChecksCount index count) at p so = tt
-  may_ask size takes v same (recovers.TheVariants.Asks index count) at p so =
-      λ value. (takes at.0.1).at so.asked p index value so.questions so.ascend so.below (let within = at.1 in omega arith) (let l = so.few in let within = at.1 in omega arith)
-  may_ask size takes v same (recovers.TheVariants.EmptiesCell index count) at p so = tt
-  may_ask size takes v same (recovers.TheVariants.Hides index count) at p so = tt
-  may_ask size takes v same (recovers.TheVariants.Raises index raise) at p so = tt
-  may_ask size takes v same (recovers.TheVariants.Locks index lock) at p so = tt
-  may_ask size takes v same recovers.TheVariants.LoadsCounterAgain at p so = tt
-  may_ask size takes v same (recovers.TheVariants.AddsChange state) at p so = tt
+  -- the closure may be asked about the value
+  pub may_ask : {pre : F → T → Type 0} (size : ℕ) → (shut ≡ false → TakesValues pre step cap f) → (stage : recovers.RecoverStage)
+      → RecoverIn size cap given.mode stage → Knows stage
+      → (visits : Visits) (value : T) (p : F) → SoFar stage visits value p → RecoverAsks pre stage value p
+  may_ask size takes recovers.TheVariants.LoadsCounter at free visits value p so = tt
+  may_ask size takes (recovers.TheVariants.LoadsCell index) at free visits value p so = tt
+  may_ask size takes (recovers.TheVariants.LoadsCount index) at free visits value p so = tt
+  may_ask size takes (recovers.TheVariants.LoadsWord index count place) at free visits value p so = tt
+  may_ask size takes (recovers.TheVariants.ChecksCount index count) at free visits value p so = tt
+  may_ask size takes (recovers.TheVariants.Asks index count) at free visits value p so =
+      let h = so.2 in
+      (takes free).at (questions_of so.0) p index value h.questions h.ascend h.below at.0 (let l = h.few in let within = at.0 in omega arith)
+  may_ask size takes (recovers.TheVariants.EmptiesCell index count) at free visits value p so = tt
+  may_ask size takes (recovers.TheVariants.Hides index count) at free visits value p so = tt
+  may_ask size takes (recovers.TheVariants.Raises index raise) at free visits value p so = tt
+  may_ask size takes (recovers.TheVariants.Locks index lock) at free visits value p so = tt
+  may_ask size takes recovers.TheVariants.LoadsCounterAgain at free visits value p so = tt
+  may_ask size takes (recovers.TheVariants.AddsChange state) at free visits value p so = tt
 
-  module _ {R : Type 0} (size : ℕ) (given : DeadOwner) (c : Recover T R) where
-    abbrev pub Onward : After (Recover T R) ReleaseState → F → Type 0
-    Onward (GoOn d) p = SoFar d.stage p
-    Onward (Done state) p = Whole p
+  -- a step at a word
+  abbrev pub IsQuiet : recovers.RecoverStage → Type 0
+  IsQuiet (recovers.TheVariants.Asks index count) = ⊥
+  IsQuiet stage = Unit {0}
 
-    comes : (index : ℕ) (p : F) → index ≤ cap → Asked index p → Onward (recover_comes_to c index) p
-    comes index p within h =
-        by_test (λ stage. Onward (goes_to c stage) p) (nat_lt index c.capacity) (recovers.TheVariants.LoadsCell index) recovers.TheVariants.LoadsCounterAgain
-        (λ t. h)
-        (λ t. widen index cap p within h)
+  module _ {R : Type 0} where
+    abbrev pub Onward : After (Recover T R) ReleaseState → Visits → T → F → Type 0
+    Onward (GoOn d) visits value p = SoFar d.stage visits value p
+    Onward (Done state) visits value p = Asked cap visits p
 
-    sees_count : (index count : ℕ) (p : F) → Asked index p → Onward (recover_sees c index count) p
-    sees_count index count p h =
-        by_test (λ stage. Onward (goes_to c stage) p) (is_even count) (recovers.TheVariants.EmptiesCell index count) (recovers.TheVariants.LoadsWord index count 0)
-        (λ t. widen index (index + 1) p (omega arith) h)
-        (λ t. h)
+    module _ (size : ℕ) (c : Recover T R) where
+      so_then : (value : T) (p : F) (r s : After (Recover T R) ReleaseState) (xs ys : Visits) → r ≡ s → xs ≡ ys → Onward s ys value p → Onward r xs value p
+      so_then value p r s xs ys goes visits h =
+          subst (λ (z : After (Recover T R) ReleaseState × Visits). Onward z.0 z.1 value p) (λ i. (sym goes i, sym visits i)) h
 
-    raised : (index : ℕ) (mode : ReleaseMode) (p : F) (a : After raises.Raise ReleaseState) → index < cap → base.locked ≡ false → Asked (index + 1) p → Onward (recover_raised c index mode a) p
-    raised index mode p (GoOn raise) within free h = h
-    raised index mode p (Done Locked) within free h = whole p (index + 1) (omega arith) free h
-    raised index LockIfLastIndex p (Done Unlocked) within free h = h
-    raised index Default p (Done Unlocked) within free h = comes (index + 1) p (omega arith) h
+      comes : (index : ℕ) (visits : Visits) (value : T) (p : F) → index ≤ cap → Asked index visits p → Onward (recover_comes_to c index) visits value p
+      comes index visits value p within h =
+          by_test (λ stage. Onward (goes_to c stage) visits value p) (nat_lt index c.capacity) (recovers.TheVariants.LoadsCell index)
+          recovers.TheVariants.LoadsCounterAgain
+          (λ t. h)
+          (λ t. widen index cap visits p within h)
 
-    locking : (index : ℕ) (p : F) (a : After locks.Lock ReleaseState) → index < cap → Asked (index + 1) p → Onward (recover_locked c index a) p
-    locking index p (GoOn lock) within h = h
-    locking index p (Done state) within h = comes (index + 1) p (omega arith) h
+      sees_count : (index count : ℕ) (visits : Visits) (value : T) (p : F) → Asked index visits p
+          → Onward (recover_sees c index count) (seen_under index count visits) value p
+      sees_count index count visits value p h =
+          by_bool (is_even count)
+          (λ e. so_then value p (recover_sees c index count) (goes_to c (recovers.TheVariants.EmptiesCell index count)) (seen_under index count visits)
+          ((index, HasFound None) ∷ visits) (rw e refl) (rw e refl) (HasFound None, visits, refl, e, comes_none index visits p h))
+          (λ e. so_then value p (recover_sees c index count) (goes_to c (recovers.TheVariants.LoadsWord index count 0)) (seen_under index count visits) visits
+          (rw e refl) (rw e refl) h)
 
-    quietly : (stage : recovers.RecoverStage) → c.stage ≡ stage → (p q : F) (a : After (Recover T R) ReleaseState) → ((k : ℕ) → Onward (recover_takes size c stage given k) p) → GoesQuietly size c given p a q → Onward a q
-    quietly stage is p q a goes m =
-        subst (Onward a) (sym m.0) (subst (λ z. Onward z p) (ap (λ z. recover_takes size c z given m.1.0) (sym is) ∙ sym m.1.1) (goes m.1.0))
+      raised : (index : ℕ) (by : ReleaseMode) (visits : Visits) (value : T) (p : F) (a : After raises.Raise ReleaseState) → index < cap → IsFreed index visits
+          → Asked (index + 1) visits p → Onward (recover_raised c index by a) visits value p
+      raised index by visits value p (GoOn raise) within at h = (at, h)
+      raised index by visits value p (Done Locked) within at h = widen (index + 1) cap visits p (omega arith) h
+      raised index LockIfLastIndex visits value p (Done Unlocked) within at h = (at, h)
+      raised index Default visits value p (Done Unlocked) within at h = comes (index + 1) visits value p (omega arith) h
 
-    answered : (index count : ℕ) (value : T) (answer : Bool) (p q : F) → index < cap → step p value answer q → Asked index p → Onward (recover_takes size c (recovers.TheVariants.Asks index count) given (if answer then 1 else 0)) q
-    answered index count value true p q within hit h = more index value true p q within hit h
-    answered index count value false p q within hit h = comes (index + 1) q (omega arith) (more index value false p q within hit h)
+      locking : (index : ℕ) (visits : Visits) (value : T) (p : F) (a : After locks.Lock ReleaseState) → index < cap → IsFreed index visits
+          → Asked (index + 1) visits p → Onward (recover_locked c index a) visits value p
+      locking index visits value p (GoOn lock) within at h = (at, h)
+      locking index visits value p (Done state) within at h = comes (index + 1) visits value p (omega arith) h
 
-    module _ (v : View) (same : v.capacity ≡ cap) where
-      by_stage : (stage : recovers.RecoverStage) → c.stage ≡ stage → RecoverStage size base v stage → (p q : F) (a : After (Recover T R) ReleaseState) → SoFar stage p → RecoverMoves step size c given stage p a q → Onward a q
-      by_stage recovers.TheVariants.LoadsCounter is at p q a so m =
-          quietly recovers.TheVariants.LoadsCounter is p q a
-          (λ k. by_eq (λ z. Onward z p) k locked (recover_ends c Locked) (recover_comes_to c 0)
-          (λ e. whole_none p so)
-          (λ ne. comes 0 p (omega arith) (none 0 p so))) m
-      by_stage (recovers.TheVariants.LoadsCell index) is at p q a so m =
-          quietly (recovers.TheVariants.LoadsCell index) is p q a
-          (λ k. by_eq (λ z. Onward z p) k given.owner (goes_to c (recovers.TheVariants.LoadsCount index)) (recover_comes_to c (index + 1))
-          (λ e. so)
-          (λ ne. comes (index + 1) p (let l = at.1 in omega arith) (widen index (index + 1) p (omega arith) so))) m
-      by_stage (recovers.TheVariants.LoadsCount index) is at p q a so m =
-          quietly (recovers.TheVariants.LoadsCount index) is p q a (λ k. sees_count index k p so) m
-      by_stage (recovers.TheVariants.LoadsWord index count place) is at p q a so m =
-          quietly (recovers.TheVariants.LoadsWord index count place) is p q a
-          (λ k. by_test (λ z. Onward z p) (nat_lt (place + 1) size) (goes_to c (recovers.TheVariants.LoadsWord index count (place + 1))) (goes_to c (recovers.TheVariants.ChecksCount index count)) (λ t. so) (λ t. so)) m
-      by_stage (recovers.TheVariants.ChecksCount index count) is at p q a so m =
-          quietly (recovers.TheVariants.ChecksCount index count) is p q a
-          (λ k. by_eq (λ z. Onward z p) k count (goes_to c (recovers.TheVariants.Asks index count)) (recover_sees c index k) (λ e. so) (λ ne. sees_count index k p so)) m
-      by_stage (recovers.TheVariants.Asks index count) is at p q a so m =
-          subst (λ z. Onward z q) (ap (λ z. recover_takes size c z given (if m.1 then 1 else 0)) (sym is) ∙ sym m.3) (answered index count m.0 m.1 p q (let l = at.1 in omega arith) m.2 so)
-      by_stage (recovers.TheVariants.EmptiesCell index count) is at p q a so m =
-          quietly (recovers.TheVariants.EmptiesCell index count) is p q a
-          (λ k. by_eq (λ z. Onward z p) k given.owner (if is_even count then recover_raises c index else goes_to c (recovers.TheVariants.Hides index count)) (recover_comes_to c (index + 1))
-          (λ e. by_test (λ z. Onward z p) (is_even count) (recover_raises c index) (goes_to c (recovers.TheVariants.Hides index count)) (λ t. so) (λ t. so))
-          (λ ne. comes (index + 1) p (let l = at.1 in omega arith) so)) m
-      by_stage (recovers.TheVariants.Hides index count) is at p q a so m =
-          quietly (recovers.TheVariants.Hides index count) is p q a (λ k. so) m
-      by_stage (recovers.TheVariants.Raises index raise) is at p q a so m =
-          quietly (recovers.TheVariants.Raises index raise) is p q a (λ k. raised index given.mode p (raise_after raise k) (let l = at.0.1 in omega arith) at.0.0.1 so) m
-      by_stage (recovers.TheVariants.Locks index lock) is at p q a so m =
-          quietly (recovers.TheVariants.Locks index lock) is p q a (λ k. locking index p (lock_after c.capacity lock k) (let l = at.0.1 in omega arith) so) m
-      by_stage recovers.TheVariants.LoadsCounterAgain is at p q a so m =
-          quietly recovers.TheVariants.LoadsCounterAgain is p q a (λ k. whole p cap (omega arith) at.1 so) m
-      by_stage (recovers.TheVariants.AddsChange state) is at p q a so m =
-          quietly (recovers.TheVariants.AddsChange state) is p q a (λ k. so) m
+      -- it has freed the index: where its number was odd, a value stood there
+      freed_on : (index count : ℕ) (now : Came T) (before : Visits) (value : T) (p : F) → IsToFree count now → Asked (index + 1) ((index, told now) ∷ before) p
+          → Onward (if is_even count then recover_raises c index else goes_to c (recovers.TheVariants.Hides index count)) ((index, freed now) ∷ before) value p
+      freed_on index count (came.HasAsked gone) before value p odd h =
+          let next : Came T = HasFreed (Some gone) false false in
+          let visits : Visits = (index, next) ∷ before in
+          so_then value p (if is_even count then recover_raises c index else goes_to c (recovers.TheVariants.Hides index count))
+          (goes_to c (recovers.TheVariants.Hides index count)) visits visits (rw odd refl) refl
+          (gone, before, refl, further index (HasFound (Some gone)) next before p refl ((λ e. refl), (λ e. absurd (cc))) h)
+      freed_on index count (HasFound None) before value p even h =
+          let next : Came T = HasFreed None false false in
+          let visits : Visits = (index, next) ∷ before in
+          so_then value p (if is_even count then recover_raises c index else goes_to c (recovers.TheVariants.Hides index count))
+          (recover_raises c index) visits visits (rw even refl) refl
+          ((None, false, before, refl, λ e. refl), further index (HasFound None) next before p refl ((λ e. refl), (λ e. absurd (cc))) h)
+      freed_on index count (HasFound (Some gone)) before value p never h = absurd never
+      freed_on index count (HasFreed found hid done) before value p never h = absurd never
 
-      pub onward : RecoverStands size base v c → (p q : F) (a : After (Recover T R) ReleaseState) → SoFar c.stage p → RecoverMoves step size c given c.stage p a q → Onward a q
-      onward at = by_stage c.stage refl at.1
+      module _ (value_of : R → T) (with_word : R → ℕ → ℕ → R) where
+        abbrev pub StepsOnward : recovers.RecoverStage → Visits → R → ℕ → F → Type 0
+        StepsOnward stage visits room k p =
+            Onward (recover_takes size c stage given k) (visits_after given.owner stage k (value_of room) visits) (value_of (recover_keeps with_word stage room k)) p
+
+        pub quietly : (stage : recovers.RecoverStage) → IsQuiet stage → RecoverIn size cap given.mode stage → (visits : Visits) (room : R) (p : F) (k : ℕ)
+            → SoFar stage visits (value_of room) p → StepsOnward stage visits room k p
+        quietly recovers.TheVariants.LoadsCounter still at visits room p k so =
+            by_eq (λ z. Onward z visits (value_of room) p) k locked (recover_ends c Locked) (recover_comes_to c 0)
+            (λ e. begun cap)
+            (λ ne. comes 0 visits (value_of room) p (omega arith) (begun 0))
+          where
+            begun : (low : ℕ) → Asked low visits p
+            begun low = subst (λ vs. Asked low vs p) (sym so.1) (none low p so.0)
+        quietly (recovers.TheVariants.LoadsCell index) still at visits room p k so =
+            by_eq (λ z. Onward z visits (value_of room) p) k given.owner (goes_to c (recovers.TheVariants.LoadsCount index)) (recover_comes_to c (index + 1))
+            (λ e. so)
+            (λ ne. comes (index + 1) visits (value_of room) p (omega arith) (widen index (index + 1) visits p (omega arith) so))
+        quietly (recovers.TheVariants.LoadsCount index) still at visits room p k so = sees_count index k visits (value_of room) p so
+        quietly (recovers.TheVariants.LoadsWord index count place) still at visits room p k so =
+            by_test (λ z. Onward z visits (value_of (with_word room place k)) p) (nat_lt (place + 1) size)
+            (goes_to c (recovers.TheVariants.LoadsWord index count (place + 1))) (goes_to c (recovers.TheVariants.ChecksCount index count)) (λ t. so) (λ t. so)
+        quietly (recovers.TheVariants.ChecksCount index count) still at visits room p k so =
+            by_bool (k == count)
+            (λ e. so_then (value_of room) p (recover_takes size c (recovers.TheVariants.ChecksCount index count) given k)
+            (goes_to c (recovers.TheVariants.Asks index count))
+            (visits_after given.owner (recovers.TheVariants.ChecksCount index count) k (value_of room) visits) ((index, came.HasAsked (value_of room)) ∷ visits)
+            (rw e refl) (rw e refl) (visits, refl, so))
+            (λ e. so_then (value_of room) p (recover_takes size c (recovers.TheVariants.ChecksCount index count) given k) (recover_sees c index k)
+            (visits_after given.owner (recovers.TheVariants.ChecksCount index count) k (value_of room) visits) (seen_under index k visits)
+            (rw e refl) (rw e refl) (sees_count index k visits (value_of room) p so))
+        quietly (recovers.TheVariants.Asks index count) still at visits room p k so = absurd still
+        quietly (recovers.TheVariants.EmptiesCell index count) still at visits room p k so =
+            let now = so.0 in
+            let before = so.1 in
+            by_bool (k == given.owner)
+            (λ e. so_then (value_of room) p (recover_takes size c (recovers.TheVariants.EmptiesCell index count) given k)
+            (if is_even count then recover_raises c index else goes_to c (recovers.TheVariants.Hides index count))
+            (visits_after given.owner (recovers.TheVariants.EmptiesCell index count) k (value_of room) visits) ((index, freed now) ∷ before)
+            (rw e refl) (rw e (ap (with_last freed) so.2)) (freed_on index count now before (value_of room) p so.3 so.4))
+            (λ e. so_then (value_of room) p (recover_takes size c (recovers.TheVariants.EmptiesCell index count) given k) (recover_comes_to c (index + 1))
+            (visits_after given.owner (recovers.TheVariants.EmptiesCell index count) k (value_of room) visits) ((index, told now) ∷ before)
+            (rw e refl) (rw e (ap (with_last told) so.2)) (comes (index + 1) ((index, told now) ∷ before) (value_of room) p (omega arith) so.4))
+        quietly (recovers.TheVariants.Hides index count) still at visits room p k so =
+            let gone = so.0 in
+            let before = so.1 in
+            let first : Came T = HasFreed (Some gone) false false in
+            let next : Came T = HasFreed (Some gone) (k == count) false in
+            so_then (value_of room) p (recover_raises c index) (recover_raises c index) (with_last (hides (k == count)) visits) ((index, next) ∷ before) refl
+            (ap (with_last (hides (k == count))) so.2) (
+              (Some gone, (k == count), before, refl, λ e. absurd (cc)),
+              further index first next before p refl ((λ e. absurd (cc)), (λ e. absurd (cc))) (subst (λ vs. Asked (index + 1) vs p) so.2 so.3),
+            )
+        quietly (recovers.TheVariants.Raises index raise) still at visits room p k so =
+            raised index given.mode visits (value_of room) p (raise_after raise k) at so.0 so.1
+        quietly (recovers.TheVariants.Locks index (locks.TheVariants.Counts count)) still at visits room p k so =
+            locking index visits (value_of room) p (lock_after c.capacity (locks.TheVariants.Counts count) k) at.1 so.0 so.1
+        quietly (recovers.TheVariants.Locks index (locks.TheVariants.ExchangesCounter counter)) still at visits room p k so =
+            let found = so.0.0 in
+            let hid = so.0.1 in
+            let before = so.0.2 in
+            let next : Came T = HasFreed found hid true in
+            by_bool (k == counter)
+            (λ e. so_then (value_of room) p (recover_takes size c (recovers.TheVariants.Locks index (locks.TheVariants.ExchangesCounter counter)) given k)
+            (recover_comes_to c (index + 1))
+            (visits_after given.owner (recovers.TheVariants.Locks index (locks.TheVariants.ExchangesCounter counter)) k (value_of room) visits) ((index, next) ∷ before)
+            (rw e refl) (rw e (ap (with_last came_locked) so.0.3))
+            (comes (index + 1) ((index, next) ∷ before) (value_of room) p (omega arith)
+            (further index (HasFreed found hid false) next before p refl (so.0.4, (λ t. at.0)) (subst (λ vs. Asked (index + 1) vs p) so.0.3 so.1))))
+            (λ e. so_then (value_of room) p (recover_takes size c (recovers.TheVariants.Locks index (locks.TheVariants.ExchangesCounter counter)) given k)
+            (recover_locked c index (GoOn first_lock))
+            (visits_after given.owner (recovers.TheVariants.Locks index (locks.TheVariants.ExchangesCounter counter)) k (value_of room) visits) visits
+            (rw e refl) (rw e refl) so)
+        quietly recovers.TheVariants.LoadsCounterAgain still at visits room p k so = so
+        quietly (recovers.TheVariants.AddsChange state) still at visits room p k so = so
+
+      -- an answer
+      pub answered : (index count : ℕ) (visits : Visits) (value : T) (answer : Bool) (p q : F) → shut ≡ false → (index < cap) × (is_even count ≡ false)
+          → step p value answer q → SoFar (recovers.TheVariants.Asks index count) visits value p
+          → Onward (recover_takes size c (recovers.TheVariants.Asks index count) given (if answer then 1 else 0)) visits value q
+      answered index count visits value true p q free at hit so =
+          (came.HasAsked value, so.0, so.1, at.1, more index value true (HasFound (Some value)) so.0 p q refl tt free at.0 hit so.2)
+      answered index count visits value false p q free at hit so =
+          let low = at.0 in
+          comes (index + 1) visits value q (omega arith)
+          (subst (λ vs. Asked (index + 1) vs q) (sym so.1) (more index value false (came.HasAsked value) so.0 p q refl tt free at.0 hit so.2))

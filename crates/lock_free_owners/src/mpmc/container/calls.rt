@@ -1,12 +1,18 @@
 //! The calls on a container by a pass that ask nothing of their caller, but those of states.
-ghost use Rattle.std.specs.Prelude.{◌≡◌, ◌<◌, ◌≤◌, ◌↔◌, true, IsTrue, IsFalse, IfOk, IfErr, OnOk, OnErr};
-ghost use Rattle.lock_free_owners.specs.Robust.Calls.{FoundOpen, FoundLocked, HasReleased};
-ghost use Rattle.lock_free_owners.specs.Container.Calls.{WasNotAdded};
-ghost use Rattle.lock_free_owners.specs.Container.Names.{view, container_of, capacity_of, IsPassOf, IsHandleFor, IsOwn};
+ghost use Rattle.std.specs.Prelude.{◌≡◌, ◌≤◌, true, Err, IfOk, IfErr, OnOk};
+ghost use Rattle.steps.specs.declared.container.enums.ContainerAddFailure.TheVariants.{IsLocked as Locked};
+ghost use Rattle.steps.specs.declared.container.enums.ContainerRemoveError.TheVariants.{ContainerHandleNotOwnedByContainer as NotOwned};
+ghost use Rattle.model.specs.declared.event.Answer.TheVariants.{Number, Truth};
+ghost use Rattle.model.specs.declared.families.container.ContainerStart.TheVariants as starts;
+ghost use Rattle.model.specs.Families.Container.Calls.{removed, replaced};
+ghost use Rattle.model.specs.Families.Indices.Reading.{is_locked};
+ghost use Rattle.lock_free_owners.specs.Robust.Told.{WasFilled, WasGranted, WasFreed, HasReleased, FoundLock};
+ghost use Rattle.lock_free_owners.specs.Container.Told.{placed, HasAdded, HasRemoved, HasReplaced, HasCounted, HasTested, HasLooked, Answered, WasNotAdded};
+ghost use Rattle.lock_free_owners.specs.Container.Names.{view, history, code_of, container_of, capacity_of, IsPassOf, IsHandleFor, IsOwn, GoesOn};
 
+use super::counts::count_all;
+use super::drives::{Adds, HowMany, LooksLocked, Removes, Replaces, WhetherNone};
 use super::{Container, ContainerAddFailure, ContainerHandle, ContainerRemoveError, OwnerId, Pass};
-use crate::container::drives::{Adds, Removes, Replaces};
-use crate::robust::drives::Looks;
 use std::sync::Wait;
 use steps::container::add::{Add, Owned};
 use steps::container::remove::Remove;
@@ -17,9 +23,10 @@ use steps::indices::robust::release::GiveBack;
 use steps::words::Words;
 
 impl<T: Words> Container<T> {
-    /// Adds `value` for `owner`, at the lowest index that it finds without an owner: the handle that names it.
-    /// `OutOfSpace` where each index had an owner when the call came to it, or the generation counter is at its end (no
-    /// clause says so); then nothing has changed. `IsLocked` where the container is locked, which leaves the lock seen.
+    /// Adds `value` for `owner`, at the lowest index that it finds without an owner: one that had none when the call
+    /// filled it, and that nobody held when it was granted, where nobody acts for an owner who is gone nor gives back what
+    /// is not his. It answers the handle that names it. `OutOfSpace` where each index had an owner at a moment of the call,
+    /// or the generation counter is at its end; then nothing has changed. `IsLocked` where the container is locked.
     ///
     /// A pass that has seen the lock gets `IsLocked`. A call that meets the lock only after it has given the index its
     /// owner answers `IsLocked` too: the index keeps that owner, and `value` is placed nowhere; what an earlier owner's
@@ -33,10 +40,15 @@ impl<T: Words> Container<T> {
         pass: &mut Pass<T>,
     ) -> Result<ContainerHandle, ContainerAddFailure>
         requires { IsPassOf self.now pass.old }
-        ensures container { container_of pass.new ≡ container_of pass.old }
+        ensures goes_on { GoesOn pass.old pass.new }
         ensures handle { IfOk result (IsHandleFor self.now owner) }
-        ensures added { OnOk result (FoundOpen (view pass.old) (view pass.new)) }
-        ensures refused { IfErr result (λ e. WasNotAdded e (view pass.old) (view pass.new)) }
+        ensures added { HasAdded (code_of pass.old) (record { value = value; owner = owner }) (placed result)
+            (view pass.old) (view pass.new) }
+        ensures filled { IfOk result (λ h. WasFilled h.index owner (view pass.old) (view pass.new)) }
+        ensures granted { IfOk result (λ h. WasGranted h.index owner (view pass.old) (view pass.new)) }
+        ensures refused { IfErr result (λ e. WasNotAdded (code_of pass.old) value owner e
+            (view pass.old) (view pass.new)) }
+        ensures lock { is_locked (history pass.old) ≡ true → result ≡ Err Locked }
     {
         let call = Add::new(pass.token.capacity);
         let given = Owned { value, owner };
@@ -55,15 +67,14 @@ impl<T: Words> Container<T> {
     }
 
     /// Removes the value that `handle` names. `ContainerHandleNotOwnedByContainer` where the handle is of another
-    /// container, where its index is not below the capacity (both without an atomic step), or where its owner does not
-    /// have the index (no clause says so); then nothing has changed.
+    /// container, where its index is not below the capacity (both without an atomic step, and no call of the history), or
+    /// where its owner does not have the index; then nothing has changed.
     ///
     /// In mode `Default` the answer is `Unlocked`, also where the container is locked. In mode `LockIfLastIndex` the
     /// container is locked where no index has an owner by then, unless the generation counter is at its end, where
-    /// nothing locks any more; `Locked` says that it is locked, by this call or an earlier one, and leaves the lock
-    /// seen. A pass that has seen the lock gets no `Unlocked` in that mode. In mode `Default` at most 6 atomic steps
-    /// where nobody else steps in between, in mode `LockIfLastIndex` at most 9 more than the capacity; else it may try
-    /// again for as long as others step. After `remove` of the Rust crate.
+    /// nothing locks any more; `Locked` says that it is locked, by this call or an earlier one. A pass that has seen the
+    /// lock gets no `Unlocked` in that mode. In mode `Default` at most 6 atomic steps where nobody else steps in between,
+    /// in mode `LockIfLastIndex` at most 9 more than the capacity; else it may try again for as long as others step. After `remove` of the Rust crate.
     pub fn remove(
         &self,
         rt: &impl Wait,
@@ -73,11 +84,18 @@ impl<T: Words> Container<T> {
     ) -> Result<ReleaseState, ContainerRemoveError>
         requires { IsPassOf self.now pass.old }
         ensures container { container_of pass.new ≡ container_of pass.old }
+        ensures foreign { (IsOwn self.now handle → ⊥)
+            → (result ≡ Err NotOwned) × (view pass.new ≡ view pass.old) }
+        ensures goes_on { IsOwn self.now handle → GoesOn pass.old pass.new }
         ensures own { OnOk result (IsOwn self.now handle) }
-        ensures removed { IfOk result (λ s. HasReleased s mode (view pass.old) (view pass.new)) }
-        ensures refused { OnErr result (view pass.new ≡ view pass.old) }
+        ensures removed { IsOwn self.now handle → HasRemoved (code_of pass.old)
+            (record { index = handle.index; owner = handle.owner; mode = mode }) result (view pass.old) (view pass.new) }
+        ensures freed { OnOk result (WasFreed handle.index handle.owner (view pass.old) (view pass.new)) }
+        ensures answered { IsOwn self.now handle → Answered (code_of pass.old)
+            (starts.Remove handle.index handle.owner mode) (removed result) (view pass.old) (view pass.new) }
+        ensures released { IfOk result (λ s. HasReleased s mode (view pass.old) (view pass.new)) }
     {
-        if handle.container != self.id {
+        if handle.container != self.id || handle.index >= self.capacity {
             return Err(ContainerRemoveError::ContainerHandleNotOwnedByContainer);
         }
         let call = Remove::new(pass.token.capacity, handle.index);
@@ -92,8 +110,8 @@ impl<T: Words> Container<T> {
     }
 
     /// Puts `value` in the place of the one that `handle` names. `ContainerHandleNotOwnedByContainer` where the handle is
-    /// of another container, where its index is not below the capacity (both without an atomic step), or where its owner
-    /// does not have the index (no clause says so); then nothing has changed.
+    /// of another container, where its index is not below the capacity (both without an atomic step, and no call of the
+    /// history), or where its owner does not have the index; then nothing has changed.
     ///
     /// From its third step, which hides the value that stood there, to the last but one, behind the new value's words,
     /// the index shows no value. At most 5 + `T::WORDS` atomic steps. This project's own.
@@ -105,10 +123,17 @@ impl<T: Words> Container<T> {
     ) -> Result<(), ContainerRemoveError>
         requires { IsPassOf self.now pass.old }
         ensures container { container_of pass.new ≡ container_of pass.old }
-        ensures view { view pass.new ≡ view pass.old }
+        ensures foreign { (IsOwn self.now handle → ⊥)
+            → (result ≡ Err NotOwned) × (view pass.new ≡ view pass.old) }
+        ensures goes_on { IsOwn self.now handle → GoesOn pass.old pass.new }
         ensures own { OnOk result (IsOwn self.now handle) }
+        ensures replaced { IsOwn self.now handle → HasReplaced (code_of pass.old)
+            (record { index = handle.index; owner = handle.owner; value = value }) result
+            (view pass.old) (view pass.new) }
+        ensures answered { IsOwn self.now handle → Answered (code_of pass.old)
+            (starts.Replace handle.index value handle.owner) (replaced result) (view pass.old) (view pass.new) }
     {
-        if handle.container != self.id {
+        if handle.container != self.id || handle.index >= self.capacity {
             return Err(ContainerRemoveError::ContainerHandleNotOwnedByContainer);
         }
         let call = Replace::new(pass.token.capacity, handle.index);
@@ -122,44 +147,47 @@ impl<T: Words> Container<T> {
             .drive::<Replace<T>, Replaces>(call, &given, &mut ())
     }
 
-    /// How many indices have an owner: as many as had one when the call came to them, where the generation counter did
-    /// not move meanwhile (no clause says so). At most the capacity, and 0 where the container is locked: so where the
-    /// pass has seen the lock.
+    /// How many indices have an owner: some number of which each that had one through the whole call is among them, and
+    /// none that had one at no moment of it; at most the capacity, and 0 where the container is locked: so where the pass
+    /// has seen the lock.
     ///
     /// At most 2 atomic steps more than the capacity where nobody else steps in between; else it may try again for as
     /// long as others step. Where the generation counter is at its end the number is that of one pass over the indices,
     /// whatever has changed meanwhile. After `len` of the Rust crate.
     pub fn len(&self, rt: &impl Wait, pass: &mut Pass<T>) -> usize
         requires { IsPassOf self.now pass.old }
-        ensures container { container_of pass.new ≡ container_of pass.old }
-        ensures view { view pass.new ≡ view pass.old }
+        ensures goes_on { GoesOn pass.old pass.new }
+        ensures counted { HasCounted (code_of pass.old) result (view pass.old) (view pass.new) }
+        ensures answered { Answered (code_of pass.old) starts.Len (Number result) (view pass.old) (view pass.new) }
         ensures most { result ≤ capacity_of self.now }
-        ensures lock { (view pass.old).locked ≡ true → result ≡ 0 }
+        ensures lock { is_locked (history pass.old) ≡ true → result ≡ 0 }
     {
-        pass.borrowed_indices(rt)
+        count_all::<T, HowMany>(&mut pass.token.seated, rt, pass.token.capacity)
     }
 
     /// Whether `len` is 0: so where the pass has seen the lock. As many atomic steps. After `is_empty` of the Rust crate.
     pub fn is_empty(&self, rt: &impl Wait, pass: &mut Pass<T>) -> bool
         requires { IsPassOf self.now pass.old }
-        ensures container { container_of pass.new ≡ container_of pass.old }
-        ensures view { view pass.new ≡ view pass.old }
-        ensures lock { (view pass.old).locked ≡ true → result ≡ true }
+        ensures goes_on { GoesOn pass.old pass.new }
+        ensures tested { HasTested (code_of pass.old) result (view pass.old) (view pass.new) }
+        ensures answered { Answered (code_of pass.old) starts.IsEmpty (Truth result) (view pass.old) (view pass.new) }
+        ensures lock { is_locked (history pass.old) ≡ true → result ≡ true }
     {
-        self.len(rt, pass) == 0
+        count_all::<T, WhetherNone>(&mut pass.token.seated, rt, pass.token.capacity) == 0
     }
 
-    /// Whether the container is locked. True leaves the lock seen, and is the answer to each pass that has seen it. One
-    /// atomic step. After `is_locked` of the Rust crate.
+    /// Whether the container is locked. True is the answer to each pass that has seen it. One atomic step. After
+    /// `is_locked` of the Rust crate.
     pub fn is_locked(&self, pass: &mut Pass<T>) -> bool
         requires { IsPassOf self.now pass.old }
-        ensures container { container_of pass.new ≡ container_of pass.old }
-        ensures locked { IsTrue result → FoundLocked (view pass.old) (view pass.new) }
-        ensures open { IsFalse result → FoundOpen (view pass.old) (view pass.new) }
+        ensures goes_on { GoesOn pass.old pass.new }
+        ensures looked { HasLooked (code_of pass.old) result (view pass.old) (view pass.new) }
+        ensures answered { Answered (code_of pass.old) starts.IsLocked (Truth result) (view pass.old) (view pass.new) }
+        ensures lock { FoundLock result (view pass.old) (view pass.new) }
     {
         pass.token
             .seated
-            .drive::<IsLocked, Looks>(IsLocked, &(), &mut ())
+            .drive::<IsLocked, LooksLocked>(IsLocked, &(), &mut ())
     }
 
     /// The capacity that it was made with. After `capacity` of the Rust crate.

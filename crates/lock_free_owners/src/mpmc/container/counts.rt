@@ -1,135 +1,133 @@
-//! The count of the indices of a container that have owners.
-ghost use Rattle.std.specs.Prelude.{◌≡◌, ◌<◌, ◌^◌, ℕ};
+//! The count of the indices of a container that have owners, at a seat. The loads of cells have a loop of their own.
+ghost use Rattle.std.specs.Prelude.{◌≡◌, ℕ};
+ghost use Rattle.steps.specs.Indices.Robust.Looks.{first_borrowed, borrowed_after};
 ghost use Rattle.steps.specs.declared.indices.robust.parts.Count.TheVariants as stages;
-ghost use Rattle.lock_free_owners.specs.Robust.Calls.{WasCounted};
-ghost use Rattle.lock_free_owners.specs.Robust.Stages.{CountStands, BorrowedStands, BorrowedGoes};
-ghost use Rattle.lock_free_owners.specs.Container.Names.{view, container_of};
+ghost use Rattle.model.specs.Coding.{coding_of};
+ghost use Rattle.lock_free_sp.specs.Seats.{seen, IsSame};
+ghost use Rattle.lock_free_owners.specs.Container.Turns.{IsBoard, CountAt, CountEnds, CountStands, CountGoes};
 
-use super::Pass;
-use crate::robust::counts::counted_next;
-use crate::robust::drives::Counts;
-use crate::robust::plays::OnCell;
+use super::drives::{Counting, Counts};
+use super::rule::Seat;
 use std::sync::Wait;
 use steps::ask::After;
 use steps::indices::robust::looks::BorrowedIndices;
-use steps::indices::robust::parts::{Count, FIRST_CELL};
+use steps::indices::robust::parts::Count;
 use steps::routine::Routine;
 use steps::words::Words;
 
-impl<T: Words> Pass<T> {
-    /// What stands in the cell of an index: one step, a load. It leaves what the pass knows.
-    #[inline(always)]
-    fn load_cell(&mut self, index: usize) -> u64
-        requires cell { index < (view self.old).capacity }
-        requires small { index < 2 ^ 32 }
-        ensures container { container_of self.new ≡ container_of self.old }
-        ensures view { view self.new ≡ view self.old }
-    {
-        let seated = &mut self.token.seated;
-        seated
-            .table
-            .shared
-            .load::<OnCell>(&mut seated.seat, FIRST_CELL + index)
-    }
+/// Takes one step of the call.
+#[inline(always)]
+fn step_count<T: Words, W: Counting>(
+    seat: &mut Seat<T>,
+    call: BorrowedIndices,
+) -> After<BorrowedIndices, usize>
+    requires board { IsBoard T.WORDS seat.old }
+    requires at { CountStands (coding_of T.WORDS T.words_of T.value_of) W.which (seen seat.old) call }
+    ensures same { IsSame seat.old seat.new }
+    ensures board { IsBoard T.WORDS seat.new }
+    ensures after { (k : ℕ) × (result ≡ borrowed_after call k) }
+    ensures goes { CountGoes (coding_of T.WORDS T.words_of T.value_of) W.which (seen seat.old) call result (seen seat.new) }
+{
+    seat.step::<BorrowedIndices, Counts<W>>(call, &(), &mut ())
+}
 
-    /// Takes one step of the call.
-    #[inline(always)]
-    fn step_count(&mut self, call: BorrowedIndices) -> After<BorrowedIndices, usize>
-        requires { BorrowedStands (view self.old) call }
-        ensures container { container_of self.new ≡ container_of self.old }
-        ensures view { view self.new ≡ view self.old }
-        ensures goes { BorrowedGoes (view self.old) result }
-    {
-        self.token
-            .seated
-            .step::<BorrowedIndices, Counts>(call, &(), &mut ())
-    }
-
-    /// Takes the steps of the call that load cells, from this one on. They have a loop of their own, which keeps the
-    /// index and the count alone.
-    #[inline(always)]
-    fn count_cells(
-        &mut self,
-        counter: u64,
-        first: u32,
-        filled: usize,
-    ) -> After<BorrowedIndices, usize>
-        requires { CountStands (view self.old) (stages.LoadsCell counter first filled) }
-        ensures container { container_of self.new ≡ container_of self.old }
-        ensures view { view self.new ≡ view self.old }
-        ensures goes { BorrowedGoes (view self.old) result }
-    {
-        let capacity = self.token.capacity;
-        let mut cell = first as usize;
-        let mut found = filled;
-        'cells: loop {
-            let owner = self.load_cell(cell);
-            match counted_next(capacity, cell, found, owner) {
-                Some(next) => {
-                    cell = next.0;
-                    found = next.1;
-                }
-                None => {
-                    let here = BorrowedIndices {
-                        capacity,
-                        count: Count::LoadsCell {
-                            counter,
-                            index: cell as u32,
-                            filled: found,
-                        },
-                    };
-                    return here.take(&(), &mut (), owner);
-                }
-            }
-        }
-    }
-
-    /// Takes steps of the call.
-    #[inline(always)]
-    fn count_next(&mut self, call: BorrowedIndices) -> After<BorrowedIndices, usize>
-        requires { BorrowedStands (view self.old) call }
-        ensures container { container_of self.new ≡ container_of self.old }
-        ensures view { view self.new ≡ view self.old }
-        ensures goes { BorrowedGoes (view self.old) result }
-    {
-        let count = call.count;
-        match count {
-            Count::LoadsCell {
+/// Takes the steps of the call that load cells, from this one on. Their loop keeps no more than their stage does.
+#[inline(always)]
+fn count_cells<T: Words, W: Counting>(
+    seat: &mut Seat<T>,
+    capacity: u32,
+    counter: u64,
+    first: u32,
+    filled: usize,
+) -> After<BorrowedIndices, usize>
+    requires board { IsBoard T.WORDS seat.old }
+    requires at { CountStands (coding_of T.WORDS T.words_of T.value_of) W.which (seen seat.old)
+        (record { capacity = capacity; count = stages.LoadsCell counter first filled }) }
+    ensures same { IsSame seat.old seat.new }
+    ensures board { IsBoard T.WORDS seat.new }
+    ensures goes { CountGoes (coding_of T.WORDS T.words_of T.value_of) W.which (seen seat.old)
+        (record { capacity = capacity; count = stages.LoadsCell counter first filled }) result (seen seat.new) }
+{
+    let mut cell = first;
+    let mut found = filled;
+    'cells: loop {
+        let here = BorrowedIndices {
+            capacity,
+            count: Count::LoadsCell {
                 counter,
-                index,
-                filled,
-            } => self.count_cells(counter, index, filled),
-            _ => self.step_count(call),
-        }
-    }
-
-    /// How many indices have an owner.
-    #[inline(always)]
-    pub(crate) fn borrowed_indices(&mut self, rt: &impl Wait) -> usize
-        ensures container { container_of self.new ≡ container_of self.old }
-        ensures view { view self.new ≡ view self.old }
-        ensures counted { WasCounted (view self.old) result }
-    {
-        // The first turns stand by themselves, so that a compiler sees at each of them at which stage the call is.
-        let call = match self.step_count(BorrowedIndices::new(self.token.capacity)) {
-            After::GoOn(next) => next,
-            After::Done(filled) => return filled,
+                index: cell,
+                filled: found,
+            },
         };
-        let call = match self.count_next(call) {
-            After::GoOn(next) => next,
-            After::Done(filled) => return filled,
-        };
-        let call = match self.step_count(call) {
-            After::GoOn(next) => next,
-            After::Done(filled) => return filled,
-        };
-        let mut call = call;
-        for _ in rt.forever() {
-            match self.count_next(call) {
-                After::GoOn(next) => call = next,
-                After::Done(filled) => return filled,
+        match step_count::<T, W>(seat, here) {
+            After::GoOn(next) => {
+                let count = next.count;
+                match count {
+                    Count::LoadsCell { index, filled, .. } => {
+                        cell = index;
+                        found = filled;
+                    }
+                    _ => return After::GoOn(next),
+                }
             }
+            After::Done(end) => return After::Done(end),
         }
-        unreachable!()
     }
+}
+
+/// Takes steps of the call.
+#[inline(always)]
+fn count_next<T: Words, W: Counting>(
+    seat: &mut Seat<T>,
+    call: BorrowedIndices,
+) -> After<BorrowedIndices, usize>
+    requires board { IsBoard T.WORDS seat.old }
+    requires at { CountStands (coding_of T.WORDS T.words_of T.value_of) W.which (seen seat.old) call }
+    ensures same { IsSame seat.old seat.new }
+    ensures board { IsBoard T.WORDS seat.new }
+    ensures goes { CountGoes (coding_of T.WORDS T.words_of T.value_of) W.which (seen seat.old) call result (seen seat.new) }
+{
+    let count = call.count;
+    match count {
+        Count::LoadsCell {
+            counter,
+            index,
+            filled,
+        } => count_cells::<T, W>(seat, call.capacity, counter, index, filled),
+        _ => step_count::<T, W>(seat, call),
+    }
+}
+
+/// Takes all steps of the call.
+#[inline(always)]
+pub(crate) fn count_all<T: Words, W: Counting>(
+    seat: &mut Seat<T>,
+    rt: &impl Wait,
+    capacity: u32,
+) -> usize
+    requires board { IsBoard T.WORDS seat.old }
+    requires at { CountAt (coding_of T.WORDS T.words_of T.value_of) W.which (seen seat.old) (seen seat.old) (first_borrowed capacity) tt }
+    ensures same { IsSame seat.old seat.new }
+    ensures board { IsBoard T.WORDS seat.new }
+    ensures ends { CountEnds (coding_of T.WORDS T.words_of T.value_of) W.which (seen seat.old) result tt (seen seat.new) }
+{
+    // The first turns stand by themselves, so that a compiler sees at each of them at which stage the call is.
+    let first = step_count::<T, W>(seat, BorrowedIndices::new(capacity));
+    let call = match first {
+        After::GoOn(next) => next,
+        After::Done(filled) => return filled,
+    };
+    let cells = count_next::<T, W>(seat, call);
+    let mut call = match cells {
+        After::GoOn(next) => next,
+        After::Done(filled) => return filled,
+    };
+    for _ in rt.forever() {
+        let after = count_next::<T, W>(seat, call);
+        match after {
+            After::GoOn(next) => call = next,
+            After::Done(filled) => return filled,
+        }
+    }
+    unreachable!()
 }

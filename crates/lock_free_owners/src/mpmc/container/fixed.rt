@@ -1,7 +1,7 @@
 //! A container whose capacity is part of its type.
 ghost use Rattle.std.specs.Prelude.{◌≡◌, ◌⊎◌, None, Some, IfOk, IfErr, OnOk};
 ghost use Rattle.steps.specs.declared.enums.UniqueIndexCreationError.TheVariants.{NoMemory};
-ghost use Rattle.lock_free_owners.specs.Robust.Views.{blank};
+ghost use Rattle.history.specs.Views.{first_view};
 ghost use Rattle.lock_free_owners.specs.Container.Names.{view, number_of, capacity_of, IsPassOf, container_in, container_refusal};
 
 use super::{Container, FixedSizeContainer, Pass};
@@ -24,9 +24,9 @@ impl<T: Words, const CAPACITY: usize> Deref for FixedSizeContainer<T, CAPACITY> 
 }
 
 impl<T: Words, const CAPACITY: usize> FixedSizeContainer<T, CAPACITY> {
-    /// A container with the number `id` of values at the indices below CAPACITY, where no value stands (tests say so, no
-    /// clause does), and its first pass, which has not seen the lock. That no other container has this `id` is the
-    /// caller's concern: handles and states tell containers apart by it.
+    /// A container with the number `id` of values at the indices below CAPACITY, where no value stands, and its first
+    /// pass, which has the whole share and has seen nothing. That no other container has this `id` is the caller's
+    /// concern: handles and states tell containers apart by it.
     ///
     /// Refused are, in this order, a CAPACITY above 2^32 - 1 (`ProvidedCapacityGreaterThanMaxCapacity`), 0
     /// (`ProvidedCapacityIsZero`) and memory (`NoMemory`). After `FixedSizeContainer` of the Rust crate.
@@ -35,7 +35,7 @@ impl<T: Words, const CAPACITY: usize> FixedSizeContainer<T, CAPACITY> {
         id: u64,
     ) -> Result<(FixedSizeContainer<T, CAPACITY>, Pass<T>), UniqueIndexCreationError>
         ensures pass { IfOk result
-            (λ r. IsPassOf (container_in r.0) r.1 × (view r.1 ≡ blank CAPACITY)) }
+            (λ r. IsPassOf (container_in r.0) r.1 × (view r.1 ≡ first_view CAPACITY)) }
         ensures capacity { IfOk result (λ r. capacity_of (container_in r.0) ≡ CAPACITY) }
         ensures id { IfOk result (λ r. number_of (container_in r.0) ≡ id) }
         ensures admitted { OnOk result (container_refusal CAPACITY ≡ None) }

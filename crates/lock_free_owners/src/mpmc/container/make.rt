@@ -1,19 +1,18 @@
 //! How a container is made.
 ghost use Rattle.std.specs.Prelude.{◌≡◌, ◌⊎◌, ◌<◌, None, Some, IfOk, IfErr, OnOk};
 ghost use Rattle.steps.specs.declared.enums.UniqueIndexCreationError.TheVariants.{NoMemory};
-ghost use Rattle.lock_free_owners.specs.Robust.Views.{blank};
+ghost use Rattle.history.specs.Views.{first_view};
 ghost use Rattle.lock_free_owners.specs.Container.Names.{view, number_of, capacity_of, IsPassOf, container_refusal};
 
+use super::token::Held;
 use super::{Container, Pass};
-use crate::container::token::Held;
 use atomic_table::Table;
 use lock_free_sp::driver::seated::Seated;
 use std::alloc::{AllocError, Global};
-use std::marker::PhantomData;
 use std::sync::Arc;
 use steps::container::layout::total_words;
 use steps::enums::{UniqueIndexCreationError, capacity_refusal};
-use steps::indices::robust::parts::{COUNTER, EMPTY, FIRST_CELL};
+use steps::indices::robust::parts::{EMPTY, FIRST_CELL};
 use steps::words::Words;
 
 /// A container without a value, and its first pass.
@@ -24,15 +23,15 @@ fn open<T: Words>(
 ) -> Result<(Container<T>, Pass<T>), AllocError>
     requires { 0 < capacity }
     ensures pass { IfOk result (λ r. IsPassOf r.0 r.1) }
-    ensures view { IfOk result (λ r. view r.1 ≡ blank capacity) }
+    ensures view { IfOk result (λ r. view r.1 ≡ first_view capacity) }
     ensures capacity { IfOk result (λ r. capacity_of r.0 ≡ capacity) }
     ensures id { IfOk result (λ r. number_of r.0 ≡ id) }
 {
     let total = total_words(capacity, T::WORDS as u8);
-    let mut words = Vec::with_capacity(alloc, total)?;
+    let mut words = Vec::with_capacity(alloc, total + 1)?;
+    words.push_reserved(0u64);
     words.resize(FIRST_CELL + capacity as usize, EMPTY)?;
-    words.resize(total, 0)?;
-    words[COUNTER] = 0;
+    words.resize(total + 1, 0)?;
     let (table, seat) = Table::of_words(alloc, words.as_slice(), &(capacity as u64))?;
     let table = Arc::new(alloc, table)?;
     let shared = Arc::try_clone(&table)?;
@@ -48,19 +47,15 @@ fn open<T: Words>(
             alloc,
         },
         Pass {
-            token: Held {
-                seated,
-                capacity,
-                of: PhantomData,
-            },
+            token: Held { seated, capacity },
         },
     ))
 }
 
 impl<T: Words> Container<T> {
-    /// A container with the number `id` of values at the indices below `capacity`, where no value stands (tests say so,
-    /// no clause does), and its first pass, which has not seen the lock. That no other container has this `id` is the
-    /// caller's concern: handles and states tell containers apart by it.
+    /// A container with the number `id` of values at the indices below `capacity`, where no value stands, and its first
+    /// pass, which has the whole share and has seen nothing: the history is empty. That no other container has this `id`
+    /// is the caller's concern: handles and states tell containers apart by it.
     ///
     /// Refused are, in this order, a capacity above 2^32 - 1 (`ProvidedCapacityGreaterThanMaxCapacity`), 0
     /// (`ProvidedCapacityIsZero`) and memory (`NoMemory`). This project's own, after `Container` of the Rust crate, which
@@ -70,7 +65,7 @@ impl<T: Words> Container<T> {
         capacity: usize,
         id: u64,
     ) -> Result<(Container<T>, Pass<T>), UniqueIndexCreationError>
-        ensures pass { IfOk result (λ r. IsPassOf r.0 r.1 × (view r.1 ≡ blank capacity)) }
+        ensures pass { IfOk result (λ r. IsPassOf r.0 r.1 × (view r.1 ≡ first_view capacity)) }
         ensures capacity { IfOk result (λ r. capacity_of r.0 ≡ capacity) }
         ensures id { IfOk result (λ r. number_of r.0 ≡ id) }
         ensures admitted { OnOk result (container_refusal capacity ≡ None) }

@@ -1,25 +1,28 @@
 //! How passes are made of one another.
-ghost use Rattle.std.specs.Prelude.{◌≡◌, IfSome};
-ghost use Rattle.lock_free_owners.specs.Robust.Views.{blank, joined};
-ghost use Rattle.lock_free_owners.specs.Container.Names.{view, container_of};
+ghost use Rattle.std.specs.Prelude.{◌≡◌, None, IfSome, IfNone};
+ghost use Rattle.history.specs.Passes.{HasSplit};
+ghost use Rattle.lock_free_owners.specs.Container.Told.{HasJoined};
+ghost use Rattle.lock_free_owners.specs.Container.Names.{view, container_of, code_of, HasHistory, MissesNothing};
 
 use super::Pass;
-use crate::container::token::Held;
-use crate::robust::plays::{Both, Cut};
+use super::drives::{Glance, Settle};
+use super::token::Held;
+use history::plays::{Both, Cut};
 use lock_free_sp::driver::seated::Seated;
-use std::marker::PhantomData;
 use std::sync::Arc;
 use steps::words::Words;
 
 impl<T: Words> Pass<T> {
-    /// A new pass of the same container that has not seen the lock; this one keeps what it has seen. None, and nothing
-    /// changes, where no further pass can be counted (no clause says when). No step on a word of the container. This
-    /// project's own.
+    /// A new pass of the same container, which has seen the same and made nothing; this one keeps all that it made, and
+    /// each has half of the share. None, and nothing changes, where no further pass can be counted (no clause says
+    /// when). No step on a word of the container. This project's own.
     pub fn split(&mut self) -> Option<Pass<T>>
         ensures container { container_of self.new ≡ container_of self.old }
-        ensures view { view self.new ≡ view self.old }
-        ensures new { IfSome result (λ p. (container_of p ≡ container_of self.old)
-            × (view p ≡ blank (view self.old).capacity)) }
+        ensures new { IfSome result (λ p. container_of p ≡ container_of self.old) }
+        ensures cut { IfSome result (λ p. HasSplit (view self.old) (view self.new) (view p)) }
+        ensures going { (view self.new).going ≡ (view self.old).going }
+        ensures idle { IfSome result (λ p. (view p).going ≡ None) }
+        ensures none { IfNone result (view self.new ≡ view self.old) }
     {
         let seated = &mut self.token.seated;
         let Ok(table) = Arc::try_clone(&seated.table) else {
@@ -30,24 +33,28 @@ impl<T: Words> Pass<T> {
             token: Held {
                 seated: Seated { seat, table },
                 capacity: self.token.capacity,
-                of: PhantomData,
             },
         })
     }
 
-    /// Takes in what the other pass of the container has seen. No step on a word of the container. This project's own.
+    /// Takes in what the other pass of the container has made and has seen, with its share. Where the last call of the
+    /// other one rests it ends first. Two loads. This project's own.
     pub fn join(&mut self, other: Pass<T>)
         requires { container_of other ≡ container_of self.old }
         ensures container { container_of self.new ≡ container_of self.old }
-        ensures view { view self.new ≡ joined (view self.old) (view other) }
+        ensures joined { HasJoined (code_of self.old) (view self.old) (view other) (view self.new) }
+        ensures history { HasHistory self.new }
+        ensures all { MissesNothing self.new }
     {
         let Pass { token } = other;
         let Held { seated: other, .. } = token;
-        let Seated { seat, .. } = other;
+        let Seated { mut seat, .. } = other;
         let seated = &mut self.token.seated;
+        let _ = seated.table.shared.load::<Settle>(&mut seat, 0);
         seated
             .table
             .shared
             .join_seat::<Both>(&mut seated.seat, seat);
+        let _ = seated.table.shared.load::<Glance>(&mut seated.seat, 0);
     }
 }

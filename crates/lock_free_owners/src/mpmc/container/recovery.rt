@@ -1,14 +1,24 @@
 //! The call on a container that frees the indices of a dead owner.
-ghost use Rattle.std.specs.Prelude.{◌≡◌, ℕ, false};
-ghost use Rattle.steps.specs.Container.Recover.{recover_after};
-ghost use Rattle.lock_free_owners.specs.declared.robust.view.View.{View};
-ghost use Rattle.lock_free_owners.specs.Robust.Calls.{HasRecovered};
-ghost use Rattle.lock_free_owners.specs.Container.Questions.{TakesValues, HasAsked};
-ghost use Rattle.lock_free_owners.specs.Container.Recovery.{RecoverStands, RecoverGoes, RecoverAsks, RecoverMoves};
-ghost use Rattle.lock_free_owners.specs.Container.Names.{view, container_of, capacity_of, IsPassOf};
+ghost use Rattle.std.specs.Prelude.{◌≡◌, false, []};
+ghost use Rattle.steps.specs.Container.Recover.{first_recover};
+ghost use Rattle.steps.specs.Copied.{value_in};
+ghost use Rattle.model.specs.Coding.{coding_of};
+ghost use Rattle.model.specs.declared.event.Answer.TheVariants.{State};
+ghost use Rattle.model.specs.declared.families.container.ContainerStart.TheVariants as starts;
+ghost use Rattle.model.specs.Families.Indices.Reading.{is_locked};
+ghost use Rattle.model.specs.Families.Queues.Calls.{fresh_cell};
+ghost use Rattle.lock_free_sp.specs.Seats.{seen, IsSame};
+ghost use Rattle.lock_free_owners.specs.Robust.Told.{FoundState};
+ghost use Rattle.lock_free_owners.specs.Container.Questions.{TakesValues};
+ghost use Rattle.lock_free_owners.specs.Container.RecoverTold.{HasRecovered};
+ghost use Rattle.lock_free_owners.specs.Container.RecoverTurns.{RecoverAt, RecoverEnds, RecoverMay, RecoverGoes, RecoverTurns, RecoverAsks, RecoverMoves};
+ghost use Rattle.lock_free_owners.specs.Container.Told.{Answered};
+ghost use Rattle.lock_free_owners.specs.Container.Turns.{IsBoard};
+ghost use Rattle.lock_free_owners.specs.Container.Names.{view, history, code_of, capacity_of, IsPassOf, GoesOn};
 
+use super::rule::Seat;
 use super::{Container, OwnerId, Pass};
-use crate::container::drives::Recovers;
+use std::marker::Brand;
 use std::sync::Wait;
 use steps::ask::After;
 use steps::container::recover::{DeadOwner, Recover, RecoverStage};
@@ -17,61 +27,60 @@ use steps::indices::enums::{ReleaseMode, ReleaseState};
 use steps::routine::Routine;
 use steps::words::Words;
 
-impl<T: Words> Pass<T> {
-    /// Takes one step of the call on the table.
-    #[inline(always)]
-    fn step_recover(
-        &mut self,
-        call: Recover<T, Copied>,
-        given: DeadOwner,
-        room: &mut Copied,
-    ) -> After<Recover<T, Copied>, ReleaseState>
-        requires { (base : View) × RecoverStands T.WORDS base (view self.old) call }
-        ensures container { container_of self.new ≡ container_of self.old }
-        ensures goes { (base : View) → RecoverStands T.WORDS base (view self.old) call
-            → RecoverGoes T.WORDS base result (view self.new) }
-        ensures after { (k : ℕ) × (result ≡ recover_after T.WORDS call given k) }
-    {
-        self.token
-            .seated
-            .step::<Recover<T, Copied>, Recovers>(call, &given, room)
-    }
+/// Takes one step of the call on the table.
+#[inline(always)]
+fn step_recover<T: Words>(
+    seat: &mut Seat<T>,
+    call: Recover<T, Copied>,
+    given: DeadOwner,
+    room: &mut Copied,
+) -> After<Recover<T, Copied>, ReleaseState>
+    requires board { IsBoard T.WORDS seat.old }
+    requires at { RecoverMay (coding_of T.WORDS T.words_of T.value_of) given (seen seat.old) call room.old }
+    ensures same { IsSame seat.old seat.new }
+    ensures board { IsBoard T.WORDS seat.new }
+    ensures goes { RecoverGoes (coding_of T.WORDS T.words_of T.value_of) given (seen seat.old) call room.old
+        result room.new (seen seat.new) }
+{
+    seat.step_telling::<Brand, Recover<T, Copied>>(call, &given, room)
+}
 
-    /// Takes one step of the call, or asks the closure about the value that it has copied. Hands the closure back.
-    #[inline(always)]
-    fn recover_next<F: FnMut(T) -> bool>(
-        &mut self,
-        call: Recover<T, Copied>,
-        given: DeadOwner,
-        room: &mut Copied,
-        predicate: F,
-    ) -> (After<Recover<T, Copied>, ReleaseState>, F)
-        requires stands { (base : View) × RecoverStands T.WORDS base (view self.old) call }
-        requires asks { RecoverAsks F.pre call.stage predicate }
-        ensures container { container_of self.new ≡ container_of self.old }
-        ensures goes { (base : View) → RecoverStands T.WORDS base (view self.old) call
-            → RecoverGoes T.WORDS base result.0 (view self.new) }
-        ensures moves { RecoverMoves (λ p x b q. F.step p x b q) T.WORDS call given call.stage
-            predicate result.0 result.1 }
-    {
-        match call.stage {
-            RecoverStage::LoadsCounter => (self.step_recover(call, given, room), predicate),
-            RecoverStage::LoadsCell { .. } => (self.step_recover(call, given, room), predicate),
-            RecoverStage::LoadsCount { .. } => (self.step_recover(call, given, room), predicate),
-            RecoverStage::LoadsWord { .. } => (self.step_recover(call, given, room), predicate),
-            RecoverStage::ChecksCount { .. } => (self.step_recover(call, given, room), predicate),
-            RecoverStage::Asks { .. } => {
-                let (yes, predicate) = ask(predicate, Recover::<T, Copied>::value(&given, room));
-                let after = call.take(&given, room, if yes { 1 } else { 0 });
-                (after, predicate)
-            }
-            RecoverStage::EmptiesCell { .. } => (self.step_recover(call, given, room), predicate),
-            RecoverStage::Hides { .. } => (self.step_recover(call, given, room), predicate),
-            RecoverStage::Raises { .. } => (self.step_recover(call, given, room), predicate),
-            RecoverStage::Locks { .. } => (self.step_recover(call, given, room), predicate),
-            RecoverStage::LoadsCounterAgain => (self.step_recover(call, given, room), predicate),
-            RecoverStage::AddsChange { .. } => (self.step_recover(call, given, room), predicate),
+/// Takes one step of the call, or asks the closure about the value that it has copied. Hands the closure back.
+#[inline(always)]
+fn recover_next<T: Words, F: FnMut(T) -> bool>(
+    seat: &mut Seat<T>,
+    call: Recover<T, Copied>,
+    given: DeadOwner,
+    room: &mut Copied,
+    predicate: F,
+) -> (After<Recover<T, Copied>, ReleaseState>, F)
+    requires board { IsBoard T.WORDS seat.old }
+    requires at { RecoverMay (coding_of T.WORDS T.words_of T.value_of) given (seen seat.old) call room.old }
+    requires asks { RecoverAsks F.pre call.stage (value_in T.value_of T.WORDS room.old.words) predicate }
+    ensures same { IsSame seat.old seat.new }
+    ensures board { IsBoard T.WORDS seat.new }
+    ensures turns { RecoverTurns (coding_of T.WORDS T.words_of T.value_of) given call.stage (seen seat.old) call
+        room.old result.0 room.new (seen seat.new) }
+    ensures moves { RecoverMoves (λ p x b q. F.step p x b q) T.WORDS call given call.stage
+        (value_in T.value_of T.WORDS room.old.words) predicate result.0 result.1 }
+{
+    match call.stage {
+        RecoverStage::LoadsCounter => (step_recover(seat, call, given, room), predicate),
+        RecoverStage::LoadsCell { .. } => (step_recover(seat, call, given, room), predicate),
+        RecoverStage::LoadsCount { .. } => (step_recover(seat, call, given, room), predicate),
+        RecoverStage::LoadsWord { .. } => (step_recover(seat, call, given, room), predicate),
+        RecoverStage::ChecksCount { .. } => (step_recover(seat, call, given, room), predicate),
+        RecoverStage::Asks { .. } => {
+            let (yes, predicate) = ask(predicate, Recover::<T, Copied>::value(&given, room));
+            let after = call.take(&given, room, if yes { 1 } else { 0 });
+            (after, predicate)
         }
+        RecoverStage::EmptiesCell { .. } => (step_recover(seat, call, given, room), predicate),
+        RecoverStage::Hides { .. } => (step_recover(seat, call, given, room), predicate),
+        RecoverStage::Raises { .. } => (step_recover(seat, call, given, room), predicate),
+        RecoverStage::Locks { .. } => (step_recover(seat, call, given, room), predicate),
+        RecoverStage::LoadsCounterAgain => (step_recover(seat, call, given, room), predicate),
+        RecoverStage::AddsChange { .. } => (step_recover(seat, call, given, room), predicate),
     }
 }
 
@@ -85,38 +94,43 @@ fn ask<T: Words, F: FnMut(T) -> bool>(mut predicate: F, value: T) -> (bool, F)
     (yes, predicate)
 }
 
-impl<T: Words> Container<T> {
-    /// Frees the indices that the closure says yes to. Hands the closure back.
-    fn free_all<F: FnMut(T) -> bool>(
-        &self,
-        rt: &impl Wait,
-        owner: OwnerId,
-        mode: ReleaseMode,
-        mut predicate: F,
-        pass: &mut Pass<T>,
-    ) -> (ReleaseState, F)
-        requires pass { IsPassOf self.now pass.old }
-        requires questions { (view pass.old).locked ≡ false → TakesValues F.pre
-            (λ p x b q. F.step p x b q) (capacity_of self.now) predicate }
-        ensures container { container_of pass.new ≡ container_of pass.old }
-        ensures recovered { HasRecovered result.0 (view pass.old) (view pass.new) }
-        ensures asked { HasAsked (λ p x b q. F.step p x b q) (capacity_of self.now)
-            (view pass.old).locked predicate result.1 }
-    {
-        let mut room = Copied::new();
-        let mut call = Recover::new(pass.token.capacity);
-        for _ in rt.forever() {
-            let given = DeadOwner { owner, mode };
-            let (after, next_predicate) = pass.recover_next(call, given, &mut room, predicate);
-            predicate = next_predicate;
-            match after {
-                After::GoOn(next) => call = next,
-                After::Done(state) => return (state, predicate),
-            }
+/// Frees the indices that the closure says yes to. Hands the closure back.
+fn free_all<T: Words, F: FnMut(T) -> bool>(
+    seat: &mut Seat<T>,
+    rt: &impl Wait,
+    capacity: u32,
+    owner: OwnerId,
+    mode: ReleaseMode,
+    mut predicate: F,
+) -> (ReleaseState, F)
+    requires board { IsBoard T.WORDS seat.old }
+    requires known { (seen seat.old).capacity ≡ capacity }
+    requires at { RecoverAt (coding_of T.WORDS T.words_of T.value_of) (record { owner = owner; mode = mode })
+        (seen seat.old) (seen seat.old) (first_recover capacity) (fresh_cell, []) }
+    requires questions { is_locked (seen seat.old).seen ≡ false → TakesValues F.pre
+        (λ p x b q. F.step p x b q) capacity predicate }
+    ensures same { IsSame seat.old seat.new }
+    ensures board { IsBoard T.WORDS seat.new }
+    ensures ends { (m : _) × RecoverEnds (coding_of T.WORDS T.words_of T.value_of)
+        (record { owner = owner; mode = mode }) (seen seat.old) result.0 m (seen seat.new) }
+    ensures recovered { HasRecovered (coding_of T.WORDS T.words_of T.value_of) (λ p x b q. F.step p x b q)
+        (record { owner = owner; mode = mode }) result.0 capacity predicate result.1 (seen seat.old) (seen seat.new) }
+{
+    let mut room = Copied { words: [0; 128] };
+    let mut call = Recover::new(capacity);
+    for _ in rt.forever() {
+        let given = DeadOwner { owner, mode };
+        let (after, next_predicate) = recover_next(seat, call, given, &mut room, predicate);
+        predicate = next_predicate;
+        match after {
+            After::GoOn(next) => call = next,
+            After::Done(state) => return (state, predicate),
         }
-        unreachable!()
     }
+    unreachable!()
+}
 
+impl<T: Words> Container<T> {
     /// Asks `predicate` about a copy of each value of `owner`, by ascending index, at most once for each, and frees the
     /// index where the answer is true and `owner` still has it. An index of `owner` without a value is freed without a
     /// question. In mode `LockIfLastIndex` the container is locked where no index has an owner after one was freed,
@@ -126,9 +140,11 @@ impl<T: Words> Container<T> {
     /// Where the container is locked at the beginning `predicate` is not called: so where the pass has seen the lock. A
     /// recovery that meets the lock right after it has freed an index comes to no further index, counts its change and
     /// answers `Locked`. Whatever it answers, it counts as a change for `update_state`. That `owner` is dead for good is the
-    /// caller's concern; nobody acts for it from then on. That only values of `owner` are asked about, that each of
-    /// them which stands through the whole call is, that each copy is whole, and what is freed, is tested. Where a
-    /// remove stopped before it hid the value, and `owner` was given the index, it is the value of an earlier owner.
+    /// caller's concern; nobody acts for it from then on. It is a call of the history, in which it copied and asked about
+    /// just what `predicate` was asked, in turn, and was told to free, and freed, just indices about which it said yes,
+    /// or at which it found no value. That only values of `owner` are asked about, that each of them which stands through
+    /// the whole call is, and that each copy is whole, is tested. Where a remove stopped before it hid the value, and
+    /// `owner` was given the index, it is the value of an earlier owner.
     ///
     /// At most 3 atomic steps and for each index 7 + `T::WORDS` where nobody else steps in between, in mode
     /// `LockIfLastIndex` for each index that is freed as many more as the capacity and 3; else it may try again for as
@@ -142,14 +158,24 @@ impl<T: Words> Container<T> {
         pass: &mut Pass<T>,
     ) -> ReleaseState
         requires pass { IsPassOf self.now pass.old }
-        requires questions { (view pass.old).locked ≡ false → TakesValues F.pre
+        requires questions { is_locked (history pass.old) ≡ false → TakesValues F.pre
             (λ p x b q. F.step p x b q) (capacity_of self.now) predicate }
-        ensures container { container_of pass.new ≡ container_of pass.old }
-        ensures recovered { HasRecovered result (view pass.old) (view pass.new) }
-        ensures asked { (last : F) × HasAsked (λ p x b q. F.step p x b q) (capacity_of self.now)
-            (view pass.old).locked predicate last }
+        ensures goes_on { GoesOn pass.old pass.new }
+        ensures recovered { (last : F) × HasRecovered (code_of pass.old) (λ p x b q. F.step p x b q)
+            (record { owner = owner; mode = mode }) result (capacity_of self.now) predicate last
+            (view pass.old) (view pass.new) }
+        ensures answered { Answered (code_of pass.old) (starts.Recover owner mode) (State result)
+            (view pass.old) (view pass.new) }
+        ensures lock { FoundState result (view pass.old) (view pass.new) }
     {
-        let (state, _) = self.free_all(rt, owner, mode, predicate, pass);
+        let (state, _) = free_all(
+            &mut pass.token.seated,
+            rt,
+            pass.token.capacity,
+            owner,
+            mode,
+            predicate,
+        );
         state
     }
 }

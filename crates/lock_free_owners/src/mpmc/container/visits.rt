@@ -1,108 +1,131 @@
 //! The call on a container that comes to the values of an owner.
-ghost use Rattle.std.specs.Prelude.{◌≡◌, ℕ};
-ghost use Rattle.steps.specs.Container.Find.{find_after};
-ghost use Rattle.lock_free_owners.specs.Container.Callable.{TakesVisits, HasFound};
-ghost use Rattle.lock_free_owners.specs.Container.Visits.{FindStands, FindAsks, FindMoves};
-ghost use Rattle.lock_free_owners.specs.Container.Names.{view, container_of, capacity_of, IsPassOf, IsHandleFor};
+ghost use Rattle.std.specs.Prelude.{◌≡◌, ◌<◌, List, []};
+ghost use Rattle.steps.specs.Container.Find.{first_find};
+ghost use Rattle.steps.specs.Copied.{value_in};
+ghost use Rattle.model.specs.Coding.{coding_of};
+ghost use Rattle.model.specs.Families.Queues.Calls.{fresh_cell};
+ghost use Rattle.model.specs.declared.turn.Kind.TheVariants as kinds;
+ghost use Rattle.lock_free_sp.specs.Seats.{seen, IsSame};
+ghost use Rattle.history.specs.Passes.{Goes};
+ghost use Rattle.lock_free_owners.specs.Container.Callable.{Visit, TakesVisits, HasFound};
+ghost use Rattle.lock_free_owners.specs.Container.FindTold.{HasSearched};
+ghost use Rattle.lock_free_owners.specs.Container.FindTurns.{FindAt, FindMay, FindGoes, FindTurns, IsLeft};
+ghost use Rattle.lock_free_owners.specs.Container.Turns.{IsBoard};
+ghost use Rattle.lock_free_owners.specs.Container.Visits.{IsNamed, FindAsks, FindMoves};
+ghost use Rattle.lock_free_owners.specs.Container.Names.{view, code_of, container_of, capacity_of, IsPassOf, IsHandleFor};
 
+use super::rule::Seat;
 use super::{CallbackProgression, Container, ContainerHandle, OwnerId, Pass};
-use crate::container::drives::Finds;
+use std::marker::Brand;
 use steps::ask::After;
 use steps::container::find::{Find, FindStage};
 use steps::copied::Copied;
 use steps::routine::Routine;
 use steps::words::Words;
 
-impl<T: Words> Pass<T> {
-    /// Takes one step of the call on the table.
-    #[inline(always)]
-    fn step_find(
-        &mut self,
-        call: Find<T, Copied>,
-        owner: OwnerId,
-        room: &mut Copied,
-    ) -> After<Find<T, Copied>, usize>
-        requires { FindStands T.WORDS (view self.old) call }
-        ensures container { container_of self.new ≡ container_of self.old }
-        ensures view { view self.new ≡ view self.old }
-        ensures after { (k : ℕ) × (result ≡ find_after T.WORDS call owner k) }
-    {
-        self.token
-            .seated
-            .step::<Find<T, Copied>, Finds>(call, &owner, room)
-    }
+/// Takes one step of the call on the table.
+#[inline(always)]
+fn step_find<T: Words>(
+    seat: &mut Seat<T>,
+    call: Find<T, Copied>,
+    owner: OwnerId,
+    room: &mut Copied,
+) -> After<Find<T, Copied>, usize>
+    requires board { IsBoard T.WORDS seat.old }
+    requires at { FindMay (coding_of T.WORDS T.words_of T.value_of) owner (seen seat.old) call room.old }
+    ensures same { IsSame seat.old seat.new }
+    ensures board { IsBoard T.WORDS seat.new }
+    ensures goes { FindGoes (coding_of T.WORDS T.words_of T.value_of) owner (seen seat.old) call room.old
+        result room.new (seen seat.new) }
+{
+    seat.step_telling::<Brand, Find<T, Copied>>(call, &owner, room)
+}
 
-    /// Takes one step of the call, or asks the closure about the value that it has copied. Hands the closure back.
-    #[inline(always)]
-    fn find_next<F: FnMut(T, ContainerHandle) -> CallbackProgression>(
-        &mut self,
-        call: Find<T, Copied>,
-        owner: OwnerId,
-        id: u64,
-        room: &mut Copied,
-        mut visit: F,
-    ) -> (After<Find<T, Copied>, usize>, F)
-        requires stands { FindStands T.WORDS (view self.old) call }
-        requires asks { FindAsks F.pre owner id call.stage visit }
-        ensures container { container_of self.new ≡ container_of self.old }
-        ensures view { view self.new ≡ view self.old }
-        ensures moves { FindMoves (λ p x h a q. F.step p x h a q) T.WORDS id call owner call.stage visit
-            result.0 result.1 }
-    {
-        match call.stage {
-            FindStage::LoadsCell { .. } => (self.step_find(call, owner, room), visit),
-            FindStage::LoadsCount { .. } => (self.step_find(call, owner, room), visit),
-            FindStage::LoadsWord { .. } => (self.step_find(call, owner, room), visit),
-            FindStage::ChecksCount { .. } => (self.step_find(call, owner, room), visit),
-            FindStage::Asks { index, .. } => {
-                let handle = ContainerHandle {
-                    index,
-                    owner,
-                    container: id,
-                };
-                let answer = match visit(Find::<T, Copied>::value(&owner, room), handle) {
-                    CallbackProgression::Continue => 1,
-                    CallbackProgression::Stop => 0,
-                };
-                (call.take(&owner, room, answer), visit)
-            }
+/// Takes one step of the call, or asks the closure about the value that it has copied. Hands the closure back.
+#[inline(always)]
+fn find_next<T: Words, F: FnMut(T, ContainerHandle) -> CallbackProgression>(
+    seat: &mut Seat<T>,
+    call: Find<T, Copied>,
+    owner: OwnerId,
+    id: u64,
+    room: &mut Copied,
+    mut visit: F,
+) -> (After<Find<T, Copied>, usize>, F)
+    requires board { IsBoard T.WORDS seat.old }
+    requires at { FindMay (coding_of T.WORDS T.words_of T.value_of) owner (seen seat.old) call room.old }
+    requires asks { FindAsks F.pre owner id call.stage (value_in T.value_of T.WORDS room.old.words) visit }
+    ensures same { IsSame seat.old seat.new }
+    ensures board { IsBoard T.WORDS seat.new }
+    ensures turns { FindTurns (coding_of T.WORDS T.words_of T.value_of) owner call.stage (seen seat.old) call
+        room.old result.0 room.new (seen seat.new) }
+    ensures moves { FindMoves (λ p x h a q. F.step p x h a q) T.WORDS id call owner call.stage
+        (value_in T.value_of T.WORDS room.old.words) visit result.0 result.1 }
+{
+    match call.stage {
+        FindStage::LoadsCell { .. } => (step_find(seat, call, owner, room), visit),
+        FindStage::LoadsCount { .. } => (step_find(seat, call, owner, room), visit),
+        FindStage::LoadsWord { .. } => (step_find(seat, call, owner, room), visit),
+        FindStage::ChecksCount { .. } => (step_find(seat, call, owner, room), visit),
+        FindStage::Asks { index, .. } => {
+            let handle = ContainerHandle {
+                index,
+                owner,
+                container: id,
+            };
+            let answer = match visit(Find::<T, Copied>::value(&owner, room), handle) {
+                CallbackProgression::Continue => 1,
+                CallbackProgression::Stop => 0,
+            };
+            (call.take(&owner, room, answer), visit)
+        }
+    }
+}
+
+/// Comes to the indices of the owner: how many it came to. Hands the closure back.
+fn find_all<T: Words, F: FnMut(T, ContainerHandle) -> CallbackProgression>(
+    seat: &mut Seat<T>,
+    capacity: u32,
+    owner: OwnerId,
+    id: u64,
+    mut visit: F,
+) -> (usize, F)
+    requires board { IsBoard T.WORDS seat.old }
+    requires known { (seen seat.old).capacity ≡ capacity }
+    requires places { 0 < capacity }
+    requires at { FindAt (coding_of T.WORDS T.words_of T.value_of) owner (seen seat.old) (seen seat.old)
+        (first_find capacity) (fresh_cell, []) }
+    requires visits { TakesVisits F.pre (λ p x h a q. F.step p x h a q)
+        (IsNamed capacity owner id) visit }
+    ensures same { IsSame seat.old seat.new }
+    ensures board { IsBoard T.WORDS seat.new }
+    ensures left { IsLeft (coding_of T.WORDS T.words_of T.value_of) (seen seat.old) (seen seat.new) }
+    ensures found { (visits : List (Visit T))
+        × HasSearched (coding_of T.WORDS T.words_of T.value_of) owner result.0 visits (seen seat.old)
+        (seen seat.new)
+        × HasFound (λ p x h a q. F.step p x h a q) capacity (IsNamed capacity owner id) visit
+        result.0 visits result.1 }
+{
+    let mut room = Copied { words: [0; 128] };
+    let mut call = Find::new(capacity);
+    loop {
+        let (after, next_visit) = find_next(seat, call, owner, id, &mut room, visit);
+        visit = next_visit;
+        match after {
+            After::GoOn(next) => call = next,
+            After::Done(found) => return (found, visit),
         }
     }
 }
 
 impl<T: Words> Container<T> {
-    /// Comes to the indices of the owner: how many it came to. Hands the closure back.
-    fn visit_all<F: FnMut(T, ContainerHandle) -> CallbackProgression>(
-        &self,
-        owner: OwnerId,
-        mut visit: F,
-        pass: &mut Pass<T>,
-    ) -> (usize, F)
-        requires pass { IsPassOf self.now pass.old }
-        requires visits { TakesVisits F.pre (λ p x h a q. F.step p x h a q)
-            (IsHandleFor self.now owner) visit }
-        ensures container { container_of pass.new ≡ container_of pass.old }
-        ensures view { view pass.new ≡ view pass.old }
-        ensures found { HasFound (λ p x h a q. F.step p x h a q) (capacity_of self.now)
-            (IsHandleFor self.now owner) visit result.0 result.1 }
-    {
-        let mut room = Copied::new();
-        let mut call = Find::new(pass.token.capacity);
-        loop {
-            let (after, next_visit) = pass.find_next(call, owner, self.id, &mut room, visit);
-            visit = next_visit;
-            match after {
-                After::GoOn(next) => call = next,
-                After::Done(found) => return (found, visit),
-            }
-        }
-    }
-
     /// Comes to the indices of `owner`, ascending, each at most once and below the capacity, and calls `visit` with a
     /// copy of the value that stands there and the handle that names it, until it says `Stop`: how many indices it came
     /// to, the one on which it was told to stop among them. An index without a value, or whose value has changed while
     /// it was copied, counts too, but `visit` is not called there. That it comes to each index that `owner` has through
     /// the whole call, up to the one on which it is told to stop, and that a copy is whole, is tested.
+    ///
+    /// It is a call of the history, in which it copied just what `visit` was called with, in turn. A find that an answer ends, a `Stop` or the one at the last index, rests: its end is an event of
+    /// the history once the pass takes its next step, before anything else that the pass does.
     ///
     /// It counts also the indices whose add met the lock, since they keep their owner. Each value may have been removed
     /// by the time that `visit` is called with it. Where a remove stopped before it hid the value, and the index was
@@ -118,11 +141,20 @@ impl<T: Words> Container<T> {
         requires visits { TakesVisits F.pre (λ p x h a q. F.step p x h a q)
             (IsHandleFor self.now owner) visit }
         ensures container { container_of pass.new ≡ container_of pass.old }
-        ensures view { view pass.new ≡ view pass.old }
-        ensures found { (last : F) × HasFound (λ p x h a q. F.step p x h a q) (capacity_of self.now)
-            (IsHandleFor self.now owner) visit result last }
+        ensures goes { Goes (code_of pass.old) kinds.Container (container_of pass.old).capacity
+            (view pass.old) (view pass.new) }
+        ensures found { (visits : List (Visit T)) × (last : F)
+            × HasSearched (code_of pass.old) owner result visits (view pass.old) (view pass.new)
+            × HasFound (λ p x h a q. F.step p x h a q) (capacity_of self.now)
+            (IsHandleFor self.now owner) visit result visits last }
     {
-        let (found, _) = self.visit_all(owner, visit, pass);
+        let (found, _) = find_all(
+            &mut pass.token.seated,
+            pass.token.capacity,
+            owner,
+            self.id,
+            visit,
+        );
         found
     }
 }

@@ -8,7 +8,6 @@ use history::view::View;
 use lock_free_sp::driver::rule::Drives;
 use steps::indices::robust::acquire::Acquire;
 use steps::indices::robust::looks::{BorrowedIndices, IsLocked};
-use steps::indices::robust::recover::Recover;
 use steps::indices::robust::release::Release;
 
 /// Taking an index for an owner.
@@ -32,17 +31,6 @@ impl Drives<View<u64>, Release> for Gives {
     ghost at = { λ given. At one_word kinds.Robust (gives_owned given) };
 
     ghost ends = { λ given. Ends one_word kinds.Robust (gives_owned given) };
-}
-
-/// Freeing the indices of dead owners.
-pub struct Recovers;
-
-impl Drives<View<u64>, Recover> for Recovers {
-    ghost use Rattle.lock_free_owners.specs.Robust.Turns.{RecoverAt, RecoverEnds};
-
-    ghost at = { RecoverAt };
-
-    ghost ends = { RecoverEnds };
 }
 
 /// Counting the indices that have an owner.

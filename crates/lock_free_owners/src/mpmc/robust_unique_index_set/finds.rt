@@ -1,14 +1,21 @@
-//! The find on a set: it comes to the indices of an owner.
-ghost use Rattle.std.specs.Prelude.{◌≡◌, ◌<◌};
+//! The find on a set: it comes to the indices of an owner. The loads of cells have a loop of their own.
+ghost use Rattle.std.specs.Prelude.{◌≡◌, ◌+◌, ◌<◌, ◌≢◌, ℕ};
+ghost use Rattle.steps.specs.Indices.Robust.Find.{find_after, find_left};
 ghost use Rattle.steps.specs.Indices.Robust.Parts.{cell_word};
+ghost use Rattle.steps.specs.declared.ask.After.TheVariants.{GoOn};
+ghost use Rattle.steps.specs.declared.enums.CallbackProgression.{CallbackProgression as Progression};
 ghost use Rattle.steps.specs.declared.enums.CallbackProgression.TheVariants.{Continue};
+ghost use Rattle.steps.specs.declared.indices.robust.find.FindStage.TheVariants as stages;
 ghost use Rattle.model.specs.Coding.{one_word};
 ghost use Rattle.model.specs.declared.turn.Kind.TheVariants as kinds;
 ghost use Rattle.lock_free_sp.specs.Callable.{TakesPlaces};
 ghost use Rattle.lock_free_sp.specs.Seats.{seen, IsSame};
+ghost use Rattle.history.specs.declared.view.View.{View};
 ghost use Rattle.history.specs.Views.{Looks, LooksAt};
 ghost use Rattle.lock_free_owners.specs.Robust.Callable.{HasFound};
-ghost use Rattle.lock_free_owners.specs.Robust.Turns.{IsBoard, FindAsks, FindMoves};
+ghost use Rattle.lock_free_owners.specs.Robust.Finding.{FindAsks, GoesDown, Searching, Onward};
+ghost use Rattle.lock_free_owners.specs.Robust.Stages.{says};
+ghost use Rattle.lock_free_owners.specs.Robust.Turns.{IsBoard};
 ghost use Rattle.lock_free_owners.specs.RobustUniqueIndexSet.{view, history, set_of, capacity_of, IsPassOf, GoesOn};
 
 use super::drives::LookAt;
@@ -16,51 +23,130 @@ use super::rule::Seat;
 use super::{CallbackProgression, OwnerId, Pass, RobustUniqueIndexSet};
 use steps::ask::After;
 use steps::indices::robust::find::{Find, FindStage};
-use steps::indices::robust::parts::cell_word;
+use steps::indices::robust::parts::FIRST_CELL;
 use steps::routine::Routine;
 
-/// What stands in the cell of an index: one step, a look at the history too.
+/// What stands in the cell of an index: one step, a look at the history too. An index is a `usize` here, so that no turn
+/// of a loop has to widen it.
 #[inline(always)]
-fn look_at(seat: &mut Seat, index: u32) -> u64
+fn look_at(seat: &mut Seat, _capacity: u32, cell: usize) -> u64
     requires board { IsBoard seat.old }
     requires some { 0 < (seen seat.old).share.part }
-    requires cell { index < (seen seat.old).capacity }
+    requires known { (seen seat.old).capacity ≡ _capacity }
+    requires within { cell < _capacity }
     ensures same { IsSame seat.old seat.new }
     ensures board { IsBoard seat.new }
-    ensures looks { LooksAt one_word kinds.Robust (seen seat.old).capacity (cell_word index)
-        (seen seat.old) result (seen seat.new) }
+    ensures looks { LooksAt one_word kinds.Robust _capacity (cell_word cell) (seen seat.old) result (seen seat.new) }
 {
     seat.table
         .shared
-        .load::<LookAt>(&mut seat.seat, cell_word(index))
+        .load::<LookAt>(&mut seat.seat, FIRST_CELL + cell)
 }
 
-/// Takes one step of the call, or asks the closure about the index that it has come to. Hands the closure back.
+/// Takes the steps of the call that load cells, from this one on, past those without the owner. Their loop keeps the
+/// index alone, and makes a call of it where it ends. What that tells is for a closure of the type F.
+#[inline(always)]
+fn pass_over<F: FnMut(usize) -> CallbackProgression>(
+    seat: &mut Seat,
+    capacity: u32,
+    first: u32,
+    so_many: usize,
+    owner: OwnerId,
+) -> After<Find, usize>
+    requires board { IsBoard seat.old }
+    requires some { 0 < (seen seat.old).share.part }
+    requires known { (seen seat.old).capacity ≡ capacity }
+    requires within { first < capacity }
+    ensures same { IsSame seat.old seat.new }
+    ensures board { IsBoard seat.new }
+    ensures less { GoesDown capacity (find_left capacity (stages.LoadsCell first so_many)) result }
+    ensures goes { (base : View ℕ) (f p : F)
+        → Searching (λ q x a r. F.step q x a r) capacity owner base f (seen seat.old)
+        (record { capacity = capacity; stage = stages.LoadsCell first so_many }) p
+        → Onward (λ q x a r. F.step q x a r) capacity owner base f result (seen seat.new) p }
+{
+    let mut cell = first as usize;
+    'cells: loop {
+        let stands = look_at(seat, capacity, cell);
+        if stands == owner.value() {
+            let here = at_cell(capacity, cell as u32, so_many);
+            return here.take(&owner, &mut (), stands);
+        }
+        cell = next_cell(capacity, cell);
+        if cell >= capacity as usize {
+            let last = at_cell(capacity, capacity - 1, so_many);
+            return last.take(&owner, &mut (), stands);
+        }
+    }
+}
+
+/// The cell behind one of another owner, or of none, to which a find goes on if there is one.
+#[inline(always)]
+fn next_cell(capacity: u32, cell: usize) -> usize
+    requires { cell < capacity }
+    ensures next { result ≡ cell + 1 }
+    ensures after { result < capacity → (so_many owner stands : ℕ) → stands ≢ owner
+        → find_after (record { capacity = capacity; stage = stages.LoadsCell cell so_many }) owner stands
+        ≡ GoOn (record { capacity = capacity; stage = stages.LoadsCell result so_many }) }
+{
+    cell + 1
+}
+
+/// A find that comes to a cell, and has come to so many indices.
+#[inline(always)]
+fn at_cell(capacity: u32, index: u32, so_many: usize) -> Find
+    ensures { result ≡ record { capacity = capacity; stage = stages.LoadsCell index so_many } }
+{
+    Find {
+        capacity,
+        stage: FindStage::LoadsCell {
+            index,
+            found: so_many,
+        },
+    }
+}
+
+/// Calls the closure with the index: its answer, as the call takes it. Hands the closure back.
+#[inline(always)]
+fn hear<F: FnMut(usize) -> CallbackProgression>(mut visit: F, index: u32) -> (u64, F)
+    requires { F.pre visit index }
+    ensures { (a : Progression) × F.step visit index a result.1 × (result.0 ≡ says a) }
+{
+    let answer = match visit(index as usize) {
+        CallbackProgression::Continue => 1,
+        CallbackProgression::Stop => 0,
+    };
+    (answer, visit)
+}
+
+/// Takes steps of the call, or asks the closure about the index that it has come to. Hands the closure back.
 #[inline(always)]
 fn find_next<F: FnMut(usize) -> CallbackProgression>(
     seat: &mut Seat,
+    capacity: u32,
     call: Find,
     owner: OwnerId,
-    mut visit: F,
+    visit: F,
 ) -> (After<Find, usize>, F)
     requires board { IsBoard seat.old }
     requires some { 0 < (seen seat.old).share.part }
-    requires asks { FindAsks F.pre (seen seat.old) call.stage visit }
+    requires known { (seen seat.old).capacity ≡ capacity }
+    requires call { call.capacity ≡ capacity }
+    requires asks { FindAsks F.pre capacity call.stage visit }
     ensures same { IsSame seat.old seat.new }
     ensures board { IsBoard seat.new }
-    ensures moves { FindMoves (λ p x a q. F.step p x a q) call owner call.stage (seen seat.old) visit
-        result.0 (seen seat.new) result.1 }
+    ensures less { GoesDown capacity (find_left capacity call.stage) result.0 }
+    ensures goes { (base : View ℕ) (f : F)
+        → Searching (λ q x a r. F.step q x a r) capacity owner base f (seen seat.old) call visit
+        → Onward (λ q x a r. F.step q x a r) capacity owner base f result.0 (seen seat.new) result.1 }
 {
     match call.stage {
-        FindStage::LoadsCell { index, .. } => {
-            let found = look_at(seat, index);
-            (call.take(&owner, &mut (), found), visit)
+        FindStage::LoadsCell { index, found } => {
+            let after = pass_over::<F>(seat, capacity, index, found, owner);
+            (after, visit)
         }
         FindStage::Asks { index, .. } => {
-            let answer = match visit(index as usize) {
-                CallbackProgression::Continue => 1,
-                CallbackProgression::Stop => 0,
-            };
+            let (answer, visit) = hear(visit, index);
             (call.take(&owner, &mut (), answer), visit)
         }
     }
@@ -86,7 +172,7 @@ fn find_all<F: FnMut(usize) -> CallbackProgression>(
 {
     let mut call = Find::new(capacity);
     loop {
-        let (after, next_visit) = find_next(seat, call, owner, visit);
+        let (after, next_visit) = find_next(seat, capacity, call, owner, visit);
         visit = next_visit;
         match after {
             After::GoOn(next) => call = next,

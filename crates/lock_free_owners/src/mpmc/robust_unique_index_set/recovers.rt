@@ -1,5 +1,5 @@
 //! The recovery on a set: it frees the indices of dead owners. The loads of cells have a loop of their own.
-ghost use Rattle.std.specs.Prelude.{◌≡◌, ◌+◌, ◌<◌, ℕ, false, None, IsTrue, IsFalse};
+ghost use Rattle.std.specs.Prelude.{◌≡◌, ◌+◌, ◌<◌, ℕ, false, None, List, [], IsTrue, IsFalse};
 ghost use Rattle.steps.specs.Indices.Robust.Parts.{empty};
 ghost use Rattle.steps.specs.Indices.Robust.Recover.{first_recover, recover_after};
 ghost use Rattle.steps.specs.declared.ask.After.TheVariants.{GoOn};
@@ -12,15 +12,15 @@ ghost use Rattle.model.specs.declared.turn.Kind.TheVariants as kinds;
 ghost use Rattle.model.specs.Coding.{one_word};
 ghost use Rattle.model.specs.Families.Indices.Reading.{is_locked};
 ghost use Rattle.history.specs.History.{IsMachine};
+ghost use Rattle.history.specs.Robust.{Visit};
 ghost use Rattle.lock_free_sp.specs.Driver.{OwesAsk};
 ghost use Rattle.lock_free_sp.specs.Seats.{seen, table_of, key_of, IsSame};
 ghost use Rattle.lock_free_owners.specs.Robust.Callable.{TakesQuestions, TakesFreed, HasVisited};
 ghost use Rattle.lock_free_owners.specs.Robust.Stages.{HasPassed, PassesCells, LooksAgain, RecoverAsks, RecoverMoves, has_freed};
 ghost use Rattle.lock_free_owners.specs.Robust.Told.{HasRecovered, Answered, FoundState};
-ghost use Rattle.lock_free_owners.specs.Robust.Turns.{IsBoard, RecoverAt, RecoverEnds, RecoverStands, RecoverGoes};
+ghost use Rattle.lock_free_owners.specs.Robust.Turns.{IsBoard, RecoverAt, RecoverEnds, RecoverStands, RecoverGoes, RecoverSteps};
 ghost use Rattle.lock_free_owners.specs.RobustUniqueIndexSet.{view, history, capacity_of, IsPassOf, GoesOn};
 
-use super::drives::Recovers;
 use super::rule::Seat;
 use super::{OwnerId, Pass, RobustUniqueIndexSet};
 use history::view::View;
@@ -41,10 +41,10 @@ fn step_recover(seat: &mut Seat, call: Recover, mode: ReleaseMode) -> After<Reco
     requires at { RecoverStands mode (seen seat.old) call }
     ensures same { IsSame seat.old seat.new }
     ensures board { IsBoard seat.new }
-    ensures after { (k : ℕ) × (result ≡ recover_after call mode k) }
-    ensures goes { RecoverGoes mode (seen seat.old) call result (seen seat.new) }
+    ensures goes { (k : ℕ) × (result ≡ recover_after call mode k)
+        × RecoverSteps mode (seen seat.old) call k result (seen seat.new) }
 {
-    seat.step::<Recover, Recovers>(call, &mode, &mut ())
+    seat.step_telling::<Brand, Recover>(call, &mode, &mut ())
 }
 
 /// Loads a cell, for a call that has come to it. What that tells is picked where it is called.
@@ -77,7 +77,8 @@ fn load_cell(seat: &mut Seat, capacity: u32, cell: usize, mode: ReleaseMode) -> 
     ensures same { IsSame seat.old seat.new }
     ensures board { IsBoard seat.new }
     ensures goes { RecoverGoes mode (seen seat.old) (record { capacity = capacity; stage = stages.LoadsCell cell })
-        (recover_after (record { capacity = capacity; stage = stages.LoadsCell cell }) mode result) (seen seat.new) }
+        (λ visits. visits) (recover_after (record { capacity = capacity; stage = stages.LoadsCell cell }) mode result)
+        (seen seat.new) }
 {
     load_for::<Brand>(seat, capacity, cell, mode)
 }
@@ -97,7 +98,7 @@ fn pass_over(
     ensures board { IsBoard seat.new }
     ensures passed { HasPassed first result }
     ensures goes { RecoverGoes mode (seen seat.old) (record { capacity = capacity; stage = stages.LoadsCell first })
-        result (seen seat.new) }
+        (λ visits. visits) result (seen seat.new) }
 {
     let mut cell = first as usize;
     'cells: loop {
@@ -134,7 +135,7 @@ fn pass_first(seat: &mut Seat, call: Recover, mode: ReleaseMode) -> After<Recove
     ensures same { IsSame seat.old seat.new }
     ensures board { IsBoard seat.new }
     ensures passed { PassesCells call call.stage result }
-    ensures goes { RecoverGoes mode (seen seat.old) call result (seen seat.new) }
+    ensures goes { RecoverGoes mode (seen seat.old) call (λ visits. visits) result (seen seat.new) }
 {
     let stage = call.stage;
     match stage {
@@ -151,7 +152,7 @@ fn look_again(seat: &mut Seat, call: Recover, mode: ReleaseMode) -> After<Recove
     ensures same { IsSame seat.old seat.new }
     ensures board { IsBoard seat.new }
     ensures looked { LooksAgain call mode call.stage result }
-    ensures goes { RecoverGoes mode (seen seat.old) call result (seen seat.new) }
+    ensures goes { RecoverGoes mode (seen seat.old) call (λ visits. visits) result (seen seat.new) }
 {
     let stage = call.stage;
     match stage {
@@ -175,9 +176,9 @@ fn recover_next<F: FnMut(OwnerId, usize) -> bool, S: FnMut(OwnerId, usize)>(
     requires asks { RecoverAsks F.pre S.pre call.stage predicate recovered }
     ensures same { IsSame seat.old seat.new }
     ensures board { IsBoard seat.new }
-    ensures goes { RecoverGoes mode (seen seat.old) call result.0 (seen seat.new) }
-    ensures moves { RecoverMoves (λ p o i b q. F.step p o i b q) (λ s o i t. S.step s o i tt t)
-        call mode call.stage predicate recovered result.0 result.1 result.2 }
+    ensures goes { (k : ℕ) × RecoverSteps mode (seen seat.old) call k result.0 (seen seat.new)
+        × RecoverMoves (λ p o i b q. F.step p o i b q) (λ s o i t. S.step s o i tt t)
+        call mode call.stage k predicate recovered result.0 result.1 result.2 }
 {
     let stage = call.stage;
     match stage {
@@ -214,17 +215,16 @@ fn recover_all<F: FnMut(OwnerId, usize) -> bool, S: FnMut(OwnerId, usize)>(
     requires board { IsBoard seat.old }
     requires known { (seen seat.old).capacity ≡ capacity }
     requires idle { (seen seat.old).going ≡ None }
-    requires at { RecoverAt mode (seen seat.old) (seen seat.old) (first_recover capacity) tt }
+    requires at { RecoverAt mode (seen seat.old) (seen seat.old) (first_recover capacity) [] }
     requires questions { is_locked (seen seat.old).seen ≡ false → TakesQuestions F.pre
         (λ p o i b q. F.step p o i b q) capacity predicate }
     requires freed { is_locked (seen seat.old).seen ≡ false → TakesFreed (λ p o i b q. F.step p o i b q)
         S.pre (λ s o i t. S.step s o i tt t) capacity predicate recovered }
     ensures same { IsSame seat.old seat.new }
     ensures board { IsBoard seat.new }
-    ensures ends { RecoverEnds mode (seen seat.old) result.0 tt (seen seat.new) }
-    ensures visited { HasVisited (λ p o i b q. F.step p o i b q)
-        (λ s o i t. S.step s o i tt t) capacity (is_locked (seen seat.old).seen)
-        predicate recovered result.1 result.2 }
+    ensures ends { (visits : List Visit) × RecoverEnds mode (seen seat.old) result.0 visits (seen seat.new)
+        × HasVisited (λ p o i b q. F.step p o i b q) (λ s o i t. S.step s o i tt t)
+        predicate recovered visits result.1 result.2 }
 {
     // The first turns stand by themselves, so that a compiler sees at each of them at which stage the call is: a recovery
     // that finds nothing has no others.
@@ -313,9 +313,9 @@ fn tell_where<S: FnMut(OwnerId, usize)>(
 impl RobustUniqueIndexSet {
     /// Asks `predicate` about each index that has an owner, ascending, each at most once and below the capacity, and
     /// frees the index where the answer is true and that owner still has it. Then it tells `recover_success` of the
-    /// owner and the index: only of such about which `predicate` said true, ascending too. In mode `LockIfLastIndex`
-    /// the set is locked where no index has an owner after one was freed, unless the generation counter is at its end,
-    /// where nothing locks any more. `Unlocked`, or `Locked` where the set is locked.
+    /// owner and the index: of just those that it freed. The history has these questions, answers and frees, and no other
+    /// of the call. In mode `LockIfLastIndex` the set is locked where no index has an owner after one was freed, unless the
+    /// generation counter is at its end, where nothing locks any more. `Unlocked`, or `Locked` where the set is locked.
     ///
     /// Where the set is locked at the beginning neither closure is called: so where the pass has seen the lock. A recovery
     /// that meets the lock right after it has freed an index, and told of it, answers `Locked` at once, and comes to no
@@ -341,12 +341,11 @@ impl RobustUniqueIndexSet {
             (λ p o i b q. F.step p o i b q) S.pre (λ s o i t. S.step s o i tt t)
             (capacity_of self.now) predicate recover_success }
         ensures goes_on { GoesOn pass.old pass.new }
-        ensures recovered { HasRecovered mode result (view pass.old) (view pass.new) }
+        ensures recovered { (f_last : F) × (s_last : S) × HasRecovered (λ p o i b q. F.step p o i b q)
+            (λ s o i t. S.step s o i tt t) mode result predicate recover_success f_last s_last
+            (view pass.old) (view pass.new) }
         ensures answered { Answered (starts.Recover mode) (State result) (view pass.old) (view pass.new) }
         ensures lock { FoundState result (view pass.old) (view pass.new) }
-        ensures visited { (f_last : F) × (s_last : S) × HasVisited (λ p o i b q. F.step p o i b q)
-            (λ s o i t. S.step s o i tt t) (capacity_of self.now) (is_locked (history pass.old))
-            predicate recover_success f_last s_last }
     {
         let (state, _, _) = recover_all(
             &mut pass.seated,

@@ -1,9 +1,15 @@
 //! The calls by a handle: those of its container.
-ghost use Rattle.std.specs.Prelude.{◌≡◌, ◌≤◌, true, IsTrue, IsFalse, IfSome, IfOk, IfErr, OnOk, OnErr};
-ghost use Rattle.lock_free_owners.specs.Robust.Views.{blank};
-ghost use Rattle.lock_free_owners.specs.Robust.Calls.{FoundOpen, FoundLocked, HasReleased};
-ghost use Rattle.lock_free_owners.specs.Container.Calls.{WasNotAdded};
-ghost use Rattle.lock_free_owners.specs.Container.Names.{capacity_of, IsPassOf, IsHandleFor, IsOwn};
+ghost use Rattle.std.specs.Prelude.{◌≡◌, ◌≤◌, true, None, Err, IfSome, IfNone, IfOk, IfErr, OnOk};
+ghost use Rattle.steps.specs.declared.container.enums.ContainerAddFailure.TheVariants.{IsLocked as Locked};
+ghost use Rattle.steps.specs.declared.container.enums.ContainerRemoveError.TheVariants.{ContainerHandleNotOwnedByContainer as NotOwned};
+ghost use Rattle.model.specs.declared.event.Answer.TheVariants.{Number, Truth};
+ghost use Rattle.model.specs.declared.families.container.ContainerStart.TheVariants as starts;
+ghost use Rattle.model.specs.Families.Container.Calls.{removed, replaced};
+ghost use Rattle.model.specs.Families.Indices.Reading.{is_locked};
+ghost use Rattle.lock_free_owners.specs.Robust.Told.{WasFilled, WasGranted, WasFreed, HasReleased, FoundLock};
+ghost use Rattle.lock_free_owners.specs.Container.Told.{placed, HasAdded, HasRemoved, HasReplaced, HasCounted, HasTested, HasLooked, Answered, WasNotAdded};
+ghost use Rattle.lock_free_owners.specs.Container.Names.{history, code_of, capacity_of, IsPassOf, IsHandleFor, IsOwn, GoesOn};
+ghost use Rattle.history.specs.Passes.{HasSplit};
 ghost use Rattle.lock_free_owners.specs.Container.Handles.{container_in, pass_in, knows};
 
 use super::Handle;
@@ -36,12 +42,14 @@ impl<'a, T: Words> Handle<'a, T> {
         self.pass
     }
 
-    /// A further handle of the container, with a pass that has not seen the lock, as by `Pass::split`.
+    /// A further handle of the container, with a pass that has seen the same and made nothing, as by `Pass::split`.
     pub fn split(&mut self) -> Option<Handle<'a, T>>
         ensures container { container_in self.new ≡ container_in self.old }
-        ensures view { knows self.new ≡ knows self.old }
-        ensures new { IfSome result (λ h. (container_in h ≡ container_in self.old)
-            × (knows h ≡ blank (knows self.old).capacity)) }
+        ensures new { IfSome result (λ h. container_in h ≡ container_in self.old) }
+        ensures cut { IfSome result (λ h. HasSplit (knows self.old) (knows self.new) (knows h)) }
+        ensures going { (knows self.new).going ≡ (knows self.old).going }
+        ensures idle { IfSome result (λ h. (knows h).going ≡ None) }
+        ensures none { IfNone result (knows self.new ≡ knows self.old) }
     {
         let pass = self.pass.split()?;
         Some(Handle {
@@ -65,9 +73,16 @@ impl<'a, T: Words> Handle<'a, T> {
         owner: OwnerId,
     ) -> Result<ContainerHandle, ContainerAddFailure>
         ensures container { container_in self.new ≡ container_in self.old }
+        ensures goes_on { GoesOn (pass_in self.old) (pass_in self.new) }
         ensures handle { IfOk result (IsHandleFor (container_in self.old) owner) }
-        ensures added { OnOk result (FoundOpen (knows self.old) (knows self.new)) }
-        ensures refused { IfErr result (λ e. WasNotAdded e (knows self.old) (knows self.new)) }
+        ensures added { HasAdded (code_of (pass_in self.old)) (record { value = value; owner = owner }) (placed
+            result)
+            (knows self.old) (knows self.new) }
+        ensures filled { IfOk result (λ h. WasFilled h.index owner (knows self.old) (knows self.new)) }
+        ensures granted { IfOk result (λ h. WasGranted h.index owner (knows self.old) (knows self.new)) }
+        ensures refused { IfErr result (λ e. WasNotAdded (code_of (pass_in self.old)) value owner e
+            (knows self.old) (knows self.new)) }
+        ensures lock { is_locked (history (pass_in self.old)) ≡ true → result ≡ Err Locked }
     {
         self.container.add(rt, value, owner, &mut self.pass)
     }
@@ -80,9 +95,17 @@ impl<'a, T: Words> Handle<'a, T> {
         mode: ReleaseMode,
     ) -> Result<ReleaseState, ContainerRemoveError>
         ensures container { container_in self.new ≡ container_in self.old }
+        ensures foreign { (IsOwn (container_in self.old) handle → ⊥)
+            → (result ≡ Err NotOwned) × (knows self.new ≡ knows self.old) }
+        ensures goes_on { IsOwn (container_in self.old) handle → GoesOn (pass_in self.old) (pass_in self.new) }
         ensures own { OnOk result (IsOwn (container_in self.old) handle) }
-        ensures removed { IfOk result (λ s. HasReleased s mode (knows self.old) (knows self.new)) }
-        ensures refused { OnErr result (knows self.new ≡ knows self.old) }
+        ensures removed { IsOwn (container_in self.old) handle → HasRemoved (code_of (pass_in self.old))
+            (record { index = handle.index; owner = handle.owner; mode = mode }) result
+            (knows self.old) (knows self.new) }
+        ensures freed { OnOk result (WasFreed handle.index handle.owner (knows self.old) (knows self.new)) }
+        ensures answered { IsOwn (container_in self.old) handle → Answered (code_of (pass_in self.old))
+            (starts.Remove handle.index handle.owner mode) (removed result) (knows self.old) (knows self.new) }
+        ensures released { IfOk result (λ s. HasReleased s mode (knows self.old) (knows self.new)) }
     {
         self.container.remove(rt, handle, mode, &mut self.pass)
     }
@@ -90,8 +113,15 @@ impl<'a, T: Words> Handle<'a, T> {
     /// As `Container::replace`.
     pub fn replace(&mut self, handle: ContainerHandle, value: T) -> Result<(), ContainerRemoveError>
         ensures container { container_in self.new ≡ container_in self.old }
-        ensures view { knows self.new ≡ knows self.old }
+        ensures foreign { (IsOwn (container_in self.old) handle → ⊥)
+            → (result ≡ Err NotOwned) × (knows self.new ≡ knows self.old) }
+        ensures goes_on { IsOwn (container_in self.old) handle → GoesOn (pass_in self.old) (pass_in self.new) }
         ensures own { OnOk result (IsOwn (container_in self.old) handle) }
+        ensures replaced { IsOwn (container_in self.old) handle → HasReplaced (code_of (pass_in self.old))
+            (record { index = handle.index; owner = handle.owner; value = value }) result
+            (knows self.old) (knows self.new) }
+        ensures answered { IsOwn (container_in self.old) handle → Answered (code_of (pass_in self.old))
+            (starts.Replace handle.index value handle.owner) (replaced result) (knows self.old) (knows self.new) }
     {
         self.container.replace(handle, value, &mut self.pass)
     }
@@ -99,9 +129,12 @@ impl<'a, T: Words> Handle<'a, T> {
     /// As `Container::len`.
     pub fn len(&mut self, rt: &impl Wait) -> usize
         ensures container { container_in self.new ≡ container_in self.old }
-        ensures view { knows self.new ≡ knows self.old }
+        ensures goes_on { GoesOn (pass_in self.old) (pass_in self.new) }
+        ensures counted { HasCounted (code_of (pass_in self.old)) result (knows self.old) (knows self.new) }
+        ensures answered { Answered (code_of (pass_in self.old)) starts.Len (Number result)
+            (knows self.old) (knows self.new) }
         ensures most { result ≤ capacity_of (container_in self.old) }
-        ensures lock { (knows self.old).locked ≡ true → result ≡ 0 }
+        ensures lock { is_locked (history (pass_in self.old)) ≡ true → result ≡ 0 }
     {
         self.container.len(rt, &mut self.pass)
     }
@@ -109,8 +142,11 @@ impl<'a, T: Words> Handle<'a, T> {
     /// As `Container::is_empty`.
     pub fn is_empty(&mut self, rt: &impl Wait) -> bool
         ensures container { container_in self.new ≡ container_in self.old }
-        ensures view { knows self.new ≡ knows self.old }
-        ensures lock { (knows self.old).locked ≡ true → result ≡ true }
+        ensures goes_on { GoesOn (pass_in self.old) (pass_in self.new) }
+        ensures tested { HasTested (code_of (pass_in self.old)) result (knows self.old) (knows self.new) }
+        ensures answered { Answered (code_of (pass_in self.old)) starts.IsEmpty (Truth result)
+            (knows self.old) (knows self.new) }
+        ensures lock { is_locked (history (pass_in self.old)) ≡ true → result ≡ true }
     {
         self.container.is_empty(rt, &mut self.pass)
     }
@@ -118,8 +154,11 @@ impl<'a, T: Words> Handle<'a, T> {
     /// As `Container::is_locked`.
     pub fn is_locked(&mut self) -> bool
         ensures container { container_in self.new ≡ container_in self.old }
-        ensures locked { IsTrue result → FoundLocked (knows self.old) (knows self.new) }
-        ensures open { IsFalse result → FoundOpen (knows self.old) (knows self.new) }
+        ensures goes_on { GoesOn (pass_in self.old) (pass_in self.new) }
+        ensures looked { HasLooked (code_of (pass_in self.old)) result (knows self.old) (knows self.new) }
+        ensures answered { Answered (code_of (pass_in self.old)) starts.IsLocked (Truth result)
+            (knows self.old) (knows self.new) }
+        ensures lock { FoundLock result (knows self.old) (knows self.new) }
     {
         self.container.is_locked(&mut self.pass)
     }

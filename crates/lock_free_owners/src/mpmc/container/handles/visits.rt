@@ -1,10 +1,18 @@
 //! The calls by a handle that come to the values of an owner.
-ghost use Rattle.std.specs.Prelude.{◌≡◌, false};
-ghost use Rattle.lock_free_owners.specs.Robust.Calls.{HasRecovered};
-ghost use Rattle.lock_free_owners.specs.Container.Callable.{TakesVisits, HasFound};
-ghost use Rattle.lock_free_owners.specs.Container.Questions.{TakesValues, HasAsked};
-ghost use Rattle.lock_free_owners.specs.Container.Names.{capacity_of, IsHandleFor};
-ghost use Rattle.lock_free_owners.specs.Container.Handles.{container_in, knows};
+ghost use Rattle.std.specs.Prelude.{◌≡◌, false, List};
+ghost use Rattle.model.specs.declared.event.Answer.TheVariants.{State};
+ghost use Rattle.model.specs.declared.families.container.ContainerStart.TheVariants as starts;
+ghost use Rattle.model.specs.declared.turn.Kind.TheVariants as kinds;
+ghost use Rattle.model.specs.Families.Indices.Reading.{is_locked};
+ghost use Rattle.history.specs.Passes.{Goes};
+ghost use Rattle.lock_free_owners.specs.Robust.Told.{FoundState};
+ghost use Rattle.lock_free_owners.specs.Container.Callable.{Visit, TakesVisits, HasFound};
+ghost use Rattle.lock_free_owners.specs.Container.FindTold.{HasSearched};
+ghost use Rattle.lock_free_owners.specs.Container.Questions.{TakesValues};
+ghost use Rattle.lock_free_owners.specs.Container.RecoverTold.{HasRecovered};
+ghost use Rattle.lock_free_owners.specs.Container.Told.{Answered};
+ghost use Rattle.lock_free_owners.specs.Container.Names.{history, code_of, capacity_of, IsHandleFor, GoesOn};
+ghost use Rattle.lock_free_owners.specs.Container.Handles.{container_in, pass_in, knows};
 
 use super::Handle;
 use crate::mpmc::container::{CallbackProgression, ContainerHandle, OwnerId};
@@ -22,9 +30,12 @@ impl<'a, T: Words> Handle<'a, T> {
         requires { TakesVisits F.pre (λ p x h a q. F.step p x h a q)
             (IsHandleFor (container_in self.old) owner) visit }
         ensures container { container_in self.new ≡ container_in self.old }
-        ensures view { knows self.new ≡ knows self.old }
-        ensures found { (last : F) × HasFound (λ p x h a q. F.step p x h a q)
-            (capacity_of (container_in self.old)) (IsHandleFor (container_in self.old) owner) visit result last }
+        ensures goes { Goes (code_of (pass_in self.old)) kinds.Container (capacity_of (container_in self.old))
+            (knows self.old) (knows self.new) }
+        ensures found { (visits : List (Visit T)) × (last : F)
+            × HasSearched (code_of (pass_in self.old)) owner result visits (knows self.old) (knows self.new)
+            × HasFound (λ p x h a q. F.step p x h a q) (capacity_of (container_in self.old))
+            (IsHandleFor (container_in self.old) owner) visit result visits last }
     {
         self.container.find(owner, visit, &mut self.pass)
     }
@@ -37,12 +48,16 @@ impl<'a, T: Words> Handle<'a, T> {
         predicate: F,
         mode: ReleaseMode,
     ) -> ReleaseState
-        requires { (knows self.old).locked ≡ false → TakesValues F.pre
+        requires { is_locked (history (pass_in self.old)) ≡ false → TakesValues F.pre
             (λ p x b q. F.step p x b q) (capacity_of (container_in self.old)) predicate }
         ensures container { container_in self.new ≡ container_in self.old }
-        ensures recovered { HasRecovered result (knows self.old) (knows self.new) }
-        ensures asked { (last : F) × HasAsked (λ p x b q. F.step p x b q)
-            (capacity_of (container_in self.old)) (knows self.old).locked predicate last }
+        ensures goes_on { GoesOn (pass_in self.old) (pass_in self.new) }
+        ensures recovered { (last : F) × HasRecovered (code_of (pass_in self.old)) (λ p x b q. F.step p x b q)
+            (record { owner = owner; mode = mode }) result (capacity_of (container_in self.old)) predicate last
+            (knows self.old) (knows self.new) }
+        ensures answered { Answered (code_of (pass_in self.old)) (starts.Recover owner mode) (State result)
+            (knows self.old) (knows self.new) }
+        ensures lock { FoundState result (knows self.old) (knows self.new) }
     {
         self.container
             .recover(rt, owner, predicate, mode, &mut self.pass)

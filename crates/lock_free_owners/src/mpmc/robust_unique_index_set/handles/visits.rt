@@ -8,7 +8,7 @@ ghost use Rattle.model.specs.Coding.{one_word};
 ghost use Rattle.model.specs.Families.Indices.Reading.{is_locked};
 ghost use Rattle.history.specs.Views.{Looks};
 ghost use Rattle.lock_free_sp.specs.Callable.{TakesPlaces};
-ghost use Rattle.lock_free_owners.specs.Robust.Callable.{HasFound, TakesQuestions, TakesFreed, HasVisited};
+ghost use Rattle.lock_free_owners.specs.Robust.Callable.{HasFound, TakesQuestions, TakesFreed};
 ghost use Rattle.lock_free_owners.specs.Robust.Told.{HasRecovered, Answered, FoundState};
 ghost use Rattle.lock_free_owners.specs.RobustUniqueIndexSet.{capacity_of, history, GoesOn};
 ghost use Rattle.lock_free_owners.specs.Robust.Handles.{set_in, pass_in, knows};
@@ -51,12 +51,11 @@ impl<'a> Handle<'a> {
             (capacity_of (set_in self.old)) predicate recover_success }
         ensures set { set_in self.new ≡ set_in self.old }
         ensures goes_on { GoesOn (pass_in self.old) (pass_in self.new) }
-        ensures recovered { HasRecovered mode result (knows self.old) (knows self.new) }
+        ensures recovered { (f_last : F) × (s_last : S) × HasRecovered (λ p o i b q. F.step p o i b q)
+            (λ s o i t. S.step s o i tt t) mode result predicate recover_success f_last s_last
+            (knows self.old) (knows self.new) }
         ensures answered { Answered (starts.Recover mode) (State result) (knows self.old) (knows self.new) }
         ensures lock { FoundState result (knows self.old) (knows self.new) }
-        ensures visited { (f_last : F) × (s_last : S) × HasVisited (λ p o i b q. F.step p o i b q)
-            (λ s o i t. S.step s o i tt t) (capacity_of (set_in self.old)) (is_locked (history (pass_in self.old)))
-            predicate recover_success f_last s_last }
     {
         self.set
             .recover(rt, mode, predicate, recover_success, &mut self.pass)

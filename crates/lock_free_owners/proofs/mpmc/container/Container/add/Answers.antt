@@ -1,5 +1,134 @@
-use Rattle.lock_free_owners.proofs.Rules.Container.AddRuns.{add_rule}
+use Rattle.std.proofs.Common.{◌≡◌, ◌<◌, Ok, Err, rules, refl, sym, ap, subst, ◌∙◌, true≢false}
+use Rattle.steps.specs.Container.Add.{first_add}
+use Rattle.steps.specs.declared.container.enums.ContainerAddFailure.TheVariants as failures
+use Rattle.steps.specs.declared.container.add.Owned.{Owned}
+use Rattle.model.specs.Coding.{Coding, IsCoding, coding_of}
+use Rattle.model.specs.declared.turn.Kind.TheVariants as kinds
+use Rattle.lock_free_sp.specs.Seats.{seen}
+use Rattle.lock_free_sp.specs.Sets.{SetId}
+use Rattle.history.specs.Container.{adds_value}
+use Rattle.history.specs.Passes.{Goes}
+use Rattle.lock_free_owners.specs.Container.Turns.{BeginsAdd, AddAt, AddEnds}
+use Rattle.lock_free_owners.proofs.ContainerSet.Begins.{add_keeps, add_begins}
+use Rattle.lock_free_owners.proofs.ContainerSet.Facts.{goes, has_added, filled_so, granted_so, within_so, open_so, refused_so, shut}
 use Rattle.lock_free_owners.proofs.mpmc.container.Container.add.Goals as goal
 
 pub drive_on-end-requires-clause-rule : goal.drive_on-end-requires-clause-rule
-drive_on-end-requires-clause-rule g c = add_rule g.T.Words.words_of g.T.Words.WORDS g.met.T.Words.some (record { value = c.args.value; owner = c.args.owner })
+drive_on-end-requires-clause-rule g c =
+    let met = g.met.T.Words in
+    let code : Coding g.row.T.Denot = coding_of g.T.Words.WORDS g.T.Words.words_of g.T.Words.value_of in
+    let law : IsCoding code = record { some = met.some; few = met.few; sized = met.sized; given_back = met.given_back } in
+    add_keeps code law (record { value = c.args.value; owner = c.args.owner })
+
+pub drive_on-end-requires-clause-at : goal.drive_on-end-requires-clause-at
+drive_on-end-requires-clause-at g c =
+    let met = g.met.T.Words in
+    let code : Coding g.row.T.Denot = coding_of g.T.Words.WORDS g.T.Words.words_of g.T.Words.value_of in
+    let law : IsCoding code = record { some = met.some; few = met.few; sized = met.sized; given_back = met.given_back } in
+    let mine = c.args.pass.now.token in
+    let v = seen mine.seated in
+    let given : Owned g.row.T.Denot = record { value = c.args.value; owner = c.args.owner } in
+    subst (λ call. AddAt code given v v call tt) (ap first_add mine.known ∙ sym c.new-call.ensures)
+    (add_begins code law given v (search rules) mine.idle mine.alone mine.some.0)
+
+pub returns-in-Ok-clause-goes_on : goal.returns-in-Ok-clause-goes_on
+returns-in-Ok-clause-goes_on g c =
+    let code : Coding g.row.T.Denot = coding_of g.T.Words.WORDS g.T.Words.words_of g.T.Words.value_of in
+    let v = seen c.args.pass.now.token.seated in
+    let w = seen c.drive_on-end.new.self in
+    let given : Owned g.row.T.Denot = record { value = c.args.value; owner = c.args.owner } in
+    record {
+      container = search rules;
+      idle = c.drive_on-end.ensures.end.over.idle;
+      goes = subst (λ n. Goes code kinds.Container n v w) c.args.pass.now.token.known
+          (goes code (BeginsAdd given) (adds_value g.T.Words.WORDS given) v w c.drive_on-end.result c.drive_on-end.ensures.end);
+    }
+
+pub returns-in-Err-clause-goes_on : goal.returns-in-Err-clause-goes_on
+returns-in-Err-clause-goes_on g c =
+    let code : Coding g.row.T.Denot = coding_of g.T.Words.WORDS g.T.Words.words_of g.T.Words.value_of in
+    let v = seen c.args.pass.now.token.seated in
+    let w = seen c.drive_on-end.new.self in
+    let given : Owned g.row.T.Denot = record { value = c.args.value; owner = c.args.owner } in
+    record {
+      container = search rules;
+      idle = c.drive_on-end.ensures.end.over.idle;
+      goes = subst (λ n. Goes code kinds.Container n v w) c.args.pass.now.token.known
+          (goes code (BeginsAdd given) (adds_value g.T.Words.WORDS given) v w c.drive_on-end.result c.drive_on-end.ensures.end);
+    }
+
+pub returns-in-Ok-clause-added : goal.returns-in-Ok-clause-added
+returns-in-Ok-clause-added g c =
+    let code : Coding g.row.T.Denot = coding_of g.T.Words.WORDS g.T.Words.words_of g.T.Words.value_of in
+    let v = seen c.args.pass.now.token.seated in
+    let w = seen c.drive_on-end.new.self in
+    let given : Owned g.row.T.Denot = record { value = c.args.value; owner = c.args.owner } in
+    let ends = subst (λ z. AddEnds code given v z tt w) c.in-Ok.is c.drive_on-end.ensures.end in
+    has_added code v w given (Ok c.in-Ok.index) ends
+
+pub returns-in-Ok-clause-lock : goal.returns-in-Ok-clause-lock
+returns-in-Ok-clause-lock g c locked =
+    let code : Coding g.row.T.Denot = coding_of g.T.Words.WORDS g.T.Words.words_of g.T.Words.value_of in
+    let v = seen c.args.pass.now.token.seated in
+    let w = seen c.drive_on-end.new.self in
+    let given : Owned g.row.T.Denot = record { value = c.args.value; owner = c.args.owner } in
+    let ends = subst (λ z. AddEnds code given v z tt w) c.in-Ok.is c.drive_on-end.ensures.end in
+    let free = open_so code v w given c.in-Ok.index ends in
+    absurd (true≢false (sym locked ∙ free))
+
+pub returns-in-Ok-clause-filled : goal.returns-in-Ok-clause-filled
+returns-in-Ok-clause-filled g c =
+    let code : Coding g.row.T.Denot = coding_of g.T.Words.WORDS g.T.Words.words_of g.T.Words.value_of in
+    let v = seen c.args.pass.now.token.seated in
+    let w = seen c.drive_on-end.new.self in
+    let given : Owned g.row.T.Denot = record { value = c.args.value; owner = c.args.owner } in
+    let ends = subst (λ z. AddEnds code given v z tt w) c.in-Ok.is c.drive_on-end.ensures.end in
+    filled_so code v w given c.in-Ok.index ends
+
+pub returns-in-Ok-clause-granted : goal.returns-in-Ok-clause-granted
+returns-in-Ok-clause-granted g c =
+    let code : Coding g.row.T.Denot = coding_of g.T.Words.WORDS g.T.Words.words_of g.T.Words.value_of in
+    let v = seen c.args.pass.now.token.seated in
+    let w = seen c.drive_on-end.new.self in
+    let given : Owned g.row.T.Denot = record { value = c.args.value; owner = c.args.owner } in
+    let ends = subst (λ z. AddEnds code given v z tt w) c.in-Ok.is c.drive_on-end.ensures.end in
+    granted_so code v w given c.in-Ok.index ends
+
+pub returns-in-Ok-clause-handle : goal.returns-in-Ok-clause-handle
+returns-in-Ok-clause-handle g c =
+    let code : Coding g.row.T.Denot = coding_of g.T.Words.WORDS g.T.Words.words_of g.T.Words.value_of in
+    let v = seen c.args.pass.now.token.seated in
+    let w = seen c.drive_on-end.new.self in
+    let given : Owned g.row.T.Denot = record { value = c.args.value; owner = c.args.owner } in
+    let ends = subst (λ z. AddEnds code given v z tt w) c.in-Ok.is c.drive_on-end.ensures.end in
+    let size = c.args.pass.now.token.known ∙ ap (λ (z : SetId). z.capacity) c.requires in
+    ((refl, subst (λ n. c.in-Ok.index < n) size (within_so code v w given c.in-Ok.index ends)), refl)
+
+pub returns-in-Err-clause-added : goal.returns-in-Err-clause-added
+returns-in-Err-clause-added g c =
+    let code : Coding g.row.T.Denot = coding_of g.T.Words.WORDS g.T.Words.words_of g.T.Words.value_of in
+    let v = seen c.args.pass.now.token.seated in
+    let w = seen c.drive_on-end.new.self in
+    let given : Owned g.row.T.Denot = record { value = c.args.value; owner = c.args.owner } in
+    let ends = subst (λ z. AddEnds code given v z tt w) c.in-Err.is c.drive_on-end.ensures.end in
+    has_added code v w given (Err c.in-Err.failure) ends
+
+pub returns-in-Err-clause-lock : goal.returns-in-Err-clause-lock
+returns-in-Err-clause-lock g c locked =
+    let code : Coding g.row.T.Denot = coding_of g.T.Words.WORDS g.T.Words.words_of g.T.Words.value_of in
+    let v = seen c.args.pass.now.token.seated in
+    let w = seen c.drive_on-end.new.self in
+    let given : Owned g.row.T.Denot = record { value = c.args.value; owner = c.args.owner } in
+    let ends = subst (λ z. AddEnds code given v z tt w) c.in-Err.is c.drive_on-end.ensures.end in
+    let same = shut code v w given (Err c.in-Err.failure) ends locked in
+    let failure : c.in-Err.failure ≡ failures.IsLocked = cc in
+    ap (λ f. Err f) failure
+
+pub returns-in-Err-clause-refused : goal.returns-in-Err-clause-refused
+returns-in-Err-clause-refused g c =
+    let code : Coding g.row.T.Denot = coding_of g.T.Words.WORDS g.T.Words.words_of g.T.Words.value_of in
+    let v = seen c.args.pass.now.token.seated in
+    let w = seen c.drive_on-end.new.self in
+    let given : Owned g.row.T.Denot = record { value = c.args.value; owner = c.args.owner } in
+    let ends = subst (λ z. AddEnds code given v z tt w) c.in-Err.is c.drive_on-end.ensures.end in
+    refused_so code v w given c.in-Err.failure ends

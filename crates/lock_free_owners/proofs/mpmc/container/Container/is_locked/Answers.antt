@@ -1,7 +1,44 @@
-use Rattle.steps.specs.Container.Layout.{total_words}
-use Rattle.lock_free_owners.proofs.Rules.Robust.LookRuns.{look_rule}
-use Rattle.lock_free_owners.proofs.Rules.Container.Places.{set_in}
+use Rattle.std.proofs.Common.{rules, subst}
+use Rattle.model.specs.Coding.{Coding, coding_of}
+use Rattle.model.specs.declared.turn.Kind.TheVariants as kinds
+use Rattle.lock_free_sp.specs.Seats.{seen}
+use Rattle.history.specs.Container.{sees_lock}
+use Rattle.history.specs.Passes.{Goes}
+use Rattle.lock_free_owners.specs.Container.Turns.{BeginsLock}
+use Rattle.lock_free_owners.proofs.ContainerSet.Begins.{lock_keeps, lock_begins}
+use Rattle.lock_free_owners.proofs.ContainerSet.Facts.{goes, looked, looked_answered, looked_lock}
 use Rattle.lock_free_owners.proofs.mpmc.container.Container.is_locked.Goals as goal
 
 pub drive-requires-clause-rule : goal.drive-requires-clause-rule
-drive-requires-clause-rule g c = look_rule (λ key. total_words key g.T.Words.WORDS) (λ key. set_in key g.T.Words.WORDS)
+drive-requires-clause-rule g c = lock_keeps (coding_of g.T.Words.WORDS g.T.Words.words_of g.T.Words.value_of)
+
+pub drive-requires-clause-at : goal.drive-requires-clause-at
+drive-requires-clause-at g c =
+    let mine = c.args.pass.now.token in
+    lock_begins (coding_of g.T.Words.WORDS g.T.Words.words_of g.T.Words.value_of) (seen mine.seated) _ mine.idle mine.alone mine.some.0
+
+pub returns-clause-goes_on : goal.returns-clause-goes_on
+returns-clause-goes_on g c =
+    let code : Coding g.row.T.Denot = coding_of g.T.Words.WORDS g.T.Words.words_of g.T.Words.value_of in
+    let v = seen c.args.pass.now.token.seated in
+    let w = seen c.drive.new.self in
+    record {
+      container = search rules;
+      idle = c.drive.ensures.end.over.idle;
+      goes = subst (λ n. Goes code kinds.Container n v w) c.args.pass.now.token.known (goes code BeginsLock sees_lock v w c.drive.result c.drive.ensures.end);
+    }
+
+pub returns-clause-looked : goal.returns-clause-looked
+returns-clause-looked g c =
+    looked (coding_of g.T.Words.WORDS g.T.Words.words_of g.T.Words.value_of) (seen c.args.pass.now.token.seated) (seen c.drive.new.self) c.drive.result
+    c.drive.ensures.end
+
+pub returns-clause-answered : goal.returns-clause-answered
+returns-clause-answered g c =
+    looked_answered (coding_of g.T.Words.WORDS g.T.Words.words_of g.T.Words.value_of) (seen c.args.pass.now.token.seated) (seen c.drive.new.self)
+    c.drive.result c.drive.ensures.end
+
+pub returns-clause-lock : goal.returns-clause-lock
+returns-clause-lock g c =
+    looked_lock (coding_of g.T.Words.WORDS g.T.Words.words_of g.T.Words.value_of) (seen c.args.pass.now.token.seated) (seen c.drive.new.self)
+    c.drive.result c.drive.ensures.end

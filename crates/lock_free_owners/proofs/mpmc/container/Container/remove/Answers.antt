@@ -1,5 +1,63 @@
-use Rattle.lock_free_owners.proofs.Rules.Container.RemoveRuns.{remove_rule}
+use Rattle.std.proofs.Common.{◌<◌, rules, sym, ap, subst, ◌∙◌, arith}
+use Rattle.steps.specs.Container.Remove.{first_remove}
+use Rattle.steps.specs.declared.indices.robust.release.GiveBack.{GiveBack}
+use Rattle.model.specs.Coding.{Coding, coding_of}
+use Rattle.model.specs.declared.turn.Kind.TheVariants as kinds
+use Rattle.lock_free_sp.specs.Seats.{seen}
+use Rattle.lock_free_sp.specs.Sets.{SetId}
+use Rattle.history.specs.Container.{removes_value}
+use Rattle.history.specs.Passes.{Goes}
+use Rattle.lock_free_owners.specs.Container.Turns.{BeginsRemove, RemoveAt}
+use Rattle.lock_free_owners.proofs.ContainerSet.Begins.{remove_keeps, remove_begins}
+use Rattle.lock_free_owners.proofs.ContainerSet.Facts.{goes, has_removed, removed_answered, freed, released}
 use Rattle.lock_free_owners.proofs.mpmc.container.Container.remove.Goals as goal
 
 pub drive_on-requires-clause-rule : goal.drive_on-requires-clause-rule
-drive_on-requires-clause-rule g c = remove_rule g.T.Words.WORDS (record { index = c.args.handle.index; owner = c.args.handle.owner; mode = c.args.mode })
+drive_on-requires-clause-rule g c =
+    remove_keeps (coding_of g.T.Words.WORDS g.T.Words.words_of g.T.Words.value_of)
+    (record { index = c.args.handle.index; owner = c.args.handle.owner; mode = c.args.mode })
+
+pub drive_on-requires-clause-at : goal.drive_on-requires-clause-at
+drive_on-requires-clause-at g c =
+    let code : Coding g.row.T.Denot = coding_of g.T.Words.WORDS g.T.Words.words_of g.T.Words.value_of in
+    let mine = c.args.pass.now.token in
+    let v = seen mine.seated in
+    let given : GiveBack = record { index = c.args.handle.index; owner = c.args.handle.owner; mode = c.args.mode } in
+    let size = mine.known ∙ ap (λ (z : SetId). z.capacity) c.requires in
+    let below = c.if-handle-self-2.false in
+    let low : c.args.handle.index < v.capacity = omega arith in
+    subst (λ call. RemoveAt code given v v call tt) (ap (λ n. first_remove n c.args.handle.index) mine.known ∙ sym c.new-call.ensures)
+    (remove_begins code given v low (search rules) mine.idle mine.alone mine.some.0)
+
+pub returns-clause-goes_on : goal.returns-clause-goes_on
+returns-clause-goes_on g c own =
+    let code : Coding g.row.T.Denot = coding_of g.T.Words.WORDS g.T.Words.words_of g.T.Words.value_of in
+    let v = seen c.args.pass.now.token.seated in
+    let w = seen c.drive_on.new.self in
+    let given : GiveBack = record { index = c.args.handle.index; owner = c.args.handle.owner; mode = c.args.mode } in
+    record {
+      container = search rules;
+      idle = c.drive_on.ensures.end.over.idle;
+      goes = subst (λ n. Goes code kinds.Container n v w) c.args.pass.now.token.known
+          (goes code (BeginsRemove given) (removes_value given) v w c.drive_on.result c.drive_on.ensures.end);
+    }
+
+pub returns-clause-removed : goal.returns-clause-removed
+returns-clause-removed g c own =
+    has_removed (coding_of g.T.Words.WORDS g.T.Words.words_of g.T.Words.value_of) (seen c.args.pass.now.token.seated) (seen c.drive_on.new.self)
+    (record { index = c.args.handle.index; owner = c.args.handle.owner; mode = c.args.mode }) c.drive_on.result c.drive_on.ensures.end
+
+pub returns-clause-freed : goal.returns-clause-freed
+returns-clause-freed g c =
+    freed (coding_of g.T.Words.WORDS g.T.Words.words_of g.T.Words.value_of) (seen c.args.pass.now.token.seated) (seen c.drive_on.new.self)
+    (record { index = c.args.handle.index; owner = c.args.handle.owner; mode = c.args.mode }) c.drive_on.result c.drive_on.ensures.end
+
+pub returns-clause-answered : goal.returns-clause-answered
+returns-clause-answered g c own =
+    removed_answered (coding_of g.T.Words.WORDS g.T.Words.words_of g.T.Words.value_of) (seen c.args.pass.now.token.seated) (seen c.drive_on.new.self)
+    (record { index = c.args.handle.index; owner = c.args.handle.owner; mode = c.args.mode }) c.drive_on.result c.drive_on.ensures.end
+
+pub returns-clause-released : goal.returns-clause-released
+returns-clause-released g c =
+    released (coding_of g.T.Words.WORDS g.T.Words.words_of g.T.Words.value_of) (seen c.args.pass.now.token.seated) (seen c.drive_on.new.self)
+    c.args.handle.index c.args.handle.owner c.args.mode c.drive_on.result c.drive_on.ensures.end

@@ -1,5 +1,57 @@
-use Rattle.lock_free_owners.proofs.Rules.Container.ReplaceRuns.{replace_rule}
+use Rattle.std.proofs.Common.{◌<◌, rules, sym, ap, subst, ◌∙◌, arith}
+use Rattle.steps.specs.Container.Replace.{first_replace}
+use Rattle.steps.specs.declared.container.replace.Replacement.{Replacement}
+use Rattle.model.specs.Coding.{Coding, IsCoding, coding_of}
+use Rattle.model.specs.declared.turn.Kind.TheVariants as kinds
+use Rattle.lock_free_sp.specs.Seats.{seen}
+use Rattle.lock_free_sp.specs.Sets.{SetId}
+use Rattle.history.specs.Container.{replaces_value}
+use Rattle.history.specs.Passes.{Goes}
+use Rattle.lock_free_owners.specs.Container.Turns.{BeginsReplace, ReplaceAt}
+use Rattle.lock_free_owners.proofs.ContainerSet.Begins.{replace_keeps, replace_begins}
+use Rattle.lock_free_owners.proofs.ContainerSet.Facts.{goes, has_replaced, replaced_answered}
 use Rattle.lock_free_owners.proofs.mpmc.container.Container.replace.Goals as goal
 
 pub drive-requires-clause-rule : goal.drive-requires-clause-rule
-drive-requires-clause-rule g c = replace_rule g.T.Words.words_of g.T.Words.WORDS g.met.T.Words.some (record { index = c.args.handle.index; owner = c.args.handle.owner; value = c.args.value })
+drive-requires-clause-rule g c =
+    let met = g.met.T.Words in
+    let code : Coding g.row.T.Denot = coding_of g.T.Words.WORDS g.T.Words.words_of g.T.Words.value_of in
+    let law : IsCoding code = record { some = met.some; few = met.few; sized = met.sized; given_back = met.given_back } in
+    replace_keeps code law (record { index = c.args.handle.index; owner = c.args.handle.owner; value = c.args.value })
+
+pub drive-requires-clause-at : goal.drive-requires-clause-at
+drive-requires-clause-at g c =
+    let met = g.met.T.Words in
+    let code : Coding g.row.T.Denot = coding_of g.T.Words.WORDS g.T.Words.words_of g.T.Words.value_of in
+    let law : IsCoding code = record { some = met.some; few = met.few; sized = met.sized; given_back = met.given_back } in
+    let mine = c.args.pass.now.token in
+    let v = seen mine.seated in
+    let given : Replacement g.row.T.Denot = record { index = c.args.handle.index; owner = c.args.handle.owner; value = c.args.value } in
+    let size = mine.known ∙ ap (λ (z : SetId). z.capacity) c.requires in
+    let below = c.if-handle-self-2.false in
+    let low : c.args.handle.index < v.capacity = omega arith in
+    subst (λ call. ReplaceAt code given v v call tt) (ap (λ n. first_replace n c.args.handle.index) mine.known ∙ sym c.new-call.ensures)
+    (replace_begins code law given v low (search rules) mine.idle mine.alone mine.some.0)
+
+pub returns-clause-goes_on : goal.returns-clause-goes_on
+returns-clause-goes_on g c own =
+    let code : Coding g.row.T.Denot = coding_of g.T.Words.WORDS g.T.Words.words_of g.T.Words.value_of in
+    let v = seen c.args.pass.now.token.seated in
+    let w = seen c.drive.new.self in
+    let given : Replacement g.row.T.Denot = record { index = c.args.handle.index; owner = c.args.handle.owner; value = c.args.value } in
+    record {
+      container = search rules;
+      idle = c.drive.ensures.end.over.idle;
+      goes = subst (λ n. Goes code kinds.Container n v w) c.args.pass.now.token.known
+          (goes code (BeginsReplace given) (replaces_value g.T.Words.WORDS given) v w c.drive.result c.drive.ensures.end);
+    }
+
+pub returns-clause-replaced : goal.returns-clause-replaced
+returns-clause-replaced g c own =
+    has_replaced (coding_of g.T.Words.WORDS g.T.Words.words_of g.T.Words.value_of) (seen c.args.pass.now.token.seated) (seen c.drive.new.self)
+    (record { index = c.args.handle.index; owner = c.args.handle.owner; value = c.args.value }) c.drive.result c.drive.ensures.end
+
+pub returns-clause-answered : goal.returns-clause-answered
+returns-clause-answered g c own =
+    replaced_answered (coding_of g.T.Words.WORDS g.T.Words.words_of g.T.Words.value_of) (seen c.args.pass.now.token.seated) (seen c.drive.new.self)
+    (record { index = c.args.handle.index; owner = c.args.handle.owner; value = c.args.value }) c.drive.result c.drive.ensures.end

@@ -1,8 +1,134 @@
-use Rattle.lock_free_owners.proofs.Rules.Container.LookRuns.{state_rule}
+use Rattle.std.proofs.Common.{◌<◌, ℕ, rules, sym, ap, subst, ◌∙◌}
+use Rattle.steps.specs.Container.Look.{first_look}
+use Rattle.model.specs.Coding.{Coding, IsCoding, coding_of}
+use Rattle.model.specs.declared.families.container.calls.LookOf.TheVariants.{UpdateState}
+use Rattle.model.specs.declared.turn.Kind.TheVariants as kinds
+use Rattle.lock_free_sp.specs.Seats.{seen}
+use Rattle.lock_free_sp.specs.Sets.{SetId}
+use Rattle.lock_free_sp.specs.declared.share.Share.{Share}
+use Rattle.history.specs.Passes.{Goes}
+use Rattle.lock_free_owners.specs.Container.LookTurns.{LookAt}
+use Rattle.lock_free_owners.proofs.ContainerSet.Looks.{look_begins, look_idle, look_goes, look_made, latest_so, on_history, of_history, left_so}
+use Rattle.lock_free_owners.proofs.ContainerSet.SameStates.{decide}
 use Rattle.lock_free_owners.proofs.mpmc.container.Container.update_state.Goals as goal
 
-pub step-after-requires-clause-rule : goal.step-after-requires-clause-rule
-step-after-requires-clause-rule g c = state_rule g.T.Words.value_of g.T.Words.WORDS g.met.T.Words.some c.args.state.now.seen
+pub bring_up-requires-clause-decided : goal.bring_up-requires-clause-decided
+bring_up-requires-clause-decided g c =
+    let met = g.met.T.Words in
+    let code : Coding g.row.T.Denot = coding_of g.T.Words.WORDS g.T.Words.words_of g.T.Words.value_of in
+    let law : IsCoding code = record { some = met.some; few = met.few; sized = met.sized; given_back = met.given_back } in
+    let v = seen c.args.pass.now.token.seated in
+    decide code law v v.capacity c.args.state.now.seen c.args.state.now.shown
 
-pub drive_on-requires-clause-rule : goal.drive_on-requires-clause-rule
-drive_on-requires-clause-rule g c = state_rule g.T.Words.value_of g.T.Words.WORDS g.met.T.Words.some c.args.state.now.seen
+pub bring_up-requires-clause-at : goal.bring_up-requires-clause-at
+bring_up-requires-clause-at g c =
+    let met = g.met.T.Words in
+    let code : Coding g.row.T.Denot = coding_of g.T.Words.WORDS g.T.Words.words_of g.T.Words.value_of in
+    let law : IsCoding code = record { some = met.some; few = met.few; sized = met.sized; given_back = met.given_back } in
+    let mine = c.args.pass.now.token in
+    let v = seen mine.seated in
+    let state = c.args.state.now in
+    subst (λ (n : ℕ). LookAt code UpdateState v state.shown state.seen v (first_look n) state.shown) mine.known
+    (look_begins code law UpdateState v state.shown state.seen mine.idle mine.alone mine.some.0)
+
+pub invariant_of-pass-clause-known : goal.invariant_of-pass-clause-known
+invariant_of-pass-clause-known g c =
+    let met = g.met.T.Words in
+    let code : Coding g.row.T.Denot = coding_of g.T.Words.WORDS g.T.Words.words_of g.T.Words.value_of in
+    let law : IsCoding code = record { some = met.some; few = met.few; sized = met.sized; given_back = met.given_back } in
+    let mine = c.args.pass.now.token in
+    let v = seen mine.seated in
+    let state = c.args.state.now in
+    (left_so code UpdateState v state.shown state.seen c.bring_up.result c.bring_up.new.state.shown (seen c.bring_up.new.seat)
+    (decide code law v v.capacity state.seen state.shown) mine.idle mine.alone c.bring_up.ensures.over).capacity
+    ∙ mine.known
+
+pub invariant_of-pass-clause-idle : goal.invariant_of-pass-clause-idle
+invariant_of-pass-clause-idle g c =
+    let met = g.met.T.Words in
+    let code : Coding g.row.T.Denot = coding_of g.T.Words.WORDS g.T.Words.words_of g.T.Words.value_of in
+    let law : IsCoding code = record { some = met.some; few = met.few; sized = met.sized; given_back = met.given_back } in
+    let mine = c.args.pass.now.token in
+    let v = seen mine.seated in
+    let state = c.args.state.now in
+    (left_so code UpdateState v state.shown state.seen c.bring_up.result c.bring_up.new.state.shown (seen c.bring_up.new.seat)
+    (decide code law v v.capacity state.seen state.shown) mine.idle mine.alone c.bring_up.ensures.over).idle
+
+pub invariant_of-pass-clause-alone : goal.invariant_of-pass-clause-alone
+invariant_of-pass-clause-alone g c =
+    let met = g.met.T.Words in
+    let code : Coding g.row.T.Denot = coding_of g.T.Words.WORDS g.T.Words.words_of g.T.Words.value_of in
+    let law : IsCoding code = record { some = met.some; few = met.few; sized = met.sized; given_back = met.given_back } in
+    let mine = c.args.pass.now.token in
+    let v = seen mine.seated in
+    let state = c.args.state.now in
+    (left_so code UpdateState v state.shown state.seen c.bring_up.result c.bring_up.new.state.shown (seen c.bring_up.new.seat)
+    (decide code law v v.capacity state.seen state.shown) mine.idle mine.alone c.bring_up.ensures.over).alone
+
+pub invariant_of-pass-clause-some : goal.invariant_of-pass-clause-some
+invariant_of-pass-clause-some g c =
+    let met = g.met.T.Words in
+    let code : Coding g.row.T.Denot = coding_of g.T.Words.WORDS g.T.Words.words_of g.T.Words.value_of in
+    let law : IsCoding code = record { some = met.some; few = met.few; sized = met.sized; given_back = met.given_back } in
+    let mine = c.args.pass.now.token in
+    let v = seen mine.seated in
+    let state = c.args.state.now in
+    let left = left_so code UpdateState v state.shown state.seen c.bring_up.result c.bring_up.new.state.shown (seen c.bring_up.new.seat)
+    (decide code law v v.capacity state.seen state.shown) mine.idle mine.alone c.bring_up.ensures.over
+    in
+    subst (λ (z : Share). (0 < z.part) × (0 < z.parts)) (sym left.share) mine.some
+
+pub returns-clause-goes_on : goal.returns-clause-goes_on
+returns-clause-goes_on g c latest =
+    let code : Coding g.row.T.Denot = coding_of g.T.Words.WORDS g.T.Words.words_of g.T.Words.value_of in
+    let mine = c.args.pass.now.token in
+    let v = seen mine.seated in
+    let w = seen c.bring_up.new.seat in
+    let state = c.args.state.now in
+    let size = mine.known ∙ ap (λ (z : SetId). z.capacity) c.requires.pass in
+    let ends = c.bring_up.ensures.over.0 (on_history code v state (c.requires.state.1 ∙ sym size) latest) in
+    record {
+      container = search rules;
+      idle = look_idle code UpdateState v w state.seen c.bring_up.result c.bring_up.new.state.shown ends;
+      goes = subst (λ n. Goes code kinds.Container n v w) mine.known
+          (look_goes code UpdateState v w state.seen c.bring_up.result c.bring_up.new.state.shown ends);
+    }
+
+pub returns-clause-updated : goal.returns-clause-updated
+returns-clause-updated g c latest =
+    let code : Coding g.row.T.Denot = coding_of g.T.Words.WORDS g.T.Words.words_of g.T.Words.value_of in
+    let mine = c.args.pass.now.token in
+    let v = seen mine.seated in
+    let state = c.args.state.now in
+    let size = mine.known ∙ ap (λ (z : SetId). z.capacity) c.requires.pass in
+    look_made code UpdateState v (seen c.bring_up.new.seat) state.seen c.bring_up.result c.bring_up.new.state.shown
+    (c.bring_up.ensures.over.0 (on_history code v state (c.requires.state.1 ∙ sym size) latest))
+
+pub returns-clause-latest : goal.returns-clause-latest
+returns-clause-latest g c latest =
+    let code : Coding g.row.T.Denot = coding_of g.T.Words.WORDS g.T.Words.words_of g.T.Words.value_of in
+    let mine = c.args.pass.now.token in
+    let v = seen mine.seated in
+    let state = c.args.state.now in
+    let size = mine.known ∙ ap (λ (z : SetId). z.capacity) c.requires.pass in
+    let e = c.requires.state.1 ∙ sym size in
+    latest_so code v UpdateState (seen c.bring_up.new.seat) c.bring_up.result state c.bring_up.new.state e c.bring_up.ensures.state
+    (c.bring_up.ensures.over.0 (on_history code v state e latest))
+
+pub returns-clause-beside : goal.returns-clause-beside
+returns-clause-beside g c other =
+    let code : Coding g.row.T.Denot = coding_of g.T.Words.WORDS g.T.Words.words_of g.T.Words.value_of in
+    let mine = c.args.pass.now.token in
+    let v = seen mine.seated in
+    let state = c.args.state.now in
+    let size = mine.known ∙ ap (λ (z : SetId). z.capacity) c.requires.pass in
+    c.bring_up.ensures.over.1 (λ on. other (of_history code v state (c.requires.state.1 ∙ sym size) on))
+
+pub returns-clause-shows : goal.returns-clause-shows
+returns-clause-shows g c latest =
+    let code : Coding g.row.T.Denot = coding_of g.T.Words.WORDS g.T.Words.words_of g.T.Words.value_of in
+    let mine = c.args.pass.now.token in
+    let v = seen mine.seated in
+    let state = c.args.state.now in
+    let size = mine.known ∙ ap (λ (z : SetId). z.capacity) c.requires.pass in
+    (c.bring_up.ensures.over.0 (on_history code v state (c.requires.state.1 ∙ sym size) latest)).over.2

@@ -1,14 +1,12 @@
-use Rattle.std.proofs.Common.{rules, sym, ap, subst}
+use Rattle.std.proofs.Common.{[], rules, sym, ap, subst}
 use Rattle.steps.specs.Indices.Robust.Recover.{first_recover}
 use Rattle.model.specs.Coding.{one_word}
 use Rattle.model.specs.declared.turn.Kind.TheVariants as kinds
-use Rattle.model.specs.Families.Indices.Reading.{is_locked}
 use Rattle.lock_free_sp.specs.Seats.{seen}
 use Rattle.lock_free_sp.specs.Sets.{SetId}
 use Rattle.history.specs.Passes.{Goes}
 use Rattle.history.specs.Robust.{recovers_owned}
 use Rattle.history.proofs.RobustRecoveries.{recover_first}
-use Rattle.lock_free_owners.specs.Robust.Callable.{HasVisited}
 use Rattle.lock_free_owners.specs.Robust.Turns.{RecoverAt}
 use Rattle.lock_free_owners.proofs.RobustSet.Facts.{goes, recovered, recovered_answered, recovered_lock}
 use Rattle.lock_free_owners.proofs.Rules.Robust.Recovering.{questions_at, freed_at}
@@ -19,7 +17,7 @@ pub recover_all-state-requires-clause-at : goal.recover_all-state-requires-claus
 recover_all-state-requires-clause-at g c =
     let mine = c.args.pass.now in
     let v = seen mine.seated in
-    subst (λ n. RecoverAt c.args.mode v v (first_recover n) tt) mine.known (recover_first one_word c.args.mode v tt mine.idle mine.alone mine.some.0)
+    subst (λ n. RecoverAt c.args.mode v v (first_recover n) []) mine.known (recover_first one_word c.args.mode v mine.idle mine.alone mine.some.0)
 
 pub recover_all-state-requires-clause-questions : goal.recover_all-state-requires-clause-questions
 recover_all-state-requires-clause-questions g c free = questions_at (ap (λ (z : SetId). z.capacity) (sym c.requires.pass)) (c.requires.questions free)
@@ -34,29 +32,28 @@ returns-clause-goes_on g c =
     record {
       set = search rules;
       goes = subst (λ n. Goes one_word kinds.Robust n v w) c.args.pass.now.known
-          (goes (recovers_owned c.args.mode) v w c.recover_all-state.result.0 tt c.recover_all-state.ensures.ends);
+          (goes (recovers_owned c.args.mode) v w c.recover_all-state.result.0 c.recover_all-state.ensures.ends.0 c.recover_all-state.ensures.ends.1);
     }
 
 pub returns-clause-recovered : goal.returns-clause-recovered
 returns-clause-recovered g c =
-    recovered (seen c.args.pass.now.seated) (seen c.recover_all-state.new.seat) tt c.args.pass.now.idle c.args.mode c.recover_all-state.result.0
-    c.recover_all-state.ensures.ends
+    let called = c.recover_all-state in
+    let ends = called.ensures.ends in (
+      called.result.1,
+      called.result.2,
+      recovered (seen c.args.pass.now.seated) (seen called.new.seat) c.args.pass.now.idle c.args.mode called.result.0 ends.0 ends.1
+          (λ p o i b q. given.F-step g p o i b q) (λ s o i t. given.S-step g s o i tt t) c.args.predicate called.result.1 c.args.recover_success called.result.2
+          ends.2,
+    )
 
 pub returns-clause-answered : goal.returns-clause-answered
 returns-clause-answered g c =
-    recovered_answered (seen c.args.pass.now.seated) (seen c.recover_all-state.new.seat) tt c.args.pass.now.idle c.args.mode c.recover_all-state.result.0
-    c.recover_all-state.ensures.ends
+    let ends = c.recover_all-state.ensures.ends in
+    recovered_answered (seen c.args.pass.now.seated) (seen c.recover_all-state.new.seat) c.args.pass.now.idle c.args.mode c.recover_all-state.result.0
+    ends.0 ends.1
 
 pub returns-clause-lock : goal.returns-clause-lock
 returns-clause-lock g c =
-    recovered_lock (seen c.args.pass.now.seated) (seen c.recover_all-state.new.seat) tt c.args.pass.now.idle c.args.mode c.recover_all-state.result.0
-    c.recover_all-state.ensures.ends
-
-pub returns-clause-visited : goal.returns-clause-visited
-returns-clause-visited g c = (
-  c.recover_all-state.result.1,
-  c.recover_all-state.result.2,
-  subst (λ z. HasVisited (λ p o i b q. given.F-step g p o i b q) (λ s o i t. given.S-step g s o i tt t) z (is_locked (seen c.args.pass.now.seated).seen)
-      c.args.predicate c.args.recover_success c.recover_all-state.result.1 c.recover_all-state.result.2)
-      (ap (λ (z : SetId). z.capacity) c.requires.pass) c.recover_all-state.ensures.visited,
-)
+    let ends = c.recover_all-state.ensures.ends in
+    recovered_lock (seen c.args.pass.now.seated) (seen c.recover_all-state.new.seat) c.args.pass.now.idle c.args.mode c.recover_all-state.result.0
+    ends.0 ends.1

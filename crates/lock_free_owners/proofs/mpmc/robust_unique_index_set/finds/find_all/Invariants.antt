@@ -1,7 +1,7 @@
 use Rattle.steps.specs.Indices.Robust.Find.{find_left}
 use Rattle.lock_free_sp.specs.Seats.{seen, IsSame}
+use Rattle.lock_free_owners.specs.Robust.Finding.{Searching}
 use Rattle.lock_free_owners.specs.Robust.Turns.{IsBoard}
-use Rattle.lock_free_owners.proofs.RobustSet.Finding.{Searching}
 use Rattle.lock_free_owners.proofs.mpmc.robust_unique_index_set.finds.find_all.Given as goal
 
 abbrev pub invariant-loop-next : goal.invariant-loop-next
@@ -10,4 +10,4 @@ invariant-loop-next g l =
     × Searching (λ p x a q. goal.F-step g p x a q) l.fn.capacity l.fn.owner (seen l.fn.seat) l.fn.visit (seen l.seat) l.call l.visit
 
 abbrev pub decreases-loop-next : goal.decreases-loop-next
-decreases-loop-next g l = find_left l.call.capacity l.call.stage
+decreases-loop-next g l = find_left l.fn.capacity l.call.stage

@@ -1,5 +1,4 @@
-use Rattle.std.proofs.Common.{◌≡◌, ◌<◌, ℕ, List, [], rules, sym, subst, arith}
-use Rattle.steps.specs.Indices.Robust.Parts.{cell_word}
+use Rattle.std.proofs.Common.{◌≡◌, ◌<◌, ◌+◌, ℕ, List, [], rules, sym, subst, arith}
 use Rattle.atomic_table.specs.Seated.{TableId}
 use Rattle.atomic_table.specs.Table.{Me, Allows}
 use Rattle.model.specs.Coding.{one_word}
@@ -22,14 +21,14 @@ load-requires c =
     let seat = c.args.seat.now.seat in
     let v = seen c.args.seat.now in
     let table = c.deref.result.now.shared in
-    let word = c.cell_word.result in
-    let is : word ≡ cell_word c.args.index = c.cell_word.ensures in
+    let word = 1 + c.args.cell in
     let at : seat.table_id ≡ table.table_id = search rules in
     let size : v.capacity ≡ table.key = search rules in
     let owed : Owed v.capacity table.table_id.slots seat.id word (v, []) =
     looks_word one_word kinds.Robust v.capacity table.table_id.slots seat.id word v c.requires.some in (
       at,
-      subst (λ (t : TableId). word < t.words) at (let wide = c.requires.board.0 in let cell = c.requires.cell in omega arith),
+      subst (λ (t : TableId). word < t.words) at
+          (let wide = c.requires.board.0 in let cell = c.requires.within in let known = c.requires.known in omega arith),
       subst (λ (xs : List (ℕ × Unit {0})). Owed table.key table.table_id.slots seat.id word (v, xs)) (sym c.args.seat.now.bare)
           (subst (λ k. Owed k table.table_id.slots seat.id word (v, [])) size owed),
     )

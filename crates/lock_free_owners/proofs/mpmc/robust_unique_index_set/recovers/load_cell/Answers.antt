@@ -1,24 +1,21 @@
 use Rattle.std.proofs.Common.{◌+◌, ℕ, List, sym, ap, subst, ◌∙◌}
-use Rattle.steps.specs.Indices.Robust.Recover.{recover_after}
 use Rattle.steps.specs.declared.ask.Op.TheVariants.{Load}
 use Rattle.model.specs.declared.turn.Kind.TheVariants as kinds
 use Rattle.model.specs.Coding.{one_word}
-use Rattle.lock_free_sp.specs.Driver.{Told, OwesAsk}
+use Rattle.lock_free_sp.specs.Driver.{OwesAsk}
 use Rattle.lock_free_sp.specs.Seats.{seen, table_of, key_of}
-use Rattle.history.specs.declared.view.View.{View}
 use Rattle.history.specs.History.{IsMachine}
-use Rattle.history.proofs.RobustRecoveries.{recover_keeps}
-use Rattle.lock_free_owners.specs.Robust.Turns.{size, RecoverAt, RecoverEnds}
+use Rattle.history.proofs.RobustRecoveries.{recover_tells}
+use Rattle.lock_free_owners.specs.Robust.Turns.{size, RecoverTells}
 use Rattle.lock_free_owners.proofs.RobustSet.Turns.{passes}
 use Rattle.lock_free_owners.proofs.mpmc.robust_unique_index_set.recovers.load_cell.Goals as goal
 
 pub load_for-requires-clause-owes : goal.load_for-requires-clause-owes
 load_for-requires-clause-owes c =
     let s = c.args.seat.now in
-    let mode = c.args.mode in
+    let at = c.requires.at in
     let call = passes c.args.capacity c.args.cell in
-    let told = Told (λ (z : View ℕ). z.capacity) (RecoverAt mode) (RecoverEnds mode) (λ d k. recover_after d mode k) (λ d m n. m) call tt in
-    let owed = recover_keeps one_word mode c.requires.at.0 (seen s) call tt (key_of s) (table_of s).words (table_of s).slots s.seat.id
-    (c.requires.board.0 ∙ ap (λ k. size k + 1) (sym c.requires.board.1)) (sym c.requires.board.1) c.requires.at.1 in
-    subst (λ (xs : List (ℕ × Unit {0})). OwesAsk (IsMachine one_word kinds.Robust (key_of s)) (table_of s).words (table_of s).slots s.seat.id told
-    (1 + c.args.cell) Load (seen s, xs)) (sym s.bare) owed
+    let owed = recover_tells one_word c.args.mode at.0 (seen s) call at.1 (key_of s) (table_of s).words (table_of s).slots s.seat.id
+    (c.requires.board.0 ∙ ap (λ k. size k + 1) (sym c.requires.board.1)) (sym c.requires.board.1) at.2 at.3 in
+    subst (λ (xs : List (ℕ × Unit {0})). OwesAsk (IsMachine one_word kinds.Robust (key_of s)) (table_of s).words (table_of s).slots s.seat.id
+    (RecoverTells c.args.mode call) (1 + c.args.cell) Load (seen s, xs)) (sym s.bare) owed

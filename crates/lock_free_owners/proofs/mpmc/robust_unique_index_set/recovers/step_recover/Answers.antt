@@ -1,6 +1,34 @@
+use Rattle.std.proofs.Common.{◌+◌, ℕ, List, sym, ap, subst, ◌∙◌}
+use Rattle.steps.specs.Indices.Robust.Recover.{recover_want}
+use Rattle.steps.specs.declared.ask.After.{After}
+use Rattle.steps.specs.declared.indices.enums.ReleaseState.{ReleaseState}
+use Rattle.steps.specs.declared.indices.robust.recover.Recover.{Recover}
+use Rattle.model.specs.declared.turn.Kind.TheVariants as kinds
 use Rattle.model.specs.Coding.{one_word}
-use Rattle.history.proofs.RobustRecoveries.{recover_keeps}
+use Rattle.lock_free_sp.specs.Driver.{Owes}
+use Rattle.lock_free_sp.specs.Seats.{seen, table_of, key_of}
+use Rattle.history.specs.History.{IsMachine}
+use Rattle.history.proofs.RobustRecoveries.{recover_tells}
+use Rattle.lock_free_owners.specs.Robust.Turns.{size, RecoverSteps, RecoverTells}
 use Rattle.lock_free_owners.proofs.mpmc.robust_unique_index_set.recovers.step_recover.Goals as goal
 
-pub step-requires-clause-rule : goal.step-requires-clause-rule
-step-requires-clause-rule c = recover_keeps one_word c.args.mode
+pub step_telling-requires-clause-owes : goal.step_telling-requires-clause-owes
+step_telling-requires-clause-owes c =
+    let s = c.args.seat.now in
+    let at = c.requires.at in
+    let owed = recover_tells one_word c.args.mode at.0 (seen s) c.args.call at.1 (key_of s) (table_of s).words (table_of s).slots s.seat.id
+    (c.requires.board.0 ∙ ap (λ k. size k + 1) (sym c.requires.board.1)) (sym c.requires.board.1) at.2 at.3 in
+    subst (λ (xs : List (ℕ × Unit {0})). Owes (IsMachine one_word kinds.Robust (key_of s)) (table_of s).words (table_of s).slots s.seat.id
+    (RecoverTells c.args.mode c.args.call) (recover_want c.args.call) (seen s, xs)) (sym s.bare) owed
+
+pub step_telling-requires-clause-capacity : goal.step_telling-requires-clause-capacity
+step_telling-requires-clause-capacity c v n w h = h.0
+
+pub returns-clause-goes : goal.returns-clause-goes
+returns-clause-goes c =
+    let told = c.step_telling.ensures.told in (
+      told.0,
+      told.1,
+      subst (λ (a : After Recover ReleaseState). RecoverSteps c.args.mode (seen c.args.seat.now) c.args.call told.0 a (seen c.step_telling.new.self))
+          (sym told.1) told.3.1,
+    )

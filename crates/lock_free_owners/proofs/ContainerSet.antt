@@ -1,0 +1,13 @@
+pub mod Idle
+pub mod Begins
+pub mod Opens
+pub mod Sound
+pub mod Facts
+pub mod Passes
+pub mod Began
+pub mod SameStates
+pub mod Looks
+pub mod FindTurns
+pub mod Finds
+pub mod RecoverTurns
+pub mod Recoveries

@@ -1,0 +1,132 @@
+-- What a call on a pass whose last one may rest leaves: of one that has ended, and of one that rests itself.
+use Rattle.std.proofs.Common.{◌≡◌, inl, inr, ℕ, false, None, List, [], ◌∷◌, ◌++◌, sym, ap, subst, ◌∙◌, append_assoc, append-nil}
+use Rattle.model.specs.declared.event.Answer.{Answer}
+use Rattle.model.specs.declared.event.Event.{Event}
+use Rattle.model.specs.declared.event.Event.TheVariants.{Begun, Finished}
+use Rattle.model.specs.declared.event.Start.{Start}
+use Rattle.model.specs.declared.event.Start.TheVariants.{Container}
+use Rattle.model.specs.declared.families.container.ContainerStart.{ContainerStart}
+use Rattle.model.specs.declared.turn.Kind.TheVariants as kinds
+use Rattle.model.specs.Coding.{Coding}
+use Rattle.model.specs.Families.Indices.Reading.{is_locked}
+use Rattle.model.specs.Families.Indices.Robust.Promises.{IsUnlocked}
+use Rattle.model.specs.Moments.{HeldOnce}
+use Rattle.lock_free_sp.specs.Shares.{IsAll}
+use Rattle.history.specs.declared.view.View.{View}
+use Rattle.history.specs.History.{IsHistory, Called, IsBeginning}
+use Rattle.history.specs.Passes.{Goes}
+use Rattle.history.specs.Settled.{SettledFrom}
+use Rattle.history.specs.Stages.{Calling, IsUnderWay, Ends, Since, opened}
+use Rattle.history.proofs.Called.{called}
+use Rattle.lock_free_owners.specs.Container.Told.{Answered}
+use Rattle.lock_free_owners.proofs.ContainerSet.Sound.{sound_history}
+use Rattle.lock_free_owners.proofs.RobustSet.Events.{not_locked, covers}
+
+module _ {T : Type 0} (code : Coding T) (base from : View T) (settled : SettledFrom code kinds.Container base from) where
+  -- ---- where it began
+
+  settled_since : SettledFrom code kinds.Container base from → IsBeginning base.seen from.seen
+  settled_since (inl same) = record { rest = []; is = ap (λ (z : View T). z.seen) same.0 ∙ sym (append-nil base.seen) }
+  settled_since (inr s) =
+      let end : List (Event T) = Finished s.resting.party s.resting.start s.resting.answer ∷ [] in
+      record { rest = s.others ++ end; is = s.seen ∙ append_assoc base.seen s.others end }
+
+  settled_idle : SettledFrom code kinds.Container base from → from.going ≡ None
+  settled_idle (inl same) = ap (λ (z : View T). z.going) same.0 ∙ same.1
+  settled_idle (inr s) = s.idle
+
+  settled_capacity : SettledFrom code kinds.Container base from → from.capacity ≡ base.capacity
+  settled_capacity (inl same) = ap (λ (z : View T). z.capacity) same.0
+  settled_capacity (inr s) = s.capacity
+
+  settled_share : SettledFrom code kinds.Container base from → from.share ≡ base.share
+  settled_share (inl same) = ap (λ (z : View T). z.share) same.0
+  settled_share (inr s) = s.share
+
+  pub idle_from : from.going ≡ None
+  idle_from = settled_idle settled
+
+  pub capacity_from : from.capacity ≡ base.capacity
+  capacity_from = settled_capacity settled
+
+  pub share_from : from.share ≡ base.share
+  share_from = settled_share settled
+
+  later : (xs : List (Event T)) → IsBeginning base.seen (from.seen ++ xs)
+  later xs = (let a = settled_since settled in record { rest = a.rest ++ xs; is = ap (λ zs. zs ++ xs) a.is ∙ append_assoc base.seen a.rest xs })
+
+  pub from_since : (xs ys : List (Event T)) → ys ≡ from.seen ++ xs → IsBeginning base.seen ys
+  from_since xs ys is = (let all = later xs in record { rest = all.rest; is = is ∙ all.is })
+
+  module _ (p : ℕ) (start : Start T) (wrote last : List (Event T)) (w : View T) (s : Since p start wrote last from w) where
+    pub opens : opened p start from.going ≡ Begun p start ∷ []
+    opens = ap (opened p start) idle_from
+
+    pub seen_is : w.seen ≡ (from.seen ++ s.others) ++ Begun p start ∷ (s.during ++ last)
+    seen_is = s.is ∙ ap (λ os. (from.seen ++ s.others) ++ (os ++ (s.during ++ last))) opens
+
+    pub made_is : w.made ≡ from.made ++ Begun p start ∷ (wrote ++ last)
+    made_is = s.made ∙ ap (λ os. from.made ++ (os ++ (wrote ++ last))) opens
+
+    pub since_base : IsBeginning base.seen w.seen
+    since_base =
+        from_since (s.others ++ Begun p start ∷ (s.during ++ last)) w.seen
+        (seen_is ∙ append_assoc from.seen s.others (Begun p start ∷ (s.during ++ last)))
+
+  module _ {C M E : Type 0} (call : Calling T C M E) (w : View T) where
+    -- ---- it has ended
+
+    module _ (e : E) (m : M) (ends : Ends code kinds.Container call from e m w) where
+      history_of : IsHistory code kinds.Container base.capacity w.seen
+      history_of = subst (λ n. IsHistory code kinds.Container n w.seen) capacity_from ends.history
+
+      pub ended_goes : Goes code kinds.Container base.capacity base w
+      ended_goes =
+          record {
+            share = ends.share ∙ share_from;
+            since = since_base ends.party call.start ends.wrote (Finished ends.party call.start (call.answer e m) ∷ []) w ends.since;
+            history = history_of;
+            all = λ whole. ends.all (subst IsAll ends.share whole);
+          }
+
+      module _ (start : ContainerStart T) (is_start : call.start ≡ Container start) (answer : Answer T) (is_answer : call.answer e m ≡ answer) where
+        pub ended_called : Called ends.party (Container start) answer ends.wrote from w
+        ended_called =
+            subst (λ s. Called ends.party s answer ends.wrote from w) is_start
+            (subst (λ a. Called ends.party call.start a ends.wrote from w) is_answer (called code kinds.Container call from w e m idle_from ends))
+
+        pub ended_answered : Answered code start answer base w
+        ended_answered =
+            let c = ended_called in
+            let begin : Event T = Begun ends.party (Container start) in
+            let end : Event T = Finished ends.party (Container start) answer in
+            let before : List (Event T) = (from.seen ++ c.others) ++ begin ∷ c.during in
+            let is_last : w.seen ≡ before ++ end ∷ [] = c.is ∙ sym (append_assoc (from.seen ++ c.others) (begin ∷ c.during) (end ∷ [])) in
+            record {
+              by = ends.party;
+              before = before;
+              is = is_last;
+              since = subst (IsBeginning base.seen) (sym (append_assoc from.seen c.others (begin ∷ c.during))) (later (c.others ++ begin ∷ c.during));
+              right = (sound_history code base.capacity w.seen history_of).answers before [] end is_last;
+            }
+
+        -- what was unlocked at a moment of the call was when it began
+        pub open_since : (P : List (Event T) → Type 0) → HeldOnce ended_answered.by (λ part. IsUnlocked part × P part) ended_answered.before
+            → is_locked base.seen ≡ false
+        unfolding ended_answered
+        open_since P once =
+            let c = ended_called in
+            let covered = covers ends.party (Container start) c.during (from.seen ++ c.others) once.part once.rest once.is once.within in
+            not_locked (from_since (c.others ++ covered.rest) once.part (covered.is ∙ append_assoc from.seen c.others covered.rest)) once.held.0
+
+    -- ---- it is under way
+
+    module _ (c : C) (m : M) (under : IsUnderWay code kinds.Container call from w c m) where
+      pub under_goes : Goes code kinds.Container base.capacity base w
+      under_goes =
+          record {
+            share = under.share ∙ share_from;
+            since = since_base under.party call.start under.wrote [] w under.since;
+            history = subst (λ n. IsHistory code kinds.Container n w.seen) capacity_from under.history;
+            all = λ whole. under.all (subst IsAll under.share whole);
+          }

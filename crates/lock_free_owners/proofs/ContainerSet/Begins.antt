@@ -1,0 +1,167 @@
+-- Each call on a container, also one that begins where the last of its pass rests: its steps, and its begin.
+use Rattle.std.proofs.Common.{◌≡◌, ◌⊎◌, inl, inr, ℕ, ◌+◌, ◌<◌, None, [], refl, sym, subst, arith, nat_lt, true}
+use Rattle.std.proofs.lemmas.Bool.Decides.{nat_tests}
+use Rattle.atomic_table.specs.Table.{Allows}
+use Rattle.steps.specs.Container.Add.{first_add, add_want, add_after}
+use Rattle.steps.specs.Container.Remove.{first_remove, remove_want, remove_after}
+use Rattle.steps.specs.Container.Replace.{first_replace, replace_want, replace_after}
+use Rattle.steps.specs.Indices.Robust.Parts.{empty}
+use Rattle.steps.specs.Indices.Robust.Looks.{first_borrowed, borrowed_want, borrowed_after, locked_after}
+use Rattle.steps.specs.Queues.Ring.{load}
+use Rattle.steps.specs.declared.ask.Op.TheVariants as ops
+use Rattle.steps.specs.declared.container.add.Add.{Add as Adding}
+use Rattle.steps.specs.declared.container.add.Owned.{Owned}
+use Rattle.steps.specs.declared.container.remove.Remove.{Remove as Removing}
+use Rattle.steps.specs.declared.container.replace.Replace.{Replace as Replacing}
+use Rattle.steps.specs.declared.container.replace.Replacement.{Replacement}
+use Rattle.steps.specs.declared.indices.robust.looks.BorrowedIndices.{BorrowedIndices as Counting}
+use Rattle.steps.specs.declared.indices.robust.looks.IsLocked.{IsLocked as Looking}
+use Rattle.steps.specs.declared.indices.robust.release.GiveBack.{GiveBack}
+use Rattle.model.specs.declared.families.container.calls.CountOf.{CountOf}
+use Rattle.model.specs.declared.turn.Kind.TheVariants as kinds
+use Rattle.model.specs.Coding.{Coding, IsCoding}
+use Rattle.history.specs.declared.view.View.{View}
+use Rattle.history.specs.Container.{adds_value, removes_value, replaces_value, counts_values, sees_lock}
+use Rattle.history.specs.History.{IsMachine}
+use Rattle.history.specs.Settled.{SettledFrom, IsResting}
+use Rattle.history.specs.Stages.{Calling, At}
+use Rattle.history.proofs.CallsIn.{AsksFor}
+use Rattle.history.proofs.Containers.{container_words}
+use Rattle.history.proofs.ContainerAdds.{container_add_keeps, container_add_first, container_replace_keeps, container_replace_first}
+use Rattle.history.proofs.ContainerCalls.{container_count_keeps, container_count_first, container_lock_keeps, container_lock_first, remove_call, container_remove_keeps, container_remove_first}
+use Rattle.history.proofs.ContainerRests.{Keeps, rested_keeps, container_settles}
+use Rattle.lock_free_owners.specs.Container.Idle.{IsIdle}
+use Rattle.lock_free_owners.specs.Container.Turns.{CallAt, BeginsAdd, BeginsRemove, BeginsReplace, BeginsCount, BeginsLock, AddAt, AddEnds, RemoveAt, RemoveEnds, ReplaceAt, ReplaceEnds, CountAt, CountEnds, LockAt, LockEnds}
+use Rattle.lock_free_owners.proofs.ContainerSet.Idle.{rests}
+use Rattle.lock_free_owners.proofs.Rules.Container.Bare.{leaves}
+
+module _ {T : Type 0} (code : Coding T) where
+  -- ---- a call that begins
+
+  module _ {C E : Type 0} (begins : ℕ → C → Type 0) (call : Calling T C (Unit {0}) E) where
+    begins_by : (v : View T) (c : C) → begins v.capacity c → (v.going ≡ None → At code kinds.Container call v v c tt)
+        → (v.going ≡ None) ⊎ IsResting code v → CallAt code begins call v v c tt
+    begins_by v c first at (inl idle) = inl (record { from = v; settled = inl (refl, idle); stage = at idle })
+    begins_by v c first at (inr resting) = inr (record { is = refl; resting = resting; first = first })
+
+    pub begins_at : (v : View T) (c : C) → begins v.capacity c → (v.going ≡ None → At code kinds.Container call v v c tt) → IsIdle v → v.other ≡ []
+        → 0 < v.share.part → CallAt code begins call v v c tt
+    begins_at v c first at idle alone any = begins_by v c first at (rests code v alone any idle)
+
+  -- ---- a load that leaves what is known, or with which a call that rests has ended
+
+  abbrev Settling : (key slots id word : ℕ) → View T → Type 0
+  Settling key slots id word v =
+      Allows (IsMachine code kinds.Container key) slots id (v, []) word (λ n. n) (λ found me. SettledFrom code kinds.Container v me.0 × (me.1 ≡ []))
+
+  settles_by : (key slots id word : ℕ) (v : View T) → v.capacity ≡ key → (v.going ≡ None) ⊎ IsResting code v → Settling key slots id word v
+  settles_by key slots id word v known (inl idle) =
+      leaves code key slots id v word (λ n. n) (λ k. refl) (λ u n w. SettledFrom code kinds.Container u w) (λ k. inl (refl, idle))
+  settles_by key slots id word v known (inr resting) = λ s r long at small.
+      (let x = container_settles code key slots id word v known resting s r long at small in (x.0, x.1, x.2, x.3, (inr x.4.0, x.4.1)))
+
+  pub settles_or_stays : (key slots id word : ℕ) (v : View T) → v.capacity ≡ key → IsIdle v → v.other ≡ [] → 0 < v.share.part
+      → Allows (IsMachine code kinds.Container key) slots id (v, []) word (λ n. n) (λ found me. SettledFrom code kinds.Container v me.0 × (me.1 ≡ []))
+  settles_or_stays key slots id word v known idle alone any = settles_by key slots id word v known (rests code v alone any idle)
+
+  -- ---- add
+
+  module _ (law : IsCoding code) (given : Owned T) where
+    add_asks : (capacity : ℕ) (c : Adding T) → BeginsAdd given capacity c → AsksFor (container_words code capacity) (add_want code.words_of code.size c given)
+    add_asks capacity c b =
+        subst (λ d. AsksFor (container_words code capacity) (add_want code.words_of code.size d given)) (sym b.0) (_, omega arith, refl)
+
+    add_first : (v : View T) (c : Adding T) (m : Unit {0}) → BeginsAdd given v.capacity c → v.going ≡ None → v.other ≡ [] → 0 < v.share.part
+        → At code kinds.Container (adds_value code.size given) v v c m
+    add_first v c m b idle alone any =
+        subst (λ d. At code kinds.Container (adds_value code.size given) v v d m) (sym b.0) (container_add_first code law given v m idle alone any b.1)
+
+    pub add_keeps : Keeps code (AddAt code given) (AddEnds code given) (λ c. add_want code.words_of code.size c given) (λ c n. add_after code.size c n)
+        (λ c m n. m)
+    add_keeps = rested_keeps code (adds_value code.size given) (λ c. add_want code.words_of code.size c given) (λ c m. refl) (BeginsAdd given) add_asks
+        (λ c n. add_after code.size c n) (λ c m n. m) (container_add_keeps code law given) add_first
+
+    pub add_begins : (v : View T) → given.owner < empty → IsIdle v → v.other ≡ [] → 0 < v.share.part → AddAt code given v v (first_add v.capacity) tt
+    add_begins v fits idle alone any =
+        begins_at (BeginsAdd given) (adds_value code.size given) v (first_add v.capacity) (refl, fits)
+        (λ none. add_first v (first_add v.capacity) tt (refl, fits) none alone any) idle alone any
+
+  -- ---- remove
+
+  module _ (given : GiveBack) where
+    remove_asks : (capacity : ℕ) (c : Removing) → BeginsRemove given capacity c → AsksFor (container_words code capacity) (remove_want c given)
+    remove_asks capacity c b =
+        let low = b.1 in
+        let below : nat_lt given.index capacity ≡ true = grind (arith, nat_tests) in
+        subst (λ d. AsksFor (container_words code capacity) (remove_want d given)) (sym b.0)
+        ((remove_call code given).asks capacity (first_remove capacity given.index) (refl, b.1, rw below tt))
+
+    remove_first : (v : View T) (c : Removing) (m : Unit {0}) → BeginsRemove given v.capacity c → v.going ≡ None → v.other ≡ [] → 0 < v.share.part
+        → At code kinds.Container (removes_value given) v v c m
+    remove_first v c m b idle alone any =
+        subst (λ d. At code kinds.Container (removes_value given) v v d m) (sym b.0) (container_remove_first code given v m idle alone any b.1 b.2)
+
+    pub remove_keeps : Keeps code (RemoveAt code given) (RemoveEnds code given) (λ c. remove_want c given) (λ c n. remove_after c given n) (λ c m n. m)
+    remove_keeps = rested_keeps code (removes_value given) (λ c. remove_want c given) (λ c m. refl) (BeginsRemove given) remove_asks
+        (λ c n. remove_after c given n) (λ c m n. m) (container_remove_keeps code given) remove_first
+
+    pub remove_begins : (v : View T) → given.index < v.capacity → given.owner < empty → IsIdle v → v.other ≡ [] → 0 < v.share.part
+        → RemoveAt code given v v (first_remove v.capacity given.index) tt
+    remove_begins v low fits idle alone any =
+        begins_at (BeginsRemove given) (removes_value given) v (first_remove v.capacity given.index) (refl, low, fits)
+        (λ none. remove_first v (first_remove v.capacity given.index) tt (refl, low, fits) none alone any) idle alone any
+
+  -- ---- replace
+
+  module _ (law : IsCoding code) (given : Replacement T) where
+    replace_asks : (capacity : ℕ) (c : Replacing T) → BeginsReplace given capacity c
+        → AsksFor (container_words code capacity) (replace_want code.words_of code.size c given)
+    replace_asks capacity c b =
+        let low = b.1 in
+        let below : nat_lt given.index capacity ≡ true = grind (arith, nat_tests) in
+        subst (λ d. AsksFor (container_words code capacity) (replace_want code.words_of code.size d given)) (sym b.0)
+        (rw below (record { word = 1 + given.index; op = ops.Load }, omega arith, refl))
+
+    replace_first : (v : View T) (c : Replacing T) (m : Unit {0}) → BeginsReplace given v.capacity c → v.going ≡ None → v.other ≡ [] → 0 < v.share.part
+        → At code kinds.Container (replaces_value code.size given) v v c m
+    replace_first v c m b idle alone any =
+        subst (λ d. At code kinds.Container (replaces_value code.size given) v v d m) (sym b.0)
+        (container_replace_first code law given v m idle alone any b.1 b.2)
+
+    pub replace_keeps : Keeps code (ReplaceAt code given) (ReplaceEnds code given) (λ c. replace_want code.words_of code.size c given)
+        (λ c n. replace_after code.size c given n) (λ c m n. m)
+    replace_keeps = rested_keeps code (replaces_value code.size given) (λ c. replace_want code.words_of code.size c given) (λ c m. refl) (BeginsReplace given)
+        replace_asks (λ c n. replace_after code.size c given n) (λ c m n. m) (container_replace_keeps code law given) replace_first
+
+    pub replace_begins : (v : View T) → given.index < v.capacity → given.owner < empty → IsIdle v → v.other ≡ [] → 0 < v.share.part
+        → ReplaceAt code given v v (first_replace v.capacity given.index) tt
+    replace_begins v low fits idle alone any =
+        begins_at (BeginsReplace given) (replaces_value code.size given) v (first_replace v.capacity given.index) (refl, low, fits)
+        (λ none. replace_first v (first_replace v.capacity given.index) tt (refl, low, fits) none alone any) idle alone any
+
+  -- ---- looks
+
+  module _ (which : CountOf) where
+    count_asks : (capacity : ℕ) (c : Counting) → BeginsCount capacity c → AsksFor (container_words code capacity) (borrowed_want c)
+    count_asks capacity c b = subst (λ d. AsksFor (container_words code capacity) (borrowed_want d)) (sym b) (_, omega arith, refl)
+
+    count_first : (v : View T) (c : Counting) (m : Unit {0}) → BeginsCount v.capacity c → v.going ≡ None → v.other ≡ [] → 0 < v.share.part
+        → At code kinds.Container (counts_values which) v v c m
+    count_first v c m b idle alone any =
+        subst (λ d. At code kinds.Container (counts_values which) v v d m) (sym b) (container_count_first code which v m idle alone any)
+
+    pub count_keeps : Keeps code (CountAt code which) (CountEnds code which) borrowed_want borrowed_after (λ c m n. m)
+    count_keeps = rested_keeps code (counts_values which) borrowed_want (λ c m. refl) BeginsCount count_asks borrowed_after (λ c m n. m)
+        (container_count_keeps code which) count_first
+
+    pub count_begins : (v : View T) → IsIdle v → v.other ≡ [] → 0 < v.share.part → CountAt code which v v (first_borrowed v.capacity) tt
+    count_begins v idle alone any =
+        begins_at BeginsCount (counts_values which) v (first_borrowed v.capacity) refl
+        (λ none. count_first v (first_borrowed v.capacity) tt refl none alone any) idle alone any
+
+  pub lock_keeps : Keeps code (LockAt code) (LockEnds code) (λ c. load 0) locked_after (λ c m n. m)
+  lock_keeps = rested_keeps code sees_lock (λ c. load 0) (λ c m. refl) BeginsLock (λ capacity c b. (_, omega arith, refl)) locked_after (λ c m n. m)
+      (container_lock_keeps code) (λ v c m b idle alone any. container_lock_first code v c m idle alone any)
+
+  pub lock_begins : (v : View T) (c : Looking) → IsIdle v → v.other ≡ [] → 0 < v.share.part → LockAt code v v c tt
+  lock_begins v c idle alone any = begins_at BeginsLock sees_lock v c tt (λ none. container_lock_first code v c tt none alone any) idle alone any

@@ -1,0 +1,363 @@
+-- What is known of whole calls on a container.
+use Rattle.std.proofs.Common.{◌≡◌, inl, inr, ⊎_elim, ℕ, ◌<◌, ◌≤◌, ◌==◌, Bool, true, false, true≢false, None, Ok, Err, IfOk, OnOk, List, [], ◌∷◌, ◌++◌, refl, sym, ap, subst, ◌∙◌, append_assoc, append-nil, arith}
+use Rattle.steps.specs.Container.Add.{Added}
+use Rattle.steps.specs.Container.Remove.{Removed}
+use Rattle.steps.specs.Container.Replace.{Replaced}
+use Rattle.steps.specs.declared.container.add.Owned.{Owned}
+use Rattle.steps.specs.declared.container.enums.ContainerAddFailure.{ContainerAddFailure}
+use Rattle.steps.specs.declared.container.enums.ContainerAddFailure.TheVariants as failures
+use Rattle.steps.specs.declared.container.replace.Replacement.{Replacement}
+use Rattle.steps.specs.declared.indices.enums.ReleaseMode.{ReleaseMode}
+use Rattle.steps.specs.declared.indices.enums.ReleaseMode.TheVariants.{LockIfLastIndex, Default}
+use Rattle.steps.specs.declared.indices.enums.ReleaseState.{ReleaseState}
+use Rattle.steps.specs.declared.indices.enums.ReleaseState.TheVariants as states
+use Rattle.steps.specs.declared.indices.robust.release.GiveBack.{GiveBack}
+use Rattle.model.specs.declared.event.Answer.{Answer}
+use Rattle.model.specs.declared.event.Answer.TheVariants.{Number, Truth}
+use Rattle.model.specs.declared.event.Event.{Event}
+use Rattle.model.specs.declared.event.Event.TheVariants.{Begun, Filled, Granted, FreedOf, Hidden, Finished}
+use Rattle.model.specs.declared.event.Start.TheVariants.{Container}
+use Rattle.model.specs.declared.families.container.ContainerStart.{ContainerStart}
+use Rattle.model.specs.declared.families.container.ContainerStart.TheVariants.{Add, Remove, Replace, Len, IsEmpty, IsLocked}
+use Rattle.model.specs.declared.families.container.calls.CountOf.TheVariants as counts
+use Rattle.model.specs.declared.turn.Kind.TheVariants as kinds
+use Rattle.model.specs.Coding.{Coding}
+use Rattle.model.specs.Families.Container.Calls.{added, removed, replaced}
+use Rattle.model.specs.Families.Indices.Reading.{is_locked}
+use Rattle.model.specs.Families.Indices.Robust.Promises.{IsUnlocked}
+use Rattle.model.specs.Moments.{HeldOnce}
+use Rattle.robust_laws.proofs.Counting.{count_most}
+use Rattle.lock_free_sp.specs.Shares.{IsAll}
+use Rattle.history.specs.declared.view.View.{View}
+use Rattle.history.specs.Container as container
+use Rattle.history.specs.Container.{adds_value, removes_value, replaces_value, counts_values, sees_lock}
+use Rattle.history.specs.History.{IsHistory, Called, IsBeginning}
+use Rattle.history.specs.Passes.{Goes}
+use Rattle.history.specs.Settled.{SettledFrom}
+use Rattle.history.specs.Stages.{Calling, opened}
+use Rattle.history.proofs.Called.{called}
+use Rattle.lock_free_owners.specs.Robust.Told.{WroteAt, WasFilled, WasGranted, WasFreed, HasReleased, FoundLock}
+use Rattle.lock_free_owners.specs.Container.Told.{IsSound, HasMade, HasAdded, HasRemoved, HasReplaced, HasCounted, HasTested, HasLooked, Answered, WasNotAdded}
+use Rattle.lock_free_owners.specs.Container.Turns.{CallEnds, AddEnds, RemoveEnds, ReplaceEnds, CountEnds, LockEnds, BeginsAdd, BeginsRemove, BeginsReplace, BeginsCount, BeginsLock}
+use Rattle.lock_free_owners.proofs.ContainerSet.Sound.{sound_history}
+use Rattle.lock_free_owners.proofs.RobustSet.Events.{find_own, lock_stays, not_locked, covers, longer}
+
+module _ {T : Type 0} (code : Coding T) where
+  -- ---- where a call began
+
+  module _ (base : View T) where
+    settled_since : (from : View T) → SettledFrom code kinds.Container base from → IsBeginning base.seen from.seen
+    settled_since from (inl same) = record { rest = []; is = ap (λ (z : View T). z.seen) same.0 ∙ sym (append-nil base.seen) }
+    settled_since from (inr s) =
+        let end : List (Event T) = Finished s.resting.party s.resting.start s.resting.answer ∷ [] in
+        record { rest = s.others ++ end; is = s.seen ∙ append_assoc base.seen s.others end }
+
+    settled_idle : (from : View T) → SettledFrom code kinds.Container base from → from.going ≡ None
+    settled_idle from (inl same) = ap (λ (z : View T). z.going) same.0 ∙ same.1
+    settled_idle from (inr s) = s.idle
+
+    settled_capacity : (from : View T) → SettledFrom code kinds.Container base from → from.capacity ≡ base.capacity
+    settled_capacity from (inl same) = ap (λ (z : View T). z.capacity) same.0
+    settled_capacity from (inr s) = s.capacity
+
+    settled_share : (from : View T) → SettledFrom code kinds.Container base from → from.share ≡ base.share
+    settled_share from (inl same) = ap (λ (z : View T). z.share) same.0
+    settled_share from (inr s) = s.share
+
+  -- ---- what any call leaves
+
+  module _ {C E : Type 0} (begins : ℕ → C → Type 0) (call : Calling T C (Unit {0}) E) (base w : View T) (e : E)
+      (ends : CallEnds code begins call base e tt w) where
+    abbrev from : View T
+    from = ends.from
+
+    abbrev last : List (Event T)
+    last = Finished ends.over.party call.start (call.answer e tt) ∷ []
+
+    pub history_of : IsHistory code kinds.Container base.capacity w.seen
+    history_of = subst (λ n. IsHistory code kinds.Container n w.seen) (settled_capacity base from ends.settled) ends.over.history
+
+    pub share_of : w.share ≡ base.share
+    share_of = ends.over.share ∙ settled_share base from ends.settled
+
+    pub capacity_of : w.capacity ≡ base.capacity
+    capacity_of = ends.over.capacity ∙ settled_capacity base from ends.settled
+
+    called_of : Called ends.over.party call.start (call.answer e tt) ends.over.wrote from w
+    called_of = called code kinds.Container call from w e tt (settled_idle base from ends.settled) ends.over
+
+    since_of : IsBeginning base.seen w.seen
+    since_of =
+        let a = settled_since base from ends.settled in
+        let s = ends.over.since in
+        let more = opened ends.over.party call.start from.going ++ (s.during ++ last) in
+        record {
+          rest = a.rest ++ (s.others ++ more);
+          is = s.is ∙ (append_assoc from.seen s.others more ∙ (ap (λ zs. zs ++ (s.others ++ more)) a.is ∙ append_assoc base.seen a.rest (s.others ++ more)));
+        }
+
+    pub goes : Goes code kinds.Container base.capacity base w
+    goes = record { share = share_of; since = since_of; history = history_of; all = λ whole. ends.over.all (subst IsAll ends.over.share whole) }
+
+    module _ (start : ContainerStart T) (is_start : call.start ≡ Container start) (answer : Answer T) (is_answer : call.answer e tt ≡ answer) where
+      made_call : Called ends.over.party (Container start) answer ends.over.wrote from w
+      made_call =
+          subst (λ s. Called ends.over.party s answer ends.over.wrote from w) is_start
+          (subst (λ a. Called ends.over.party call.start a ends.over.wrote from w) is_answer called_of)
+
+      pub made : (Wrote : ℕ → List (Event T) → Type 0) → Wrote ends.over.party ends.over.wrote → HasMade code start answer Wrote base w
+      made Wrote tells =
+          record {
+            from = from;
+            settled = ends.settled;
+            by = ends.over.party;
+            mine = ends.over.mine;
+            wrote = ends.over.wrote;
+            tells = tells;
+            called = made_call;
+          }
+
+      abbrev p : ℕ
+      p = ends.over.party
+
+      abbrev begin : Event T
+      begin = Begun p (Container start)
+
+      abbrev end : Event T
+      end = Finished p (Container start) answer
+
+      sound : IsSound code base.capacity w.seen
+      sound = sound_history code base.capacity w.seen history_of
+
+      later : (xs : List (Event T)) → IsBeginning base.seen (from.seen ++ xs)
+      later xs = (let a = settled_since base from ends.settled in
+          record { rest = a.rest ++ xs; is = ap (λ zs. zs ++ xs) a.is ∙ append_assoc base.seen a.rest xs })
+
+      -- what was so when it wrote this event
+      pub wrote_at : (event : ℕ → Event T) (first rest : List (Event T)) → ends.over.wrote ≡ first ++ event p ∷ rest → (Before : ℕ → List (Event T) → Type 0)
+          → ((before after : List (Event T)) → w.seen ≡ before ++ event p ∷ after → Before p before) → WroteAt event Before base w
+      wrote_at event first rest is Before held =
+          let c = made_call in
+          let part = find_own p c.during first rest (event p) (c.during_own ∙ is) in
+          let others : List (Event T) = from.seen ++ c.others in
+          let whole : w.seen ≡ (others ++ begin ∷ part.0) ++ event p ∷ (part.1 ++ end ∷ []) =
+          c.is
+          ∙ (ap (λ ds. others ++ begin ∷ (ds ++ end ∷ [])) part.2
+          ∙ (ap (λ zs. others ++ begin ∷ zs) (append_assoc part.0 (event p ∷ part.1) (end ∷ []))
+          ∙ sym (append_assoc others (begin ∷ part.0) (event p ∷ (part.1 ++ end ∷ [])))))
+          in
+          let front = append_assoc from.seen c.others (begin ∷ part.0) in
+          record {
+            by = p;
+            before = others ++ begin ∷ part.0;
+            after = part.1 ++ end ∷ [];
+            is = whole;
+            since = subst (IsBeginning base.seen) (sym front) (later (c.others ++ begin ∷ part.0));
+            held = held (others ++ begin ∷ part.0) (part.1 ++ end ∷ []) whole;
+          }
+
+      -- the last answer, and what stood before it
+      pub answered : Answered code start answer base w
+      answered =
+          let c = made_call in
+          let before : List (Event T) = (from.seen ++ c.others) ++ begin ∷ c.during in
+          let is_last : w.seen ≡ before ++ end ∷ [] = c.is ∙ sym (append_assoc (from.seen ++ c.others) (begin ∷ c.during) (end ∷ [])) in
+          record {
+            by = p;
+            before = before;
+            is = is_last;
+            since = subst (IsBeginning base.seen) (sym (append_assoc from.seen c.others (begin ∷ c.during))) (later (c.others ++ begin ∷ c.during));
+            right = sound.answers before [] end is_last;
+          }
+
+      -- at a moment of the call the lock was not there, nor before it
+      pub open_since : HeldOnce p IsUnlocked answered.before → is_locked base.seen ≡ false
+      unfolding answered
+      open_since once =
+          let c = made_call in
+          let covered = covers p (Container start) c.during (from.seen ++ c.others) once.part once.rest once.is once.within in
+          not_locked (longer (later c.others) covered) once.held
+
+  pub last_of : {start : ContainerStart T} {answer : Answer T} {old new : View T} → (a : Answered code start answer old new) → IsBeginning a.before new.seen
+  last_of {start} {answer} {old} {new} a = record { rest = Finished a.by (Container start) answer ∷ []; is = a.is }
+
+  -- ---- looks
+
+  module _ (base w : View T) (b : Bool) (ends : LockEnds code base b tt w) where
+    pub looked : HasLooked code b base w
+    looked = made BeginsLock sees_lock base w b ends IsLocked refl (Truth b) refl (λ by es. es ≡ []) ends.over.tells
+
+    pub looked_answered : Answered code IsLocked (Truth b) base w
+    looked_answered = answered BeginsLock sees_lock base w b ends IsLocked refl (Truth b) refl
+
+  looked_so : (base w : View T) (b : Bool) → Answered code IsLocked (Truth b) base w → FoundLock b base w
+  looked_so base w true a = lock_stays (last_of a) (sym a.right)
+  looked_so base w false a = not_locked a.since (sym a.right)
+
+  pub looked_lock : (base w : View T) (b : Bool) → LockEnds code base b tt w → FoundLock b base w
+  looked_lock base w b ends = looked_so base w b (looked_answered base w b ends)
+
+  -- ---- counts
+
+  module _ (base w : View T) (n : ℕ) where
+    module _ (ends : CountEnds code counts.Len base n tt w) where
+      pub counted : HasCounted code n base w
+      counted = made BeginsCount (counts_values counts.Len) base w n ends Len refl (Number n) refl (λ by es. es ≡ []) ends.over.tells
+
+      pub counted_answered : Answered code Len (Number n) base w
+      counted_answered = answered BeginsCount (counts_values counts.Len) base w n ends Len refl (Number n) refl
+
+      pub counted_most : n ≤ base.capacity
+      counted_most = go (is_locked counted_answered.before) refl
+        where
+          go : (b : Bool) → is_locked counted_answered.before ≡ b → n ≤ base.capacity
+          go true t = (let none = counted_answered.right.none t in omega arith)
+          go false t =
+              let count = counted_answered.right.some t in
+              let most = count_most count.chosen base.capacity in
+              let is = count.is in
+              omega arith
+
+      pub counted_none : is_locked base.seen ≡ true → n ≡ 0
+      counted_none lock = counted_answered.right.none (lock_stays counted_answered.since lock)
+
+    module _ (ends : CountEnds code counts.IsEmpty base n tt w) where
+      pub tested : HasTested code (n == 0) base w
+      tested = made BeginsCount (counts_values counts.IsEmpty) base w n ends IsEmpty refl (Truth (n == 0)) refl (λ by es. es ≡ []) ends.over.tells
+
+      pub tested_answered : Answered code IsEmpty (Truth (n == 0)) base w
+      tested_answered = answered BeginsCount (counts_values counts.IsEmpty) base w n ends IsEmpty refl (Truth (n == 0)) refl
+
+      pub tested_none : is_locked base.seen ≡ true → (n == 0) ≡ true
+      tested_none lock =
+          let right = tested_answered.right in
+          right.is ∙ ap (λ k. k == 0) (right.length.none (lock_stays tested_answered.since lock))
+
+  -- ---- remove
+
+  module _ (base w : View T) (given : GiveBack) where
+    pub has_removed : (answer : Removed) → RemoveEnds code given base answer tt w → HasRemoved code given answer base w
+    has_removed answer ends =
+        made (BeginsRemove given) (removes_value given) base w answer ends (Remove given.index given.owner given.mode) refl (removed answer) refl
+        (λ by es. container.HasRemoved by given answer es) (ends.over.tells (settled_idle base ends.from ends.settled))
+
+    pub removed_answered : (answer : Removed) → RemoveEnds code given base answer tt w
+        → Answered code (Remove given.index given.owner given.mode) (removed answer) base w
+    removed_answered answer ends =
+        answered (BeginsRemove given) (removes_value given) base w answer ends (Remove given.index given.owner given.mode) refl (removed answer) refl
+
+    removed_at : (state : ReleaseState) (rest : List (Event T)) → (ends : RemoveEnds code given base (Ok state) tt w)
+        → ends.over.wrote ≡ FreedOf ends.over.party given.index given.owner ∷ rest → WasFreed given.index given.owner base w
+    removed_at state rest ends is =
+        wrote_at (BeginsRemove given) (removes_value given) base w (Ok state) ends (Remove given.index given.owner given.mode) refl (removed (Ok state)) refl
+        (λ by. FreedOf by given.index given.owner) [] rest is _
+        (λ before after at. ((sound_history code base.capacity w.seen (history_of (BeginsRemove given) (removes_value given) base w (Ok state) ends)).does
+        before after (FreedOf ends.over.party given.index given.owner) at).0)
+
+    freed_first : (state : ReleaseState) (p : ℕ) (es : List (Event T)) → container.HasRemovedIt p given state es
+        → (rest : List (Event T)) × (es ≡ FreedOf p given.index given.owner ∷ rest)
+    freed_first states.Unlocked p es h = (_, h.2.1 ∙ ap (λ zs. zs ++ container.when h.2.0 (Hidden p given.index)) h.1)
+    freed_first states.Locked p es h =
+        ⊎_elim (λ is. (_, h.2.1 ∙ ap (λ zs. zs ++ container.when h.2.0 (Hidden p given.index)) is))
+        (λ is. (_, h.2.1 ∙ ap (λ zs. zs ++ container.when h.2.0 (Hidden p given.index)) is)) h.1.1
+
+    freed_so : (state : ReleaseState) → RemoveEnds code given base (Ok state) tt w → WasFreed given.index given.owner base w
+    freed_so state ends =
+        let first = freed_first state ends.over.party ends.over.wrote (ends.over.tells (settled_idle base ends.from ends.settled)) in
+        removed_at state first.0 ends first.1
+
+    pub freed : (answer : Removed) → RemoveEnds code given base answer tt w → OnOk answer (WasFreed given.index given.owner base w)
+    freed (Err e) ends = tt
+    freed (Ok state) ends = freed_so state ends
+
+  module _ (base w : View T) (index owner : ℕ) where
+    abbrev pub gives : ReleaseMode → GiveBack
+    gives mode = record { index = index; owner = owner; mode = mode }
+
+    released_so : (mode : ReleaseMode) (state : ReleaseState) → RemoveEnds code (gives mode) base (Ok state) tt w → HasReleased state mode base w
+    unfolding removed_answered answered
+    released_so LockIfLastIndex states.Locked ends =
+        (let a = removed_answered base w (gives LockIfLastIndex) (Ok states.Locked) ends in (lock_stays (last_of a) a.right, refl))
+    released_so LockIfLastIndex states.Unlocked ends =
+        λ same. open_since (BeginsRemove (gives LockIfLastIndex)) (removes_value (gives LockIfLastIndex)) base w (Ok states.Unlocked) ends
+        (Remove index owner LockIfLastIndex) refl (removed (Ok states.Unlocked)) refl
+        (removed_answered base w (gives LockIfLastIndex) (Ok states.Unlocked) ends).right.0
+    released_so Default states.Locked ends =
+        (let no = (has_removed base w (gives Default) (Ok states.Locked) ends).tells.1.0 in absurd (cc))
+    released_so Default states.Unlocked ends = λ same. absurd (cc)
+
+    pub released : (mode : ReleaseMode) (answer : Removed) → RemoveEnds code (gives mode) base answer tt w → IfOk answer (λ s. HasReleased s mode base w)
+    released mode (Err e) ends = tt
+    released mode (Ok state) ends = released_so mode state ends
+
+  -- ---- replace
+
+  module _ (base w : View T) (given : Replacement T) (answer : Replaced) (ends : ReplaceEnds code given base answer tt w) where
+    pub has_replaced : HasReplaced code given answer base w
+    has_replaced =
+        made (BeginsReplace given) (replaces_value code.size given) base w answer ends (Replace given.index given.value given.owner) refl (replaced answer) refl
+        (λ by es. container.HasReplaced by given answer es) (ends.over.tells (settled_idle base ends.from ends.settled))
+
+    pub replaced_answered : Answered code (Replace given.index given.value given.owner) (replaced answer) base w
+    replaced_answered =
+        answered (BeginsReplace given) (replaces_value code.size given) base w answer ends (Replace given.index given.value given.owner) refl
+        (replaced answer) refl
+
+  -- ---- add
+
+  module _ (base w : View T) (given : Owned T) where
+    pub has_added : (answer : Added) → AddEnds code given base answer tt w → HasAdded code given answer base w
+    has_added answer ends =
+        made (BeginsAdd given) (adds_value code.size given) base w answer ends (Add given.value given.owner) refl (added answer) refl
+        (λ by es. container.HasAdded base.capacity by given answer es)
+        (subst (λ n. container.HasAdded n ends.over.party given answer ends.over.wrote) (settled_capacity base ends.from ends.settled)
+        (ends.over.tells (settled_idle base ends.from ends.settled)))
+
+    pub added_answered : (answer : Added) → AddEnds code given base answer tt w → Answered code (Add given.value given.owner) (added answer) base w
+    added_answered answer ends =
+        answered (BeginsAdd given) (adds_value code.size given) base w answer ends (Add given.value given.owner) refl (added answer) refl
+
+    module _ (index : ℕ) (ends : AddEnds code given base (Ok index) tt w) where
+      abbrev sound_here : IsSound code base.capacity w.seen
+      sound_here = sound_history code base.capacity w.seen (history_of (BeginsAdd given) (adds_value code.size given) base w (Ok index) ends)
+
+      -- what it wrote, from its first two events on
+      taken_first : (rest : List (Event T)) × (ends.over.wrote
+          ≡ Filled ends.over.party index given.owner ∷ Granted ends.over.party index given.owner ∷ rest)
+      taken_first = (let h = ends.over.tells (settled_idle base ends.from ends.settled) in (_, h.1.2))
+
+      pub filled_so : WasFilled index given.owner base w
+      filled_so =
+          wrote_at (BeginsAdd given) (adds_value code.size given) base w (Ok index) ends (Add given.value given.owner) refl (added (Ok index)) refl
+          (λ by. Filled by index given.owner) [] (Granted ends.over.party index given.owner ∷ taken_first.0) taken_first.1 _
+          (λ before after is. (let does_it = sound_here.does before after (Filled ends.over.party index given.owner) is in (does_it.0, does_it.1, does_it.3)))
+
+      pub granted_so : WasGranted index given.owner base w
+      granted_so =
+          wrote_at (BeginsAdd given) (adds_value code.size given) base w (Ok index) ends (Add given.value given.owner) refl (added (Ok index)) refl
+          (λ by. Granted by index given.owner) (Filled ends.over.party index given.owner ∷ []) taken_first.0 taken_first.1 _
+          (λ before after is. (
+            (sound_here.does before after (Granted ends.over.party index given.owner) is).0,
+            λ proper honest. sound_here.holds proper honest before after (Granted ends.over.party index given.owner) is,
+          ))
+
+      pub within_so : index < base.capacity
+      within_so = (has_added (Ok index) ends).tells.0
+
+      pub open_so : is_locked base.seen ≡ false
+      open_so = (let g = granted_so in not_locked g.since g.held.0)
+
+    pub refused_so : (e : ContainerAddFailure) → AddEnds code given base (Err e) tt w → WasNotAdded code given.value given.owner e base w
+    refused_so failures.OutOfSpace ends =
+        let a = added_answered (Err failures.OutOfSpace) ends in
+        record { answered = a; unlocked = λ same. not_locked a.since a.right.0; locked = λ same. absurd (cc) }
+    refused_so failures.IsLocked ends =
+        let a = added_answered (Err failures.IsLocked) ends in
+        record { answered = a; unlocked = λ same. absurd (cc); locked = λ same. lock_stays (last_of a) a.right }
+
+    -- who has seen the lock finds it
+    pub shut : (answer : Added) → AddEnds code given base answer tt w → is_locked base.seen ≡ true → answer ≡ Err failures.IsLocked
+    shut (Ok index) ends lock = (let free = open_so index ends in absurd (true≢false (sym lock ∙ free)))
+    shut (Err failures.OutOfSpace) ends lock =
+        (let r = (refused_so failures.OutOfSpace ends).unlocked refl in absurd (true≢false (sym lock ∙ r)))
+    shut (Err failures.IsLocked) ends lock = refl

@@ -1,0 +1,282 @@
+-- A find of a container between two turns, as a call of the history.
+use Rattle.std.proofs.Common.{◌≡◌, ◌⊎◌, inl, inr, ⊎_elim, ℕ, ◌+◌, ◌<◌, ◌==◌, nat_lt, Bool, true, false, Option, Some, None, List, [], ◌∷◌, ◌++◌, slice_set, refl, sym, ap, subst, ◌∙◌, append-nil, arith}
+use Rattle.steps.specs.Container.Find.{first_find, find_asks, find_want, find_keeps as keeps_of, find_takes}
+use Rattle.steps.specs.Indices.Robust.Parts.{empty}
+use Rattle.steps.specs.Picks.{by_test}
+use Rattle.steps.specs.declared.ask.After.{After}
+use Rattle.steps.specs.declared.ask.After.TheVariants.{GoOn, Done}
+use Rattle.steps.specs.declared.container.find.Find.{Find}
+use Rattle.steps.specs.declared.container.find.FindStage.{FindStage}
+use Rattle.steps.specs.declared.container.find.FindStage.TheVariants as finds
+use Rattle.steps.specs.declared.copied.Kept.{Kept}
+use Rattle.model.specs.declared.event.Answer.TheVariants.{Number}
+use Rattle.model.specs.declared.event.Event.{Event}
+use Rattle.model.specs.declared.event.Event.TheVariants.{Begun, Copied}
+use Rattle.model.specs.declared.event.Start.TheVariants.{Container}
+use Rattle.model.specs.declared.families.container.ContainerStart.TheVariants as starts
+use Rattle.model.specs.declared.turn.Kind.TheVariants as kinds
+use Rattle.model.specs.Coding.{Coding, IsCoding}
+use Rattle.model.specs.Families.{is_question}
+use Rattle.model.specs.Families.Queues.Calls.{fresh_cell, kept_at}
+use Rattle.model.specs.Turns.{number_of}
+use Rattle.lock_free_sp.specs.Driver.{Next, Told}
+use Rattle.history.specs.declared.view.View.{View}
+use Rattle.history.specs.ContainerFind.{copies_of, copies_after}
+use Rattle.history.specs.History.{Called}
+use Rattle.history.specs.Rooms.{room_of}
+use Rattle.history.specs.Settled.{IsResting, SettledFrom, Waits, RestsAt}
+use Rattle.history.specs.Stages.{IsUnderWay, Ends}
+use Rattle.history.specs.Value.{value_of_room}
+use Rattle.history.proofs.CallsIn.{AsksFor}
+use Rattle.history.proofs.ContainerFinds.{find_call, container_find_keeps, container_find_hears, container_find_first, find_copied, find_rests_so}
+use Rattle.history.proofs.Containers.{container_words}
+use Rattle.history.proofs.ContainerRests.{Keeps, rested_asks, apart_asked}
+use Rattle.history.proofs.Rooms.{room_fresh}
+use Rattle.lock_free_owners.specs.Container.FindTold.{copied, Rests, HasSearched}
+use Rattle.lock_free_owners.specs.Container.FindTurns.{words_in, Copying, BeginsFind, finding, find_goes, find_copying, FindBegun, FindOver, FindAt, FindEnds, FindTells, IsLeft}
+use Rattle.lock_free_owners.specs.Container.Visits.{visits_of}
+use Rattle.lock_free_owners.specs.Container.Idle.{asks, may_rest, IsIdle}
+use Rattle.lock_free_owners.proofs.ContainerSet.Idle.{rests, idle_none}
+use Rattle.lock_free_owners.proofs.ContainerSet.Began.{idle_from, capacity_from, share_from, seen_is, made_is, ended_goes, ended_called, ended_answered, under_goes}
+
+-- what it has copied is what its closure was called with
+named_copies : {T : Type 0} (p owner id : ℕ) (copies : List (ℕ × T)) → copies_of p copies ≡ copied p (visits_of owner id copies)
+named_copies p owner id [] = refl
+named_copies p owner id (c ∷ copies) = ap (λ es. Copied p c.0 c.1 ∷ es) (named_copies p owner id copies)
+
+module _ {T : Type 0} (code : Coding T) (law : IsCoding code) (owner : ℕ) where
+  put_in : (x : Kept 128) (at word : ℕ) → words_in (kept_at x at word) ≡ slice_set (words_in x) at word
+  put_in x at word = refl
+
+  fresh_room : room_of code.size (words_in fresh_cell) ≡ fresh_cell
+  fresh_room = (let few = law.few in room_fresh code.size 128 few (omega arith))
+
+  -- ---- where it begins
+
+  begins_asks : (capacity : ℕ) (c : Find T (Kept 128)) (m : Copying T) → BeginsFind owner capacity c m
+      → AsksFor (container_words code capacity) (find_want code.size c)
+  begins_asks capacity c m b =
+      let some = b.1 in
+      subst (λ (d : Find T (Kept 128)). AsksFor (container_words code capacity) (find_want code.size d)) (sym b.0) (_, omega arith, refl)
+
+  begins_first : (v : View T) (c : Find T (Kept 128)) (m : Copying T) → BeginsFind owner v.capacity c m → v.going ≡ None → v.other ≡ [] → 0 < v.share.part
+      → FindBegun code owner v v c m
+  begins_first v c m b idle alone any =
+      subst (λ (d : Find T (Kept 128)). FindBegun code owner v v d m) (sym b.0)
+      (container_find_first code law words_in kept_at put_in owner v m (ap (λ (x : Copying T). room_of code.size (words_in x.0)) b.3 ∙ fresh_room)
+      (ap (λ (x : Copying T). x.1) b.3) idle alone any b.1 b.2)
+
+  -- no answer leads there
+  abbrev IsLater : After (Find T (Kept 128)) ℕ → Type 0
+  IsLater (GoOn d) = (index : ℕ) × (found : ℕ) × (d.stage ≡ finds.LoadsCell (index + 1) found)
+  IsLater (Done n) = Unit {0}
+
+  answers_later : (c : Find T (Kept 128)) (n : ℕ) (stage : FindStage) → is_question (find_asks code.size c.capacity stage) ≡ true
+      → IsLater (find_takes code.size c stage owner n)
+  answers_later c n (finds.LoadsCell index found) due = absurd (cc)
+  answers_later c n (finds.LoadsCount index found) due = absurd (cc)
+  answers_later c n (finds.LoadsWord index found count at) due = absurd (cc)
+  answers_later c n (finds.ChecksCount index found count) due = absurd (cc)
+  answers_later c n (finds.Asks index found) due =
+      by_test IsLater (n == 0) _ _ (λ t. tt) (λ t. by_test IsLater (nat_lt (index + 1) c.capacity) _ _ (λ u. (index, found, refl)) (λ u. tt))
+
+  never_first : (capacity : ℕ) (c d : Find T (Kept 128)) (m : Copying T) (n : ℕ) → is_question (find_want code.size c) ≡ true
+      → find_goes code owner c n ≡ GoOn d
+      → BeginsFind owner capacity d m → ⊥
+  never_first capacity c d m n due goes b =
+      let later = subst IsLater goes (answers_later c n c.stage due) in
+      let same : finds.LoadsCell 0 0 ≡ finds.LoadsCell (later.0 + 1) later.1 = sym (ap (λ (z : Find T (Kept 128)). z.stage) b.0) ∙ later.2 in
+      let no : 0 ≡ later.0 + 1 = cc in
+      omega arith
+
+  pub find_keeps : Keeps code (FindAt code owner) (FindEnds code owner) (λ c. find_want code.size c) (find_goes code owner) (find_copying code owner)
+  find_keeps =
+      rested_asks code (finding code owner) (λ c. find_want code.size c) (λ c m. refl) (BeginsFind owner) begins_asks
+      (find_goes code owner) (find_copying code owner) (FindOver code owner) never_first (container_find_keeps code law words_in kept_at put_in owner) begins_first
+
+  apart : (base v : View T) (c : Find T (Kept 128)) (m k : Copying T) → IsResting code v → BeginsFind owner v.capacity c k → FindBegun code owner base v c m → ⊥
+  apart =
+      apart_asked code (finding code owner) (λ c. find_want code.size c) (λ c m. refl) (BeginsFind owner) begins_asks
+      (find_goes code owner) (find_copying code owner) (FindOver code owner) never_first (container_find_keeps code law words_in kept_at put_in owner) begins_first
+
+  abbrev WaitsAt : View T → View T → Find T (Kept 128) → Copying T → Type 0
+  WaitsAt = Waits code kinds.Container (λ base. BeginsFind owner base.capacity)
+
+  rested_at : (base v : View T) (c : Find T (Kept 128)) (m : Copying T) → WaitsAt base v c m → IsResting code v
+  rested_at base v c m waits = subst (λ z. IsResting code z) (sym waits.is) waits.resting
+
+  begins_at : (base v : View T) (c : Find T (Kept 128)) (m : Copying T) → WaitsAt base v c m → BeginsFind owner v.capacity c m
+  begins_at base v c m waits = subst (λ (z : View T). BeginsFind owner z.capacity c m) (sym waits.is) waits.first
+
+  -- it has copied the same, whatever the view with which it is told that it began
+  same_copies : (base other v : View T) (c : Find T (Kept 128)) (m k : Copying T) → FindAt code owner base v c m → FindAt code owner other v c k → m.1 ≡ k.1
+  same_copies base other v c m k (inl x) (inl y) =
+      find_copied code law words_in kept_at put_in owner x.from y.from v c c m k (idle_from code base x.from x.settled) (idle_from code other y.from y.settled)
+      x.stage y.stage
+  same_copies base other v c m k (inl x) (inr y) = absurd (apart x.from v c m k (rested_at other v c k y) (begins_at other v c k y) x.stage)
+  same_copies base other v c m k (inr x) (inl y) = absurd (apart y.from v c k m (rested_at base v c m x) (begins_at base v c m x) y.stage)
+  same_copies base other v c m k (inr x) (inr y) = ap (λ (z : Copying T). z.1) (x.first.3 ∙ sym y.first.3)
+
+  -- one step tells of all that it may have copied
+  pub find_tells : (base v : View T) (c : Find T (Kept 128)) (room : Kept 128) (copies : List (ℕ × T)) → FindAt code owner base v c (room, copies)
+      → (n : ℕ) (w : View T) → Told (λ (z : View T). z.capacity) (FindAt code owner) (FindEnds code owner) (find_goes code owner) (find_copying code owner) c (room, copies) v n w
+      → (w.capacity ≡ v.capacity) × FindTells code owner c room v n w
+  find_tells base v c room copies at n w h = (
+    h.0,
+    λ other more there. (
+        let same : copies ≡ more = same_copies base other v c (room, copies) (room, more) at there in
+        subst (λ xs. Next (λ (z : View T). z.capacity) (FindAt code owner) (FindEnds code owner) other (find_goes code owner c n) (find_copying code owner c (room, xs) n) w) same
+        (h.1 other (subst (λ xs. FindAt code owner other v c (room, xs)) (sym same) there))),
+  )
+
+  begins_by : (v : View T) → 0 < v.capacity → owner < empty → (v.going ≡ None) ⊎ IsResting code v → v.other ≡ [] → 0 < v.share.part
+      → FindAt code owner v v (first_find v.capacity) (fresh_cell, [])
+  begins_by v some fits (inl idle) alone any =
+      inl (record {
+        from = v;
+        settled = inl (refl, idle);
+        stage = begins_first v (first_find v.capacity) (fresh_cell, []) (refl, some, fits, refl) idle alone any;
+      })
+  begins_by v some fits (inr resting) alone any = inr (record { is = refl; resting = resting; first = (refl, some, fits, refl) })
+
+  pub find_begins : (v : View T) → 0 < v.capacity → owner < empty → IsIdle v → v.other ≡ [] → 0 < v.share.part
+      → FindAt code owner v v (first_find v.capacity) (fresh_cell, [])
+  find_begins v some fits idle alone any = begins_by v some fits (rests code v alone any idle) alone any
+
+  -- ---- at its question
+
+  module _ (base v : View T) (c : Find T (Kept 128)) (m : Copying T) (index found : ℕ) (is : c.stage ≡ finds.Asks index found) where
+    due : is_question (find_want code.size c) ≡ true
+    due = ap (λ stage. is_question (find_asks code.size c.capacity stage)) is
+
+    clash : {A : Type 0} (b : Bool) → b ≡ true → b ≡ false → A
+    clash b there still = (let both : true ≡ false = sym there ∙ still in absurd (cc))
+
+    -- it is under way, and has heard no answer yet
+    under_at : (from : View T) → FindBegun code owner from v c m → IsUnderWay code kinds.Container (finding code owner) from v c m
+    under_at from (inl (inl first)) =
+        clash (is_question (find_want code.size c)) due ((find_call code law words_in kept_at put_in owner).first from.capacity c m first.first)
+    under_at from (inl (inr under)) = under
+    under_at from (inr heard) =
+        clash (is_question (find_want code.size c)) due
+        ((find_call code law words_in kept_at put_in owner).one heard.asking c (number_of heard.said) heard.asks heard.goes)
+
+    pub asked_from : FindAt code owner base v c m
+        → (from : View T) × SettledFrom code kinds.Container base from × IsUnderWay code kinds.Container (finding code owner) from v c m
+    asked_from (inl x) = (x.from, x.settled, under_at x.from x.stage)
+    asked_from (inr waits) =
+        let same : finds.LoadsCell 0 0 ≡ finds.Asks index found = sym (ap (λ (z : Find T (Kept 128)). z.stage) waits.first.0) ∙ is in
+        absurd (cc)
+
+    same_room : (n : ℕ) → find_copying code owner c m n ≡ m
+    same_room n = ap (λ stage. (keeps_of kept_at stage m.0 n, copies_after stage n (value_of_room code words_in m.0) m.1)) is
+
+    pub heard_on : (d : Find T (Kept 128)) (said : Bool) → find_goes code owner c (number_of said) ≡ GoOn d → FindAt code owner base v c m
+        → FindAt code owner base v d m
+    heard_on d said goes at =
+        let x = asked_from at in
+        inl (record {
+          from = x.0;
+          settled = x.1;
+          stage = subst (FindBegun code owner x.0 v d) (same_room (number_of said))
+              (container_find_hears code law words_in kept_at put_in owner x.0 v c d m said due goes (inl (inr x.2)));
+        })
+
+    rests_at : (e : ℕ) (said : Bool) → find_goes code owner c (number_of said) ≡ Done e → (at : FindAt code owner base v c m)
+        → RestsAt code kinds.Container (find_goes code owner) (find_copying code owner) (finding code owner) (asked_from at).0 v e m
+    rests_at e said goes at =
+        record { asking = c; before = (asked_from at).2; asks = due; said = said; goes = goes; keeps = same_room (number_of said) }
+
+  -- ---- where it has ended, or rests
+
+  module _ (base w : View T) (from : View T) (settled : SettledFrom code kinds.Container base from) (e : ℕ) (m : Copying T) (id : ℕ) where
+    module _ (rest : RestsAt code kinds.Container (find_goes code owner) (find_copying code owner) (finding code owner) from w e m) where
+      abbrev under : IsUnderWay code kinds.Container (finding code owner) from w rest.asking m
+      under = rest.before
+
+      abbrev told : List (Event T)
+      told = copied under.party (visits_of owner id m.1)
+
+      tells : under.wrote ≡ told
+      tells = under.tells (idle_from code base from settled) ∙ named_copies under.party owner id m.1
+
+      rests_so : Rests code under.party (Container (starts.Find owner)) (Number e) told from w
+      rests_so =
+          let so = find_rests_so code law words_in kept_at put_in owner from w e m rest in
+          record {
+            others = under.since.others;
+            during = under.since.during;
+            is = seen_is code base from settled under.party (Container (starts.Find owner)) under.wrote [] w under.since
+                ∙ ap (λ ds. (from.seen ++ under.since.others) ++ Begun under.party (Container (starts.Find owner)) ∷ ds) (append-nil under.since.during);
+            alone = under.since.alone;
+            others_own = under.since.others_own;
+            during_own = under.since.during_own ∙ tells;
+            made = made_is code base from settled under.party (Container (starts.Find owner)) under.wrote [] w under.since
+                ∙ ap (λ ds. from.made ++ Begun under.party (Container (starts.Find owner)) ∷ ds) (append-nil under.wrote ∙ tells);
+            resting = so.0;
+            party = so.1;
+            of = so.2;
+            ends = so.3;
+          }
+
+      pub rested_so : HasSearched code owner e (visits_of owner id m.1) base w
+      rested_so = record { from = from; settled = settled; by = under.party; mine = under.mine; over = inr rests_so }
+
+      at_question : (stage : FindStage) → is_question (find_asks code.size rest.asking.capacity stage) ≡ true → asks stage ≡ true
+      at_question (finds.LoadsCell index found) due = absurd (cc)
+      at_question (finds.LoadsCount index found) due = absurd (cc)
+      at_question (finds.LoadsWord index found count at) due = absurd (cc)
+      at_question (finds.ChecksCount index found count) due = absurd (cc)
+      at_question (finds.Asks index found) due = refl
+
+      pub rested_left : IsLeft code base w
+      rested_left =
+          record {
+            idle = ap (λ (o : Option ℕ). may_rest o w.going) under.mine
+                ∙ (ap (may_rest (Some under.party)) under.going ∙ at_question rest.asking.stage rest.asks);
+            capacity = under.capacity ∙ capacity_from code base from settled;
+            share = under.share ∙ share_from code base from settled;
+            alone = under.alone;
+            goes = under_goes code base from settled (finding code owner) w rest.asking m under;
+          }
+
+    module _ (ends : Ends code kinds.Container (finding code owner) from e m w) where
+      ended_so : HasSearched code owner e (visits_of owner id m.1) base w
+      ended_so =
+          record {
+            from = from;
+            settled = settled;
+            by = ends.party;
+            mine = ends.mine;
+            over = inl (
+              subst (λ es. Called ends.party (Container (starts.Find owner)) (Number e) es from w)
+                  (ends.tells (idle_from code base from settled) ∙ named_copies ends.party owner id m.1)
+                  (ended_called code base from settled (finding code owner) w e m ends (starts.Find owner) refl (Number e) refl),
+              ended_answered code base from settled (finding code owner) w e m ends (starts.Find owner) refl (Number e) refl,
+            );
+          }
+
+      ended_left : IsLeft code base w
+      ended_left =
+          record {
+            idle = idle_none w ends.idle;
+            capacity = ends.capacity ∙ capacity_from code base from settled;
+            share = ends.share ∙ share_from code base from settled;
+            alone = ends.alone;
+            goes = ended_goes code base from settled (finding code owner) w e m ends;
+          }
+
+  pub over_so : (base w : View T) (e : ℕ) (m : Copying T) (id : ℕ) → FindEnds code owner base e m w
+      → IsLeft code base w × HasSearched code owner e (visits_of owner id m.1) base w
+  over_so base w e m id x =
+      ⊎_elim (λ ends. (ended_left base w x.from x.settled e m id ends, ended_so base w x.from x.settled e m id ends))
+      (λ rest. (rested_left base w x.from x.settled e m id rest, rested_so base w x.from x.settled e m id rest)) x.over
+
+  -- the answer has ended it at its question
+  pub answer_over : (base v : View T) (c : Find T (Kept 128)) (m : Copying T) (index found : ℕ) → c.stage ≡ finds.Asks index found
+      → FindAt code owner base v c m → (e id : ℕ) (said : Bool) → find_goes code owner c (number_of said) ≡ Done e
+      → IsLeft code base v × HasSearched code owner e (visits_of owner id m.1) base v
+  answer_over base v c m index found is at e id said goes =
+      let x = asked_from base v c m index found is at in
+      let rest = rests_at base v c m index found is e said goes at in
+      (rested_left base v x.0 x.1 e m id rest, rested_so base v x.0 x.1 e m id rest)

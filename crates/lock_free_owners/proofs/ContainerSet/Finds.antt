@@ -1,0 +1,133 @@
+-- A find of a container between two turns: where it stands on the history, and what its closure was called with.
+use Rattle.std.proofs.Common.{◌≡◌, ℕ, ◌^◌, ◌<◌, Bool, true, false, List, [], refl, sym, ap, subst, arith}
+use Rattle.steps.specs.Container.Find.{first_find, find_takes, find_kept}
+use Rattle.steps.specs.declared.ask.After.{After}
+use Rattle.steps.specs.declared.ask.After.TheVariants.{GoOn, Done}
+use Rattle.steps.specs.declared.container.find.Find.{Find}
+use Rattle.steps.specs.declared.container.find.FindStage.{FindStage}
+use Rattle.steps.specs.declared.container.find.FindStage.TheVariants as finds
+use Rattle.steps.specs.declared.container.handle.ContainerHandle.{ContainerHandle}
+use Rattle.steps.specs.declared.copied.Kept.{Kept}
+use Rattle.steps.specs.declared.enums.CallbackProgression.{CallbackProgression}
+use Rattle.steps.specs.declared.enums.CallbackProgression.TheVariants.{Continue, Stop}
+use Rattle.model.specs.Coding.{Coding, IsCoding}
+use Rattle.model.specs.Families.Queues.Calls.{fresh_cell, kept_at}
+use Rattle.model.specs.Turns.{number_of}
+use Rattle.lock_free_sp.specs.Driver.{Next}
+use Rattle.history.specs.declared.view.View.{View}
+use Rattle.history.specs.Value.{value_of_room}
+use Rattle.lock_free_owners.specs.Robust.Stages.{says}
+use Rattle.lock_free_owners.specs.Container.Callable.{Visit, TakesVisits, HasFound}
+use Rattle.lock_free_owners.specs.Container.FindTold.{HasSearched}
+use Rattle.lock_free_owners.specs.Container.FindTurns.{words_in, find_goes, find_copying, FindAt, FindEnds, FindGoes, FindTurns, IsLeft}
+use Rattle.lock_free_owners.specs.Container.Visits as visits
+use Rattle.lock_free_owners.specs.Container.Visits.{FindStands, FindAsks, FindMoves, IsNamed, visits_of}
+use Rattle.lock_free_owners.proofs.ContainerSet.FindTurns.{over_so, heard_on, answer_over}
+use Rattle.lock_free_owners.proofs.Rules.Container.FindRuns.{StillStands, still_stands}
+use Rattle.lock_free_owners.proofs.Rules.Container.Finding.{SoFar, Onward, StepsOnward, IsQuiet, came_none, quietly, told_on, told_to_stop, may_ask}
+
+module _ {T F : Type 0} (code : Coding T) (step : F → T → ContainerHandle → CallbackProgression → F → Type 0)
+    (cap owner id : ℕ) (base : View T) (f : F) where
+  abbrev value_in_room : Kept 128 → T
+  value_in_room = value_of_room code words_in
+
+  pub record Searching (v : View T) (c : Find T (Kept 128)) (m : Kept 128) (p : F) : Type 0 where
+    pub copies : List (ℕ × T)
+    pub at : FindAt code owner base v c (m, copies)
+    pub stands : FindStands code.size cap c
+    pub so_far : SoFar step cap owner id f c.stage copies (value_in_room m) p
+
+  pub record Over (w : View T) (n : ℕ) (q : F) : Type 0 where
+    pub left : IsLeft code base w
+    pub visits : List (Visit T)
+    pub searched : HasSearched code owner n visits base w
+    pub found : HasFound step cap (IsNamed cap owner id) f n visits q
+
+  abbrev pub Further : View T → After (Find T (Kept 128)) ℕ → Kept 128 → F → Type 0
+  Further w (GoOn d) m q = Searching w d m q
+  Further w (Done n) m q = Over w n q
+
+  whole : (w : View T) (n : ℕ) (q : F) (copies : List (ℕ × T)) → IsLeft code base w × HasSearched code owner n (visits_of owner id copies) base w
+      → HasFound step cap (IsNamed cap owner id) f n (visits_of owner id copies) q → Over w n q
+  whole w n q copies x found = record { left = x.0; visits = visits_of owner id copies; searched = x.1; found = found }
+
+  module _ (law : IsCoding code) (small : cap < 2 ^ 32) (v : View T) (c : Find T (Kept 128)) (m : Kept 128) (p : F)
+      (h : Searching v c m p) where
+    stood : (k : ℕ) → StillStands code.size cap (find_goes code owner c k)
+    stood k = (let some = law.some in still_stands code.size some cap c owner k h.stands)
+
+    -- ---- a step at a word
+
+    stepped : (w : View T) (a : After (Find T (Kept 128)) ℕ) (left : Kept 128) (copies : List (ℕ × T)) → StillStands code.size cap a
+        → Next (λ (z : View T). z.capacity) (FindAt code owner) (FindEnds code owner) base a (left, copies) w
+        → Onward step cap owner id f a copies (value_in_room left) p → Further w a left p
+    stepped w (GoOn d) left copies stands at so = record { copies = copies; at = at; stands = stands; so_far = so }
+    stepped w (Done n) left copies stands ends found = whole w n p copies (over_so code law owner base w n (left, copies) id ends) found
+
+    by_step : (stage : FindStage) → c.stage ≡ stage → (still : IsQuiet step cap owner id f stage) → (w : View T) (a : After (Find T (Kept 128)) ℕ) (left : Kept 128)
+        → FindGoes code owner v c m a left w → Further w a left p
+    by_step stage is still w a left goes =
+        subst (λ (z : After (Find T (Kept 128)) ℕ × Kept 128). Further w z.0 z.1 p) (λ i. (sym goes.1 i, sym goes.2 i))
+        (stepped w (find_goes code owner c goes.0) (find_kept kept_at c m goes.0) (find_copying code owner c (m, h.copies) goes.0).1 (stood goes.0) (goes.3 base h.copies h.at)
+        (subst (λ z. StepsOnward step cap owner id f code.size c value_in_room kept_at z h.copies m goes.0 p) (sym is)
+        (quietly step cap owner id f code.size c value_in_room kept_at small stage still (subst (visits.FindStage code.size cap) is h.stands.1) h.copies m p goes.0
+        (subst (λ z. SoFar step cap owner id f z h.copies (value_in_room m) p) is h.so_far))))
+
+    -- ---- an answer
+
+    module _ (index found : ℕ) (is : c.stage ≡ finds.Asks index found) where
+      so_here : SoFar step cap owner id f (finds.Asks index found) h.copies (value_in_room m) p
+      so_here = subst (λ z. SoFar step cap owner id f z h.copies (value_in_room m) p) is h.so_far
+
+      within : index < cap
+      within = (subst (visits.FindStage code.size cap) is h.stands.1).0
+
+      answered : (q : F) (said : Bool) (r : After (Find T (Kept 128)) ℕ) → find_goes code owner c (number_of said) ≡ r → StillStands code.size cap r
+          → Onward step cap owner id f r h.copies (value_in_room m) q → Further v r m q
+      answered q said (GoOn d) goes stands so =
+          record { copies = h.copies; at = heard_on code law owner base v c (m, h.copies) index found is d said goes h.at; stands = stands; so_far = so }
+      answered q said (Done n) goes stands found_all =
+          whole v n q h.copies (answer_over code law owner base v c (m, h.copies) index found is h.at n id said goes) found_all
+
+      by_answer : (q : F) (answer : CallbackProgression) → step p (value_in_room m) (visits.named index owner id) answer q
+          → Further v (find_goes code owner c (says answer)) m q
+      by_answer q Continue hit =
+          answered q true (find_goes code owner c 1) refl (stood 1)
+          (subst (λ z. Onward step cap owner id f (find_takes code.size c z owner 1) h.copies (value_in_room m) q) (sym is)
+          (told_on step cap owner id f code.size c index found h.copies (value_in_room m) p q within hit so_here))
+      by_answer q Stop hit =
+          let goes : find_goes code owner c 0 ≡ Done found = ap (λ z. find_takes code.size c z owner 0) is in
+          subst (λ r. Further v r m q) (sym goes)
+          (whole v found q h.copies (answer_over code law owner base v c (m, h.copies) index found is h.at found id false goes)
+          (told_to_stop step cap owner id f index found h.copies (value_in_room m) p q within hit so_here))
+
+    -- ---- a turn
+
+    turned : (stage : FindStage) → c.stage ≡ stage → (w : View T) (a : After (Find T (Kept 128)) ℕ) (left : Kept 128) (q : F)
+        → FindTurns code owner stage v c m a left w → FindMoves step code.size id c owner stage (value_in_room m) p a q → Further w a left q
+    turned (finds.LoadsCell index found) is w a left q turns moves =
+        subst (λ (z : F). Further w a left z) (sym moves) (by_step (finds.LoadsCell index found) is tt w a left turns)
+    turned (finds.LoadsCount index found) is w a left q turns moves =
+        subst (λ (z : F). Further w a left z) (sym moves) (by_step (finds.LoadsCount index found) is tt w a left turns)
+    turned (finds.LoadsWord index found count place) is w a left q turns moves =
+        subst (λ (z : F). Further w a left z) (sym moves) (by_step (finds.LoadsWord index found count place) is tt w a left turns)
+    turned (finds.ChecksCount index found count) is w a left q turns moves =
+        subst (λ (z : F). Further w a left z) (sym moves) (by_step (finds.ChecksCount index found count) is tt w a left turns)
+    turned (finds.Asks index found) is w a left q turns moves =
+        subst (λ (z : View T). Further z a left q) (sym turns.0)
+        (subst (λ (x : Kept 128). Further v a x q) (sym turns.1)
+        (subst (λ r. Further v r m q) (sym moves.2) (by_answer index found is q moves.0 moves.1)))
+
+    pub further : (w : View T) (a : After (Find T (Kept 128)) ℕ) (left : Kept 128) (q : F) → FindTurns code owner c.stage v c m a left w
+        → FindMoves step code.size id c owner c.stage (value_in_room m) p a q → Further w a left q
+    further = turned c.stage refl
+
+    pub may_go : {pre : F → T → ContainerHandle → Type 0} → TakesVisits pre step (IsNamed cap owner id) f → FindAsks pre owner id c.stage (value_in_room m) p
+    may_go takes = may_ask step cap owner id f takes code.size c.stage h.stands.1 h.copies (value_in_room m) p h.so_far
+
+  pub starts : (c : Find T (Kept 128)) (m : Kept 128) → c ≡ first_find cap → m ≡ fresh_cell → 0 < cap
+      → FindAt code owner base base (first_find cap) (fresh_cell, [])
+      → Searching base c m f
+  starts c m is fresh some at =
+      subst (λ (z : Find T (Kept 128) × Kept 128). Searching base z.0 z.1 f) (λ i. (sym is i, sym fresh i))
+      (record { copies = []; at = at; stands = (refl, (some, omega arith)); so_far = came_none step cap owner id f 0 })

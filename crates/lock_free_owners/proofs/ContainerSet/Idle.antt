@@ -1,0 +1,71 @@
+-- A pass between two of its calls has none under way, or its last one rests.
+use Rattle.std.proofs.Common.{◌≡◌, ◌⊎◌, inl, inr, ℕ, ◌<◌, true, false, true≢false, Option, Some, None, [], refl, sym, ap, ◌∙◌}
+use Rattle.steps.specs.declared.ask.After.TheVariants.{Done}
+use Rattle.steps.specs.declared.container.find.FindStage.{FindStage}
+use Rattle.steps.specs.declared.container.find.FindStage as finds
+use Rattle.model.specs.declared.event.Answer.TheVariants.{Number}
+use Rattle.model.specs.declared.event.Start.{Start}
+use Rattle.model.specs.declared.families.Flight.{Flight}
+use Rattle.model.specs.declared.families.Flight as flights
+use Rattle.model.specs.declared.families.Kept.{Kept}
+use Rattle.model.specs.declared.families.Kept as kepts
+use Rattle.model.specs.declared.families.container.calls.ContainerFlight.{ContainerFlight}
+use Rattle.model.specs.declared.families.container.calls.ContainerFlight as calls
+use Rattle.model.specs.Coding.{Coding}
+use Rattle.model.specs.Families.{goes_of}
+use Rattle.model.specs.Turns.{number_of}
+use Rattle.history.specs.declared.view.View.{View}
+use Rattle.history.specs.Settled.{IsResting}
+use Rattle.lock_free_owners.specs.Container.Idle.{asks, is_at_question, may_rest, IsIdle}
+
+module _ {T : Type 0} (code : Coding T) (v : View T) (fresh : v.other ≡ []) (some : 0 < v.share.part) where
+  abbrev Rests : Type 0
+  Rests = (v.going ≡ None) ⊎ IsResting code v
+
+  of_find : (p : ℕ) (start : Start T) (flight : ContainerFlight T) → v.party ≡ Some p → v.going ≡ Some (start, flights.TheVariants.Container flight)
+      → is_at_question (flights.TheVariants.Container flight) ≡ true → Rests
+  of_find p start (calls.TheVariants.Find run) mine going due = go run.call.stage refl due
+    where
+      go : (stage : FindStage) → run.call.stage ≡ stage → asks stage ≡ true → Rests
+      go (finds.TheVariants.LoadsCell index found) is t = absurd (true≢false (sym t))
+      go (finds.TheVariants.LoadsCount index found) is t = absurd (true≢false (sym t))
+      go (finds.TheVariants.LoadsWord index found count at) is t = absurd (true≢false (sym t))
+      go (finds.TheVariants.ChecksCount index found count) is t = absurd (true≢false (sym t))
+      go (finds.TheVariants.Asks index found) is t =
+          inr (record {
+            party = p;
+            mine = mine;
+            start = start;
+            flight = flights.TheVariants.Container (calls.TheVariants.Find run);
+            going = going;
+            asks = rw is refl;
+            answer = Number found;
+            ends = λ kept. ends kept;
+            alone = fresh;
+            some = some;
+          })
+        where
+          ends : (kept : Kept T) → goes_of code p (flights.TheVariants.Container (calls.TheVariants.Find run)) (number_of false) kept ≡ Done (Number found)
+          ends (kepts.TheVariants.Container dead states) = rw is refl
+          ends kept = rw is refl
+  of_find p start flight mine going due = absurd (true≢false (sym due))
+
+  of_call : (p : ℕ) (start : Start T) (flight : Flight T) → v.party ≡ Some p → v.going ≡ Some (start, flight) → is_at_question flight ≡ true → Rests
+  of_call p start (flights.TheVariants.Container flight) mine going due = of_find p start flight mine going due
+  of_call p start flight mine going due = absurd (true≢false (sym due))
+
+  by_party : (party : Option ℕ) (going : Option (Start T × Flight T)) → v.party ≡ party → v.going ≡ going → may_rest party going ≡ true → Rests
+  by_party party None mine going t = inl going
+  by_party None (Some at) mine going t = absurd (true≢false (sym t))
+  by_party (Some p) (Some (start, flight)) mine going t = of_call p start flight mine going t
+
+  pub rests : IsIdle v → Rests
+  rests idle = by_party v.party v.going refl refl idle
+
+-- with none under way it is between two
+none_rests : (T : Type 0) (party : Option ℕ) → may_rest {T = T} party None ≡ true
+none_rests T None = refl
+none_rests T (Some p) = refl
+
+pub idle_none : {T : Type 0} (v : View T) → v.going ≡ None → IsIdle v
+idle_none {T} v none = ap (may_rest v.party) none ∙ none_rests T v.party

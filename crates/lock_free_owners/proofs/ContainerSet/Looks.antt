@@ -1,0 +1,258 @@
+-- A look of a state on a pass: its steps, its begin, and what it leaves.
+use Rattle.std.proofs.Common.{◌≡◌, ◌⊎◌, inl, inr, ℕ, zero, suc, ◌+◌, ◌<◌, ◌==◌, nat_lt, Bool, true, false, Some, None, List, [], refl, sym, ap, subst, ◌∙◌, slice_index_or, arith}
+use Rattle.std.proofs.lemmas.Bool.Decides.{nat_tests}
+use Rattle.steps.specs.Container.Layout.{is_even}
+use Rattle.steps.specs.Container.Look.{first_look, look_want, look_comes_to, look_finds, look_takes, look_after, look_kept}
+use Rattle.steps.specs.Container.State.{Numbers, Showing}
+use Rattle.steps.specs.Picks.{by_test}
+use Rattle.steps.specs.declared.ask.After.{After}
+use Rattle.steps.specs.declared.ask.After.TheVariants.{GoOn, Done}
+use Rattle.steps.specs.declared.ask.Want.{Want}
+use Rattle.steps.specs.declared.container.look.Look.{Look as Looking}
+use Rattle.steps.specs.declared.container.look.LookStage.{LookStage}
+use Rattle.steps.specs.declared.container.look.LookStage.TheVariants as looks
+use Rattle.steps.specs.declared.container.state.ContainerState.{ContainerState}
+use Rattle.model.specs.declared.event.Answer.{Answer}
+use Rattle.model.specs.declared.event.Event.{Event}
+use Rattle.model.specs.declared.families.container.ContainerStart.{ContainerStart}
+use Rattle.model.specs.declared.families.container.calls.LookOf.{LookOf}
+use Rattle.model.specs.declared.families.container.calls.LookOf.TheVariants.{UpdateState}
+use Rattle.model.specs.declared.turn.Kind.TheVariants as kinds
+use Rattle.model.specs.Coding.{Coding, IsCoding}
+use Rattle.model.specs.Families.Container.Calls.{looked, settled_if}
+use Rattle.model.specs.Families.Container.States.{settled}
+use Rattle.lock_free_sp.specs.Driver.{Next, Told}
+use Rattle.lock_free_sp.proofs.Driving.{weaker_owes}
+use Rattle.history.specs.declared.view.View.{View}
+use Rattle.history.specs.ContainerFind.{HasCopied}
+use Rattle.history.specs.ContainerLooks.{look_start, state_of_look, looking, HasLookedAll, RestedLooks, RestedLooked}
+use Rattle.history.specs.History.{IsMachine}
+use Rattle.history.specs.Passes.{Goes}
+use Rattle.history.specs.Settled.{IsResting}
+use Rattle.history.proofs.ContainerRests.{Keeps}
+use Rattle.history.proofs.StateRests.{state_rests_keep, state_rests_idle, state_rests_rested}
+use Rattle.lock_free_owners.specs.Container.Bare.{Still, LookStands, LookEnds}
+use Rattle.lock_free_owners.specs.Container.Idle.{IsIdle}
+use Rattle.lock_free_owners.specs.Container.LookTurns.{IsOnHistory, LookAt, LookOver, IsPast, LookOnAt, LookOnOver}
+use Rattle.lock_free_owners.specs.Container.Names.{unnumbered}
+use Rattle.lock_free_owners.specs.Container.Told.{HasMade}
+use Rattle.lock_free_owners.proofs.ContainerSet.Began.{capacity_from, idle_from, share_from, ended_goes, ended_called}
+use Rattle.lock_free_owners.proofs.ContainerSet.Idle.{rests, idle_none}
+use Rattle.lock_free_owners.proofs.ContainerSet.SameStates.{Decided}
+use Rattle.lock_free_owners.proofs.Rules.Container.LookRuns.{state_rule}
+
+module _ {T : Type 0} (code : Coding T) (law : IsCoding code) (which : LookOf) (from : View T) (shown : Showing T) (seen : Numbers) where
+  abbrev want : Looking T → Want (Unit {0})
+  want c = look_want code.size c
+
+  abbrev after : Looking T → ℕ → After (Looking T) Bool
+  after c n = look_after code.size c seen n
+
+  abbrev kept : Looking T → Showing T → ℕ → Showing T
+  kept c m n = look_kept code.value_of code.size c m n
+
+  abbrev On : Type 0
+  On = IsOnHistory code which from shown seen
+
+  abbrev At : View T → View T → Looking T → Showing T → Type 0
+  At base v c m = LookAt code which from shown seen v c m
+
+  abbrev Over : View T → Bool → Showing T → View T → Type 0
+  Over base changed m w = LookOver code which from shown seen changed m w
+
+  abbrev AtOn : View T → View T → Looking T → Showing T → Type 0
+  AtOn base v c m = LookOnAt code which from shown seen v c m
+
+  abbrev OverOn : View T → Bool → Showing T → View T → Type 0
+  OverOn base changed m w = LookOnOver code which from shown seen changed m w
+
+  -- ---- its steps
+
+  abbrev NextOf : (View T → View T → Looking T → Showing T → Type 0) → (View T → Bool → Showing T → View T → Type 0) → View T → After (Looking T) Bool → Showing T → View T
+      → Type 0
+  NextOf at over = Next (λ (z : View T). z.capacity) at over
+
+  joins : On → (base : View T) (a : After (Looking T) Bool) (m : Showing T) (w : View T)
+      → NextOf (RestedLooks code which from.capacity seen) (RestedLooked code which from.capacity seen) from a m w → NextOf At Over base a m w
+  joins on base (GoOn d) m w h = (λ y. h, λ other. absurd (other on))
+  joins on base (Done e) m w h = (λ y. h, λ other. absurd (other on))
+
+  leaves : (On → ⊥) → (base : View T) (a : After (Looking T) Bool) (m : Showing T) (w : View T)
+      → NextOf (Still (LookStands code.size)) LookEnds from a m w → NextOf At Over base a m w
+  leaves other base (GoOn d) m w h = (λ y. absurd (other y), λ n. h)
+  leaves other base (Done e) m w h = (λ y. absurd (other y), λ n. h)
+
+  abbrev ToldOn : Looking T → Showing T → View T → ℕ → View T → Type 0
+  ToldOn c m =
+      Told (λ (z : View T). z.capacity) (RestedLooks code which from.capacity seen) (RestedLooked code which from.capacity seen) after kept c m
+
+  abbrev ToldStill : Looking T → Showing T → View T → ℕ → View T → Type 0
+  ToldStill c m = Told (λ (z : View T). z.capacity) (Still (LookStands code.size)) LookEnds after kept c m
+
+  look_keeps_by : Decided On → Keeps code At Over want after kept
+  look_keeps_by (inl on) base v c m key words slots id wide known at =
+      weaker_owes (IsMachine code kinds.Container key) words slots id (ToldOn c m) (Told (λ (z : View T). z.capacity) At Over after kept c m) (want c) (v, [])
+      (λ n w h. (h.0, λ b here. joins on b (after c n) (kept c m n) w (h.1 from (here.0 on))))
+      (state_rests_keep code law which from.capacity seen from v c m key words slots id wide known (at.0 on))
+  look_keeps_by (inr other) base v c m key words slots id wide known at =
+      weaker_owes (IsMachine code kinds.Container key) words slots id (ToldStill c m) (Told (λ (z : View T). z.capacity) At Over after kept c m) (want c) (v, [])
+      (λ n w h. (h.0, λ b here. leaves other b (after c n) (kept c m n) w (h.1 from (here.1 other))))
+      (state_rule code code.value_of code.size law.some seen from v c m key words slots id wide known (at.1 other))
+
+  pub look_keeps : Decided On → Keeps code At Over want after kept
+  look_keeps = look_keeps_by
+
+  -- ---- past its first step
+
+  abbrev Past : After (Looking T) Bool → Type 0
+  Past (GoOn d) = IsPast d.stage
+  Past (Done changed) = changed ≡ true
+
+  comes : (c : Looking T) (index : ℕ) → Past (look_comes_to c index)
+  comes c index = by_test Past (nat_lt index c.capacity) _ _ (λ t. tt) (λ t. refl)
+
+  finds : (c : Looking T) (index count : ℕ) → Past (look_finds c index count)
+  finds c index count = by_test Past (is_even count) _ _ (λ t. comes c (index + 1)) (λ t. tt)
+
+  takes : (c : Looking T) (stage : LookStage) (n : ℕ) → IsPast stage → Past (look_takes code.size c stage seen n)
+  takes c looks.LoadsChange n past = absurd past
+  takes c (looks.LoadsCount index) n past =
+      by_test Past (n == slice_index_or seen.counts index 0) _ _ (λ t. comes c (index + 1)) (λ t. finds c index n)
+  takes c (looks.LoadsWord index count at) n past = by_test Past (nat_lt (at + 1) code.size) _ _ (λ t. tt) (λ t. tt)
+  takes c (looks.ChecksCount index count) n past = by_test Past (n == count) _ _ (λ t. comes c (index + 1)) (λ t. finds c index n)
+
+  goes_past : (base : View T) (a : After (Looking T) Bool) (m : Showing T) (w : View T) → Past a → NextOf At Over base a m w → NextOf AtOn OverOn base a m w
+  goes_past base (GoOn d) m w past h = (h, past)
+  goes_past base (Done changed) m w past h = (h, past)
+
+  pub look_on_keeps : Decided On → Keeps code AtOn OverOn want after kept
+  look_on_keeps decided base v c m key words slots id wide known at =
+      weaker_owes (IsMachine code kinds.Container key) words slots id (Told (λ (z : View T). z.capacity) At Over after kept c m)
+      (Told (λ (z : View T). z.capacity) AtOn OverOn after kept c m) (want c) (v, [])
+      (λ n w h. (h.0, λ b here. goes_past b (after c n) (kept c m n) w (takes c c.stage n here.1) (h.1 b here.0)))
+      (look_keeps decided base v c m key words slots id wide known at.0)
+
+  abbrev pub IsAfterFirst : After (Looking T) Bool → Type 0
+  IsAfterFirst (GoOn d) = IsPast d.stage
+  IsAfterFirst (Done changed) = changed ≡ false
+
+  -- what the first step leads to on a container that has an index
+  pub first_leads : (capacity : ℕ) (a : After (Looking T) Bool) (n : ℕ) → 0 < capacity → a ≡ look_after code.size (first_look capacity) seen n → IsAfterFirst a
+  first_leads capacity a n some e = subst IsAfterFirst (sym e) (by_test IsAfterFirst (n == seen.change) _ _ (λ t. refl) (λ t. comes_first))
+    where
+      comes_first : IsAfterFirst (look_comes_to (first_look capacity) 0)
+      comes_first = (let low : nat_lt 0 capacity ≡ true = grind (arith, nat_tests) in rw low tt)
+
+  -- ---- where a step has led
+
+  pub goes_from : (base w : View T) (a : After (Looking T) Bool) (m : Showing T) (d : Looking T) → a ≡ GoOn d → NextOf At Over base a m w
+      → LookAt code which from shown seen w d m
+  goes_from base w a m d e h = subst (λ z. NextOf At Over base z m w) e h
+
+  pub ends_from : (base w : View T) (a : After (Looking T) Bool) (m : Showing T) (changed : Bool) → a ≡ Done changed → NextOf At Over base a m w
+      → LookOver code which from shown seen changed m w
+  ends_from base w a m changed e h = subst (λ z. NextOf At Over base z m w) e h
+
+  pub past_from : (a : After (Looking T) Bool) (d : Looking T) → a ≡ GoOn d → IsAfterFirst a → IsPast d.stage
+  past_from a d e h = subst IsAfterFirst e h
+
+  pub false_from : (a : After (Looking T) Bool) (changed : Bool) → a ≡ Done changed → IsAfterFirst a → changed ≡ false
+  false_from a changed e h = subst IsAfterFirst e h
+
+  -- ---- it begins
+
+  begins_on : On → (from.going ≡ None) ⊎ IsResting code from → from.other ≡ [] → 0 < from.share.part
+      → RestedLooks code which from.capacity seen from from (first_look from.capacity) shown
+  begins_on on (inl none) alone any = state_rests_idle code law which from.capacity seen from (first_look from.capacity) shown (refl, refl, on) none alone any
+  begins_on on (inr resting) alone any = state_rests_rested code law which from.capacity seen from (first_look from.capacity) shown (refl, refl, on) resting
+
+  pub look_begins : IsIdle from → from.other ≡ [] → 0 < from.share.part → LookAt code which from shown seen from (first_look from.capacity) shown
+  look_begins idle alone any = (λ on. begins_on on (rests code from alone any idle) alone any, λ other. (refl, (refl, tt)))
+
+module _ {T : Type 0} (code : Coding T) (which : LookOf) (from w : View T) (seen : Numbers) (changed : Bool) (m : Showing T)
+    (ends : RestedLooked code which from.capacity seen from changed m w) where
+  -- ---- what it leaves as a call of the history
+
+  pub look_idle : w.going ≡ None
+  look_idle = ends.over.0.idle
+
+  pub look_goes : Goes code kinds.Container from.capacity from w
+  look_goes = ended_goes code from ends.from ends.settled (looking code which from.capacity seen) w changed m ends.over.0
+
+  pub look_made : HasMade code (look_start which) (looked which (state_of_look from.capacity seen m) changed) (λ by es. HasLookedAll from.capacity by changed es) from w
+  look_made =
+      let over = ends.over.0 in
+      record {
+        from = ends.from;
+        settled = ends.settled;
+        by = over.party;
+        mine = over.mine;
+        wrote = over.wrote;
+        tells = subst (λ n. HasLookedAll n over.party changed over.wrote) (capacity_from code from ends.from ends.settled)
+            (over.tells (idle_from code from ends.from ends.settled));
+        called = ended_called code from ends.from ends.settled (looking code which from.capacity seen) w changed m over (look_start which) refl
+            (looked which (state_of_look from.capacity seen m) changed) refl;
+      }
+
+-- what was written may be said more widely
+pub made_as : {T : Type 0} (code : Coding T) (start : ContainerStart T) (answer : Answer T) (Wrote More : ℕ → List (Event T) → Type 0) (v w : View T)
+    → ((by : ℕ) (es : List (Event T)) → Wrote by es → More by es) → HasMade code start answer Wrote v w → HasMade code start answer More v w
+made_as code start answer Wrote More v w more h =
+    record { from = h.from; settled = h.settled; by = h.by; mine = h.mine; wrote = h.wrote; tells = more h.by h.wrote h.tells; called = h.called }
+
+module _ (T : Type 0) where
+  none_copied : (p index : ℕ) → HasCopied {T = T} p 0 index []
+  none_copied p zero = refl
+  none_copied p (suc index) = inl (none_copied p index)
+
+  pub some_copied : (capacity p : ℕ) (changed : Bool) (es : List (Event T)) → HasLookedAll capacity p changed es → HasCopied p 0 capacity es
+  some_copied capacity p true es h = h
+  some_copied capacity p false es h = subst (λ zs. HasCopied p 0 capacity zs) (sym h) (none_copied p capacity)
+
+-- ---- the state that the pass has
+
+module _ {T : Type 0} (code : Coding T) (from : View T) where
+  abbrev HasIt : View T → ContainerState T → Type 0
+  HasIt v state = (by : ℕ) × (v.party ≡ Some by) × (v.state ≡ Some (unnumbered state))
+
+  pub on_history : (old : ContainerState T) → old.capacity ≡ from.capacity → HasIt from old → IsOnHistory code UpdateState from old.shown old.seen
+  on_history old e h = (h.0, h.1, h.2 ∙ ap (λ n. Some (state_of_look n old.seen old.shown)) e)
+
+  pub of_history : (old : ContainerState T) → old.capacity ≡ from.capacity → IsOnHistory code UpdateState from old.shown old.seen → HasIt from old
+  of_history old e h = (h.0, h.1, h.2 ∙ ap (λ n. Some (state_of_look n old.seen old.shown)) (sym e))
+
+  pub latest_so : (which : LookOf) (w : View T) (changed : Bool) (old new : ContainerState T) → old.capacity ≡ from.capacity
+      → new ≡ settled_if (Done changed) (record old { shown = new.shown })
+      → RestedLooked code which from.capacity old.seen from changed new.shown w → HasIt w new
+  latest_so which w changed old new e is ends =
+      (ends.over.0.party, ends.over.0.mine, ends.over.1 ∙ ap Some (same changed ∙ ap (λ s. unnumbered s) (sym is)))
+    where
+      same : (b : Bool) → settled_if (Done b) (state_of_look from.capacity old.seen new.shown) ≡ unnumbered (settled_if (Done b) (record old { shown = new.shown }))
+      same true = ap (λ n. settled (state_of_look n old.seen new.shown)) (sym e)
+      same false = ap (λ n. state_of_look n old.seen new.shown) (sym e)
+
+-- what is known of a pass that a look has left
+pub record Left {T : Type 0} (v w : View T) : Type 0 where
+  pub idle : IsIdle w
+  pub alone : w.other ≡ []
+  pub share : w.share ≡ v.share
+  pub capacity : w.capacity ≡ v.capacity
+
+module _ {T : Type 0} (code : Coding T) (which : LookOf) (from : View T) (shown : Showing T) (seen : Numbers) (changed : Bool) (m : Showing T) (w : View T) where
+  pub left_so : Decided (IsOnHistory code which from shown seen) → IsIdle from → from.other ≡ [] → LookOver code which from shown seen changed m w → Left from w
+  left_so (inl on) idle alone over =
+      let ends = over.0 on in
+      record {
+        idle = idle_none w ends.over.0.idle;
+        alone = ends.over.0.alone;
+        share = ends.over.0.share ∙ share_from code from ends.from ends.settled;
+        capacity = ends.over.0.capacity ∙ capacity_from code from ends.from ends.settled;
+      }
+  left_so (inr other) idle alone over =
+      let same = over.1 other in
+      record {
+        idle = subst IsIdle (sym same) idle;
+        alone = ap (λ (z : View T). z.other) same ∙ alone;
+        share = ap (λ (z : View T). z.share) same;
+        capacity = ap (λ (z : View T). z.capacity) same;
+      }

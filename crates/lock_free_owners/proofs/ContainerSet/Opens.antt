@@ -1,0 +1,33 @@
+-- How a container's table opens.
+use Rattle.std.proofs.Common.{◌≡◌, ℕ, ◌+◌, ◌*◌, ◌-◌, ◌^◌, ◌<◌, nat_lt, false, List, [], ◌∷◌, ◌++◌, replicate, refl, sym, ap, ◌∙◌, append_assoc, arith}
+use Rattle.std.proofs.lemmas.Bool.Decides.{nat_tests}
+use Rattle.atomic_table.specs.Table.{opening}
+use Rattle.steps.specs.Container.Layout.{total_words}
+use Rattle.steps.specs.Indices.Robust.Parts.{empty}
+use Rattle.model.specs.declared.turn.Kind.TheVariants as kinds
+use Rattle.model.specs.Coding.{Coding, IsCoding}
+use Rattle.model.specs.Families.Container.Opening.{opening_words}
+use Rattle.history.specs.History.{IsMachine}
+use Rattle.history.specs.Views.{first_view}
+use Rattle.history.proofs.Passes.{opens, one_more}
+
+module _ (capacity size : ℕ) where
+  -- the words as they are filled in
+  pub filled : (rest : ℕ) → rest ≡ total_words capacity size + 1 - (1 + capacity)
+      → (0 ∷ replicate capacity empty) ++ replicate rest 0 ≡ opening_words size capacity ++ 0 ∷ []
+  filled rest is =
+      let more : rest ≡ (1 + capacity + size * capacity) + 1 = omega arith in
+      ap (λ n. (0 ∷ replicate capacity empty) ++ replicate n 0) more
+      ∙ (ap (λ zs. (0 ∷ replicate capacity empty) ++ zs) (one_more (1 + capacity + size * capacity))
+      ∙ sym (append_assoc (0 ∷ replicate capacity empty) (replicate (1 + capacity + size * capacity) 0) (0 ∷ [])))
+
+module _ {T : Type 0} (code : Coding T) (law : IsCoding code) (capacity : ℕ) (some : 0 < capacity) (small : capacity < 2 ^ 32) where
+  most : nat_lt (2 ^ 32 - 1) capacity ≡ false
+  most = grind (arith, nat_tests)
+
+  least : nat_lt capacity 1 ≡ false
+  least = grind (arith, nat_tests)
+
+  pub container_opens : (words : List ℕ) → words ≡ opening_words code.size capacity ++ 0 ∷ []
+      → IsMachine code kinds.Container capacity (opening words [] (first_view capacity))
+  container_opens words same = opens code kinds.Container capacity words law (rw (most, least) refl) same

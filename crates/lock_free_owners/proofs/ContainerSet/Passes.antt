@@ -1,0 +1,33 @@
+-- What a split and a join leave of a pass.
+use Rattle.std.proofs.Common.{◌≡◌, inl, inr, ◌<◌, None, [], sym, ap, subst, ◌∙◌}
+use Rattle.model.specs.declared.turn.Kind.TheVariants as kinds
+use Rattle.model.specs.Coding.{Coding}
+use Rattle.history.specs.declared.view.View.{View}
+use Rattle.history.specs.Settled.{SettledFrom}
+
+-- what is known of a view that a load left settled
+pub record Settled {T : Type 0} (v w : View T) : Type 0 where
+  pub idle : w.going ≡ None
+  pub fresh : w.other ≡ []
+  pub capacity : w.capacity ≡ v.capacity
+  pub part : 0 < w.share.part
+  pub parts : 0 < w.share.parts
+
+pub settled : {T : Type 0} (code : Coding T) (v w : View T) → v.other ≡ [] → 0 < v.share.part → 0 < v.share.parts → SettledFrom code kinds.Container v w
+    → Settled v w
+settled code v w alone part parts (inl same) =
+    record {
+      idle = ap (λ (z : View _). z.going) same.0 ∙ same.1;
+      fresh = ap (λ (z : View _). z.other) same.0 ∙ alone;
+      capacity = ap (λ (z : View _). z.capacity) same.0;
+      part = subst (λ (z : View _). 0 < z.share.part) (sym same.0) part;
+      parts = subst (λ (z : View _). 0 < z.share.parts) (sym same.0) parts;
+    }
+settled code v w alone part parts (inr s) =
+    record {
+      idle = s.idle;
+      fresh = s.fresh;
+      capacity = s.capacity;
+      part = subst (λ z. 0 < z.part) (sym s.share) part;
+      parts = subst (λ z. 0 < z.parts) (sym s.share) parts;
+    }

@@ -1,0 +1,273 @@
+-- A recovery of a container between two turns, as a call of the history.
+use Rattle.std.proofs.Common.{◌≡◌, ◌⊎◌, inl, inr, ℕ, ◌+◌, ◌<◌, ◌==◌, nat_lt, Bool, true, false, None, List, [], ◌∷◌, ◌++◌, slice_set, refl, sym, ap, subst, ◌∙◌, append_assoc, append-nil, arith}
+use Rattle.steps.specs.Container.Recover.{first_recover, goes_to, recover_asks, recover_want, recover_keeps as keeps_of, recover_takes}
+use Rattle.steps.specs.Indices.Robust.Parts.{empty}
+use Rattle.steps.specs.Picks.{by_test}
+use Rattle.steps.specs.declared.ask.After.{After}
+use Rattle.steps.specs.declared.ask.After.TheVariants.{GoOn, Done}
+use Rattle.steps.specs.declared.container.recover.DeadOwner.{DeadOwner}
+use Rattle.steps.specs.declared.container.recover.Recover.{Recover}
+use Rattle.steps.specs.declared.container.recover.RecoverStage.{RecoverStage}
+use Rattle.steps.specs.declared.container.recover.RecoverStage.TheVariants as recovers
+use Rattle.steps.specs.declared.copied.Kept.{Kept}
+use Rattle.steps.specs.declared.indices.enums.ReleaseState.{ReleaseState}
+use Rattle.steps.specs.declared.indices.enums.ReleaseState.TheVariants as states
+use Rattle.model.specs.declared.event.Answer.TheVariants.{State}
+use Rattle.model.specs.declared.event.Event.{Event}
+use Rattle.model.specs.declared.event.Event.TheVariants.{Begun, Copied, Asked, Finished}
+use Rattle.model.specs.declared.event.Start.TheVariants.{Container}
+use Rattle.model.specs.declared.families.container.ContainerStart.TheVariants as starts
+use Rattle.model.specs.declared.turn.Kind.TheVariants as kinds
+use Rattle.model.specs.Coding.{Coding, IsCoding}
+use Rattle.model.specs.Families.{is_question}
+use Rattle.model.specs.Families.Indices.Reading.{is_locked}
+use Rattle.model.specs.Families.Queues.Calls.{fresh_cell, kept_at}
+use Rattle.model.specs.Reading.{Each}
+use Rattle.model.specs.Turns.{number_of}
+use Rattle.robust_laws.specs.Gone.{Word}
+use Rattle.robust_laws.proofs.Sound.{raise_asks_none, lock_asks_none}
+use Rattle.container_laws.specs.Gone.{AsksBy}
+use Rattle.lock_free_sp.specs.Driver.{Next, Told as DriverTold}
+use Rattle.history.specs.declared.view.View.{View}
+use Rattle.history.specs.ContainerRecovery.{Came, visits_after, wrote_visits, VisitsAt, told_yet}
+use Rattle.history.specs.History.{Called}
+use Rattle.history.specs.Passes.{Goes}
+use Rattle.history.specs.Rooms.{room_of}
+use Rattle.history.specs.Settled.{IsResting, SettledFrom, Waits}
+use Rattle.history.specs.Stages.{IsUnderWay, Ends}
+use Rattle.history.specs.ValueQueue.{value_there}
+use Rattle.history.proofs.CallsIn.{AsksFor}
+use Rattle.history.proofs.ContainerRecoveries.{recover_call, container_recover_keeps, container_recover_hears, container_recover_first, recover_did}
+use Rattle.history.proofs.Containers.{container_words}
+use Rattle.history.proofs.ContainerRests.{Keeps, rested_asks, apart_asked}
+use Rattle.history.proofs.Rooms.{room_fresh}
+use Rattle.lock_free_owners.specs.Robust.Told.{FoundState}
+use Rattle.lock_free_owners.specs.Container.FindTurns.{words_in}
+use Rattle.lock_free_owners.specs.Container.Idle.{IsIdle}
+use Rattle.lock_free_owners.specs.Container.RecoverTurns.{Visiting, BeginsRecover, recovering, recover_goes, recover_visiting, RecoverBegun, RecoverAt, RecoverEnds, RecoverTells}
+use Rattle.lock_free_owners.specs.Container.Told.{Answered}
+use Rattle.lock_free_owners.proofs.ContainerSet.Idle.{rests}
+use Rattle.lock_free_owners.proofs.ContainerSet.Began.{idle_from, seen_is, from_since, ended_goes, ended_called, ended_answered, open_since}
+use Rattle.lock_free_owners.proofs.ContainerSet.Sound.{sound_history}
+use Rattle.lock_free_owners.proofs.RobustSet.Events.{find_own, lock_stays, not_locked, covers}
+
+module _ {T : Type 0} (code : Coding T) (law : IsCoding code) (given : DeadOwner) where
+  pub put_in : (x : Kept 128) (at word : ℕ) → words_in (kept_at x at word) ≡ slice_set (words_in x) at word
+  put_in x at word = refl
+
+  fresh_room : room_of code.size (words_in fresh_cell) ≡ fresh_cell
+  fresh_room = (let few = law.few in room_fresh code.size 128 few (omega arith))
+
+  -- ---- where it begins
+
+  begins_asks : (capacity : ℕ) (c : Recover T (Kept 128)) (m : Visiting T) → BeginsRecover given capacity c m
+      → AsksFor (container_words code capacity) (recover_want code.size c given)
+  begins_asks capacity c m b =
+      subst (λ (d : Recover T (Kept 128)). AsksFor (container_words code capacity) (recover_want code.size d given)) (sym b.0) (_, omega arith, refl)
+
+  begins_first : (v : View T) (c : Recover T (Kept 128)) (m : Visiting T) → BeginsRecover given v.capacity c m → v.going ≡ None → v.other ≡ []
+      → 0 < v.share.part
+      → RecoverBegun code given v v c m
+  begins_first v c m b idle alone any =
+      subst (λ (d : Recover T (Kept 128)). RecoverBegun code given v v d m) (sym b.0)
+      (container_recover_first code law words_in kept_at put_in given v m (ap (λ (x : Visiting T). room_of code.size (words_in x.0)) b.2 ∙ fresh_room)
+      (ap (λ (x : Visiting T). x.1) b.2) idle alone any b.1)
+
+  -- no answer leads there
+  abbrev IsLater : After (Recover T (Kept 128)) ReleaseState → Type 0
+  IsLater (GoOn d) = d.stage ≡ recovers.LoadsCounter → ⊥
+  IsLater (Done e) = Unit {0}
+
+  clash : {A : Type 0} (b : Bool) → b ≡ true → b ≡ false → A
+  clash b there still = (let both : true ≡ false = sym there ∙ still in absurd (cc))
+
+  answers_later : (c : Recover T (Kept 128)) (n : ℕ) (stage : RecoverStage) → is_question (recover_asks code.size c.capacity stage given.owner) ≡ true
+      → IsLater (recover_takes code.size c stage given n)
+  answers_later c n recovers.LoadsCounter due = absurd (cc)
+  answers_later c n (recovers.LoadsCell index) due = absurd (cc)
+  answers_later c n (recovers.LoadsCount index) due = absurd (cc)
+  answers_later c n (recovers.LoadsWord index count at) due = absurd (cc)
+  answers_later c n (recovers.ChecksCount index count) due = absurd (cc)
+  answers_later c n (recovers.Asks index count) due =
+      by_test IsLater (n == 0) _ _
+      (λ t. by_test (λ (stage : RecoverStage). IsLater (goes_to c stage)) (nat_lt (index + 1) c.capacity) _ _ (λ u e. absurd (cc)) (λ u e. absurd (cc)))
+      (λ t e. absurd (cc))
+  answers_later c n (recovers.EmptiesCell index count) due = absurd (cc)
+  answers_later c n (recovers.Hides index count) due = absurd (cc)
+  answers_later c n (recovers.Raises index raise) due = clash (is_question _) due (raise_asks_none raise)
+  answers_later c n (recovers.Locks index lock) due = clash (is_question _) due (lock_asks_none lock)
+  answers_later c n recovers.LoadsCounterAgain due = absurd (cc)
+  answers_later c n (recovers.AddsChange state) due = absurd (cc)
+
+  never_first : (capacity : ℕ) (c d : Recover T (Kept 128)) (m : Visiting T) (n : ℕ) → is_question (recover_want code.size c given) ≡ true
+      → recover_goes code given c n ≡ GoOn d → BeginsRecover given capacity d m → ⊥
+  never_first capacity c d m n due goes b =
+      let later = subst IsLater goes (answers_later c n c.stage due) in
+      later (ap (λ (z : Recover T (Kept 128)). z.stage) b.0)
+
+  pub recover_keeps : Keeps code (RecoverAt code given) (RecoverEnds code given) (λ c. recover_want code.size c given) (recover_goes code given)
+      (recover_visiting code given)
+  recover_keeps =
+      rested_asks code (recovering code given) (λ c. recover_want code.size c given) (λ c m. refl) (BeginsRecover given) begins_asks
+      (recover_goes code given) (recover_visiting code given) (Ends code kinds.Container (recovering code given)) never_first (container_recover_keeps code law words_in kept_at put_in given) begins_first
+
+  apart : (base v : View T) (c : Recover T (Kept 128)) (m k : Visiting T) → IsResting code v → BeginsRecover given v.capacity c k
+      → RecoverBegun code given base v c m → ⊥
+  apart =
+      apart_asked code (recovering code given) (λ c. recover_want code.size c given) (λ c m. refl) (BeginsRecover given) begins_asks
+      (recover_goes code given) (recover_visiting code given) (Ends code kinds.Container (recovering code given)) never_first
+      (container_recover_keeps code law words_in kept_at put_in given) begins_first
+
+  abbrev WaitsAt : View T → View T → Recover T (Kept 128) → Visiting T → Type 0
+  WaitsAt = Waits code kinds.Container (λ base. BeginsRecover given base.capacity)
+
+  rested_at : (base v : View T) (c : Recover T (Kept 128)) (m : Visiting T) → WaitsAt base v c m → IsResting code v
+  rested_at base v c m waits = subst (λ z. IsResting code z) (sym waits.is) waits.resting
+
+  begins_at : (base v : View T) (c : Recover T (Kept 128)) (m : Visiting T) → WaitsAt base v c m → BeginsRecover given v.capacity c m
+  begins_at base v c m waits = subst (λ (z : View T). BeginsRecover given z.capacity c m) (sym waits.is) waits.first
+
+  -- it has done the same, whatever the view with which it is told that it began
+  same_visits : (base other v : View T) (c : Recover T (Kept 128)) (m k : Visiting T) → RecoverAt code given base v c m → RecoverAt code given other v c k
+      → m.1 ≡ k.1
+  same_visits base other v c m k (inl x) (inl y) =
+      recover_did code law words_in kept_at put_in given x.from y.from v c c m k (idle_from code base x.from x.settled) (idle_from code other y.from y.settled)
+      x.stage y.stage
+  same_visits base other v c m k (inl x) (inr y) = absurd (apart x.from v c m k (rested_at other v c k y) (begins_at other v c k y) x.stage)
+  same_visits base other v c m k (inr x) (inl y) = absurd (apart y.from v c k m (rested_at base v c m x) (begins_at base v c m x) y.stage)
+  same_visits base other v c m k (inr x) (inr y) = ap (λ (z : Visiting T). z.1) (x.first.2 ∙ sym y.first.2)
+
+  -- one step tells of all that it may have done
+  pub recover_tells : (base v : View T) (c : Recover T (Kept 128)) (room : Kept 128) (visits : List (ℕ × Came T)) → RecoverAt code given base v c (room, visits)
+      → (n : ℕ) (w : View T)
+      → DriverTold (λ (z : View T). z.capacity) (RecoverAt code given) (RecoverEnds code given) (recover_goes code given) (recover_visiting code given) c (room, visits) v n w
+      → (w.capacity ≡ v.capacity) × RecoverTells code given c room v n w
+  recover_tells base v c room visits at n w h = (
+    h.0,
+    λ other more there. (
+        let same : visits ≡ more = same_visits base other v c (room, visits) (room, more) at there in
+        subst (λ xs. Next (λ (z : View T). z.capacity) (RecoverAt code given) (RecoverEnds code given) other (recover_goes code given c n)
+        (recover_visiting code given c (room, xs) n) w) same
+        (h.1 other (subst (λ xs. RecoverAt code given other v c (room, xs)) (sym same) there))),
+  )
+
+  begins_by : (v : View T) → given.owner < empty → (v.going ≡ None) ⊎ IsResting code v → v.other ≡ [] → 0 < v.share.part
+      → RecoverAt code given v v (first_recover v.capacity) (fresh_cell, [])
+  begins_by v fits (inl idle) alone any =
+      inl (record {
+        from = v;
+        settled = inl (refl, idle);
+        stage = begins_first v (first_recover v.capacity) (fresh_cell, []) (refl, fits, refl) idle alone any;
+      })
+  begins_by v fits (inr resting) alone any = inr (record { is = refl; resting = resting; first = (refl, fits, refl) })
+
+  pub recover_begins : (v : View T) → given.owner < empty → IsIdle v → v.other ≡ [] → 0 < v.share.part
+      → RecoverAt code given v v (first_recover v.capacity) (fresh_cell, [])
+  recover_begins v fits idle alone any = begins_by v fits (rests code v alone any idle) alone any
+
+  -- ---- at its question
+
+  module _ (base v : View T) (c : Recover T (Kept 128)) (m : Visiting T) (index count : ℕ) (is : c.stage ≡ recovers.Asks index count) where
+    due : is_question (recover_want code.size c given) ≡ true
+    due = ap (λ stage. is_question (recover_asks code.size c.capacity stage given.owner)) is
+
+    under_at : (from : View T) → RecoverBegun code given from v c m → IsUnderWay code kinds.Container (recovering code given) from v c m
+    under_at from (inl (inl first)) =
+        clash (is_question (recover_want code.size c given)) due
+        ((recover_call code law words_in kept_at put_in given).asking.first from.capacity c m first.first)
+    under_at from (inl (inr under)) = under
+    under_at from (inr heard) =
+        clash (is_question (recover_want code.size c given)) due
+        ((recover_call code law words_in kept_at put_in given).asking.one heard.asking c (number_of heard.said) heard.asks heard.goes)
+
+    asked_from : RecoverAt code given base v c m
+        → (from : View T) × SettledFrom code kinds.Container base from × IsUnderWay code kinds.Container (recovering code given) from v c m
+    asked_from (inl x) = (x.from, x.settled, under_at x.from x.stage)
+    asked_from (inr waits) =
+        let same : recovers.LoadsCounter ≡ recovers.Asks index count = sym (ap (λ (z : Recover T (Kept 128)). z.stage) waits.first.0) ∙ is in
+        absurd (cc)
+
+    same_room : (n : ℕ) → recover_visiting code given c m n ≡ m
+    same_room n = ap (λ stage. (keeps_of kept_at stage m.0 n, visits_after given.owner stage n (value_there code words_in m.0) m.1)) is
+
+    pub heard_on : (d : Recover T (Kept 128)) (said : Bool) → recover_goes code given c (number_of said) ≡ GoOn d → RecoverAt code given base v c m
+        → RecoverAt code given base v d m
+    heard_on d said goes at =
+        let x = asked_from at in
+        inl (record {
+          from = x.0;
+          settled = x.1;
+          stage = subst (RecoverBegun code given x.0 v d) (same_room (number_of said))
+              (container_recover_hears code law words_in kept_at put_in given x.0 v c d m said due goes (inl (inr x.2)));
+        })
+
+    -- no answer ends it
+    pub answer_last : {A : Type 0} (e : ReleaseState) (said : Bool) → recover_goes code given c (number_of said) ≡ Done e → A
+    answer_last e said goes = absurd ((recover_call code law words_in kept_at put_in given).lasts c e (number_of said) due goes)
+
+    -- the container was not locked when it began
+    module _ (at : RecoverAt code given base v c m) where
+      abbrev x : (from : View T) × SettledFrom code kinds.Container base from × IsUnderWay code kinds.Container (recovering code given) from v c m
+      x = asked_from at
+
+      pub asked_open : is_locked base.seen ≡ false
+      asked_open =
+          let from = x.0 in
+          let settled = x.1 in
+          let under = x.2 in
+          let p = under.party in
+          let start = Container (starts.Recover given.owner given.mode) in
+          let begin : Event T = Begun p start in
+          let others : List (Event T) = from.seen ++ under.since.others in
+          let value : T = value_there code words_in m.0 in
+          let tells = under.tells (idle_from code base from settled) in
+          let last = subst (λ stage. VisitsAt stage value m.1) is tells.0 in
+          let before : List (Event T) = wrote_visits p given.owner last.0 in
+          let question : Event T = Asked p index given.owner in
+          let told : under.wrote ≡ (before ++ Copied p index value ∷ []) ++ question ∷ [] = tells.1
+          ∙ (ap (λ stage. wrote_visits p given.owner m.1 ++ told_yet p given.owner stage) is
+          ∙ (append-nil (wrote_visits p given.owner m.1)
+          ∙ (ap (wrote_visits p given.owner) last.1 ∙ sym (append_assoc before (Copied p index value ∷ []) (question ∷ []))))) in
+          let part = find_own p under.since.during (before ++ Copied p index value ∷ []) [] question (under.since.during_own ∙ told) in
+          let whole : v.seen ≡ (others ++ begin ∷ part.0) ++ question ∷ (part.1 ++ []) =
+          seen_is code base from settled p start under.wrote [] v under.since
+          ∙ (ap (λ ds. others ++ begin ∷ (ds ++ [])) part.2
+          ∙ (ap (λ zs. others ++ begin ∷ zs) (append_assoc part.0 (question ∷ part.1) [])
+          ∙ sym (append_assoc others (begin ∷ part.0) (question ∷ (part.1 ++ [])))))
+          in
+          let each : Each (AsksBy Word) v.seen = (sound_history code from.capacity v.seen under.history).asks in
+          let once = (each (others ++ begin ∷ part.0) (part.1 ++ []) question whole).1 in
+          let after = covers p start part.0 others once.part once.rest once.is once.within in
+          not_locked (from_since code base from settled (under.since.others ++ after.rest) once.part
+          (after.is ∙ append_assoc from.seen under.since.others after.rest)) once.held
+
+  -- ---- where it has ended
+
+  module _ (base w : View T) (e : ReleaseState) (m : Visiting T) (ends : RecoverEnds code given base e m w) where
+    pub recovered_goes : Goes code kinds.Container base.capacity base w
+    recovered_goes = ended_goes code base ends.from ends.settled (recovering code given) w e m ends.over
+
+    -- it has written just what it did
+    pub recovered_called : Called ends.over.party (Container (starts.Recover given.owner given.mode)) (State e)
+        (wrote_visits ends.over.party given.owner m.1) ends.from w
+    recovered_called =
+        subst (λ es. Called ends.over.party (Container (starts.Recover given.owner given.mode)) (State e) es ends.from w)
+        (ends.over.tells (idle_from code base ends.from ends.settled))
+        (ended_called code base ends.from ends.settled (recovering code given) w e m ends.over (starts.Recover given.owner given.mode) refl (State e) refl)
+
+    pub recovered_answered : Answered code (starts.Recover given.owner given.mode) (State e) base w
+    recovered_answered =
+        ended_answered code base ends.from ends.settled (recovering code given) w e m ends.over (starts.Recover given.owner given.mode) refl (State e) refl
+
+  recovered_lock_so : (state : ReleaseState) (base w : View T) (m : Visiting T) (ends : RecoverEnds code given base state m w)
+      → FoundState state base w
+  recovered_lock_so states.Locked base w m ends =
+      let a = recovered_answered base w states.Locked m ends in
+      lock_stays (record { rest = Finished a.by (Container (starts.Recover given.owner given.mode)) (State states.Locked) ∷ []; is = a.is }) a.right
+  recovered_lock_so states.Unlocked base w m ends =
+      open_since code base ends.from ends.settled (recovering code given) w states.Unlocked m ends.over (starts.Recover given.owner given.mode) refl
+      (State states.Unlocked) refl _ (ended_answered code base ends.from ends.settled (recovering code given) w states.Unlocked m ends.over
+      (starts.Recover given.owner given.mode) refl (State states.Unlocked) refl).right.0
+
+  pub recovered_lock : (base w : View T) (state : ReleaseState) (m : Visiting T) → RecoverEnds code given base state m w → FoundState state base w
+  recovered_lock base w state m ends = recovered_lock_so state base w m ends

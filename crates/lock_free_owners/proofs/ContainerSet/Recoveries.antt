@@ -1,0 +1,165 @@
+-- A recovery of a container between two turns: where it stands on the history, and what its closure was asked.
+use Rattle.std.proofs.Common.{◌≡◌, ℕ, Bool, true, false, List, [], if◌then◌else◌, refl, sym, ap, subst}
+use Rattle.steps.specs.Container.Recover.{first_recover, recover_kept, recover_takes}
+use Rattle.steps.specs.declared.ask.After.{After}
+use Rattle.steps.specs.declared.ask.After.TheVariants.{GoOn, Done}
+use Rattle.steps.specs.declared.container.recover.DeadOwner.{DeadOwner}
+use Rattle.steps.specs.declared.container.recover.Recover.{Recover}
+use Rattle.steps.specs.declared.container.recover.RecoverStage.{RecoverStage}
+use Rattle.steps.specs.declared.container.recover.RecoverStage.TheVariants as recovers
+use Rattle.steps.specs.declared.copied.Kept.{Kept}
+use Rattle.steps.specs.declared.indices.enums.ReleaseState.{ReleaseState}
+use Rattle.model.specs.Coding.{Coding, IsCoding}
+use Rattle.model.specs.Families.Indices.Reading.{is_locked}
+use Rattle.model.specs.Families.Queues.Calls.{fresh_cell, kept_at}
+use Rattle.model.specs.Turns.{number_of}
+use Rattle.lock_free_sp.specs.Driver.{Next}
+use Rattle.history.specs.declared.view.View.{View}
+use Rattle.history.specs.ContainerRecovery.{RecoverIn, Came}
+use Rattle.history.specs.Value.{value_of_room}
+use Rattle.history.proofs.ContainerRecoveries.{recover_call}
+use Rattle.lock_free_owners.specs.Container.FindTurns.{words_in}
+use Rattle.lock_free_owners.specs.Container.Questions.{TakesValues}
+use Rattle.lock_free_owners.specs.Container.RecoverTold.{HasRecovered}
+use Rattle.lock_free_owners.specs.Container.RecoverTurns.{Visiting, recover_goes, recover_visiting, RecoverAt, RecoverEnds, RecoverGoes, RecoverTurns, RecoverAsks, RecoverMoves}
+use Rattle.lock_free_owners.proofs.ContainerSet.RecoverTurns.{put_in, heard_on, answer_last, asked_open, recovered_called}
+use Rattle.lock_free_owners.proofs.Rules.Container.Recovering.{SoFar, Knows, Onward, StepsOnward, IsQuiet, quietly, answered as answers_so, may_ask}
+
+same_number : (b : Bool) → number_of b ≡ (if b then 1 else 0)
+same_number true = refl
+same_number false = refl
+
+module _ {T F : Type 0} (code : Coding T) (step : F → T → Bool → F → Type 0) (cap : ℕ) (given : DeadOwner) (base : View T) (f : F) where
+  abbrev shut : Bool
+  shut = is_locked base.seen
+
+  abbrev value_in_room : Kept 128 → T
+  value_in_room = value_of_room code words_in
+
+  pub record Standing (v : View T) (c : Recover T (Kept 128)) (m : Kept 128) (p : F) : Type 0 where
+    pub visits : List (ℕ × Came T)
+    pub at : RecoverAt code given base v c (m, visits)
+    pub stands : (c.capacity ≡ cap) × RecoverIn code.size cap given.mode c.stage
+    pub so_far : SoFar step cap shut given f c.stage visits (value_in_room m) p
+
+  pub record Over (w : View T) (e : ReleaseState) (q : F) : Type 0 where
+    pub ends : (m : Visiting T) × RecoverEnds code given base e m w
+    pub recovered : HasRecovered code step given e cap f q base w
+
+  abbrev pub Further : View T → After (Recover T (Kept 128)) ReleaseState → Kept 128 → F → Type 0
+  Further w (GoOn d) m q = Standing w d m q
+  Further w (Done e) m q = Over w e q
+
+  abbrev NextThere : After (Recover T (Kept 128)) ReleaseState → Visiting T → View T → Type 0
+  NextThere a m w = Next (λ (z : View T). z.capacity) (RecoverAt code given) (RecoverEnds code given) base a m w
+
+  module _ (law : IsCoding code) (v : View T) (c : Recover T (Kept 128)) (m : Kept 128) (p : F) (h : Standing v c m p) where
+    abbrev value : T
+    value = value_in_room m
+
+    knows : Knows step cap shut given f c.stage
+    knows = go c.stage refl
+      where
+        go : (stage : RecoverStage) → c.stage ≡ stage → Knows step cap shut given f stage
+        go recovers.LoadsCounter is = tt
+        go (recovers.LoadsCell index) is = tt
+        go (recovers.LoadsCount index) is = tt
+        go (recovers.LoadsWord index count at) is = tt
+        go (recovers.ChecksCount index count) is = tt
+        go (recovers.Asks index count) is = asked_open code law given base v c (m, h.visits) index count is h.at
+        go (recovers.EmptiesCell index count) is = tt
+        go (recovers.Hides index count) is = tt
+        go (recovers.Raises index raise) is = tt
+        go (recovers.Locks index lock) is = tt
+        go recovers.LoadsCounterAgain is = tt
+        go (recovers.AddsChange state) is = tt
+
+    stepped : (w : View T) (a : After (Recover T (Kept 128)) ReleaseState) (left : Kept 128) (visits : List (ℕ × Came T)) (q : F) → (n : ℕ)
+        → recover_goes code given c n ≡ a → NextThere a (left, visits) w → Onward step cap shut given f a visits (value_in_room left) q → Further w a left q
+    stepped w (GoOn d) left visits q n goes at so =
+        record {
+          visits = visits;
+          at = at;
+          stands = (recover_call code law words_in kept_at (put_in code law given) given).asking.steps.stays cap c d n h.stands goes;
+          so_far = so;
+        }
+    stepped w (Done e) left visits q n goes ends so =
+        record {
+          ends = ((left, visits), ends);
+          recovered =
+              record {
+                from = ends.from;
+                settled = ends.settled;
+                by = ends.over.party;
+                mine = ends.over.mine;
+                visits = visits;
+                are = so.are;
+                called = recovered_called code law given base w e (left, visits) ends;
+                questions = so.questions;
+                ascend = so.ascend;
+                few = so.few;
+                nothing = so.nothing;
+              };
+        }
+
+    by_step : (stage : RecoverStage) → c.stage ≡ stage → IsQuiet step cap shut given f stage → (w : View T) (a : After (Recover T (Kept 128)) ReleaseState)
+        (left : Kept 128) → RecoverGoes code given v c m a left w → Further w a left p
+    by_step stage is still w a left goes =
+        subst (λ (z : After (Recover T (Kept 128)) ReleaseState × Kept 128). Further w z.0 z.1 p) (λ i. (sym goes.1 i, sym goes.2 i))
+        (stepped w (recover_goes code given c goes.0) (recover_kept kept_at c m goes.0) (recover_visiting code given c (m, h.visits) goes.0).1 p goes.0 refl
+        (goes.3 base h.visits h.at)
+        (subst (λ z. StepsOnward step cap shut given f code.size c value_in_room kept_at z h.visits m goes.0 p) (sym is)
+        (quietly step cap shut given f code.size c value_in_room kept_at stage still (subst (RecoverIn code.size cap given.mode) is h.stands.1) h.visits m p goes.0
+        (subst (λ z. SoFar step cap shut given f z h.visits value p) is h.so_far))))
+
+    -- an answer
+    heard : (said : Bool) (a : After (Recover T (Kept 128)) ReleaseState) (index count : ℕ) → c.stage ≡ recovers.Asks index count
+        → recover_goes code given c (number_of said) ≡ a → NextThere a (m, h.visits) v
+    heard said (GoOn d) index count is goes = heard_on code law given base v c (m, h.visits) index count is d said goes h.at
+    heard said (Done e) index count is goes = answer_last code law given base v c (m, h.visits) index count is e said goes
+
+    by_answer : (index count : ℕ) (is : c.stage ≡ recovers.Asks index count) (q : F) (said : Bool) → step p value said q
+        → Further v (recover_goes code given c (if said then 1 else 0)) m q
+    by_answer index count is q said hit =
+        let free : shut ≡ false = asked_open code law given base v c (m, h.visits) index count is h.at in
+        let same : recover_goes code given c (number_of said) ≡ recover_goes code given c (if said then 1 else 0) = ap (recover_goes code given c) (same_number said) in
+        stepped v (recover_goes code given c (if said then 1 else 0)) m h.visits q (number_of said) same
+        (heard said (recover_goes code given c (if said then 1 else 0)) index count is same)
+        (subst (λ z. Onward step cap shut given f (recover_takes code.size c z given (if said then 1 else 0)) h.visits value q) (sym is)
+        (answers_so step cap shut given f code.size c index count h.visits value said p q free (subst (RecoverIn code.size cap given.mode) is h.stands.1) hit
+        (subst (λ z. SoFar step cap shut given f z h.visits value p) is h.so_far)))
+
+    module _ (w : View T) (a : After (Recover T (Kept 128)) ReleaseState) (left : Kept 128) (q : F) where
+      passes : (stage : RecoverStage) → c.stage ≡ stage → IsQuiet step cap shut given f stage → RecoverGoes code given v c m a left w → q ≡ p → Further w a left q
+      passes stage is still turns moves = subst (λ (z : F). Further w a left z) (sym moves) (by_step stage is still w a left turns)
+
+      turned : (stage : RecoverStage) → c.stage ≡ stage → RecoverTurns code given stage v c m a left w
+          → RecoverMoves step code.size c given stage value p a q → Further w a left q
+      turned recovers.LoadsCounter is turns moves = passes recovers.LoadsCounter is tt turns moves
+      turned (recovers.LoadsCell index) is turns moves = passes (recovers.LoadsCell index) is tt turns moves
+      turned (recovers.LoadsCount index) is turns moves = passes (recovers.LoadsCount index) is tt turns moves
+      turned (recovers.LoadsWord index count at) is turns moves = passes (recovers.LoadsWord index count at) is tt turns moves
+      turned (recovers.ChecksCount index count) is turns moves = passes (recovers.ChecksCount index count) is tt turns moves
+      turned (recovers.Asks index count) is turns moves =
+          subst (λ (z : View T). Further z a left q) (sym turns.0)
+          (subst (λ (x : Kept 128). Further v a x q) (sym turns.1)
+          (subst (λ r. Further v r m q) (sym moves.2) (by_answer index count is q moves.0 moves.1)))
+      turned (recovers.EmptiesCell index count) is turns moves = passes (recovers.EmptiesCell index count) is tt turns moves
+      turned (recovers.Hides index count) is turns moves = passes (recovers.Hides index count) is tt turns moves
+      turned (recovers.Raises index raise) is turns moves = passes (recovers.Raises index raise) is tt turns moves
+      turned (recovers.Locks index lock) is turns moves = passes (recovers.Locks index lock) is tt turns moves
+      turned recovers.LoadsCounterAgain is turns moves = passes recovers.LoadsCounterAgain is tt turns moves
+      turned (recovers.AddsChange state) is turns moves = passes (recovers.AddsChange state) is tt turns moves
+
+      pub further : RecoverTurns code given c.stage v c m a left w → RecoverMoves step code.size c given c.stage value p a q → Further w a left q
+      further turns moves = turned c.stage refl turns moves
+
+    pub may_go : {pre : F → T → Type 0} → (shut ≡ false → TakesValues pre step cap f) → RecoverAsks pre c.stage value p
+    may_go takes = may_ask step cap shut given f code.size takes c.stage h.stands.1 knows h.visits value p h.so_far
+
+  pub starts : (c : Recover T (Kept 128)) (m : Kept 128) → c ≡ first_recover cap → m ≡ fresh_cell
+      → RecoverAt code given base base (first_recover cap) (fresh_cell, [])
+      → Standing base c m f
+  starts c m is fresh at =
+      subst (λ (z : Recover T (Kept 128) × Kept 128). Standing base z.0 z.1 f) (λ i. (sym is i, sym fresh i))
+      (record { visits = []; at = at; stands = (refl, tt); so_far = (refl, refl) })

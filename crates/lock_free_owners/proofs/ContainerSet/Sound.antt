@@ -1,0 +1,49 @@
+-- What holds of each history of a container: what the laws of its open runs say.
+use Rattle.std.proofs.Common.{◌≡◌, inl, inr, ⊎_elim, ℕ, List, slice_index, sym, subst, ◌∙◌}
+use Rattle.steps.specs.Indices.Robust.Parts.{greatest}
+use Rattle.steps.specs.declared.container.enums.ContainerAddFailure.TheVariants.{OutOfSpace}
+use Rattle.steps.specs.declared.indices.enums.ReleaseMode.{ReleaseMode}
+use Rattle.steps.specs.declared.indices.enums.ReleaseMode.TheVariants.{LockIfLastIndex, Default}
+use Rattle.steps.specs.declared.indices.enums.ReleaseState.TheVariants.{Unlocked}
+use Rattle.model.specs.declared.event.Answer.TheVariants.{NoPlace, State}
+use Rattle.model.specs.declared.event.Event.{Event}
+use Rattle.model.specs.declared.event.Event.TheVariants.{Finished}
+use Rattle.model.specs.declared.event.Start.TheVariants.{Container}
+use Rattle.model.specs.declared.families.container.ContainerStart.TheVariants.{Add, Remove, Recover}
+use Rattle.model.specs.declared.turn.Kind.TheVariants as kinds
+use Rattle.model.specs.Coding.{Coding}
+use Rattle.model.specs.Families.Indices.Robust.Promises.{SetDoes, IsProper, HoldsRight}
+use Rattle.model.specs.Reading.{Each}
+use Rattle.robust_laws.specs.Gone.{Word, IsHonest}
+use Rattle.container_laws.specs.Gone.{AsksBy, RecoversBy, AnswersBy, FilledSinceEachBy}
+use Rattle.container_laws.specs.Open.{IsOpenContainer}
+use Rattle.history.specs.History.{IsHistory}
+use Rattle.history.proofs.Containers.{is_open_container}
+use Rattle.lock_free_owners.specs.Container.Told.{IsSound}
+
+module _ {T : Type 0} {worn other : Type 0} (may : worn → other) where
+  since_each : (mode : ReleaseMode) (p owner : ℕ) (events : List (Event T)) → FilledSinceEachBy worn mode p owner events
+      → FilledSinceEachBy other mode p owner events
+  since_each LockIfLastIndex p owner events h = λ index freed. ⊎_elim (λ x. inl (may x)) (λ x. inr x) (h index freed)
+  since_each Default p owner events h = tt
+
+  -- what an answer says where its counter may be worn it says where that may be for another reason
+  worn_on : (capacity : ℕ) (before : List (Event T)) (e : Event T) → AnswersBy Word worn capacity before e → AnswersBy Word other capacity before e
+  worn_on capacity before (Finished p (Container (Add value owner)) (NoPlace OutOfSpace)) h = (h.0, ⊎_elim (λ x. inl (may x)) (λ x. inr x) h.1)
+  worn_on capacity before (Finished p (Container (Remove index owner LockIfLastIndex)) (State Unlocked)) h =
+      (h.0, ⊎_elim (λ x. inl (may x)) (λ x. inr x) h.1)
+  worn_on capacity before (Finished p (Container (Recover owner mode)) (State Unlocked)) h = (h.0, h.1, since_each mode p owner before h.2)
+  worn_on capacity before e h = h
+
+pub sound_history : {T : Type 0} (code : Coding T) (capacity : ℕ) (events : List (Event T)) → IsHistory code kinds.Container capacity events
+    → IsSound code capacity events
+sound_history code capacity events h =
+    let set : IsOpenContainer h.trace h.run.reached = is_open_container code capacity h.trace h.run in
+    record {
+      does = subst (λ n. Each (SetDoes n) events) h.run.sized (subst (Each (SetDoes h.trace.world.capacity)) (sym h.is) set.does);
+      asks = subst (Each (AsksBy Word)) (sym h.is) set.asks;
+      recovers = subst (Each (RecoversBy Word)) (sym h.is) set.recovers;
+      answers = λ before after e is. worn_on (λ worn. record { trace = h.trace; run = h.run; is = h.is; worn = worn }) capacity before e
+          (subst (λ n. AnswersBy Word (slice_index h.trace.world.words 0 ≡ greatest) n before e) h.run.sized (set.answers before after e (sym h.is ∙ is)));
+      holds = λ proper honest. subst (Each HoldsRight) (sym h.is) (set.holds (subst IsProper h.is proper) (subst IsHonest h.is honest));
+    }

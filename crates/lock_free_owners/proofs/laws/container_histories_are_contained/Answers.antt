@@ -1,0 +1,5 @@
+use Rattle.history.proofs.Containers.{is_open_container}
+use Rattle.lock_free_owners.proofs.laws.container_histories_are_contained.Goals as goal
+
+pub returns : goal.returns
+returns g c code capacity events h = (is_open_container code capacity h.trace h.run).contained

@@ -1,0 +1,48 @@
+use Rattle.std.proofs.Common.{◌<◌, [], rules, sym, ap, subst}
+use Rattle.steps.specs.Container.Find.{first_find}
+use Rattle.model.specs.Coding.{Coding, IsCoding, coding_of}
+use Rattle.model.specs.Families.Queues.Calls.{fresh_cell}
+use Rattle.model.specs.declared.turn.Kind.TheVariants as kinds
+use Rattle.lock_free_sp.specs.Seats.{seen}
+use Rattle.lock_free_sp.specs.Sets.{SetId}
+use Rattle.history.specs.Passes.{Goes}
+use Rattle.lock_free_owners.specs.Container.Callable.{TakesVisits, HasFound}
+use Rattle.lock_free_owners.specs.Container.FindTurns.{FindAt}
+use Rattle.lock_free_owners.specs.Container.Names.{number_of}
+use Rattle.lock_free_owners.specs.Container.Visits.{IsNamed}
+use Rattle.lock_free_owners.proofs.ContainerSet.FindTurns.{find_begins}
+use Rattle.lock_free_owners.proofs.mpmc.container.Container.find.Goals as goal
+use Rattle.lock_free_owners.proofs.mpmc.container.Container.find.Given as given
+
+pub find_all-found-requires-clause-at : goal.find_all-found-requires-clause-at
+find_all-found-requires-clause-at g c =
+    let met = g.met.T.Words in
+    let code : Coding g.row.T.Denot = coding_of g.T.Words.WORDS g.T.Words.words_of g.T.Words.value_of in
+    let law : IsCoding code = record { some = met.some; few = met.few; sized = met.sized; given_back = met.given_back } in
+    let mine = c.args.pass.now.token in
+    let v = seen mine.seated in
+    let some : 0 < v.capacity = subst (λ n. 0 < n) (sym mine.known) mine.places in
+    subst (λ n. FindAt code c.args.owner v v (first_find n) (fresh_cell, [])) mine.known
+    (find_begins code law c.args.owner v some (search rules) mine.idle mine.alone mine.some.0)
+
+pub find_all-found-requires-clause-visits : goal.find_all-found-requires-clause-visits
+find_all-found-requires-clause-visits g c =
+    subst (λ n. TakesVisits (given.F-pre g) (λ p x h a q. given.F-step g p x h a q) (IsNamed n c.args.owner (number_of c.args.self.now)) c.args.visit)
+    (sym (ap (λ (z : SetId). z.capacity) c.requires.pass)) c.requires.visits
+
+pub returns-clause-goes : goal.returns-clause-goes
+returns-clause-goes g c =
+    let code : Coding g.row.T.Denot = coding_of g.T.Words.WORDS g.T.Words.words_of g.T.Words.value_of in
+    subst (λ n. Goes code kinds.Container n (seen c.args.pass.now.token.seated) (seen c.find_all-found.new.seat)) c.args.pass.now.token.known
+    c.find_all-found.ensures.left.goes
+
+pub returns-clause-found : goal.returns-clause-found
+returns-clause-found g c =
+    let found = c.find_all-found.ensures.found in (
+      found.0,
+      c.find_all-found.result.1,
+      found.1,
+      subst (λ n. HasFound (λ p x h a q. given.F-step g p x h a q) n (IsNamed n c.args.owner (number_of c.args.self.now)) c.args.visit
+          c.find_all-found.result.0 found.0 c.find_all-found.result.1)
+          (ap (λ (z : SetId). z.capacity) c.requires.pass) found.2,
+    )

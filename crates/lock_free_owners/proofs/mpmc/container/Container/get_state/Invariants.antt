@@ -1,0 +1,7 @@
+use Rattle.model.specs.declared.families.container.calls.LookOf.TheVariants.{GetState}
+use Rattle.lock_free_sp.specs.Seats.{seen}
+use Rattle.lock_free_owners.proofs.mpmc.container.Container.get_state.Given as goal
+
+-- the new state begins it
+abbrev pub ghosts-bring_up : goal.ghosts-bring_up
+ghosts-bring_up g a = record { which = GetState; from = seen a.seat.now; shown = a.state.now.shown }

@@ -1,0 +1,54 @@
+use Rattle.std.proofs.Common.{◌≤◌, rules, ap, subst, ◌∙◌}
+use Rattle.steps.specs.Indices.Robust.Looks.{first_borrowed}
+use Rattle.model.specs.Coding.{Coding, coding_of}
+use Rattle.model.specs.declared.families.container.calls.CountOf.TheVariants as counts
+use Rattle.model.specs.declared.turn.Kind.TheVariants as kinds
+use Rattle.lock_free_sp.specs.Seats.{seen}
+use Rattle.lock_free_sp.specs.Sets.{SetId}
+use Rattle.history.specs.Container.{counts_values}
+use Rattle.history.specs.Passes.{Goes}
+use Rattle.lock_free_owners.specs.Container.Turns.{BeginsCount, CountAt}
+use Rattle.lock_free_owners.proofs.ContainerSet.Begins.{count_begins}
+use Rattle.lock_free_owners.proofs.ContainerSet.Facts.{goes, counted, counted_answered, counted_most, counted_none}
+use Rattle.lock_free_owners.proofs.mpmc.container.Container.len.Goals as goal
+
+pub count_all-requires-clause-at : goal.count_all-requires-clause-at
+count_all-requires-clause-at g c =
+    let mine = c.args.pass.now.token in
+    let code : Coding g.row.T.Denot = coding_of g.T.Words.WORDS g.T.Words.words_of g.T.Words.value_of in
+    let v = seen mine.seated in
+    subst (λ n. CountAt code counts.Len v v (first_borrowed n) tt) mine.known (count_begins code counts.Len v mine.idle mine.alone mine.some.0)
+
+pub returns-clause-goes_on : goal.returns-clause-goes_on
+returns-clause-goes_on g c =
+    let code : Coding g.row.T.Denot = coding_of g.T.Words.WORDS g.T.Words.words_of g.T.Words.value_of in
+    let v = seen c.args.pass.now.token.seated in
+    let w = seen c.count_all.new.seat in
+    record {
+      container = search rules;
+      idle = c.count_all.ensures.ends.over.idle;
+      goes = subst (λ n. Goes code kinds.Container n v w) c.args.pass.now.token.known
+          (goes code BeginsCount (counts_values counts.Len) v w c.count_all.result c.count_all.ensures.ends);
+    }
+
+pub returns-clause-counted : goal.returns-clause-counted
+returns-clause-counted g c =
+    counted (coding_of g.T.Words.WORDS g.T.Words.words_of g.T.Words.value_of) (seen c.args.pass.now.token.seated) (seen c.count_all.new.seat)
+    c.count_all.result c.count_all.ensures.ends
+
+pub returns-clause-answered : goal.returns-clause-answered
+returns-clause-answered g c =
+    counted_answered (coding_of g.T.Words.WORDS g.T.Words.words_of g.T.Words.value_of) (seen c.args.pass.now.token.seated) (seen c.count_all.new.seat)
+    c.count_all.result c.count_all.ensures.ends
+
+pub returns-clause-most : goal.returns-clause-most
+returns-clause-most g c =
+    let size = c.args.pass.now.token.known ∙ ap (λ (z : SetId). z.capacity) c.requires in
+    subst (λ n. c.count_all.result ≤ n) size
+    (counted_most (coding_of g.T.Words.WORDS g.T.Words.words_of g.T.Words.value_of) (seen c.args.pass.now.token.seated) (seen c.count_all.new.seat)
+    c.count_all.result c.count_all.ensures.ends)
+
+pub returns-clause-lock : goal.returns-clause-lock
+returns-clause-lock g c locked =
+    counted_none (coding_of g.T.Words.WORDS g.T.Words.words_of g.T.Words.value_of) (seen c.args.pass.now.token.seated) (seen c.count_all.new.seat)
+    c.count_all.result c.count_all.ensures.ends locked

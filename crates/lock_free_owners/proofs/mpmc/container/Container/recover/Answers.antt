@@ -1,0 +1,73 @@
+use Rattle.std.proofs.Common.{[], rules, sym, ap, subst}
+use Rattle.steps.specs.Container.Recover.{first_recover}
+use Rattle.steps.specs.declared.container.recover.DeadOwner.{DeadOwner}
+use Rattle.model.specs.Coding.{Coding, IsCoding, coding_of}
+use Rattle.model.specs.Families.Queues.Calls.{fresh_cell}
+use Rattle.model.specs.declared.turn.Kind.TheVariants as kinds
+use Rattle.lock_free_sp.specs.Seats.{seen}
+use Rattle.lock_free_sp.specs.Sets.{SetId}
+use Rattle.history.specs.Passes.{Goes}
+use Rattle.lock_free_owners.specs.Container.Questions.{TakesValues}
+use Rattle.lock_free_owners.specs.Container.RecoverTold.{HasRecovered}
+use Rattle.lock_free_owners.specs.Container.RecoverTurns.{RecoverAt}
+use Rattle.lock_free_owners.proofs.ContainerSet.RecoverTurns.{recover_begins, recovered_goes, recovered_answered, recovered_lock}
+use Rattle.lock_free_owners.proofs.mpmc.container.Container.recover.Goals as goal
+use Rattle.lock_free_owners.proofs.mpmc.container.Container.recover.Given as given
+
+pub free_all-state-requires-clause-at : goal.free_all-state-requires-clause-at
+free_all-state-requires-clause-at g c =
+    let met = g.met.T.Words in
+    let code : Coding g.row.T.Denot = coding_of g.T.Words.WORDS g.T.Words.words_of g.T.Words.value_of in
+    let law : IsCoding code = record { some = met.some; few = met.few; sized = met.sized; given_back = met.given_back } in
+    let mine = c.args.pass.now.token in
+    let v = seen mine.seated in
+    let dead : DeadOwner = record { owner = c.args.owner; mode = c.args.mode } in
+    subst (λ n. RecoverAt code dead v v (first_recover n) (fresh_cell, [])) mine.known (recover_begins code law dead v
+    (search rules) mine.idle mine.alone mine.some.0)
+
+pub free_all-state-requires-clause-questions : goal.free_all-state-requires-clause-questions
+free_all-state-requires-clause-questions g c free =
+    subst (λ n. TakesValues (given.F-pre g) (λ p x b q. given.F-step g p x b q) n c.args.predicate)
+    (sym (ap (λ (z : SetId). z.capacity) c.requires.pass)) (c.requires.questions free)
+
+pub returns-clause-goes_on : goal.returns-clause-goes_on
+returns-clause-goes_on g c =
+    let met = g.met.T.Words in
+    let code : Coding g.row.T.Denot = coding_of g.T.Words.WORDS g.T.Words.words_of g.T.Words.value_of in
+    let law : IsCoding code = record { some = met.some; few = met.few; sized = met.sized; given_back = met.given_back } in
+    let dead : DeadOwner = record { owner = c.args.owner; mode = c.args.mode } in
+    let v = seen c.args.pass.now.token.seated in
+    let w = seen c.free_all-state.new.seat in
+    let ends = c.free_all-state.ensures.ends in
+    record {
+      container = search rules;
+      idle = ends.1.over.idle;
+      goes = subst (λ n. Goes code kinds.Container n v w) c.args.pass.now.token.known
+          (recovered_goes code law dead v w c.free_all-state.result.0 ends.0 ends.1);
+    }
+
+pub returns-clause-recovered : goal.returns-clause-recovered
+returns-clause-recovered g c =
+    let code : Coding g.row.T.Denot = coding_of g.T.Words.WORDS g.T.Words.words_of g.T.Words.value_of in
+    let dead : DeadOwner = record { owner = c.args.owner; mode = c.args.mode } in (
+      c.free_all-state.result.1,
+      subst (λ n. HasRecovered code (λ p x b q. given.F-step g p x b q) dead c.free_all-state.result.0 n c.args.predicate c.free_all-state.result.1
+          (seen c.args.pass.now.token.seated) (seen c.free_all-state.new.seat))
+          (ap (λ (z : SetId). z.capacity) c.requires.pass) c.free_all-state.ensures.recovered,
+    )
+
+pub returns-clause-answered : goal.returns-clause-answered
+returns-clause-answered g c =
+    let met = g.met.T.Words in
+    let code : Coding g.row.T.Denot = coding_of g.T.Words.WORDS g.T.Words.words_of g.T.Words.value_of in
+    let law : IsCoding code = record { some = met.some; few = met.few; sized = met.sized; given_back = met.given_back } in
+    recovered_answered code law (record { owner = c.args.owner; mode = c.args.mode }) (seen c.args.pass.now.token.seated) (seen c.free_all-state.new.seat)
+    c.free_all-state.result.0 c.free_all-state.ensures.ends.0 c.free_all-state.ensures.ends.1
+
+pub returns-clause-lock : goal.returns-clause-lock
+returns-clause-lock g c =
+    let met = g.met.T.Words in
+    let code : Coding g.row.T.Denot = coding_of g.T.Words.WORDS g.T.Words.words_of g.T.Words.value_of in
+    let law : IsCoding code = record { some = met.some; few = met.few; sized = met.sized; given_back = met.given_back } in
+    recovered_lock code law (record { owner = c.args.owner; mode = c.args.mode }) (seen c.args.pass.now.token.seated) (seen c.free_all-state.new.seat)
+    c.free_all-state.result.0 c.free_all-state.ensures.ends.0 c.free_all-state.ensures.ends.1

@@ -1,0 +1,7 @@
+use Rattle.model.specs.declared.families.container.calls.LookOf.TheVariants.{UpdateState}
+use Rattle.lock_free_sp.specs.Seats.{seen}
+use Rattle.lock_free_owners.proofs.mpmc.container.Container.update_state.Given as goal
+
+-- the state as it is given begins it
+abbrev pub ghosts-bring_up : goal.ghosts-bring_up
+ghosts-bring_up g a = record { which = UpdateState; from = seen a.seat.now; shown = a.state.now.shown }

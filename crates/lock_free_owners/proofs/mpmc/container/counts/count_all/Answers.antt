@@ -1,0 +1,91 @@
+use Rattle.std.proofs.Common.{◌∙◌, sym, subst}
+use Rattle.model.specs.Coding.{Coding, coding_of}
+use Rattle.lock_free_sp.specs.Seats.{seen}
+use Rattle.lock_free_owners.specs.Container.Turns.{CountAt, CountEnds}
+use Rattle.lock_free_owners.proofs.RobustSet.Turns.{gone_on, has_ended}
+use Rattle.lock_free_owners.proofs.mpmc.container.counts.count_all.Goals as goal
+
+pub step_count-first-requires-clause-at : goal.step_count-first-requires-clause-at
+step_count-first-requires-clause-at g c =
+    let code : Coding g.row.T.Denot = coding_of g.T.Words.WORDS g.T.Words.words_of g.T.Words.value_of in
+    let base = seen c.args.seat.now in
+    (base, subst (λ d. CountAt code g.W.Counting.which base base d tt) (sym c.new.ensures) c.requires.at)
+
+pub returns-in-Done-clause-ends : goal.returns-in-Done-clause-ends
+returns-in-Done-clause-ends g c =
+    let code : Coding g.row.T.Denot = coding_of g.T.Words.WORDS g.T.Words.words_of g.T.Words.value_of in
+    let at_all = CountAt code g.W.Counting.which in
+    let over_all = CountEnds code g.W.Counting.which in
+    let base = seen c.args.seat.now in
+    has_ended at_all over_all base base (seen c.step_count-first.new.seat) c.new.result c.in-Done.filled c.step_count-first.result
+    c.step_count-first.ensures.goes
+    c.in-Done.is (subst (λ d. at_all base base d tt) (sym c.new.ensures) c.requires.at)
+
+pub count_next-cells-requires-clause-at : goal.count_next-cells-requires-clause-at
+count_next-cells-requires-clause-at g c =
+    let code : Coding g.row.T.Denot = coding_of g.T.Words.WORDS g.T.Words.words_of g.T.Words.value_of in
+    let at_all = CountAt code g.W.Counting.which in
+    let over_all = CountEnds code g.W.Counting.which in
+    let base = seen c.args.seat.now in (
+      base,
+      gone_on at_all over_all base base (seen c.step_count-first.new.seat) c.new.result c.in-GoOn.next c.step_count-first.result
+          c.step_count-first.ensures.goes
+          c.in-GoOn.is (subst (λ d. at_all base base d tt) (sym c.new.ensures) c.requires.at),
+    )
+
+pub returns-in-Done-cells-clause-ends : goal.returns-in-Done-cells-clause-ends
+returns-in-Done-cells-clause-ends g c =
+    let code : Coding g.row.T.Denot = coding_of g.T.Words.WORDS g.T.Words.words_of g.T.Words.value_of in
+    let at_all = CountAt code g.W.Counting.which in
+    let over_all = CountEnds code g.W.Counting.which in
+    let base = seen c.args.seat.now in
+    has_ended at_all over_all base (seen c.step_count-first.new.seat)
+    (seen c.count_next-cells.new.seat) c.in-GoOn.next c.in-Done-cells.filled c.count_next-cells.result
+    c.count_next-cells.ensures.goes c.in-Done-cells.is
+    (gone_on at_all over_all base base (seen c.step_count-first.new.seat) c.new.result c.in-GoOn.next c.step_count-first.result
+    c.step_count-first.ensures.goes
+    c.in-GoOn.is (subst (λ d. at_all base base d tt) (sym c.new.ensures) c.requires.at))
+
+pub loop-init : goal.loop-init
+loop-init g c =
+    let code : Coding g.row.T.Denot = coding_of g.T.Words.WORDS g.T.Words.words_of g.T.Words.value_of in
+    let at_all = CountAt code g.W.Counting.which in
+    let over_all = CountEnds code g.W.Counting.which in
+    let base = seen c.args.seat.now in
+    let first = c.step_count-first.ensures.same in
+    let cells = c.count_next-cells.ensures.same in (
+      (cells.0 ∙ first.0, cells.1 ∙ first.1, cells.2 ∙ first.2),
+      c.count_next-cells.ensures.board,
+      gone_on at_all over_all base (seen c.step_count-first.new.seat)
+          (seen c.count_next-cells.new.seat) c.in-GoOn.next c.in-GoOn-cells.next c.count_next-cells.result
+          c.count_next-cells.ensures.goes c.in-GoOn-cells.is
+          (gone_on at_all over_all base base (seen c.step_count-first.new.seat) c.new.result c.in-GoOn.next c.step_count-first.result
+          c.step_count-first.ensures.goes
+          c.in-GoOn.is (subst (λ d. at_all base base d tt) (sym c.new.ensures) c.requires.at)),
+    )
+
+pub loop-preserved : goal.loop-preserved
+loop-preserved g c =
+    let code : Coding g.row.T.Denot = coding_of g.T.Words.WORDS g.T.Words.words_of g.T.Words.value_of in
+    let at_all = CountAt code g.W.Counting.which in
+    let over_all = CountEnds code g.W.Counting.which in
+    let base = seen c.args.seat.now in
+    let so_far = c.loop.invariant in
+    let called = c.count_next-after in (
+      (called.ensures.same.0 ∙ so_far.0.0, called.ensures.same.1 ∙ so_far.0.1, called.ensures.same.2 ∙ so_far.0.2),
+      called.ensures.board,
+      gone_on at_all over_all base (seen c.loop.seat) (seen called.new.seat) c.loop.call c.in-GoOn-after.next called.result called.ensures.goes
+          c.in-GoOn-after.is
+          so_far.2,
+    )
+
+pub returns-in-Done-after-clause-ends : goal.returns-in-Done-after-clause-ends
+returns-in-Done-after-clause-ends g c =
+    let code : Coding g.row.T.Denot = coding_of g.T.Words.WORDS g.T.Words.words_of g.T.Words.value_of in
+    let at_all = CountAt code g.W.Counting.which in
+    let over_all = CountEnds code g.W.Counting.which in
+    let base = seen c.args.seat.now in
+    let called = c.count_next-after in
+    has_ended at_all over_all base (seen c.loop.seat) (seen called.new.seat) c.loop.call c.in-Done-after.filled called.result called.ensures.goes
+    c.in-Done-after.is
+    c.loop.invariant.2

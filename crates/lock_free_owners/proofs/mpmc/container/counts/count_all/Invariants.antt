@@ -1,0 +1,9 @@
+use Rattle.model.specs.Coding.{coding_of}
+use Rattle.lock_free_sp.specs.Seats.{seen, IsSame}
+use Rattle.lock_free_owners.specs.Container.Turns.{IsBoard, CountAt}
+use Rattle.lock_free_owners.proofs.mpmc.container.counts.count_all.Given as goal
+
+abbrev pub invariant-loop : goal.invariant-loop
+invariant-loop g l =
+    IsSame l.fn.seat l.seat × IsBoard g.T.Words.WORDS l.seat
+    × CountAt (coding_of g.T.Words.WORDS g.T.Words.words_of g.T.Words.value_of) g.W.Counting.which (seen l.fn.seat) (seen l.seat) l.call tt

@@ -1,0 +1,48 @@
+use Rattle.std.proofs.Common.{◌∙◌, sym, subst}
+use Rattle.steps.specs.declared.indices.robust.looks.BorrowedIndices.{BorrowedIndices}
+use Rattle.model.specs.Coding.{Coding, coding_of}
+use Rattle.lock_free_sp.specs.Seats.{seen}
+use Rattle.lock_free_owners.specs.Container.Turns.{CountAt, CountEnds}
+use Rattle.lock_free_owners.proofs.RobustSet.Turns.{gone_on, has_ended, loads_next, loads}
+use Rattle.lock_free_owners.proofs.mpmc.container.counts.count_cells.Goals as goal
+
+pub step_count-requires : goal.step_count-requires
+step_count-requires g c = record { board = c.cells.invariant.1; at = (c.requires.at.0, c.cells.invariant.2 c.requires.at.0 c.requires.at.1) }
+
+pub cells-preserved : goal.cells-preserved
+cells-preserved g c =
+    let code : Coding g.row.T.Denot = coding_of g.T.Words.WORDS g.T.Words.words_of g.T.Words.value_of in
+    let at_all = CountAt code g.W.Counting.which in
+    let over_all = CountEnds code g.W.Counting.which in
+    let so_far = c.cells.invariant in
+    let called = c.step_count in
+    let here = loads c.args.capacity c.args.counter c.cells.cell c.cells.found c.cells.cell c.cells.found in
+    let next = loads_next c.args.capacity c.args.counter c.cells.cell c.cells.found called.ensures.after.0 _ c.in-LoadsCell.index c.in-LoadsCell.filled
+    c.in-GoOn.next
+    (sym called.ensures.after.1 ∙ c.in-GoOn.is) c.in-LoadsCell.is in (
+      (called.ensures.same.0 ∙ so_far.0.0, called.ensures.same.1 ∙ so_far.0.1, called.ensures.same.2 ∙ so_far.0.2),
+      called.ensures.board,
+      λ base at. subst (λ (d : BorrowedIndices). at_all base (seen called.new.seat) d tt) next.0
+          (gone_on at_all over_all base (seen c.cells.seat) (seen called.new.seat) here c.in-GoOn.next called.result called.ensures.goes
+          c.in-GoOn.is (so_far.2 base at)),
+    )
+
+pub returns-in_default-clause-goes : goal.returns-in_default-clause-goes
+returns-in_default-clause-goes g c base at =
+    let code : Coding g.row.T.Denot = coding_of g.T.Words.WORDS g.T.Words.words_of g.T.Words.value_of in
+    let at_all = CountAt code g.W.Counting.which in
+    let over_all = CountEnds code g.W.Counting.which in
+    let called = c.step_count in
+    gone_on at_all over_all base (seen c.cells.seat) (seen called.new.seat)
+    (loads c.args.capacity c.args.counter c.cells.cell c.cells.found c.cells.cell c.cells.found) c.in-GoOn.next called.result called.ensures.goes
+    c.in-GoOn.is (c.cells.invariant.2 base at)
+
+pub returns-in-Done-clause-goes : goal.returns-in-Done-clause-goes
+returns-in-Done-clause-goes g c base at =
+    let code : Coding g.row.T.Denot = coding_of g.T.Words.WORDS g.T.Words.words_of g.T.Words.value_of in
+    let at_all = CountAt code g.W.Counting.which in
+    let over_all = CountEnds code g.W.Counting.which in
+    let called = c.step_count in
+    has_ended at_all over_all base (seen c.cells.seat) (seen called.new.seat)
+    (loads c.args.capacity c.args.counter c.cells.cell c.cells.found c.cells.cell c.cells.found) c.in-Done.end called.result called.ensures.goes
+    c.in-Done.is (c.cells.invariant.2 base at)

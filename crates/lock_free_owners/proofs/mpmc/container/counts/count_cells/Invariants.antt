@@ -1,0 +1,20 @@
+use Rattle.std.proofs.Common.{◌-◌}
+use Rattle.steps.specs.declared.indices.robust.parts.Count.TheVariants as stages
+use Rattle.history.specs.declared.view.View.{View}
+use Rattle.model.specs.Coding.{coding_of}
+use Rattle.lock_free_sp.specs.Seats.{seen, IsSame}
+use Rattle.lock_free_owners.specs.Container.Turns.{IsBoard, CountAt}
+use Rattle.lock_free_owners.proofs.mpmc.container.counts.count_cells.Given as goal
+
+-- whatever the view with which the count began
+abbrev pub invariant-cells : goal.invariant-cells
+invariant-cells g l =
+    IsSame l.fn.seat l.seat × IsBoard g.T.Words.WORDS l.seat
+    × ((base : View g.row.T.Denot)
+    → CountAt (coding_of g.T.Words.WORDS g.T.Words.words_of g.T.Words.value_of) g.W.Counting.which base (seen l.fn.seat)
+    (record { capacity = l.fn.capacity; count = stages.LoadsCell l.fn.counter l.fn.first l.fn.filled }) tt
+    → CountAt (coding_of g.T.Words.WORDS g.T.Words.words_of g.T.Words.value_of) g.W.Counting.which base (seen l.seat)
+    (record { capacity = l.fn.capacity; count = stages.LoadsCell l.fn.counter l.cell l.found }) tt)
+
+abbrev pub decreases-cells : goal.decreases-cells
+decreases-cells g l = l.fn.capacity - l.cell

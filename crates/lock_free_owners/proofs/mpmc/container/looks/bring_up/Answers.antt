@@ -1,0 +1,67 @@
+use Rattle.std.proofs.Common.{◌≡◌, false, sym, ap, subst, ◌∙◌}
+use Rattle.steps.specs.Container.Look.{look_after}
+use Rattle.model.specs.Coding.{Coding, IsCoding, coding_of}
+use Rattle.lock_free_sp.specs.Seats.{seen}
+use Rattle.lock_free_owners.specs.Container.LookTurns.{LookAt, LookOver}
+use Rattle.lock_free_owners.proofs.ContainerSet.Looks.{look_keeps, look_on_keeps, first_leads, goes_from, ends_from, past_from, false_from}
+use Rattle.lock_free_owners.proofs.mpmc.container.looks.bring_up.Goals as goal
+
+pub step-after-requires-clause-rule : goal.step-after-requires-clause-rule
+step-after-requires-clause-rule g c =
+    let met = g.met.T.Words in
+    let code : Coding g.row.T.Denot = coding_of g.T.Words.WORDS g.T.Words.words_of g.T.Words.value_of in
+    let law : IsCoding code = record { some = met.some; few = met.few; sized = met.sized; given_back = met.given_back } in
+    look_keeps code law g.B.Beginning.which g.B.Beginning.from g.B.Beginning.shown c.args.state.now.seen c.requires.decided
+
+pub step-after-requires-clause-at : goal.step-after-requires-clause-at
+step-after-requires-clause-at g c =
+    let code : Coding g.row.T.Denot = coding_of g.T.Words.WORDS g.T.Words.words_of g.T.Words.value_of in
+    let v = seen c.args.seat.now in
+    let state = c.args.state.now in
+    let b = g.B.Beginning in
+    (v, subst (λ call. LookAt code b.which b.from b.shown state.seen v call state.shown) (sym c.new-first.ensures) c.requires.at)
+
+pub drive_on-requires-clause-rule : goal.drive_on-requires-clause-rule
+drive_on-requires-clause-rule g c =
+    let met = g.met.T.Words in
+    let code : Coding g.row.T.Denot = coding_of g.T.Words.WORDS g.T.Words.words_of g.T.Words.value_of in
+    let law : IsCoding code = record { some = met.some; few = met.few; sized = met.sized; given_back = met.given_back } in
+    look_on_keeps code law g.B.Beginning.which g.B.Beginning.from g.B.Beginning.shown c.args.state.now.seen c.requires.decided
+
+pub drive_on-requires-clause-at : goal.drive_on-requires-clause-at
+drive_on-requires-clause-at g c =
+    let met = g.met.T.Words in
+    let code : Coding g.row.T.Denot = coding_of g.T.Words.WORDS g.T.Words.words_of g.T.Words.value_of in
+    let law : IsCoding code = record { some = met.some; few = met.few; sized = met.sized; given_back = met.given_back } in
+    let v = seen c.args.seat.now in
+    let state = c.args.state.now in
+    let b = g.B.Beginning in
+    let at = subst (λ call. LookAt code b.which b.from b.shown state.seen v call state.shown) (sym c.new-first.ensures) c.requires.at in
+    let told = c.step-after.ensures.told v at in
+    let taken = c.step-after.ensures.taken in
+    let is = taken.1 ∙ ap (λ call. look_after g.T.Words.WORDS call state.seen taken.0) c.new-first.ensures in (
+      goes_from code law b.which b.from b.shown state.seen v (seen c.step-after.new.self) c.step-after.result c.step-after.new.room c.in-GoOn.call c.in-GoOn.is told,
+      past_from code law b.which b.from b.shown state.seen c.step-after.result c.in-GoOn.call c.in-GoOn.is
+          (first_leads code law b.which b.from b.shown state.seen c.args.capacity c.step-after.result taken.0 c.requires.some is),
+    )
+
+pub returns-in-Done-clause-over : goal.returns-in-Done-clause-over
+returns-in-Done-clause-over g c =
+    let met = g.met.T.Words in
+    let code : Coding g.row.T.Denot = coding_of g.T.Words.WORDS g.T.Words.words_of g.T.Words.value_of in
+    let law : IsCoding code = record { some = met.some; few = met.few; sized = met.sized; given_back = met.given_back } in
+    let v = seen c.args.seat.now in
+    let w = seen c.step-after.new.self in
+    let state = c.args.state.now in
+    let b = g.B.Beginning in
+    let at = subst (λ call. LookAt code b.which b.from b.shown state.seen v call state.shown) (sym c.new-first.ensures) c.requires.at in
+    let told = c.step-after.ensures.told v at in
+    let taken = c.step-after.ensures.taken in
+    let is = taken.1 ∙ ap (λ call. look_after g.T.Words.WORDS call state.seen taken.0) c.new-first.ensures in
+    let ended = c.in-Done.field-0 in
+    let none : ended ≡ false =
+    false_from code law b.which b.from b.shown state.seen c.step-after.result ended c.in-Done.is
+    (first_leads code law b.which b.from b.shown state.seen c.args.capacity c.step-after.result taken.0 c.requires.some is)
+    in
+    subst (λ z. LookOver code b.which b.from b.shown state.seen z c.step-after.new.room w) none
+    (ends_from code law b.which b.from b.shown state.seen v w c.step-after.result c.step-after.new.room ended c.in-Done.is told)

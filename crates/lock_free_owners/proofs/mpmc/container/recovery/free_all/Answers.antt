@@ -1,0 +1,77 @@
+use Rattle.std.proofs.Common.{refl, subst, ◌∙◌}
+use Rattle.model.specs.Coding.{Coding, IsCoding, coding_of}
+use Rattle.model.specs.Families.Queues.Calls.{fresh_cell}
+use Rattle.lock_free_sp.specs.Seats.{seen}
+use Rattle.lock_free_owners.proofs.ContainerSet.Recoveries.{Further, starts, further, may_go}
+use Rattle.lock_free_owners.proofs.mpmc.container.recovery.free_all.Goals as goal
+use Rattle.lock_free_owners.proofs.mpmc.container.recovery.free_all.Given as given
+
+pub loop-init : goal.loop-init
+loop-init g c =
+    let code : Coding g.row.T.Denot = coding_of g.T.Words.WORDS g.T.Words.words_of g.T.Words.value_of in (
+      (refl, refl, refl),
+      c.requires.board,
+      starts code (λ p x b q. given.F-step g p x b q) c.args.capacity (record { owner = c.args.owner; mode = c.args.mode })
+          (seen c.args.seat.now) c.args.predicate c.new-call.result fresh_cell
+          c.new-call.ensures refl c.requires.at,
+    )
+
+pub recover_next-after-requires-clause-at : goal.recover_next-after-requires-clause-at
+recover_next-after-requires-clause-at g c = (seen c.args.seat.now, c.loop.invariant.2.visits, c.loop.invariant.2.at)
+
+pub recover_next-after-requires-clause-asks : goal.recover_next-after-requires-clause-asks
+recover_next-after-requires-clause-asks g c =
+    let met = g.met.T.Words in
+    let code : Coding g.row.T.Denot = coding_of g.T.Words.WORDS g.T.Words.words_of g.T.Words.value_of in
+    let law : IsCoding code = record { some = met.some; few = met.few; sized = met.sized; given_back = met.given_back } in
+    may_go code (λ p x b q. given.F-step g p x b q) c.args.capacity (record { owner = c.args.owner; mode = c.args.mode })
+    (seen c.args.seat.now) c.args.predicate law
+    (seen c.loop.seat) c.loop.call c.loop.room c.loop.predicate c.loop.invariant.2 c.requires.questions
+
+pub loop-preserved : goal.loop-preserved
+loop-preserved g c =
+    let met = g.met.T.Words in
+    let code : Coding g.row.T.Denot = coding_of g.T.Words.WORDS g.T.Words.words_of g.T.Words.value_of in
+    let law : IsCoding code = record { some = met.some; few = met.few; sized = met.sized; given_back = met.given_back } in
+    let so_far = c.loop.invariant in
+    let called = c.recover_next-after in (
+      (called.ensures.same.0 ∙ so_far.0.0, called.ensures.same.1 ∙ so_far.0.1, called.ensures.same.2 ∙ so_far.0.2),
+      called.ensures.board,
+      subst (λ a. Further code (λ p x b q. given.F-step g p x b q) c.args.capacity (record { owner = c.args.owner; mode = c.args.mode })
+          (seen c.args.seat.now) c.args.predicate
+          (seen called.new.seat) a called.new.room called.result.1) c.in-GoOn.is
+          (further code (λ p x b q. given.F-step g p x b q) c.args.capacity (record { owner = c.args.owner; mode = c.args.mode })
+          (seen c.args.seat.now) c.args.predicate law
+          (seen c.loop.seat) c.loop.call c.loop.room c.loop.predicate so_far.2
+          (seen called.new.seat) called.result.0 called.new.room called.result.1 called.ensures.turns called.ensures.moves),
+    )
+
+pub returns-in-Done-clause-ends : goal.returns-in-Done-clause-ends
+returns-in-Done-clause-ends g c =
+    let met = g.met.T.Words in
+    let code : Coding g.row.T.Denot = coding_of g.T.Words.WORDS g.T.Words.words_of g.T.Words.value_of in
+    let law : IsCoding code = record { some = met.some; few = met.few; sized = met.sized; given_back = met.given_back } in
+    let so_far = c.loop.invariant in
+    let called = c.recover_next-after in
+    (subst (λ a. Further code (λ p x b q. given.F-step g p x b q) c.args.capacity (record { owner = c.args.owner; mode = c.args.mode })
+    (seen c.args.seat.now) c.args.predicate
+    (seen called.new.seat) a called.new.room called.result.1) c.in-Done.is
+    (further code (λ p x b q. given.F-step g p x b q) c.args.capacity (record { owner = c.args.owner; mode = c.args.mode })
+    (seen c.args.seat.now) c.args.predicate law
+    (seen c.loop.seat) c.loop.call c.loop.room c.loop.predicate so_far.2
+    (seen called.new.seat) called.result.0 called.new.room called.result.1 called.ensures.turns called.ensures.moves)).ends
+
+pub returns-in-Done-clause-recovered : goal.returns-in-Done-clause-recovered
+returns-in-Done-clause-recovered g c =
+    let met = g.met.T.Words in
+    let code : Coding g.row.T.Denot = coding_of g.T.Words.WORDS g.T.Words.words_of g.T.Words.value_of in
+    let law : IsCoding code = record { some = met.some; few = met.few; sized = met.sized; given_back = met.given_back } in
+    let so_far = c.loop.invariant in
+    let called = c.recover_next-after in
+    (subst (λ a. Further code (λ p x b q. given.F-step g p x b q) c.args.capacity (record { owner = c.args.owner; mode = c.args.mode })
+    (seen c.args.seat.now) c.args.predicate
+    (seen called.new.seat) a called.new.room called.result.1) c.in-Done.is
+    (further code (λ p x b q. given.F-step g p x b q) c.args.capacity (record { owner = c.args.owner; mode = c.args.mode })
+    (seen c.args.seat.now) c.args.predicate law
+    (seen c.loop.seat) c.loop.call c.loop.room c.loop.predicate so_far.2
+    (seen called.new.seat) called.result.0 called.new.room called.result.1 called.ensures.turns called.ensures.moves)).recovered

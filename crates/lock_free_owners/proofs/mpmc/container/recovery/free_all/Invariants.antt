@@ -1,0 +1,12 @@
+use Rattle.model.specs.Coding.{coding_of}
+use Rattle.lock_free_sp.specs.Seats.{seen, IsSame}
+use Rattle.lock_free_owners.specs.Container.Turns.{IsBoard}
+use Rattle.lock_free_owners.proofs.ContainerSet.Recoveries.{Standing}
+use Rattle.lock_free_owners.proofs.mpmc.container.recovery.free_all.Given as goal
+
+abbrev pub invariant-loop : goal.invariant-loop
+invariant-loop g l =
+    IsSame l.fn.seat l.seat × IsBoard g.T.Words.WORDS l.seat
+    × Standing (coding_of g.T.Words.WORDS g.T.Words.words_of g.T.Words.value_of) (λ p x b q. goal.F-step g p x b q) l.fn.capacity
+    (record { owner = l.fn.owner; mode = l.fn.mode }) (seen l.fn.seat)
+    l.fn.predicate (seen l.seat) l.call l.room l.predicate

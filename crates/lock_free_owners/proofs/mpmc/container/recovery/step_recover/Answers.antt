@@ -1,0 +1,33 @@
+use Rattle.std.proofs.Common.{◌≡◌, ℕ, ◌+◌, List, [], sym, ap, subst, ◌∙◌}
+use Rattle.steps.specs.Container.Layout.{total_words}
+use Rattle.steps.specs.Container.Recover.{recover_want}
+use Rattle.model.specs.Coding.{Coding, IsCoding, coding_of}
+use Rattle.model.specs.declared.turn.Kind.TheVariants as kinds
+use Rattle.lock_free_sp.specs.Driver.{Owes, Told}
+use Rattle.lock_free_sp.specs.Seats.{seen, table_of, key_of}
+use Rattle.lock_free_sp.proofs.Driving.{weaker_owes}
+use Rattle.history.specs.declared.view.View.{View}
+use Rattle.history.specs.History.{IsMachine}
+use Rattle.lock_free_owners.specs.Container.RecoverTurns.{RecoverAt, RecoverEnds, recover_goes, recover_visiting, RecoverTells}
+use Rattle.lock_free_owners.proofs.ContainerSet.RecoverTurns.{recover_keeps, recover_tells}
+use Rattle.lock_free_owners.proofs.mpmc.container.recovery.step_recover.Goals as goal
+
+pub step_telling-requires-clause-owes : goal.step_telling-requires-clause-owes
+step_telling-requires-clause-owes g c =
+    let met = g.met.T.Words in
+    let code : Coding g.row.T.Denot = coding_of g.T.Words.WORDS g.T.Words.words_of g.T.Words.value_of in
+    let law : IsCoding code = record { some = met.some; few = met.few; sized = met.sized; given_back = met.given_back } in
+    let s = c.args.seat.now in
+    let at = c.requires.at in
+    let call = c.args.call in
+    let room = c.args.room.now in
+    let given = c.args.given in
+    let told : View g.row.T.Denot → ℕ → View g.row.T.Denot → Type 0 = Told (λ (z : View g.row.T.Denot). z.capacity) (RecoverAt code given) (RecoverEnds code given)
+    (recover_goes code given) (recover_visiting code given) call (room, at.1) in
+    let more : View g.row.T.Denot → ℕ → View g.row.T.Denot → Type 0 = λ v n w. (w.capacity ≡ v.capacity) × RecoverTells code given call room v n w in
+    subst (λ (xs : List (ℕ × Unit {0})). Owes (IsMachine code kinds.Container (key_of s)) (table_of s).words (table_of s).slots s.seat.id more
+    (recover_want code.size call given) (seen s, xs)) (sym s.bare)
+    (weaker_owes (IsMachine code kinds.Container (key_of s)) (table_of s).words (table_of s).slots s.seat.id told more (recover_want code.size call given) (seen s, [])
+    (λ n w h. recover_tells code law given at.0 (seen s) call room at.1 at.2 n w h)
+    (recover_keeps code law given at.0 (seen s) call (room, at.1) (key_of s) (table_of s).words (table_of s).slots s.seat.id
+    (c.requires.board.0 ∙ ap (λ k. total_words k code.size + 1) (sym c.requires.board.1)) (sym c.requires.board.1) at.2))

@@ -1,0 +1,81 @@
+use Rattle.std.proofs.Common.{◌<◌, ◌^◌, rules, refl, subst, ◌∙◌}
+use Rattle.model.specs.Coding.{Coding, IsCoding, coding_of}
+use Rattle.model.specs.Families.Queues.Calls.{fresh_cell}
+use Rattle.lock_free_sp.specs.Seats.{seen}
+use Rattle.lock_free_owners.proofs.ContainerSet.Finds.{Over, Further, starts, further, may_go}
+use Rattle.lock_free_owners.proofs.mpmc.container.visits.find_all.Goals as goal
+use Rattle.lock_free_owners.proofs.mpmc.container.visits.find_all.Given as given
+
+pub loop-next-init : goal.loop-next-init
+loop-next-init g c =
+    let code : Coding g.row.T.Denot = coding_of g.T.Words.WORDS g.T.Words.words_of g.T.Words.value_of in (
+      (refl, refl, refl),
+      c.requires.board,
+      starts code (λ p x h a q. given.F-step g p x h a q) c.args.capacity c.args.owner c.args.id
+          (seen c.args.seat.now) c.args.visit c.new-call.result fresh_cell
+          c.new-call.ensures refl c.requires.places c.requires.at,
+    )
+
+pub find_next-after-requires-clause-at : goal.find_next-after-requires-clause-at
+find_next-after-requires-clause-at g c = (seen c.args.seat.now, c.loop-next.invariant.2.copies, c.loop-next.invariant.2.at)
+
+pub find_next-after-requires-clause-asks : goal.find_next-after-requires-clause-asks
+find_next-after-requires-clause-asks g c =
+    let met = g.met.T.Words in
+    let code : Coding g.row.T.Denot = coding_of g.T.Words.WORDS g.T.Words.words_of g.T.Words.value_of in
+    let law : IsCoding code = record { some = met.some; few = met.few; sized = met.sized; given_back = met.given_back } in
+    let small : c.args.capacity < 2 ^ 32 = search rules in
+    may_go code (λ p x h a q. given.F-step g p x h a q) c.args.capacity c.args.owner c.args.id (seen c.args.seat.now) c.args.visit law small
+    (seen c.loop-next.seat) c.loop-next.call c.loop-next.room c.loop-next.visit c.loop-next.invariant.2 c.requires.visits
+
+pub loop-next-preserved : goal.loop-next-preserved
+loop-next-preserved g c =
+    let met = g.met.T.Words in
+    let code : Coding g.row.T.Denot = coding_of g.T.Words.WORDS g.T.Words.words_of g.T.Words.value_of in
+    let law : IsCoding code = record { some = met.some; few = met.few; sized = met.sized; given_back = met.given_back } in
+    let small : c.args.capacity < 2 ^ 32 = search rules in
+    let so_far = c.loop-next.invariant in
+    let called = c.find_next-after in (
+      (called.ensures.same.0 ∙ so_far.0.0, called.ensures.same.1 ∙ so_far.0.1, called.ensures.same.2 ∙ so_far.0.2),
+      called.ensures.board,
+      subst (λ a. Further code (λ p x h a q. given.F-step g p x h a q) c.args.capacity c.args.owner c.args.id (seen c.args.seat.now) c.args.visit
+          (seen called.new.seat) a called.new.room called.result.1) c.in-GoOn.is
+          (further code (λ p x h a q. given.F-step g p x h a q) c.args.capacity c.args.owner c.args.id
+          (seen c.args.seat.now) c.args.visit law small
+          (seen c.loop-next.seat) c.loop-next.call c.loop-next.room c.loop-next.visit so_far.2
+          (seen called.new.seat) called.result.0 called.new.room called.result.1 called.ensures.turns called.ensures.moves),
+    )
+
+pub returns-in-Done-clause-left : goal.returns-in-Done-clause-left
+returns-in-Done-clause-left g c =
+    let met = g.met.T.Words in
+    let code : Coding g.row.T.Denot = coding_of g.T.Words.WORDS g.T.Words.words_of g.T.Words.value_of in
+    let law : IsCoding code = record { some = met.some; few = met.few; sized = met.sized; given_back = met.given_back } in
+    let small : c.args.capacity < 2 ^ 32 = search rules in
+    let called = c.find_next-after in
+    let over : Over code (λ p x h a q. given.F-step g p x h a q) c.args.capacity c.args.owner c.args.id (seen c.args.seat.now) c.args.visit
+    (seen called.new.seat) c.in-Done.found called.result.1
+    = subst (λ a. Further code (λ p x h a q. given.F-step g p x h a q) c.args.capacity c.args.owner c.args.id (seen c.args.seat.now) c.args.visit
+    (seen called.new.seat) a called.new.room called.result.1) c.in-Done.is
+    (further code (λ p x h a q. given.F-step g p x h a q) c.args.capacity c.args.owner c.args.id
+    (seen c.args.seat.now) c.args.visit law small
+    (seen c.loop-next.seat) c.loop-next.call c.loop-next.room c.loop-next.visit c.loop-next.invariant.2
+    (seen called.new.seat) called.result.0 called.new.room called.result.1 called.ensures.turns called.ensures.moves) in
+    over.left
+
+pub returns-in-Done-clause-found : goal.returns-in-Done-clause-found
+returns-in-Done-clause-found g c =
+    let met = g.met.T.Words in
+    let code : Coding g.row.T.Denot = coding_of g.T.Words.WORDS g.T.Words.words_of g.T.Words.value_of in
+    let law : IsCoding code = record { some = met.some; few = met.few; sized = met.sized; given_back = met.given_back } in
+    let small : c.args.capacity < 2 ^ 32 = search rules in
+    let called = c.find_next-after in
+    let over : Over code (λ p x h a q. given.F-step g p x h a q) c.args.capacity c.args.owner c.args.id (seen c.args.seat.now) c.args.visit
+    (seen called.new.seat) c.in-Done.found called.result.1
+    = subst (λ a. Further code (λ p x h a q. given.F-step g p x h a q) c.args.capacity c.args.owner c.args.id (seen c.args.seat.now) c.args.visit
+    (seen called.new.seat) a called.new.room called.result.1) c.in-Done.is
+    (further code (λ p x h a q. given.F-step g p x h a q) c.args.capacity c.args.owner c.args.id
+    (seen c.args.seat.now) c.args.visit law small
+    (seen c.loop-next.seat) c.loop-next.call c.loop-next.room c.loop-next.visit c.loop-next.invariant.2
+    (seen called.new.seat) called.result.0 called.new.room called.result.1 called.ensures.turns called.ensures.moves) in
+    (over.visits, over.searched, over.found)

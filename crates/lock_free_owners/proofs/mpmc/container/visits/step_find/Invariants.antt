@@ -1,0 +1,12 @@
+use Rattle.std.proofs.Common.{◌≡◌}
+use Rattle.model.specs.Coding.{coding_of}
+use Rattle.lock_free_owners.specs.Container.FindTurns.{FindTells}
+use Rattle.lock_free_owners.proofs.mpmc.container.visits.step_find.Given as goal
+
+-- it tells what a step of the find does, whatever it has copied
+abbrev pub ghosts-step_telling : goal.ghosts-step_telling
+ghosts-step_telling g a =
+    record {
+      told = λ v n w. (w.capacity ≡ v.capacity)
+          × FindTells (coding_of g.T.Words.WORDS g.T.Words.words_of g.T.Words.value_of) a.given.now a.call a.room.now v n w;
+    }

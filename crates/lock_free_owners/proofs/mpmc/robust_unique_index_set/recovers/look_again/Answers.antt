@@ -1,0 +1,14 @@
+use Rattle.std.proofs.Common.{ℕ, subst}
+use Rattle.steps.specs.declared.indices.robust.recover.RecoverStage.{RecoverStage}
+use Rattle.lock_free_sp.specs.Driver.{Next}
+use Rattle.lock_free_sp.specs.Seats.{seen}
+use Rattle.history.specs.declared.view.View.{View}
+use Rattle.history.specs.Robust.{visits_taken}
+use Rattle.lock_free_owners.specs.Robust.Turns.{RecoverAt, RecoverEnds}
+use Rattle.lock_free_owners.proofs.mpmc.robust_unique_index_set.recovers.look_again.Goals as goal
+
+pub returns-in-LoadsCounterAgain-clause-goes : goal.returns-in-LoadsCounterAgain-clause-goes
+returns-in-LoadsCounterAgain-clause-goes c base visits idle at =
+    let goes = c.step_recover.ensures.goes in
+    subst (λ (stage : RecoverStage). Next (λ (z : View ℕ). z.capacity) (RecoverAt c.args.mode) (RecoverEnds c.args.mode) base c.step_recover.result
+    (visits_taken stage visits goes.0) (seen c.step_recover.new.seat)) c.in-LoadsCounterAgain.is (goes.2 base visits idle at)

@@ -1,0 +1,50 @@
+-- What a find of a container adds to the history, and what it answers.
+use Rattle.std.specs.Prelude.{◌≡◌, ◌⊎◌, ℕ, Some, List, ◌∷◌, ◌++◌, [], map}
+use Rattle.model.specs.declared.event.Answer.{Answer}
+use Rattle.model.specs.declared.event.Answer.TheVariants.{Number}
+use Rattle.model.specs.declared.event.Event.{Event}
+use Rattle.model.specs.declared.event.Event.TheVariants.{Begun, Copied}
+use Rattle.model.specs.declared.event.Start.{Start}
+use Rattle.model.specs.declared.event.Start.TheVariants.{Container}
+use Rattle.model.specs.declared.families.container.ContainerStart.TheVariants.{Find}
+use Rattle.model.specs.declared.turn.Kind.TheVariants as kinds
+use Rattle.model.specs.Coding.{Coding}
+use Rattle.lock_free_sp.specs.Shares.{IsAll}
+use Rattle.history.specs.declared.view.View.{View}
+use Rattle.history.specs.History.{Called}
+use Rattle.history.specs.Known.{events_by}
+use Rattle.history.specs.Settled.{IsResting, SettledFrom}
+use Rattle.lock_free_owners.specs.Container.Callable.{Visit}
+use Rattle.lock_free_owners.specs.Container.Told.{Answered}
+
+-- what a party writes that copies these
+abbrev pub copied : {T : Type 0} → ℕ → List (Visit T) → List (Event T)
+copied p visits = map (λ x. Copied p x.handle.index x.value) visits
+
+module _ {T : Type 0} (code : Coding T) where
+  -- A call that has begun, and written this, rests: it ends with the pass's next step, with this
+  -- answer, before anything else.
+  pub record Rests (p : ℕ) (start : Start T) (answer : Answer T) (wrote : List (Event T))
+      (old new : View T) : Type 0 where
+    pub others : List (Event T)
+    pub during : List (Event T)
+    pub is : new.seen ≡ (old.seen ++ others) ++ Begun p start ∷ during
+    pub alone : IsAll old.share → others ≡ []
+    pub others_own : events_by p others ≡ []
+    pub during_own : events_by p during ≡ wrote
+    pub made : new.made ≡ old.made ++ Begun p start ∷ wrote
+    pub resting : IsResting code new
+    pub party : resting.party ≡ p
+    pub of : resting.start ≡ start
+    pub ends : resting.answer ≡ answer
+
+  -- One call of the history, by a party of the pass. It copied just these values, each once, in turn. It has ended, or an
+  -- answer has ended it, and it rests.
+  pub record HasSearched (owner number : ℕ) (visits : List (Visit T)) (old new : View T) : Type 0 where
+    pub from : View T
+    pub settled : SettledFrom code kinds.Container old from
+    pub by : ℕ
+    pub mine : new.party ≡ Some by
+    pub over : (Called by (Container (Find owner)) (Number number) (copied by visits) from new
+        × Answered code (Find owner) (Number number) old new)
+        ⊎ Rests by (Container (Find owner)) (Number number) (copied by visits) from new

@@ -1,0 +1,39 @@
+-- What is known between two steps of a look of a state. Of a new state, or the one that the pass has, it is a call of the
+-- history; of any other it leaves what the pass knows. It began from this view, with this shown and these numbers seen.
+use Rattle.std.specs.Prelude.{◌≡◌, Bool, true}
+use Rattle.steps.specs.Container.State.{Numbers, Showing}
+use Rattle.steps.specs.declared.container.look.Look.{Look}
+use Rattle.steps.specs.declared.container.look.LookStage as looks
+use Rattle.model.specs.declared.families.container.calls.LookOf.{LookOf}
+use Rattle.model.specs.Coding.{Coding}
+use Rattle.history.specs.declared.view.View.{View}
+use Rattle.history.specs.ContainerLooks.{BeginsWith, RestedLooks, RestedLooked}
+use Rattle.lock_free_owners.specs.Container.Bare.{Still, LookStands}
+
+module _ {T : Type 0} (code : Coding T) (which : LookOf) (from : View T) (shown : Showing T) (seen : Numbers) where
+  -- the history has the state with which it began
+  abbrev pub IsOnHistory : Type 0
+  IsOnHistory = BeginsWith code which from.capacity seen which from shown
+
+  abbrev pub LookAt : View T → Look T → Showing T → Type 0
+  LookAt v c m =
+      (IsOnHistory → RestedLooks code which from.capacity seen from v c m)
+      × ((IsOnHistory → ⊥) → Still (LookStands code.size) from v c m)
+
+  abbrev pub LookOver : Bool → Showing T → View T → Type 0
+  LookOver changed m w =
+      (IsOnHistory → RestedLooked code which from.capacity seen from changed m w)
+      × ((IsOnHistory → ⊥) → w ≡ from)
+
+-- another number of changes than the state has seen was found
+abbrev pub IsPast : looks.LookStage → Type 0
+IsPast looks.TheVariants.LoadsChange = ⊥
+IsPast stage = Unit {0}
+
+-- and from then on
+module _ {T : Type 0} (code : Coding T) (which : LookOf) (from : View T) (shown : Showing T) (seen : Numbers) where
+  abbrev pub LookOnAt : View T → Look T → Showing T → Type 0
+  LookOnAt v c m = LookAt code which from shown seen v c m × IsPast c.stage
+
+  abbrev pub LookOnOver : Bool → Showing T → View T → Type 0
+  LookOnOver changed m w = LookOver code which from shown seen changed m w × (changed ≡ true)

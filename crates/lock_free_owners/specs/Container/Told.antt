@@ -1,0 +1,134 @@
+-- What the calls on containers add to the history, and what they answer.
+use Rattle.std.specs.Prelude.{◌≡◌, ℕ, Bool, true, false, Some, Result, Ok, Err, List, [], ◌∷◌, ◌++◌, slice_index}
+use Rattle.steps.specs.Container.Add.{Added}
+use Rattle.steps.specs.Container.Remove.{Removed}
+use Rattle.steps.specs.Container.Replace.{Replaced}
+use Rattle.steps.specs.Container.State.{shown_number}
+use Rattle.steps.specs.Indices.Robust.Parts.{greatest}
+use Rattle.steps.specs.declared.container.add.Owned.{Owned}
+use Rattle.steps.specs.declared.container.enums.ContainerAddFailure.{ContainerAddFailure}
+use Rattle.steps.specs.declared.container.enums.ContainerAddFailure.TheVariants as failures
+use Rattle.steps.specs.declared.container.handle.ContainerHandle.{ContainerHandle}
+use Rattle.steps.specs.declared.container.replace.Replacement.{Replacement}
+use Rattle.steps.specs.declared.container.state.ContainerState.{ContainerState}
+use Rattle.steps.specs.declared.indices.robust.release.GiveBack.{GiveBack}
+use Rattle.model.specs.declared.event.Answer.{Answer}
+use Rattle.model.specs.declared.event.Answer.TheVariants.{NoPlace, Number, Truth}
+use Rattle.model.specs.declared.event.Event.{Event}
+use Rattle.model.specs.declared.event.Event.TheVariants.{Finished}
+use Rattle.model.specs.declared.event.Start.TheVariants.{Container}
+use Rattle.model.specs.declared.families.container.ContainerStart.{ContainerStart}
+use Rattle.model.specs.declared.families.container.ContainerStart.TheVariants.{Add, Remove, Replace, GetState, UpdateState, Len, IsEmpty, IsLocked}
+use Rattle.model.specs.declared.turn.Kind.TheVariants as kinds
+use Rattle.model.specs.Coding.{Coding}
+use Rattle.model.specs.Families.Container.Calls.{added, removed, replaced}
+use Rattle.model.specs.Families.Indices.Reading.{is_locked}
+use Rattle.model.specs.Families.Indices.Robust.Promises.{SetDoes, IsProper, HoldsRight}
+use Rattle.model.specs.Reading.{Each}
+use Rattle.model.specs.World.{Trace}
+use Rattle.robust_laws.specs.Gone.{Word, IsHonest}
+use Rattle.container_laws.specs.Gone.{AsksBy, RecoversBy, AnswersBy}
+use Rattle.history.specs.declared.view.View.{View}
+use Rattle.history.specs.Container as container
+use Rattle.history.specs.ContainerFind.{HasCopied}
+use Rattle.history.specs.ContainerLooks.{HasLookedAll}
+use Rattle.history.specs.History.{Called, IsBeginning, IsRun}
+use Rattle.history.specs.Passes as passes
+use Rattle.history.specs.Settled.{SettledFrom}
+
+module _ {T : Type 0} where
+  -- a container with this history may have its counter at its end
+  pub record IsWorn (code : Coding T) (capacity : ℕ) (events : List (Event T)) : Type 0 where
+    pub trace : Trace T
+    pub run : IsRun code kinds.Container capacity trace
+    pub is : events ≡ trace.events
+    pub worn : slice_index trace.world.words 0 ≡ greatest
+
+  -- what each event of a container's history does to its set of indices, what a recovery asks and frees, and what each
+  -- answer says; and where nobody acts for an owner who is gone nor gives back what is not his, no index is granted that
+  -- somebody holds
+  pub record IsSound (code : Coding T) (capacity : ℕ) (events : List (Event T)) : Type 0 where
+    pub does : Each (SetDoes capacity) events
+    pub asks : Each (AsksBy Word) events
+    pub recovers : Each (RecoversBy Word) events
+    pub answers : Each (AnswersBy Word (IsWorn code capacity events) capacity) events
+    pub holds : IsProper events → IsHonest events → Each HoldsRight events
+
+-- the index at which an add that succeeded has placed its value
+abbrev pub placed : Result ContainerHandle ContainerAddFailure → Added
+placed (Ok handle) = Ok handle.index
+placed (Err failure) = Err failure
+
+module _ {T : Type 0} (code : Coding T) where
+  -- one call of the history, by a party of the pass, and what it wrote; where the last call of the pass rested, that had
+  -- ended first
+  pub record HasMade (start : ContainerStart T) (answer : Answer T)
+      (Wrote : ℕ → List (Event T) → Type 0) (old new : View T) : Type 0 where
+    pub from : View T
+    pub settled : SettledFrom code kinds.Container old from
+    pub by : ℕ
+    pub mine : new.party ≡ Some by
+    pub wrote : List (Event T)
+    pub tells : Wrote by wrote
+    pub called : Called by (Container start) answer wrote from new
+
+  -- an add fills an index, is granted it, and places the value there, or was granted none
+  abbrev pub HasAdded : Owned T → Added → View T → View T → Type 0
+  HasAdded given answer old =
+      HasMade (Add given.value given.owner) (added answer)
+      (λ by es. container.HasAdded old.capacity by given answer es) old
+
+  -- a remove frees the index, may lock the set, and hides what stood there
+  abbrev pub HasRemoved : GiveBack → Removed → View T → View T → Type 0
+  HasRemoved given answer =
+      HasMade (Remove given.index given.owner given.mode) (removed answer)
+      (λ by es. container.HasRemoved by given answer es)
+
+  -- a replace hides what stood there, and places the value
+  abbrev pub HasReplaced : Replacement T → Replaced → View T → View T → Type 0
+  HasReplaced given answer =
+      HasMade (Replace given.index given.value given.owner) (replaced answer)
+      (λ by es. container.HasReplaced by given answer es)
+
+  abbrev pub HasCounted : ℕ → View T → View T → Type 0
+  HasCounted number = HasMade Len (Number number) (λ by es. es ≡ [])
+
+  abbrev pub HasTested : Bool → View T → View T → Type 0
+  HasTested empty = HasMade IsEmpty (Truth empty) (λ by es. es ≡ [])
+
+  abbrev pub HasLooked : Bool → View T → View T → Type 0
+  HasLooked locked = HasMade IsLocked (Truth locked) (λ by es. es ≡ [])
+
+  -- the state was got, which shows so many values; it copies at most one at each index, ascending
+  abbrev pub HasGotState : ContainerState T → View T → View T → Type 0
+  HasGotState state old =
+      HasMade GetState (Number (shown_number state.shown.elements))
+      (λ by es. HasCopied by 0 old.capacity es) old
+
+  -- the state was brought up to date, which copies so too where changes are told, and else nothing
+  abbrev pub HasUpdatedState : Bool → View T → View T → Type 0
+  HasUpdatedState changed old =
+      HasMade UpdateState (Truth changed) (λ by es. HasLookedAll old.capacity by changed es) old
+
+  -- The last that was seen is the end of the call, and the answer said this of the container at its last step, and at
+  -- moments of the call: an add fails by OutOfSpace only where each index had an owner at a moment of it, and so on.
+  pub record Answered (start : ContainerStart T) (answer : Answer T) (old new : View T) : Type 0 where
+    pub by : ℕ
+    pub before : List (Event T)
+    pub is : new.seen ≡ before ++ Finished by (Container start) answer ∷ []
+    pub since : IsBeginning old.seen before
+    pub right : AnswersBy Word (IsWorn code old.capacity new.seen) old.capacity before
+        (Finished by (Container start) answer)
+
+  -- an add that placed nothing: the lock had not been seen, or is seen now
+  pub record WasNotAdded (value : T) (owner : ℕ) (failure : ContainerAddFailure) (old new : View T)
+      : Type 0 where
+    pub answered : Answered (Add value owner) (NoPlace failure) old new
+    pub unlocked : failure ≡ failures.OutOfSpace → is_locked old.seen ≡ false
+    pub locked : failure ≡ failures.IsLocked → is_locked new.seen ≡ true
+
+  -- the other's last call has ended where it rested, and then both are one
+  pub record HasJoined (mine theirs new : View T) : Type 0 where
+    pub from : View T
+    pub settled : SettledFrom code kinds.Container theirs from
+    pub joined : passes.HasJoined mine from new

@@ -1,0 +1,179 @@
+//! What the calls and the looks say of the views at their steps. These types are for the proofs alone.
+ghost use Rattle.std.specs.Prelude.{◌≡◌, []};
+ghost use Rattle.model.specs.Coding.{coding_of};
+ghost use Rattle.model.specs.declared.turn.Kind.TheVariants as kinds;
+
+use atomic_table::Play;
+use history::view::View;
+use lock_free_sp::driver::rule::Drives;
+use std::marker::{Brand, PhantomData};
+use steps::container::add::{Add, AddStage};
+use steps::container::look::Look;
+use steps::container::remove::Remove;
+use steps::container::replace::Replace;
+use steps::indices::robust::acquire::AcquireStage;
+use steps::indices::robust::looks::{BorrowedIndices, IsLocked};
+use steps::words::Words;
+
+/// Adding a value.
+pub struct Adds;
+
+impl<T: Words> Drives<View<T>, Add<T>> for Adds {
+    ghost use Rattle.lock_free_owners.specs.Container.Turns.{AddAt, AddEnds};
+
+    ghost at = { AddAt (coding_of T.WORDS T.words_of T.value_of) };
+
+    ghost ends = { AddEnds (coding_of T.WORDS T.words_of T.value_of) };
+
+    #[inline(always)]
+    fn repeats(call: Add<T>) -> bool {
+        matches!(
+            call.stage,
+            AddStage::Acquires {
+                stage: AcquireStage::FillsCell { .. },
+            }
+        )
+    }
+}
+
+/// Removing a value.
+pub struct Removes;
+
+impl<T: Words> Drives<View<T>, Remove> for Removes {
+    ghost use Rattle.lock_free_owners.specs.Container.Turns.{RemoveAt, RemoveEnds};
+
+    ghost at = { RemoveAt (coding_of T.WORDS T.words_of T.value_of) };
+
+    ghost ends = { RemoveEnds (coding_of T.WORDS T.words_of T.value_of) };
+}
+
+/// Replacing a value.
+pub struct Replaces;
+
+impl<T: Words> Drives<View<T>, Replace<T>> for Replaces {
+    ghost use Rattle.lock_free_owners.specs.Container.Turns.{ReplaceAt, ReplaceEnds};
+
+    ghost at = { ReplaceAt (coding_of T.WORDS T.words_of T.value_of) };
+
+    ghost ends = { ReplaceEnds (coding_of T.WORDS T.words_of T.value_of) };
+}
+
+/// What a count is for.
+pub trait Counting {
+    ghost use Rattle.model.specs.declared.families.container.calls.CountOf.{CountOf};
+
+    ghost which: { CountOf };
+}
+
+/// How many there are.
+pub struct HowMany;
+
+impl Counting for HowMany {
+    ghost use Rattle.model.specs.declared.families.container.calls.CountOf.TheVariants.{Len};
+
+    ghost which = { Len };
+}
+
+/// Whether there are none.
+pub struct WhetherNone;
+
+impl Counting for WhetherNone {
+    ghost use Rattle.model.specs.declared.families.container.calls.CountOf.TheVariants.{IsEmpty};
+
+    ghost which = { IsEmpty };
+}
+
+/// Counting the indices that have an owner.
+pub struct Counts<W> {
+    of: PhantomData<W>,
+}
+
+impl<T: Words, W: Counting> Drives<View<T>, BorrowedIndices> for Counts<W> {
+    ghost use Rattle.lock_free_owners.specs.Container.Turns.{CountAt, CountEnds};
+
+    ghost at = { λ given. CountAt (coding_of T.WORDS T.words_of T.value_of) W.which };
+
+    ghost ends = { λ given. CountEnds (coding_of T.WORDS T.words_of T.value_of) W.which };
+}
+
+/// Looking at the lock.
+pub struct LooksLocked;
+
+impl<T: Words> Drives<View<T>, IsLocked> for LooksLocked {
+    ghost use Rattle.lock_free_owners.specs.Container.Turns.{LockAt, LockEnds};
+
+    ghost at = { λ given. LockAt (coding_of T.WORDS T.words_of T.value_of) };
+
+    ghost ends = { λ given. LockEnds (coding_of T.WORDS T.words_of T.value_of) };
+}
+
+/// As which call a look begins, from which view, and with what its state shows. Its caller picks it.
+pub trait Beginning<T> {
+    ghost use Rattle.model.specs.declared.families.container.calls.LookOf.{LookOf};
+    ghost use Rattle.steps.specs.Container.State.{Showing};
+    ghost use Rattle.history.specs.declared.view.View.{View};
+
+    ghost which: { LookOf };
+
+    ghost from: { View T };
+
+    ghost shown: { Showing T };
+}
+
+impl<T> Beginning<T> for Brand {
+    ghost use Rattle.model.specs.declared.families.container.calls.LookOf.TheVariants.{GetState};
+    ghost use Rattle.history.specs.Views.{spent_view};
+
+    ghost which = { GetState };
+
+    ghost from = { spent_view };
+
+    ghost shown = { record { change = 0; elements = []; copy = [] } };
+}
+
+/// Bringing a state up to date. Of a new one, or the one that the pass has, it is a call of the history. Any other is its
+/// user's alone, and then it leaves what is known.
+pub struct Looks<B> {
+    of: PhantomData<B>,
+}
+
+impl<T: Words, B: Beginning<T>> Drives<View<T>, Look<T>> for Looks<B> {
+    ghost use Rattle.lock_free_owners.specs.Container.LookTurns.{LookAt, LookOver};
+
+    ghost at = { λ given base. LookAt (coding_of T.WORDS T.words_of T.value_of) B.which B.from B.shown given };
+
+    ghost ends = { λ given base. LookOver (coding_of T.WORDS T.words_of T.value_of) B.which B.from B.shown given };
+}
+
+/// The same, once a change was found.
+pub struct LooksOn<B> {
+    of: PhantomData<B>,
+}
+
+impl<T: Words, B: Beginning<T>> Drives<View<T>, Look<T>> for LooksOn<B> {
+    ghost use Rattle.lock_free_owners.specs.Container.LookTurns.{LookOnAt, LookOnOver};
+
+    ghost at = { λ given base. LookOnAt (coding_of T.WORDS T.words_of T.value_of) B.which B.from B.shown given };
+
+    ghost ends = { λ given base. LookOnOver (coding_of T.WORDS T.words_of T.value_of) B.which B.from B.shown given };
+}
+
+/// The end of a call that rests, or a load that leaves what is known.
+pub struct Settle;
+
+impl<T: Words> Play<(), View<T>> for Settle {
+    ghost use Rattle.history.specs.Settled.{SettledFrom};
+
+    ghost then = { λ step old found new.
+        SettledFrom (coding_of T.WORDS T.words_of T.value_of) kinds.Container old.0 new.0 × (new.1 ≡ []) };
+}
+
+/// A look at the whole history.
+pub struct Glance;
+
+impl<T: Words> Play<(), View<T>> for Glance {
+    ghost use Rattle.history.specs.Views.{Looks};
+
+    ghost then = { λ step old found new.
+        Looks (coding_of T.WORDS T.words_of T.value_of) kinds.Container old.0.capacity old.0 new.0 × (new.1 ≡ []) };
+}

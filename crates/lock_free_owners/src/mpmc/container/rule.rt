@@ -1,0 +1,40 @@
+//! The rule of a container's table: it is a machine of its kind, and one word more.
+ghost use Rattle.model.specs.Coding.{coding_of};
+ghost use Rattle.model.specs.declared.turn.Kind.TheVariants as kinds;
+
+use atomic_table::{Table, TableRule};
+use history::view::View;
+use lock_free_sp::driver::rule::Rule;
+use lock_free_sp::driver::seated::Seated;
+use std::alloc::Global;
+use std::marker::PhantomData;
+use steps::words::Words;
+
+/// The rule, for the capacity that is the key.
+pub struct ContainerRule<T> {
+    of: PhantomData<T>,
+}
+
+impl<T: Words> TableRule<(), View<T>, u64> for ContainerRule<T> {
+    ghost use Rattle.history.specs.History.{IsMachine};
+    ghost use Rattle.history.specs.Views.{first_view};
+
+    ghost holds = { λ capacity. IsMachine (coding_of T.WORDS T.words_of T.value_of) kinds.Container capacity };
+
+    ghost first = { first_view };
+}
+
+impl<T: Words> Rule<View<T>, u64> for ContainerRule<T> {
+    ghost use Rattle.std.specs.Prelude.{◌+◌};
+    ghost use Rattle.steps.specs.Container.Layout.{total_words};
+
+    ghost size = { λ capacity. total_words capacity T.WORDS + 1 };
+
+    ghost capacity = { λ capacity. capacity };
+
+    ghost capacity_seen = { λ v. v.capacity };
+}
+
+pub type Board<T> = Table<(), View<T>, u64, ContainerRule<T>, Global>;
+
+pub type Seat<T> = Seated<View<T>, u64, ContainerRule<T>>;

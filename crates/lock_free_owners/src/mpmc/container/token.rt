@@ -1,0 +1,28 @@
+//! A seat at a container's table.
+ghost use Rattle.std.specs.Prelude.{◌≡◌, ◌<◌, ◌+◌, []};
+ghost use Rattle.std.specs.Arc.{arc_value};
+ghost use Rattle.steps.specs.Container.Layout.{total_words};
+ghost use Rattle.lock_free_owners.specs.Container.Idle.{IsIdle};
+
+use super::rule::ContainerRule;
+use atomic_table::TableRule;
+use history::view::View;
+use lock_free_sp::driver::seated::Seated;
+use steps::words::Words;
+
+/// What a caller steps with: a seat with no call under way, but for a find that an answer has ended, which rests at its
+/// question. Its rule is a parameter: only so can its size be told by `T::WORDS`.
+#[derive(Drop)]
+pub struct Held<T: Words, Q: TableRule<(), View<T>, u64>> {
+    pub seated: Seated<View<T>, u64, Q>,
+    pub capacity: u32,
+    ghost sized: { seated.seat.table_id.words ≡ total_words capacity T.WORDS + 1 },
+    ghost keyed: { (arc_value seated.table).shared.key ≡ capacity },
+    ghost known: { seated.seat.me.0.capacity ≡ capacity },
+    ghost places: { 0 < capacity },
+    ghost idle: { IsIdle seated.seat.me.0 },
+    ghost alone: { seated.seat.me.0.other ≡ [] },
+    ghost some: { (0 < seated.seat.me.0.share.part) × (0 < seated.seat.me.0.share.parts) },
+}
+
+pub type Token<T> = Held<T, ContainerRule<T>>;
