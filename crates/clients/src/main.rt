@@ -1,9 +1,10 @@
-//! Programs of users over `lock_free`: each module here is one, which stands by itself, with its proofs in the folder of
+//! Programs of users over `lock_free`, and one over `uses_bus`: each module here is one, which stands by itself, with its proofs in the folder of
 //! its name and the files of `specs/` and `proofs/` that it and they import. Its name as the argument runs it alone; with
 //! none all run in turn.
 #![tactic(auto)]
 
 mod bells;
+mod bus;
 mod closing;
 mod leases;
 mod loans;
@@ -21,7 +22,7 @@ use std::thread::Threads;
 use std::{env, io};
 
 /// In the order in which all run.
-const NAMES: [&str; 10] = [
+const NAMES: [&str; 11] = [
     "relay",
     "relay_overflow",
     "relay_readings",
@@ -32,6 +33,7 @@ const NAMES: [&str; 10] = [
     "loans",
     "registry",
     "closing",
+    "bus",
 ];
 
 /// Runs the program of this name: whether there is one.
@@ -47,6 +49,7 @@ fn run<R: Threads + Wait + Print + Sync>(rt: &R, alloc: Global, name: &str) -> i
         "loans" => loans::report(rt, alloc)?,
         "registry" => registry::report(rt, alloc)?,
         "closing" => closing::report(rt, alloc)?,
+        "bus" => bus::report(rt, alloc)?,
         _ => return Ok(false),
     }
     Ok(true)

@@ -1,9 +1,12 @@
 //! Participants of a system, each with its records in one registry. The first keeps a state of it up to date while they
-//! join, one is taken out after its death, and the last to leave closes the registry. Proved: who has seen it closed gets
-//! nobody in.
+//! join, one is taken out after its death, and the last to leave closes the registry. Proved: who joins has placed a whole
+//! record for each port; what the first one's state shows when all have joined, its pass has copied from the registry; and
+//! who has seen it closed gets nobody in.
 
-ghost use Rattle.std.specs.Prelude.{◌≡◌, true, false, IfSome};
-ghost use Rattle.lock_free.specs.Container.Names.{container_of, IsPassOf, IsStateOf};
+ghost use Rattle.std.specs.Prelude.{◌≡◌, true, false, [], ◌∷◌, length, IfSome};
+ghost use Rattle.lock_free.specs.Container.Names.{view, code_of, container_of, IsPassOf, IsHandleFor, IsStateOf};
+ghost use Rattle.lock_free.specs.HistoryLooks.{ShowsCopied};
+ghost use Rattle.clients.specs.Registry.{Places};
 
 use lock_free::mpmc::container::{Container, ContainerHandle, ContainerState, OwnerId, Pass};
 use lock_free::mpmc::unique_index_set_enums::{ReleaseMode, ReleaseState};
@@ -30,7 +33,10 @@ fn join(
     ports: &[u64],
 ) -> Option<(Pass<Record>, Option<ContainerHandle>)>
     requires { IsPassOf registry.now pass }
-    ensures { IfSome result (λ j. container_of j.0 ≡ container_of pass) }
+    ensures container { IfSome result (λ j. container_of j.0 ≡ container_of pass) }
+    ensures handle { IfSome result (λ j. IfSome j.1 (IsHandleFor registry.now number)) }
+    ensures joined { IfSome result (λ j. Places (code_of pass) number ports.now (length ports.now)
+        (view pass) (view j.0)) }
 {
     let owner = OwnerId::new(number).ok()?;
     let mut handle = None;
@@ -57,6 +63,7 @@ fn watch(
     requires { IsPassOf registry.now pass }
     ensures container { IfSome result (λ w. container_of w.0 ≡ container_of pass) }
     ensures state { IfSome result (λ w. IsStateOf registry.now w.2) }
+    ensures shows { IfSome result (λ w. ShowsCopied w.2.shown (view w.0)) }
 {
     let (mut pass, handle) = join(rt, registry, pass, 1, &[7001])?;
     let mut state = registry.get_state(rt, &mut pass).ok()?;

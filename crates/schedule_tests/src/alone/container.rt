@@ -1,5 +1,5 @@
 //! The container: handles, errors and states alone, and values of one word and of 128.
-use crate::drive::ends;
+use crate::alone::drive::ends;
 use calls::long_values::Greatest;
 use std::test::Fail;
 use steps::ask::{After, Want};

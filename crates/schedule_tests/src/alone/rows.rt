@@ -1,6 +1,6 @@
 //! Rows of calls on one list of words, each with what it must answer and the steps that it must take.
-use crate::drive::{bare, ends};
-use crate::driven::{load, pop, push, store};
+use crate::alone::drive::{bare, ends};
+use crate::alone::driven::{load, pop, push, store};
 use std::process::Abort;
 use steps::queues::lengths::Len;
 use steps::words::Words;

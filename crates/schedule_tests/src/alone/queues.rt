@@ -1,7 +1,7 @@
 //! Bounded queues of values of one word, of a pair, of three words and of 128.
-use crate::drive::{ends, with};
-use crate::driven::{overflow_pop, overflow_push, pop, pop_one};
-use crate::rows::{Row, fills_and_empties, play};
+use crate::alone::drive::{ends, with};
+use crate::alone::driven::{overflow_pop, overflow_push, pop, pop_one};
+use crate::alone::rows::{Row, fills_and_empties, play};
 use calls::long_values::{Greatest, Three};
 use steps::ask::{Call, Want};
 

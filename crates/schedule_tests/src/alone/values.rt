@@ -1,7 +1,7 @@
 //! The single value, step by step.
-use crate::drive::{ends, partly, with};
-use crate::driven::{load, load_one, store};
-use crate::rows::{Row, play};
+use crate::alone::drive::{ends, partly, with};
+use crate::alone::driven::{load, load_one, store};
+use crate::alone::rows::{Row, play};
 use calls::long_values::{Greatest, Three};
 use std::process::Abort;
 use steps::atomic::LoadStage;

@@ -1,0 +1,251 @@
+//! A bus with places for two, and the steps of a row, each with what it has to come to.
+use lock_free::mpmc::container::OwnerId;
+use std::alloc::Global;
+use std::sync::Wait;
+use uses_bus::bus::{Bus, Sizes};
+use uses_bus::error::BusError;
+use uses_bus::publisher::{Loan, Publisher};
+use uses_bus::subscriber::{Sample, Seat, Subscriber};
+
+/// Who takes part.
+#[derive(Clone, Copy)]
+pub enum Who {
+    One,
+    Other,
+}
+
+/// A step, and what has to come of it.
+#[derive(Clone, Copy)]
+pub enum Step {
+    /// One gets a seat, and joins as the owner of this number.
+    Joins(Who, u64),
+    /// Whether a seat is free, which is given back at once.
+    HasSeat(bool),
+    /// A record of this number goes to so many.
+    Publishes(u64, usize),
+    /// Whether there is a slot to loan, of which nothing comes.
+    Loans(bool),
+    /// The first loan that was kept is given up.
+    GivesUp,
+    /// One reads the record of this number, and gives it back.
+    Reads(Who, u64),
+    /// Nothing waits for one.
+    FindsNone(Who),
+    /// One receives a record, and keeps it.
+    Keeps(Who),
+    Leaves(Who),
+    Dies(Who),
+    Recovers(u64),
+    Collects,
+    Updates,
+    /// So many slots are out.
+    Out(usize),
+}
+
+pub const SIZES: Sizes = Sizes {
+    slots: 8,
+    words: 4,
+    subscribers: 2,
+    queue: 2,
+};
+
+/// Those who take part, and a loan that is kept.
+#[derive(Drop)]
+pub struct Room<'a> {
+    publisher: Publisher<'a>,
+    one: Option<Subscriber<'a>>,
+    other: Option<Subscriber<'a>>,
+    loan: Option<Loan>,
+}
+
+/// The seat that one takes as this owner.
+fn sits<'a>(rt: &impl Wait, seat: Seat<'a>, number: u64) -> Option<Subscriber<'a>> {
+    let owner = OwnerId::new(number).ok()?;
+    seat.join(rt, owner).ok()
+}
+
+/// Writes a record of this number in a slot on loan: whether it has a place for each word.
+fn writes(publisher: &Publisher<'_>, loan: &Loan, number: u64) -> bool {
+    for at in 0..SIZES.words {
+        if !publisher.write(loan, at, number.wrapping_add(at as u64)) {
+            return false;
+        }
+    }
+    true
+}
+
+/// Publishes a record of this number: to how many.
+fn publishes(rt: &impl Wait, publisher: &mut Publisher<'_>, number: u64) -> Option<usize> {
+    let loan = publisher.loan(rt).ok()?;
+    if !writes(publisher, &loan, number) {
+        return None;
+    }
+    Some(publisher.publish(loan))
+}
+
+/// Whether a record is of this number, and has no more words.
+fn is_of(subscriber: &Subscriber<'_>, sample: &Sample, number: u64) -> bool {
+    for at in 0..SIZES.words {
+        if subscriber.read(sample, at) != Some(number.wrapping_add(at as u64)) {
+            return false;
+        }
+    }
+    subscriber.read(sample, SIZES.words).is_none()
+}
+
+/// Whether the oldest record that waits is of this number. It is given back.
+fn reads(rt: &impl Wait, subscriber: &mut Subscriber<'_>, number: u64) -> bool {
+    let Some(sample) = subscriber.receive(rt) else {
+        return false;
+    };
+    is_of(subscriber, &sample, number) && subscriber.give_back(sample)
+}
+
+impl<'a> Room<'a> {
+    fn subscriber(&mut self, who: Who) -> &mut Option<Subscriber<'a>> {
+        match who {
+            Who::One => &mut self.one,
+            Who::Other => &mut self.other,
+        }
+    }
+
+    fn joins(&mut self, rt: &impl Wait, who: Who, number: u64) -> bool {
+        let Some(seat) = self.publisher.seat() else {
+            return false;
+        };
+        let subscriber = sits(rt, seat, number);
+        let has_joined = subscriber.is_some();
+        *self.subscriber(who) = subscriber;
+        self.publisher.update(rt);
+        has_joined
+    }
+
+    /// Whether there is a slot, of which a loan is kept where none was.
+    fn loans(&mut self, rt: &impl Wait) -> bool {
+        match self.publisher.loan(rt) {
+            Ok(loan) => {
+                if self.loan.is_none() {
+                    self.loan = Some(loan);
+                }
+                true
+            }
+            Err(_) => false,
+        }
+    }
+
+    fn gives_up(&mut self) -> bool {
+        match self.loan.take() {
+            Some(loan) => {
+                self.publisher.give_up(loan);
+                true
+            }
+            None => false,
+        }
+    }
+
+    fn reads(&mut self, rt: &impl Wait, who: Who, number: u64) -> bool {
+        match self.subscriber(who) {
+            Some(subscriber) => reads(rt, subscriber, number),
+            None => false,
+        }
+    }
+
+    /// Whether a record waits, which is received and kept.
+    fn keeps(&mut self, rt: &impl Wait, who: Who) -> bool {
+        match self.subscriber(who) {
+            Some(subscriber) => subscriber.receive(rt).is_some(),
+            None => false,
+        }
+    }
+
+    fn leaves(&mut self, rt: &impl Wait, who: Who) -> bool {
+        match self.subscriber(who).take() {
+            Some(subscriber) => subscriber.leave(rt).is_ok(),
+            None => false,
+        }
+    }
+
+    fn recovers(&mut self, rt: &impl Wait, number: u64) -> bool {
+        match OwnerId::new(number) {
+            Ok(dead) => {
+                self.publisher.recover(rt, dead);
+                true
+            }
+            Err(_) => false,
+        }
+    }
+
+    /// Does a step of those who take part: whether it comes to what it has to.
+    fn does_of(&mut self, rt: &impl Wait, step: Step) -> bool {
+        match step {
+            Step::Joins(who, number) => self.joins(rt, who, number),
+            Step::Reads(who, number) => self.reads(rt, who, number),
+            Step::FindsNone(who) => !self.keeps(rt, who),
+            Step::Keeps(who) => self.keeps(rt, who),
+            Step::Leaves(who) => self.leaves(rt, who),
+            Step::Dies(who) => self.subscriber(who).take().is_some(),
+            _ => false,
+        }
+    }
+
+    /// Does a step: whether it comes to what it has to.
+    fn does(&mut self, rt: &impl Wait, step: Step) -> bool {
+        match step {
+            Step::HasSeat(free) => self.publisher.seat().is_some() == free,
+            Step::Publishes(number, reached) => publishes(rt, &mut self.publisher, number)
+                == Some(reached),
+            Step::Loans(some) => self.loans(rt) == some,
+            Step::GivesUp => self.gives_up(),
+            Step::Recovers(number) => self.recovers(rt, number),
+            Step::Collects => {
+                self.publisher.collect();
+                true
+            }
+            Step::Updates => {
+                self.publisher.update(rt);
+                true
+            }
+            Step::Out(number) => self.publisher.borrowed() == number,
+            _ => self.does_of(rt, step),
+        }
+    }
+}
+
+/// Does the steps, so often: the first that does not come to what it has to.
+fn first_wrong_in(
+    rt: &impl Wait,
+    room: &mut Room<'_>,
+    steps: &[Step],
+    rounds: usize,
+) -> Option<usize> {
+    for _ in 0..rounds {
+        for at in 0..steps.len() {
+            if !room.does(rt, steps[at]) {
+                return Some(at);
+            }
+        }
+    }
+    None
+}
+
+/// The same on a new bus, where the first steps are done once before.
+pub fn first_wrong(
+    rt: &impl Wait,
+    alloc: Global,
+    begin: &[Step],
+    steps: &[Step],
+    rounds: usize,
+) -> Result<Option<usize>, BusError> {
+    let (mut bus, pass) = Bus::new(alloc, SIZES)?;
+    let publisher = bus.publisher(rt, alloc, pass)?;
+    let mut room = Room {
+        publisher,
+        one: None,
+        other: None,
+        loan: None,
+    };
+    if first_wrong_in(rt, &mut room, begin, 1).is_some() {
+        return Ok(Some(usize::MAX));
+    }
+    Ok(first_wrong_in(rt, &mut room, steps, rounds))
+}

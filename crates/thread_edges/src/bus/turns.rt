@@ -1,0 +1,214 @@
+//! Turns in one thread.
+use crate::bus::rooms::Step::{
+    Collects, Dies, FindsNone, GivesUp, HasSeat, Joins, Keeps, Leaves, Loans, Out, Publishes,
+    Reads, Recovers, Updates,
+};
+use crate::bus::rooms::Who::{One, Other};
+use crate::bus::rooms::{SIZES, Step, first_wrong};
+use std::sync::Wait;
+use std::test::Fail;
+use uses_bus::bus::{Bus, Sizes};
+use uses_bus::news::{Listener, News, Notifier};
+
+/// Both get each record, in order; and none comes back before both have given it back.
+const BOTH: [Step; 9] = [
+    Publishes(7, 2),
+    Out(1),
+    Reads(One, 7),
+    Collects,
+    Out(1),
+    Reads(Other, 7),
+    Collects,
+    Out(0),
+    FindsNone(One),
+];
+
+/// Two wait for one who is slow, and what was sent before came back.
+const SLOW: [Step; 11] = [
+    Publishes(0, 1),
+    Publishes(1, 1),
+    Publishes(2, 1),
+    Publishes(3, 1),
+    Publishes(4, 1),
+    Out(2),
+    Reads(One, 3),
+    Reads(One, 4),
+    FindsNone(One),
+    Collects,
+    Out(0),
+];
+
+/// No slot is left for a ninth loan, until one is given up.
+const LOANS: [Step; 12] = [
+    Loans(true),
+    Loans(true),
+    Loans(true),
+    Loans(true),
+    Loans(true),
+    Loans(true),
+    Loans(true),
+    Loans(true),
+    Loans(false),
+    GivesUp,
+    Out(7),
+    Loans(true),
+];
+
+/// What those who left had in hand, had given back, and what waited for them comes back.
+const LEFT: [Step; 14] = [
+    Publishes(0, 2),
+    Publishes(1, 2),
+    Publishes(2, 2),
+    Keeps(One),
+    Reads(One, 2),
+    Leaves(One),
+    Leaves(Other),
+    Updates,
+    Out(0),
+    Publishes(3, 0),
+    Out(0),
+    Joins(One, 3),
+    Publishes(4, 1),
+    Reads(One, 4),
+];
+
+/// What one who died had comes back once he is recovered, and not before; nor is his place free.
+const DEAD: [Step; 16] = [
+    Publishes(0, 2),
+    Keeps(Other),
+    Publishes(1, 2),
+    Dies(Other),
+    Reads(One, 0),
+    Reads(One, 1),
+    Collects,
+    Updates,
+    Out(2),
+    HasSeat(false),
+    Recovers(2),
+    Out(0),
+    Joins(Other, 3),
+    Publishes(2, 2),
+    Reads(Other, 2),
+    Reads(One, 2),
+];
+
+/// What one who died had given back, and nobody had taken back, takes nothing from the one who follows him: of three more
+/// records the last lies in the slot of the first, which the others have pushed out.
+const GIVEN: [Step; 17] = [
+    Publishes(0, 2),
+    Reads(Other, 0),
+    Dies(Other),
+    Recovers(2),
+    Joins(Other, 3),
+    Publishes(1, 2),
+    Publishes(2, 2),
+    Publishes(3, 2),
+    Collects,
+    Reads(One, 2),
+    Reads(One, 3),
+    Collects,
+    Out(2),
+    Reads(Other, 2),
+    Reads(Other, 3),
+    Collects,
+    Out(0),
+];
+
+/// A seat that nobody took is free again once the publisher has looked.
+const SEATS: [Step; 6] = [
+    HasSeat(true),
+    HasSeat(true),
+    HasSeat(false),
+    Updates,
+    HasSeat(true),
+    HasSeat(true),
+];
+
+const JOIN: [Step; 3] = [Joins(One, 1), Joins(Other, 2), HasSeat(false)];
+
+const JOIN_ONE: [Step; 1] = [Joins(One, 1)];
+
+#[test]
+fn rows(rt: HostRuntime) -> Result<(), Fail> {
+    let rows: [(&str, &[Step], &[Step], usize); 7] = [
+        ("BOTH", &JOIN, &BOTH, 100),
+        ("SLOW", &JOIN_ONE, &SLOW, 3),
+        ("LOANS", &[], &LOANS, 1),
+        ("LEFT", &JOIN, &LEFT, 1),
+        ("DEAD", &JOIN, &DEAD, 1),
+        ("GIVEN", &JOIN, &GIVEN, 1),
+        ("SEATS", &[], &SEATS, 1),
+    ];
+    for (name, begin, steps, rounds) in &rows {
+        let wrong = first_wrong(&rt, rt.alloc(), begin, steps, *rounds)?;
+        assert_eq!(rt; wrong, None, "{name}");
+    }
+    Ok(())
+}
+
+const REFUSED: [Sizes; 6] = [
+    Sizes { slots: 0, ..SIZES },
+    Sizes {
+        slots: 1 << 24,
+        ..SIZES
+    },
+    Sizes {
+        subscribers: 0,
+        ..SIZES
+    },
+    Sizes {
+        subscribers: 64,
+        ..SIZES
+    },
+    Sizes {
+        queue: 1 << 32,
+        ..SIZES
+    },
+    Sizes {
+        words: usize::MAX,
+        ..SIZES
+    },
+];
+
+#[test]
+fn a_bus_has_sizes(rt: HostRuntime) -> Result<(), Fail> {
+    for sizes in &REFUSED {
+        assert!(rt; Bus::new(rt.alloc(), *sizes).is_err());
+    }
+    let least = Sizes {
+        words: 0,
+        queue: 0,
+        ..SIZES
+    };
+    Bus::new(rt.alloc(), least)?;
+    Ok(())
+}
+
+fn tells(rt: &impl Wait, notifier: &mut Notifier<'_>) -> bool {
+    notifier.notify(rt, 69)
+        && notifier.notify(rt, 3)
+        && notifier.notify(rt, 3)
+        && !notifier.notify(rt, 70)
+}
+
+fn hears(rt: &impl Wait, listener: &mut Listener<'_>) -> [Option<usize>; 3] {
+    [listener.next(rt), listener.next(rt), listener.next(rt)]
+}
+
+/// What is heard before anything was told, and then. None where there is no pass.
+fn heard(rt: &impl Wait, news: &mut News) -> Option<(Option<usize>, [Option<usize>; 3])> {
+    let (mut notifier, mut listener) = news.ends()?;
+    let before = listener.next(rt);
+    if !tells(rt, &mut notifier) {
+        return None;
+    }
+    Some((before, hears(rt, &mut listener)))
+}
+
+#[test]
+fn a_topic_has_news_until_it_is_heard(rt: HostRuntime) -> Result<(), Fail> {
+    let mut news = News::new(rt.alloc(), 70)?;
+    let heard = heard(&rt, &mut news).ok_or("not told")?;
+    assert!(rt; heard == (None, [Some(3), Some(69), None]));
+    Ok(())
+}

@@ -1,0 +1,3 @@
+pub mod BookLemmas
+pub mod PoolLemmas
+pub mod ViewLemmas

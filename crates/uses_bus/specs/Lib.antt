@@ -1,0 +1,9 @@
+pub mod Books
+pub mod Bus
+pub mod Ends
+pub mod Holders
+pub mod Lanes
+pub mod News
+pub mod Pools
+pub mod Records
+pub mod Stores

@@ -1,0 +1,22 @@
+-- What clauses see of news.
+use Rattle.std.specs.Prelude.{ℕ}
+use Rattle.lock_free.specs.Bits.Calls.{capacity_of, IsPassOf}
+use Rattle.lock_free.specs.declared.mpmc.bit_set.Pass.{Pass}
+use Rattle.lock_free.specs.Bits.Handles.{set_in}
+use Rattle.uses_bus.specs.declared.news.News.{News}
+use Rattle.uses_bus.specs.declared.news.Notifier.{Notifier}
+use Rattle.uses_bus.specs.declared.news.Listener.{Listener}
+
+-- how many topics there are
+abbrev pub topics_of : News → ℕ
+topics_of news = capacity_of news.flags
+
+abbrev pub topics_told : Notifier → ℕ
+topics_told notifier = capacity_of (set_in notifier.flags)
+
+abbrev pub topics_heard : Listener → ℕ
+topics_heard listener = capacity_of (set_in listener.flags)
+
+-- the pass is of its flags
+abbrev pub IsFlagPass : News → Pass → Type 0
+IsFlagPass news pass = IsPassOf news.flags pass

@@ -1,0 +1,15 @@
+//! A bus: records go from one publisher to many subscribers, between threads, and nobody copies them.
+#![tactic(auto)]
+
+pub mod bus;
+pub mod error;
+mod holders;
+mod lane;
+pub mod news;
+mod outlet;
+mod pool;
+pub mod publisher;
+mod records;
+mod roll;
+mod store;
+pub mod subscriber;

@@ -1,0 +1,115 @@
+//! Which topics have news: a flag for each, which stands from a notice until a listener takes it. So who listens to many
+//! topics looks at one set of flags, and not at the queue of each.
+ghost use Rattle.std.specs.Prelude.{◌≡◌, ◌-◌, ◌^◌, ◌<◌, ◌↔◌, None, IsTrue, IfOk, IfSome, OnOk};
+ghost use Rattle.lock_free.specs.Bits.Calls.{IsPassOf};
+ghost use Rattle.lock_free.specs.Enums.{capacity_refusal};
+
+use lock_free::mpmc::bit_set::{BitSet, Handle, Pass};
+use lock_free::mpmc::unique_index_set_enums::UniqueIndexCreationError;
+use std::alloc::Global;
+use std::sync::Wait;
+
+/// The flags of all topics.
+#[derive(Drop)]
+pub struct News {
+    flags: BitSet,
+    pass: Pass,
+    ghost of: { IsPassOf flags pass },
+}
+
+impl News {
+    ghost use Rattle.uses_bus.specs.News.{topics_heard, topics_of, topics_told, IsFlagPass};
+
+    /// So many topics, none of which has news; up to 2^32 - 1. Refused as `BitSet::new`.
+    pub fn new(alloc: Global, topics: usize) -> Result<News, UniqueIndexCreationError>
+        ensures topics { IfOk result (λ n. topics_of n ≡ topics) }
+        ensures admitted { OnOk result (capacity_refusal 0 (2 ^ 32 - 1) topics ≡ None) }
+    {
+        let (flags, pass) = BitSet::new(alloc, topics)?;
+        Ok(News { flags, pass })
+    }
+
+    /// One who tells of news, and one who takes them. None where no further pass can be counted.
+    pub fn ends(&mut self) -> Option<(Notifier<'_>, Listener<'_>)>
+        ensures told { IfSome result (λ e. topics_told e.0 ≡ topics_of self.old) }
+        ensures heard { IfSome result (λ e. topics_heard e.1 ≡ topics_of self.old) }
+    {
+        let tells = self.pass.split()?;
+        let hears = self.pass.split()?;
+        Some(self.ends_with(tells, hears))
+    }
+
+    /// The same, with passes of the flags.
+    fn ends_with(&self, tells: Pass, hears: Pass) -> (Notifier<'_>, Listener<'_>)
+        requires tells { IsFlagPass self.now tells }
+        requires hears { IsFlagPass self.now hears }
+        ensures told { topics_told result.0 ≡ topics_of self.now }
+        ensures heard { topics_heard result.1 ≡ topics_of self.now }
+    {
+        let notifier = Notifier {
+            flags: self.flags.handle(tells),
+        };
+        let listener = Listener {
+            flags: self.flags.handle(hears),
+        };
+        (notifier, listener)
+    }
+}
+
+/// One who tells that a topic has news.
+#[derive(Drop)]
+pub struct Notifier<'a> {
+    flags: Handle<'a>,
+}
+
+impl<'a> Notifier<'a> {
+    ghost use Rattle.uses_bus.specs.News.{topics_told};
+
+    /// Another one. None where no further pass can be counted.
+    pub fn split(&mut self) -> Option<Notifier<'a>>
+        ensures same { topics_told self.new ≡ topics_told self.old }
+        ensures new { IfSome result (λ n. topics_told n ≡ topics_told self.old) }
+    {
+        let flags = self.flags.split()?;
+        Some(Notifier { flags })
+    }
+
+    /// Tells that a topic has news. False where there is no such topic.
+    pub fn notify(&mut self, rt: &impl Wait, topic: usize) -> bool
+        ensures told { IsTrue result ↔ (topic < topics_told self.old) }
+        ensures same { topics_told self.new ≡ topics_told self.old }
+    {
+        if topic >= self.flags.capacity() {
+            return false;
+        }
+        self.flags.set(rt, topic);
+        true
+    }
+}
+
+/// One who takes news.
+#[derive(Drop)]
+pub struct Listener<'a> {
+    flags: Handle<'a>,
+}
+
+impl<'a> Listener<'a> {
+    ghost use Rattle.uses_bus.specs.News.{topics_heard};
+
+    /// Another one: each notice is taken by one of them. None where no further pass can be counted.
+    pub fn split(&mut self) -> Option<Listener<'a>>
+        ensures same { topics_heard self.new ≡ topics_heard self.old }
+        ensures new { IfSome result (λ l. topics_heard l ≡ topics_heard self.old) }
+    {
+        let flags = self.flags.split()?;
+        Some(Listener { flags })
+    }
+
+    /// The next topic that has news, which is told of it no more until it has news again. None where none has.
+    pub fn next(&mut self, rt: &impl Wait) -> Option<usize>
+        ensures topic { IfSome result (λ topic. topic < topics_heard self.old) }
+        ensures same { topics_heard self.new ≡ topics_heard self.old }
+    {
+        self.flags.reset_next(rt)
+    }
+}
