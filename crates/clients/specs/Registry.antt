@@ -5,7 +5,7 @@ use Rattle.lock_free.specs.Container.Told.{HasAdded}
 use Rattle.lock_free.specs.HistoryView.View.{View}
 
 module _ (code : Coding (ℕ × ℕ)) (number : ℕ) (ports : List ℕ) where
-  -- by one add after another it has placed its records with so many of the ports, each whole, at an index
+  -- by one add after another it has got an index for a record with each of so many ports
   abbrev pub Places : ℕ → View (ℕ × ℕ) → View (ℕ × ℕ) → Type 0
   Places zero old new = new ≡ old
   Places (suc at) old new =

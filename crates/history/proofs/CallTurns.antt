@@ -28,11 +28,12 @@ use Rattle.lock_free_sp.specs.Shares.{IsAll}
 use Rattle.history.specs.declared.view.View.{View}
 use Rattle.history.specs.Known.{events_by, by_party, owned}
 use Rattle.history.specs.History.{IsRun, IsMachine, Fits, IsLate, IsOfParties, call_in}
-use Rattle.history.specs.Stages.{Calling, Since, opened, Starts, IsUnderWay, At, Ends, rows_as}
+use Rattle.history.specs.Stages.{Calling, LeavesState, Since, opened, Starts, IsUnderWay, At, Ends, rows_as}
 use Rattle.queue_laws.proofs.Queues.Knows.{IsFreshCall}
 use Rattle.history.proofs.Known.{known_whole, by_more, nil_right, idle_seat, late_none, none_late}
-use Rattle.history.proofs.Calls.{stands, call_then}
-use Rattle.history.proofs.Turns.{KeptLaws, Between, want_for, at_ask, at_first, begun, begun_at, begun_kept, gone, kept_then, goes_to, told as turn_told, own_told, found_old, made_between}
+use Rattle.history.proofs.Calls.{stands, call_then, begins_no_look, next_no_look}
+use Rattle.history.proofs.Reached.{next_as}
+use Rattle.history.proofs.Turns.{KeptLaws, Between, want_for, at_ask, at_first, begun, begun_at, begun_kept, begins_free, goes_free, gone, kept_then, goes_to, told as turn_told, own_told, found_old, made_between}
 use Rattle.history.proofs.Steps.{view_after}
 use Rattle.history.proofs.CallsIn.{no_rest, same_rest, none_after, regroup, Prior, span_since}
 use Rattle.history.proofs.CallsIn.{Met}
@@ -90,6 +91,7 @@ module _ {T C M E : Type 0} (code : Coding T) (kind : Kind) (effects : World T �
     pub began : v.going ≡ None → Began key p v u.world.kept
     pub held : v.going ≡ Some (call.start, call.flight c m) → state_in u.world.kept p ≡ v.state
     pub as_party : v.going ≡ Some (call.start, call.flight c m) → v.party ≡ Some p
+    pub state : LeavesState call → v.party ≡ Some p → state_in u.world.kept p ≡ v.state
 
   module _ (s : State (Unit {0}) (View T)) (v : View T) (key id : ℕ) (c : C) (m : M) (r : IsMachine code kind key s) (at : get_elem? s.views id ≡ some v) (known : v.capacity ≡ key) where
     here : Fits r.owner r.trace id v
@@ -226,6 +228,12 @@ module _ {T C M E : Type 0} (code : Coding T) (kind : Kind) (effects : World T �
           };
           held = λ has. (let no : ◌≡◌ {A = Option (Start T × Flight T)} None (Some (call.start, call.flight c m)) = sym none ∙ has in absurd (cc));
           as_party = λ has. (let no : ◌≡◌ {A = Option (Start T × Flight T)} None (Some (call.start, call.flight c m)) = sym none ∙ has in absurd (cc));
+          state = λ leaves is.
+              (laws key).states r.trace (Begin p call.start) r.run
+              (begun code kind key (size_of key) effects (laws key) r.owner s id p [] r.trace before call.start (call.flight c m) (idle p starts.mine) is_first may).run
+              (begins_free code kind key (size_of key) effects (laws key) r.owner s id p [] r.trace before call.start (call.flight c m) (idle p starts.mine) is_first may)
+              p (begins_no_look r.trace.world p call.start leaves.start)
+              ∙ here.stated p starts.mine is;
         }
     ready base (inr under) =
         let p = under.party in
@@ -242,6 +250,7 @@ module _ {T C M E : Type 0} (code : Coding T) (kind : Kind) (effects : World T �
           began = λ none. (let no : ◌≡◌ {A = Option (Start T × Flight T)} None (Some (call.start, call.flight c m)) = sym none ∙ under.going in absurd (cc));
           held = λ has. here.stated p mine under.mine;
           as_party = λ has. under.mine;
+          state = λ leaves is. here.stated p mine is;
         }
 
   -- the call is later by what a turn of its party wrote, and by its end
@@ -337,6 +346,25 @@ module _ {T C M E : Type 0} (code : Coding T) (kind : Kind) (effects : World T �
     parties_then : IsOfParties view_then
     parties_then = record { owner = y.owner; seat = id; sums = λ f. sum_by-append f v.made then_gained ∙ next_between.made_own v at f }
 
+    -- its party has the state that it had
+    party_now : (base : View T) → Stage base v c m → base.party ≡ Some y.p → v.party ≡ Some y.p
+    party_now base (inl first) was = ap (λ (z : View T). z.party) first.is ∙ was
+    party_now base (inr under) was = y.as_party under.going
+
+    state_now : (base : View T) → Stage base v c m → LeavesState call → base.party ≡ Some y.p → v.state ≡ base.state
+    state_now base (inl first) leaves was = ap (λ (z : View T). z.state) first.is
+    state_now base (inr under) leaves was =
+        let both : ◌≡◌ {A = Option ℕ} (Some under.party) (Some y.p) = sym under.mine ∙ y.as_party under.going in
+        let same : under.party ≡ y.p = cc in
+        under.state leaves (was ∙ ap Some (sym same))
+
+    state_then : (base : View T) → Stage base v c m → LeavesState call → base.party ≡ Some y.p → view_then.state ≡ base.state
+    state_then base stage leaves was =
+        (laws key).states y.u (Next y.p) y.between.run next_between.run
+        (next_as kind y.u.world y.p (goes_free code kind key (size_of key) effects (laws key) y.owner s id y.p y.gained y.u y.between call.start flight_now ask low y.there asks_it finds))
+        y.p (next_no_look y.u.world y.p call.start flight_now y.there (leaves.flight c m))
+        ∙ (y.state leaves (party_now base stage was) ∙ state_now base stage leaves was)
+
     -- the call goes on
     pub goes_then : (base : View T) (stage : Stage base v c m) (d : C) (m' : M) → comes_now ≡ GoOn (call.flight d m') → call.stands base.capacity d → ((n : ℕ) → call.skips d n ≡ false)
         → ((es late : List (Event T)) → call.wrote base.capacity y.p base.going c m es → IsLate kind (Some (call.start, flight_now)) late → Met code kind base.capacity call.start flight_now y.p base.going (es ++ late) found y.u → call.wrote base.capacity y.p base.going d m' ((es ++ late) ++ mine_now)) → IsUnderWay code kind call base view_then d m'
@@ -351,6 +379,7 @@ module _ {T C M E : Type 0} (code : Coding T) (kind : Kind) (effects : World T �
           mine = refl;
           same = y.by base stage;
           going = going_then ∙ ap (call_then call.start) afters;
+          state = state_then base stage;
           past = past;
           alone = refl;
           wrote = (before.wrote ++ before.late) ++ mine_now;
@@ -374,6 +403,7 @@ module _ {T C M E : Type 0} (code : Coding T) (kind : Kind) (effects : World T �
           same = y.by base stage;
           alone = refl;
           idle = going_then ∙ ap (call_then call.start) afters;
+          state = state_then base stage;
           wrote = (before.wrote ++ before.late) ++ mine_now;
           tells = tells before.wrote before.late before.tells before.waits (met base stage);
           since = since_then base (before.wrote ++ before.late) (Finished y.p call.start (call.answer end m') ∷ []) before.prior (ap (λ (a : After (Flight T) (Answer T)). ending_of y.p call.start (answer_in a)) afters);

@@ -42,6 +42,7 @@ module _ {T C M E : Type 0} (code : Coding T) (kind : Kind) (call : Calling T C 
         mine = under.mine;
         same = subst (λ (o : Option ℕ). call.by o under.party) (sym under.mine) (own under.party);
         going = under.going;
+        state = λ leaves is. refl;
         past = under.past;
         alone = under.alone;
         wrote = [];

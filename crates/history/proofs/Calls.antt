@@ -1,5 +1,5 @@
 -- Where the calls of a machine stand after a turn.
-use Rattle.std.proofs.Common.{◌≡◌, ◌≢◌, ℕ, zero, suc, ◌<◌, ◌==◌, Bool, false, Option, Some, None, List, [], ◌∷◌, ◌++◌, length, get_or, set, refl, ap, ◌∙◌, arith}
+use Rattle.std.proofs.Common.{◌≡◌, ◌≢◌, ℕ, zero, suc, ◌<◌, ◌==◌, ◌&&◌, Bool, true, false, Option, Some, None, List, [], ◌∷◌, ◌++◌, length, get_or, set, refl, ap, ◌∙◌, arith}
 use Rattle.std.proofs.lemmas.Bool.Decides.{nat_tests}
 use Rattle.steps.specs.declared.ask.Ask.{Ask}
 use Rattle.steps.specs.declared.ask.After.{After}
@@ -23,16 +23,21 @@ use Rattle.model.specs.declared.turn.Turn.TheVariants.{Begin, Next}
 use Rattle.model.specs.Coding.{Coding}
 use Rattle.model.specs.Families.{opening_of, kept_after_begin, want_of, after_of, goes_of, ask_of}
 use Rattle.model.specs.Families.Container.Keeping.{is_look_of}
-use Rattle.model.specs.Families.Container.Looks.{state_in}
+use Rattle.model.specs.Families.Container.Looks.{state_in, is_looking}
 use Rattle.model.specs.Parties.{party_of, doing_of, flight_of}
 use Rattle.model.specs.Step.{Step, answer_in}
 use Rattle.model.specs.Turns.{after_begin, after_next, after_answer, after_decision, after_step, party_after, party_at_begin, step_count, change_of, number_of, step_in, events_of_next, events_of_decision, events_of_step, events_of_answer, ending_of, old_of, ask_of_doing}
 use Rattle.model.specs.World.{World, flight_in}
 use Rattle.model.proofs.Parties.{party_put_same, party_put_other}
 use Rattle.history.specs.History.{call_at, call_of, call_in}
+use Rattle.history.specs.Stages.{is_state_look}
 
 other_number : (p q : ℕ) → q ≢ p → (p == q) ≡ false
 other_number p q ne = grind (arith, nat_tests)
+
+steps_no_look : (same b : Bool) → b ≡ false → (same && b) ≡ false
+steps_no_look true b e = e
+steps_no_look false b e = refl
 
 module _ {T : Type 0} where
   -- ---- the party of a call under way
@@ -133,6 +138,17 @@ module _ {T : Type 0} where
 
   pub look_next : (w : World T) (p q : ℕ) → q ≢ p → is_look_of w q (Next p) ≡ false
   look_next w p q ne = rw (other_number p q ne) refl
+
+  -- nor is a begin, or a step, of a call that is none
+  pub begins_no_look : (w : World T) (p : ℕ) (start : Start T) → is_state_look start ≡ false → is_look_of w p (Begin p start) ≡ false
+  begins_no_look w p (Container GetState) e = absurd (cc)
+  begins_no_look w p (Container UpdateState) e = absurd (cc)
+  begins_no_look w p start e = refl
+
+  pub next_no_look : (w : World T) (p : ℕ) (start : Start T) (flight : Flight T) → call_in w p ≡ Some (start, flight)
+      → is_looking (Some flight) ≡ false → is_look_of w p (Next p) ≡ false
+  next_no_look w p start flight at none =
+      steps_no_look (p == p) (is_looking (flight_in w p)) (ap is_looking (flight_is w p start flight (stands w p start flight at)) ∙ none)
 
   -- ---- the own call
 

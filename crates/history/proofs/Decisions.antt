@@ -26,7 +26,7 @@ use Rattle.lock_free_sp.specs.Driver.{Owes, OwesAsk, Next as NextKnown, Told, Ke
 use Rattle.history.specs.declared.view.View.{View}
 use Rattle.history.specs.Known.{events_by}
 use Rattle.history.specs.History.{IsRun, IsMachine, call_in}
-use Rattle.history.specs.Stages.{Calling, Since, IsUnderWay, At, Ends, HasHeard, AtAsked}
+use Rattle.history.specs.Stages.{Calling, LeavesState, Since, IsUnderWay, At, Ends, HasHeard, AtAsked}
 use Rattle.history.proofs.Known.{by_more, within}
 use Rattle.history.proofs.Reached.{MayDecide, refusal_as, decide_as}
 use Rattle.history.proofs.Calls.{stands, flight_is}
@@ -147,6 +147,7 @@ module _ {T C M E : Type 0} (code : Coding T) (kind : Kind) (decides : MayDecide
             mine = under.mine;
             same = under.same;
             going = h.before.going;
+            state = under.state;
             past = under.past;
             alone = under.alone;
             wrote = under.wrote;
@@ -182,6 +183,15 @@ module _ {T C M E : Type 0} (code : Coding T) (kind : Kind) (decides : MayDecide
           (told_by.wrote ++ told_by.late) effs [] told_by.prior told_heard
           (ap (events_by y.p) told_heard ∙ by_more y.p effs [])
 
+      -- an answer is no look
+      state_heard : LeavesState call → base.party ≡ Some y.p → view_heard.state ≡ base.state
+      state_heard leaves was =
+          let is_p = y.as_party h.before.going in
+          let both : ◌≡◌ {A = Option ℕ} (Some k.before.party) (Some y.p) = sym k.before.mine ∙ is_p in
+          let same : k.before.party ≡ y.p = cc in
+          (laws key).states y.u (Decide y.p h.said) y.between.run between_heard.run free y.p refl
+          ∙ (y.state leaves is_p ∙ k.before.state leaves (was ∙ ap Some (sym same)))
+
       lifted : IsUnderWay code kind call base view_heard c m
       lifted =
           record {
@@ -193,6 +203,7 @@ module _ {T C M E : Type 0} (code : Coding T) (kind : Kind) (decides : MayDecide
             mine = refl;
             same = y.by base stage_then;
             going = there_heard;
+            state = state_heard;
             past = λ i. steps.past base.capacity h.asking c n i standing_then h.goes;
             alone = refl;
             wrote = (told_by.wrote ++ told_by.late) ++ events_by y.p effs;

@@ -2,6 +2,7 @@
 pub mod Known
 pub mod Reached
 pub mod Calls
+pub mod StillFits
 pub mod Turns
 pub mod Steps
 pub mod Passes
@@ -29,6 +30,8 @@ pub mod RobustVisits
 pub mod Containers
 pub mod ContainerCalls
 pub mod ContainerAdds
+pub mod RecoverySteps
+pub mod RecoveryVisits
 pub mod ContainerRecoveries
 pub mod ContainerLooks
 pub mod StateLooks

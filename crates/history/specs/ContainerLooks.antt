@@ -72,6 +72,10 @@ module _ {T : Type 0} where
         wrote_all = λ capacity p from changed m es. from ≡ None → HasLookedAll capacity p changed es;
       }
 
+  -- the party has the state that it had
+  abbrev pub KeepsState : View T → View T → Type 0
+  KeepsState old new = (p : ℕ) → old.party ≡ Some p → (new.party ≡ Some p) × (new.state ≡ old.state)
+
   -- each value that is shown was copied by the party of the view, from its index
   abbrev pub ShowsCopied : Showing T → View T → Type 0
   ShowsCopied m v =

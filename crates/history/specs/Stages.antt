@@ -5,7 +5,7 @@ use Rattle.model.specs.declared.event.Event.{Event}
 use Rattle.model.specs.declared.event.Event.TheVariants.{Begun, Finished}
 use Rattle.model.specs.declared.event.Start.{Start}
 use Rattle.model.specs.declared.event.Start.TheVariants.{Container}
-use Rattle.model.specs.declared.families.container.ContainerStart.TheVariants.{Recover}
+use Rattle.model.specs.declared.families.container.ContainerStart.TheVariants.{GetState, UpdateState, Recover}
 use Rattle.model.specs.declared.families.Flight.{Flight}
 use Rattle.model.specs.declared.families.Kept.{Kept}
 use Rattle.model.specs.declared.turn.Kind.{Kind}
@@ -18,6 +18,7 @@ use Rattle.steps.specs.declared.ask.After.TheVariants.{GoOn}
 use Rattle.steps.specs.declared.ask.Ask.{Ask}
 use Rattle.steps.specs.declared.ask.Want.TheVariants as wants
 use Rattle.model.specs.Families.{begin_rows, opening_of, first_of, want_of, is_question}
+use Rattle.model.specs.Families.Container.Looks.{is_looking}
 use Rattle.model.specs.Rows.{first_row}
 use Rattle.model.specs.Turns.{number_of}
 use Rattle.model.specs.World.{Trace}
@@ -43,6 +44,17 @@ pub record Calling (T C M E : Type 0) : Type 1 where
   -- what the party's call wrote there since it stood at this place, or since it began
   pub wrote : ℕ → ℕ → Option (Start T × Flight T) → C → M → List (Event T) → Type 0
   pub wrote_all : ℕ → ℕ → Option (Start T × Flight T) → E → M → List (Event T) → Type 0
+
+-- a look of a state, which alone changes what its party has
+abbrev pub is_state_look : {T : Type 0} → Start T → Bool
+is_state_look (Container GetState) = true
+is_state_look (Container UpdateState) = true
+is_state_look start = false
+
+-- the call is none, wherever it stands
+pub record LeavesState {T C M E : Type 0} (call : Calling T C M E) : Type 0 where
+  pub start : is_state_look call.start ≡ false
+  pub flight : (c : C) (m : M) → is_looking (Some (call.flight c m)) ≡ false
 
 module _ {T : Type 0} where
   -- a call that was not under way began
@@ -103,6 +115,7 @@ module _ {T C M E : Type 0} (code : Coding T) (kind : Kind) (call : Calling T C 
     pub mine : v.party ≡ Some party
     pub same : call.by base.party party
     pub going : v.going ≡ Some (call.start, call.flight c m)
+    pub state : LeavesState call → base.party ≡ Some party → v.state ≡ base.state
     pub past : (n : ℕ) → call.skips c n ≡ false
     pub alone : v.other ≡ []
     pub wrote : List (Event T)
@@ -140,6 +153,7 @@ module _ {T C M E : Type 0} (code : Coding T) (kind : Kind) (call : Calling T C 
     pub mine : w.party ≡ Some party
     pub same : call.by base.party party
     pub idle : w.going ≡ None
+    pub state : LeavesState call → base.party ≡ Some party → w.state ≡ base.state
     pub alone : w.other ≡ []
     pub wrote : List (Event T)
     pub tells : call.wrote_all base.capacity party base.going e m wrote

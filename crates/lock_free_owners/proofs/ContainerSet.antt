@@ -11,3 +11,4 @@ pub mod FindTurns
 pub mod Finds
 pub mod RecoverTurns
 pub mod Recoveries
+pub mod States

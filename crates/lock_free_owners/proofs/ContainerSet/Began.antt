@@ -1,5 +1,5 @@
 -- What a call on a pass whose last one may rest leaves: of one that has ended, and of one that rests itself.
-use Rattle.std.proofs.Common.{◌≡◌, inl, inr, ℕ, false, None, List, [], ◌∷◌, ◌++◌, sym, ap, subst, ◌∙◌, append_assoc, append-nil}
+use Rattle.std.proofs.Common.{◌≡◌, inl, inr, ℕ, false, Option, Some, None, IfSome, List, [], ◌∷◌, ◌++◌, sym, ap, subst, ◌∙◌, append_assoc, append-nil}
 use Rattle.model.specs.declared.event.Answer.{Answer}
 use Rattle.model.specs.declared.event.Event.{Event}
 use Rattle.model.specs.declared.event.Event.TheVariants.{Begun, Finished}
@@ -16,7 +16,8 @@ use Rattle.history.specs.declared.view.View.{View}
 use Rattle.history.specs.History.{IsHistory, Called, IsBeginning}
 use Rattle.history.specs.Passes.{Goes}
 use Rattle.history.specs.Settled.{SettledFrom}
-use Rattle.history.specs.Stages.{Calling, IsUnderWay, Ends, Since, opened}
+use Rattle.history.specs.ContainerLooks.{KeepsState}
+use Rattle.history.specs.Stages.{Calling, LeavesState, IsUnderWay, Ends, Since, opened}
 use Rattle.history.proofs.Called.{called}
 use Rattle.lock_free_owners.specs.Container.Told.{Answered}
 use Rattle.lock_free_owners.proofs.ContainerSet.Sound.{sound_history}
@@ -43,6 +44,14 @@ module _ {T : Type 0} (code : Coding T) (base from : View T) (settled : SettledF
   settled_share (inl same) = ap (λ (z : View T). z.share) same.0
   settled_share (inr s) = s.share
 
+  settled_party : SettledFrom code kinds.Container base from → from.party ≡ base.party
+  settled_party (inl same) = ap (λ (z : View T). z.party) same.0
+  settled_party (inr s) = s.party
+
+  settled_state : SettledFrom code kinds.Container base from → from.state ≡ base.state
+  settled_state (inl same) = ap (λ (z : View T). z.state) same.0
+  settled_state (inr s) = s.state
+
   pub idle_from : from.going ≡ None
   idle_from = settled_idle settled
 
@@ -52,7 +61,7 @@ module _ {T : Type 0} (code : Coding T) (base from : View T) (settled : SettledF
   pub share_from : from.share ≡ base.share
   share_from = settled_share settled
 
-  later : (xs : List (Event T)) → IsBeginning base.seen (from.seen ++ xs)
+  pub later : (xs : List (Event T)) → IsBeginning base.seen (from.seen ++ xs)
   later xs = (let a = settled_since settled in record { rest = a.rest ++ xs; is = ap (λ zs. zs ++ xs) a.is ∙ append_assoc base.seen a.rest xs })
 
   pub from_since : (xs ys : List (Event T)) → ys ≡ from.seen ++ xs → IsBeginning base.seen ys
@@ -77,7 +86,7 @@ module _ {T : Type 0} (code : Coding T) (base from : View T) (settled : SettledF
     -- ---- it has ended
 
     module _ (e : E) (m : M) (ends : Ends code kinds.Container call from e m w) where
-      history_of : IsHistory code kinds.Container base.capacity w.seen
+      pub history_of : IsHistory code kinds.Container base.capacity w.seen
       history_of = subst (λ n. IsHistory code kinds.Container n w.seen) capacity_from ends.history
 
       pub ended_goes : Goes code kinds.Container base.capacity base w
@@ -95,7 +104,7 @@ module _ {T : Type 0} (code : Coding T) (base from : View T) (settled : SettledF
             subst (λ s. Called ends.party s answer ends.wrote from w) is_start
             (subst (λ a. Called ends.party call.start a ends.wrote from w) is_answer (called code kinds.Container call from w e m idle_from ends))
 
-        pub ended_answered : Answered code start answer base w
+        unfoldable pub ended_answered : Answered code start answer base w
         ended_answered =
             let c = ended_called in
             let begin : Event T = Begun ends.party (Container start) in
@@ -130,3 +139,22 @@ module _ {T : Type 0} (code : Coding T) (base from : View T) (settled : SettledF
             history = subst (λ n. IsHistory code kinds.Container n w.seen) capacity_from under.history;
             all = λ whole. under.all (subst IsAll under.share whole);
           }
+
+    -- ---- its party has the state that it had
+
+    module _ (leaves : LeavesState call) (by_same : (was : Option ℕ) (p : ℕ) → call.by was p → IfSome was (λ q. q ≡ p)) where
+      same_party : (p party : ℕ) → call.by from.party party → base.party ≡ Some p → p ≡ party
+      same_party p party by is = subst (λ (o : Option ℕ). IfSome o (λ q. q ≡ party)) (settled_party settled ∙ is) (by_same from.party party by)
+
+      kept_by : (party : ℕ) → w.party ≡ Some party → call.by from.party party → (from.party ≡ Some party → w.state ≡ from.state) → KeepsState base w
+      kept_by party mine by stays p is =
+          let same = same_party p party by is in (
+            mine ∙ ap Some (sym same),
+            stays (settled_party settled ∙ (is ∙ ap Some same)) ∙ settled_state settled,
+          )
+
+      pub ended_keeps : (e : E) (m : M) → Ends code kinds.Container call from e m w → KeepsState base w
+      ended_keeps e m ends = kept_by ends.party ends.mine ends.same (ends.state leaves)
+
+      pub under_keeps : (c : C) (m : M) → IsUnderWay code kinds.Container call from w c m → KeepsState base w
+      under_keeps c m under = kept_by under.party under.mine under.same (under.state leaves)

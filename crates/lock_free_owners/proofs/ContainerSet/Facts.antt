@@ -1,5 +1,5 @@
 -- What is known of whole calls on a container.
-use Rattle.std.proofs.Common.{◌≡◌, inl, inr, ⊎_elim, ℕ, ◌<◌, ◌≤◌, ◌==◌, Bool, true, false, true≢false, None, Ok, Err, IfOk, OnOk, List, [], ◌∷◌, ◌++◌, refl, sym, ap, subst, ◌∙◌, append_assoc, append-nil, arith}
+use Rattle.std.proofs.Common.{Option, IfSome, ◌≡◌, inl, inr, ⊎_elim, ℕ, ◌<◌, ◌≤◌, ◌==◌, Bool, true, false, true≢false, None, Ok, Err, IfOk, OnOk, List, [], ◌∷◌, ◌++◌, refl, sym, ap, subst, ◌∙◌, append_assoc, append-nil, arith}
 use Rattle.steps.specs.Container.Add.{Added}
 use Rattle.steps.specs.Container.Remove.{Removed}
 use Rattle.steps.specs.Container.Replace.{Replaced}
@@ -34,36 +34,16 @@ use Rattle.history.specs.Container.{adds_value, removes_value, replaces_value, c
 use Rattle.history.specs.History.{IsHistory, Called, IsBeginning}
 use Rattle.history.specs.Passes.{Goes}
 use Rattle.history.specs.Settled.{SettledFrom}
-use Rattle.history.specs.Stages.{Calling, opened}
-use Rattle.history.proofs.Called.{called}
+use Rattle.history.specs.ContainerLooks.{KeepsState}
+use Rattle.history.specs.Stages.{Calling, LeavesState}
 use Rattle.lock_free_owners.specs.Robust.Told.{WroteAt, WasFilled, WasGranted, WasFreed, HasReleased, FoundLock}
 use Rattle.lock_free_owners.specs.Container.Told.{IsSound, HasMade, HasAdded, HasRemoved, HasReplaced, HasCounted, HasTested, HasLooked, Answered, WasNotAdded}
 use Rattle.lock_free_owners.specs.Container.Turns.{CallEnds, AddEnds, RemoveEnds, ReplaceEnds, CountEnds, LockEnds, BeginsAdd, BeginsRemove, BeginsReplace, BeginsCount, BeginsLock}
 use Rattle.lock_free_owners.proofs.ContainerSet.Sound.{sound_history}
+use Rattle.lock_free_owners.proofs.ContainerSet.Began.{history_of as began_history, share_from, capacity_from, idle_from, later, ended_goes, ended_called, ended_answered, ended_keeps}
 use Rattle.lock_free_owners.proofs.RobustSet.Events.{find_own, lock_stays, not_locked, covers, longer}
 
 module _ {T : Type 0} (code : Coding T) where
-  -- ---- where a call began
-
-  module _ (base : View T) where
-    settled_since : (from : View T) → SettledFrom code kinds.Container base from → IsBeginning base.seen from.seen
-    settled_since from (inl same) = record { rest = []; is = ap (λ (z : View T). z.seen) same.0 ∙ sym (append-nil base.seen) }
-    settled_since from (inr s) =
-        let end : List (Event T) = Finished s.resting.party s.resting.start s.resting.answer ∷ [] in
-        record { rest = s.others ++ end; is = s.seen ∙ append_assoc base.seen s.others end }
-
-    settled_idle : (from : View T) → SettledFrom code kinds.Container base from → from.going ≡ None
-    settled_idle from (inl same) = ap (λ (z : View T). z.going) same.0 ∙ same.1
-    settled_idle from (inr s) = s.idle
-
-    settled_capacity : (from : View T) → SettledFrom code kinds.Container base from → from.capacity ≡ base.capacity
-    settled_capacity from (inl same) = ap (λ (z : View T). z.capacity) same.0
-    settled_capacity from (inr s) = s.capacity
-
-    settled_share : (from : View T) → SettledFrom code kinds.Container base from → from.share ≡ base.share
-    settled_share from (inl same) = ap (λ (z : View T). z.share) same.0
-    settled_share from (inr s) = s.share
-
   -- ---- what any call leaves
 
   module _ {C E : Type 0} (begins : ℕ → C → Type 0) (call : Calling T C (Unit {0}) E) (base w : View T) (e : E)
@@ -71,39 +51,25 @@ module _ {T : Type 0} (code : Coding T) where
     abbrev from : View T
     from = ends.from
 
-    abbrev last : List (Event T)
-    last = Finished ends.over.party call.start (call.answer e tt) ∷ []
-
     pub history_of : IsHistory code kinds.Container base.capacity w.seen
-    history_of = subst (λ n. IsHistory code kinds.Container n w.seen) (settled_capacity base from ends.settled) ends.over.history
+    history_of = began_history code base from ends.settled call w e tt ends.over
 
     pub share_of : w.share ≡ base.share
-    share_of = ends.over.share ∙ settled_share base from ends.settled
+    share_of = ends.over.share ∙ share_from code base from ends.settled
 
     pub capacity_of : w.capacity ≡ base.capacity
-    capacity_of = ends.over.capacity ∙ settled_capacity base from ends.settled
-
-    called_of : Called ends.over.party call.start (call.answer e tt) ends.over.wrote from w
-    called_of = called code kinds.Container call from w e tt (settled_idle base from ends.settled) ends.over
-
-    since_of : IsBeginning base.seen w.seen
-    since_of =
-        let a = settled_since base from ends.settled in
-        let s = ends.over.since in
-        let more = opened ends.over.party call.start from.going ++ (s.during ++ last) in
-        record {
-          rest = a.rest ++ (s.others ++ more);
-          is = s.is ∙ (append_assoc from.seen s.others more ∙ (ap (λ zs. zs ++ (s.others ++ more)) a.is ∙ append_assoc base.seen a.rest (s.others ++ more)));
-        }
+    capacity_of = ends.over.capacity ∙ capacity_from code base from ends.settled
 
     pub goes : Goes code kinds.Container base.capacity base w
-    goes = record { share = share_of; since = since_of; history = history_of; all = λ whole. ends.over.all (subst IsAll ends.over.share whole) }
+    goes = ended_goes code base from ends.settled call w e tt ends.over
+
+    module _ (leaves : LeavesState call) (by_same : (was : Option ℕ) (p : ℕ) → call.by was p → IfSome was (λ q. q ≡ p)) where
+      pub keeps : KeepsState base w
+      keeps = ended_keeps code base from ends.settled call w leaves by_same e tt ends.over
 
     module _ (start : ContainerStart T) (is_start : call.start ≡ Container start) (answer : Answer T) (is_answer : call.answer e tt ≡ answer) where
       made_call : Called ends.over.party (Container start) answer ends.over.wrote from w
-      made_call =
-          subst (λ s. Called ends.over.party s answer ends.over.wrote from w) is_start
-          (subst (λ a. Called ends.over.party call.start a ends.over.wrote from w) is_answer called_of)
+      made_call = ended_called code base from ends.settled call w e tt ends.over start is_start answer is_answer
 
       pub made : (Wrote : ℕ → List (Event T) → Type 0) → Wrote ends.over.party ends.over.wrote → HasMade code start answer Wrote base w
       made Wrote tells =
@@ -129,9 +95,8 @@ module _ {T : Type 0} (code : Coding T) where
       sound : IsSound code base.capacity w.seen
       sound = sound_history code base.capacity w.seen history_of
 
-      later : (xs : List (Event T)) → IsBeginning base.seen (from.seen ++ xs)
-      later xs = (let a = settled_since base from ends.settled in
-          record { rest = a.rest ++ xs; is = ap (λ zs. zs ++ xs) a.is ∙ append_assoc base.seen a.rest xs })
+      onward : (xs : List (Event T)) → IsBeginning base.seen (from.seen ++ xs)
+      onward xs = later code base from ends.settled xs
 
       -- what was so when it wrote this event
       pub wrote_at : (event : ℕ → Event T) (first rest : List (Event T)) → ends.over.wrote ≡ first ++ event p ∷ rest → (Before : ℕ → List (Event T) → Type 0)
@@ -152,31 +117,21 @@ module _ {T : Type 0} (code : Coding T) where
             before = others ++ begin ∷ part.0;
             after = part.1 ++ end ∷ [];
             is = whole;
-            since = subst (IsBeginning base.seen) (sym front) (later (c.others ++ begin ∷ part.0));
+            since = subst (IsBeginning base.seen) (sym front) (onward (c.others ++ begin ∷ part.0));
             held = held (others ++ begin ∷ part.0) (part.1 ++ end ∷ []) whole;
           }
 
       -- the last answer, and what stood before it
       pub answered : Answered code start answer base w
-      answered =
-          let c = made_call in
-          let before : List (Event T) = (from.seen ++ c.others) ++ begin ∷ c.during in
-          let is_last : w.seen ≡ before ++ end ∷ [] = c.is ∙ sym (append_assoc (from.seen ++ c.others) (begin ∷ c.during) (end ∷ [])) in
-          record {
-            by = p;
-            before = before;
-            is = is_last;
-            since = subst (IsBeginning base.seen) (sym (append_assoc from.seen c.others (begin ∷ c.during))) (later (c.others ++ begin ∷ c.during));
-            right = sound.answers before [] end is_last;
-          }
+      answered = ended_answered code base from ends.settled call w e tt ends.over start is_start answer is_answer
 
       -- at a moment of the call the lock was not there, nor before it
       pub open_since : HeldOnce p IsUnlocked answered.before → is_locked base.seen ≡ false
-      unfolding answered
+      unfolding answered made_call ended_answered
       open_since once =
           let c = made_call in
           let covered = covers p (Container start) c.during (from.seen ++ c.others) once.part once.rest once.is once.within in
-          not_locked (longer (later c.others) covered) once.held
+          not_locked (longer (onward c.others) covered) once.held
 
   pub last_of : {start : ContainerStart T} {answer : Answer T} {old new : View T} → (a : Answered code start answer old new) → IsBeginning a.before new.seen
   last_of {start} {answer} {old} {new} a = record { rest = Finished a.by (Container start) answer ∷ []; is = a.is }
@@ -239,7 +194,7 @@ module _ {T : Type 0} (code : Coding T) where
     pub has_removed : (answer : Removed) → RemoveEnds code given base answer tt w → HasRemoved code given answer base w
     has_removed answer ends =
         made (BeginsRemove given) (removes_value given) base w answer ends (Remove given.index given.owner given.mode) refl (removed answer) refl
-        (λ by es. container.HasRemoved by given answer es) (ends.over.tells (settled_idle base ends.from ends.settled))
+        (λ by es. container.HasRemoved by given answer es) (ends.over.tells (idle_from code base ends.from ends.settled))
 
     pub removed_answered : (answer : Removed) → RemoveEnds code given base answer tt w
         → Answered code (Remove given.index given.owner given.mode) (removed answer) base w
@@ -263,7 +218,7 @@ module _ {T : Type 0} (code : Coding T) where
 
     freed_so : (state : ReleaseState) → RemoveEnds code given base (Ok state) tt w → WasFreed given.index given.owner base w
     freed_so state ends =
-        let first = freed_first state ends.over.party ends.over.wrote (ends.over.tells (settled_idle base ends.from ends.settled)) in
+        let first = freed_first state ends.over.party ends.over.wrote (ends.over.tells (idle_from code base ends.from ends.settled)) in
         removed_at state first.0 ends first.1
 
     pub freed : (answer : Removed) → RemoveEnds code given base answer tt w → OnOk answer (WasFreed given.index given.owner base w)
@@ -275,7 +230,7 @@ module _ {T : Type 0} (code : Coding T) where
     gives mode = record { index = index; owner = owner; mode = mode }
 
     released_so : (mode : ReleaseMode) (state : ReleaseState) → RemoveEnds code (gives mode) base (Ok state) tt w → HasReleased state mode base w
-    unfolding removed_answered answered
+    unfolding removed_answered answered made_call ended_answered
     released_so LockIfLastIndex states.Locked ends =
         (let a = removed_answered base w (gives LockIfLastIndex) (Ok states.Locked) ends in (lock_stays (last_of a) a.right, refl))
     released_so LockIfLastIndex states.Unlocked ends =
@@ -296,7 +251,7 @@ module _ {T : Type 0} (code : Coding T) where
     pub has_replaced : HasReplaced code given answer base w
     has_replaced =
         made (BeginsReplace given) (replaces_value code.size given) base w answer ends (Replace given.index given.value given.owner) refl (replaced answer) refl
-        (λ by es. container.HasReplaced by given answer es) (ends.over.tells (settled_idle base ends.from ends.settled))
+        (λ by es. container.HasReplaced by given answer es) (ends.over.tells (idle_from code base ends.from ends.settled))
 
     pub replaced_answered : Answered code (Replace given.index given.value given.owner) (replaced answer) base w
     replaced_answered =
@@ -310,8 +265,8 @@ module _ {T : Type 0} (code : Coding T) where
     has_added answer ends =
         made (BeginsAdd given) (adds_value code.size given) base w answer ends (Add given.value given.owner) refl (added answer) refl
         (λ by es. container.HasAdded base.capacity by given answer es)
-        (subst (λ n. container.HasAdded n ends.over.party given answer ends.over.wrote) (settled_capacity base ends.from ends.settled)
-        (ends.over.tells (settled_idle base ends.from ends.settled)))
+        (subst (λ n. container.HasAdded n ends.over.party given answer ends.over.wrote) (capacity_from code base ends.from ends.settled)
+        (ends.over.tells (idle_from code base ends.from ends.settled)))
 
     pub added_answered : (answer : Added) → AddEnds code given base answer tt w → Answered code (Add given.value given.owner) (added answer) base w
     added_answered answer ends =
@@ -324,7 +279,7 @@ module _ {T : Type 0} (code : Coding T) where
       -- what it wrote, from its first two events on
       taken_first : (rest : List (Event T)) × (ends.over.wrote
           ≡ Filled ends.over.party index given.owner ∷ Granted ends.over.party index given.owner ∷ rest)
-      taken_first = (let h = ends.over.tells (settled_idle base ends.from ends.settled) in (_, h.1.2))
+      taken_first = (let h = ends.over.tells (idle_from code base ends.from ends.settled) in (_, h.1.2))
 
       pub filled_so : WasFilled index given.owner base w
       filled_so =

@@ -37,7 +37,7 @@ use Rattle.lock_free_owners.specs.Container.FindTurns.{words_in, Copying, Begins
 use Rattle.lock_free_owners.specs.Container.Visits.{visits_of}
 use Rattle.lock_free_owners.specs.Container.Idle.{asks, may_rest, IsIdle}
 use Rattle.lock_free_owners.proofs.ContainerSet.Idle.{rests, idle_none}
-use Rattle.lock_free_owners.proofs.ContainerSet.Began.{idle_from, capacity_from, share_from, seen_is, made_is, ended_goes, ended_called, ended_answered, under_goes}
+use Rattle.lock_free_owners.proofs.ContainerSet.Began.{idle_from, capacity_from, share_from, seen_is, made_is, ended_goes, ended_called, ended_answered, under_goes, ended_keeps, under_keeps}
 
 -- what it has copied is what its closure was called with
 named_copies : {T : Type 0} (p owner id : ℕ) (copies : List (ℕ × T)) → copies_of p copies ≡ copied p (visits_of owner id copies)
@@ -238,6 +238,7 @@ module _ {T : Type 0} (code : Coding T) (law : IsCoding code) (owner : ℕ) wher
             share = under.share ∙ share_from code base from settled;
             alone = under.alone;
             goes = under_goes code base from settled (finding code owner) w rest.asking m under;
+            keeps = under_keeps code base from settled (finding code owner) w (record { start = refl; flight = λ c k. refl }) (λ was p by. by) rest.asking m under;
           }
 
     module _ (ends : Ends code kinds.Container (finding code owner) from e m w) where
@@ -264,6 +265,7 @@ module _ {T : Type 0} (code : Coding T) (law : IsCoding code) (owner : ℕ) wher
             share = ends.share ∙ share_from code base from settled;
             alone = ends.alone;
             goes = ended_goes code base from settled (finding code owner) w e m ends;
+            keeps = ended_keeps code base from settled (finding code owner) w (record { start = refl; flight = λ c k. refl }) (λ was p by. by) e m ends;
           }
 
   pub over_so : (base w : View T) (e : ℕ) (m : Copying T) (id : ℕ) → FindEnds code owner base e m w

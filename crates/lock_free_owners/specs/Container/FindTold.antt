@@ -22,8 +22,8 @@ abbrev pub copied : {T : Type 0} → ℕ → List (Visit T) → List (Event T)
 copied p visits = map (λ x. Copied p x.handle.index x.value) visits
 
 module _ {T : Type 0} (code : Coding T) where
-  -- A call that has begun, and written this, rests: it ends with the pass's next step, with this
-  -- answer, before anything else.
+  -- A call that has begun, and written this, rests: it ends with this answer before anything else that its party does, by
+  -- the first step of the pass's next call, or of the join that takes the pass in.
   pub record Rests (p : ℕ) (start : Start T) (answer : Answer T) (wrote : List (Event T))
       (old new : View T) : Type 0 where
     pub others : List (Event T)

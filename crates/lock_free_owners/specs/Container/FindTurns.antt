@@ -12,6 +12,7 @@ use Rattle.model.specs.Families.Queues.Calls.{fresh_cell, kept_at}
 use Rattle.lock_free_sp.specs.Driver.{Next}
 use Rattle.history.specs.declared.view.View.{View}
 use Rattle.history.specs.ContainerFind.{find_copies, finds_values}
+use Rattle.history.specs.ContainerLooks.{KeepsState}
 use Rattle.history.specs.Passes.{Goes}
 use Rattle.history.specs.Settled.{AtRested, EndsRested, EndsAsked}
 use Rattle.history.specs.Stages.{Calling, AtAsked}
@@ -86,3 +87,4 @@ module _ {T : Type 0} (code : Coding T) where
     pub share : new.share ≡ old.share
     pub alone : new.other ≡ []
     pub goes : Goes code kinds.Container old.capacity old new
+    pub keeps : KeepsState old new

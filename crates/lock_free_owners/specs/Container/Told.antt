@@ -72,7 +72,7 @@ module _ {T : Type 0} (code : Coding T) where
     pub tells : Wrote by wrote
     pub called : Called by (Container start) answer wrote from new
 
-  -- an add fills an index, is granted it, and places the value there, or was granted none
+  -- An add fills an index, is granted it, and places the value there, unless the run was not proper; or was granted none.
   abbrev pub HasAdded : Owned T → Added → View T → View T → Type 0
   HasAdded given answer old =
       HasMade (Add given.value given.owner) (added answer)
@@ -84,7 +84,7 @@ module _ {T : Type 0} (code : Coding T) where
       HasMade (Remove given.index given.owner given.mode) (removed answer)
       (λ by es. container.HasRemoved by given answer es)
 
-  -- a replace hides what stood there, and places the value
+  -- a replace hides what stood there, and places the value, unless the run was not proper
   abbrev pub HasReplaced : Replacement T → Replaced → View T → View T → Type 0
   HasReplaced given answer =
       HasMade (Replace given.index given.value given.owner) (replaced answer)

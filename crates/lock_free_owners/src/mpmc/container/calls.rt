@@ -6,6 +6,7 @@ ghost use Rattle.model.specs.declared.event.Answer.TheVariants.{Number, Truth};
 ghost use Rattle.model.specs.declared.families.container.ContainerStart.TheVariants as starts;
 ghost use Rattle.model.specs.Families.Container.Calls.{removed, replaced};
 ghost use Rattle.model.specs.Families.Indices.Reading.{is_locked};
+ghost use Rattle.history.specs.ContainerLooks.{KeepsState};
 ghost use Rattle.lock_free_owners.specs.Robust.Told.{WasFilled, WasGranted, WasFreed, HasReleased, FoundLock};
 ghost use Rattle.lock_free_owners.specs.Container.Told.{placed, HasAdded, HasRemoved, HasReplaced, HasCounted, HasTested, HasLooked, Answered, WasNotAdded};
 ghost use Rattle.lock_free_owners.specs.Container.Names.{view, history, code_of, container_of, capacity_of, IsPassOf, IsHandleFor, IsOwn, GoesOn};
@@ -41,6 +42,7 @@ impl<T: Words> Container<T> {
     ) -> Result<ContainerHandle, ContainerAddFailure>
         requires { IsPassOf self.now pass.old }
         ensures goes_on { GoesOn pass.old pass.new }
+        ensures keeps { KeepsState (view pass.old) (view pass.new) }
         ensures handle { IfOk result (IsHandleFor self.now owner) }
         ensures added { HasAdded (code_of pass.old) (record { value = value; owner = owner }) (placed result)
             (view pass.old) (view pass.new) }
@@ -87,6 +89,7 @@ impl<T: Words> Container<T> {
         ensures foreign { (IsOwn self.now handle → ⊥)
             → (result ≡ Err NotOwned) × (view pass.new ≡ view pass.old) }
         ensures goes_on { IsOwn self.now handle → GoesOn pass.old pass.new }
+        ensures keeps { IsOwn self.now handle → KeepsState (view pass.old) (view pass.new) }
         ensures own { OnOk result (IsOwn self.now handle) }
         ensures removed { IsOwn self.now handle → HasRemoved (code_of pass.old)
             (record { index = handle.index; owner = handle.owner; mode = mode }) result (view pass.old) (view pass.new) }
@@ -126,6 +129,7 @@ impl<T: Words> Container<T> {
         ensures foreign { (IsOwn self.now handle → ⊥)
             → (result ≡ Err NotOwned) × (view pass.new ≡ view pass.old) }
         ensures goes_on { IsOwn self.now handle → GoesOn pass.old pass.new }
+        ensures keeps { IsOwn self.now handle → KeepsState (view pass.old) (view pass.new) }
         ensures own { OnOk result (IsOwn self.now handle) }
         ensures replaced { IsOwn self.now handle → HasReplaced (code_of pass.old)
             (record { index = handle.index; owner = handle.owner; value = value }) result
@@ -157,6 +161,7 @@ impl<T: Words> Container<T> {
     pub fn len(&self, rt: &impl Wait, pass: &mut Pass<T>) -> usize
         requires { IsPassOf self.now pass.old }
         ensures goes_on { GoesOn pass.old pass.new }
+        ensures keeps { KeepsState (view pass.old) (view pass.new) }
         ensures counted { HasCounted (code_of pass.old) result (view pass.old) (view pass.new) }
         ensures answered { Answered (code_of pass.old) starts.Len (Number result) (view pass.old) (view pass.new) }
         ensures most { result ≤ capacity_of self.now }
@@ -169,6 +174,7 @@ impl<T: Words> Container<T> {
     pub fn is_empty(&self, rt: &impl Wait, pass: &mut Pass<T>) -> bool
         requires { IsPassOf self.now pass.old }
         ensures goes_on { GoesOn pass.old pass.new }
+        ensures keeps { KeepsState (view pass.old) (view pass.new) }
         ensures tested { HasTested (code_of pass.old) result (view pass.old) (view pass.new) }
         ensures answered { Answered (code_of pass.old) starts.IsEmpty (Truth result) (view pass.old) (view pass.new) }
         ensures lock { is_locked (history pass.old) ≡ true → result ≡ true }
@@ -181,6 +187,7 @@ impl<T: Words> Container<T> {
     pub fn is_locked(&self, pass: &mut Pass<T>) -> bool
         requires { IsPassOf self.now pass.old }
         ensures goes_on { GoesOn pass.old pass.new }
+        ensures keeps { KeepsState (view pass.old) (view pass.new) }
         ensures looked { HasLooked (code_of pass.old) result (view pass.old) (view pass.new) }
         ensures answered { Answered (code_of pass.old) starts.IsLocked (Truth result) (view pass.old) (view pass.new) }
         ensures lock { FoundLock result (view pass.old) (view pass.new) }

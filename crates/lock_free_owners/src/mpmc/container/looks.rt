@@ -56,13 +56,13 @@ fn bring_up<T: Words, B: Beginning<T>>(
 
 impl<T: Words> Container<T> {
     /// A state that shows the values that stand in the container: each whole, as it stood when the call came to it
-    /// (tests say so, no clause does). It shows nothing while the number of changes is 0: so until the first add,
-    /// replace, remove or recovery has counted its change, which is its last step. The history has copied at most one
-    /// value at each index, ascending, and answers how many the state shows; each of these the party of the pass has
-    /// copied from its index. From now on the state is the one that the pass has, and `update_state` of it a call of the
-    /// history too (that the pass has it still after other calls no clause says). `NoMemory` where a state has no memory;
-    /// then it is no call of the history, and the container is as it was (a test finds its values and its number of
-    /// changes so).
+    /// (whole in a proper faithful history of few turns, `laws`; that it stood then tests say). It shows nothing while
+    /// the number of changes is 0: so until the first add, replace, remove or recovery has counted its change, which is
+    /// its last step. It is a call of the history, which copies at most one value at each index, ascending, and answers
+    /// how many the state shows; each of these the party of the pass has copied from its index. From now on the state is
+    /// the one that the pass has, after its other calls too (`keeps`), and `update_state` of it is a call of the history.
+    /// `NoMemory` where a state has no memory; then it is no call of the history, and the container is as it was (a test
+    /// finds its values and its number of changes so).
     ///
     /// It asks for memory twice, before its first atomic step (no clause says so). At most 1 and for each index 2 +
     /// `T::WORDS` atomic steps where nobody else steps in between; else it may try again for as long as others step. After

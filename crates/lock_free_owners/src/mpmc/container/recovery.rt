@@ -7,6 +7,7 @@ ghost use Rattle.model.specs.declared.event.Answer.TheVariants.{State};
 ghost use Rattle.model.specs.declared.families.container.ContainerStart.TheVariants as starts;
 ghost use Rattle.model.specs.Families.Indices.Reading.{is_locked};
 ghost use Rattle.model.specs.Families.Queues.Calls.{fresh_cell};
+ghost use Rattle.history.specs.ContainerLooks.{KeepsState};
 ghost use Rattle.lock_free_sp.specs.Seats.{seen, IsSame};
 ghost use Rattle.lock_free_owners.specs.Robust.Told.{FoundState};
 ghost use Rattle.lock_free_owners.specs.Container.Questions.{TakesValues};
@@ -142,9 +143,10 @@ impl<T: Words> Container<T> {
     /// answers `Locked`. Whatever it answers, it counts as a change for `update_state`. That `owner` is dead for good is the
     /// caller's concern; nobody acts for it from then on. It is a call of the history, in which it copied and asked about
     /// just what `predicate` was asked, in turn, and was told to free, and freed, just indices about which it said yes,
-    /// or at which it found no value. That only values of `owner` are asked about, that each of them which stands through
-    /// the whole call is, and that each copy is whole, is tested. Where a remove stopped before it hid the value, and
-    /// `owner` was given the index, it is the value of an earlier owner.
+    /// or at which it found no value. Where it answers `Unlocked` it asked about each index that `owner` had through the
+    /// whole call, but those at which it found no value (`answered`); in a proper faithful history of few turns each copy
+    /// is whole (`laws`). That only values of `owner` are asked about is tested. Where a remove stopped before it hid the
+    /// value, and `owner` was given the index, it is the value of an earlier owner.
     ///
     /// At most 3 atomic steps and for each index 7 + `T::WORDS` where nobody else steps in between, in mode
     /// `LockIfLastIndex` for each index that is freed as many more as the capacity and 3; else it may try again for as
@@ -161,6 +163,7 @@ impl<T: Words> Container<T> {
         requires questions { is_locked (history pass.old) ≡ false → TakesValues F.pre
             (λ p x b q. F.step p x b q) (capacity_of self.now) predicate }
         ensures goes_on { GoesOn pass.old pass.new }
+        ensures keeps { KeepsState (view pass.old) (view pass.new) }
         ensures recovered { (last : F) × HasRecovered (code_of pass.old) (λ p x b q. F.step p x b q)
             (record { owner = owner; mode = mode }) result (capacity_of self.now) predicate last
             (view pass.old) (view pass.new) }

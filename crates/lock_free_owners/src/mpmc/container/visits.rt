@@ -6,6 +6,7 @@ ghost use Rattle.model.specs.Coding.{coding_of};
 ghost use Rattle.model.specs.Families.Queues.Calls.{fresh_cell};
 ghost use Rattle.model.specs.declared.turn.Kind.TheVariants as kinds;
 ghost use Rattle.lock_free_sp.specs.Seats.{seen, IsSame};
+ghost use Rattle.history.specs.ContainerLooks.{KeepsState};
 ghost use Rattle.history.specs.Passes.{Goes};
 ghost use Rattle.lock_free_owners.specs.Container.Callable.{Visit, TakesVisits, HasFound};
 ghost use Rattle.lock_free_owners.specs.Container.FindTold.{HasSearched};
@@ -122,10 +123,12 @@ impl<T: Words> Container<T> {
     /// copy of the value that stands there and the handle that names it, until it says `Stop`: how many indices it came
     /// to, the one on which it was told to stop among them. An index without a value, or whose value has changed while
     /// it was copied, counts too, but `visit` is not called there. That it comes to each index that `owner` has through
-    /// the whole call, up to the one on which it is told to stop, and that a copy is whole, is tested.
+    /// the whole call, up to the one on which it is told to stop, is tested.
     ///
-    /// It is a call of the history, in which it copied just what `visit` was called with, in turn. A find that an answer ends, a `Stop` or the one at the last index, rests: its end is an event of
-    /// the history once the pass takes its next step, before anything else that the pass does.
+    /// It is a call of the history, in which it copied just what `visit` was called with, in turn; in a proper faithful
+    /// history of few turns each copy is whole (`laws`). A find that an answer ends, a `Stop` or the one at the last
+    /// index, rests: its end is an event of the history before anything else that the pass does, with the first step of
+    /// its next call, or once another pass takes it in.
     ///
     /// It counts also the indices whose add met the lock, since they keep their owner. Each value may have been removed
     /// by the time that `visit` is called with it. Where a remove stopped before it hid the value, and the index was
@@ -143,6 +146,7 @@ impl<T: Words> Container<T> {
         ensures container { container_of pass.new ≡ container_of pass.old }
         ensures goes { Goes (code_of pass.old) kinds.Container (container_of pass.old).capacity
             (view pass.old) (view pass.new) }
+        ensures keeps { KeepsState (view pass.old) (view pass.new) }
         ensures found { (visits : List (Visit T)) × (last : F)
             × HasSearched (code_of pass.old) owner result visits (view pass.old) (view pass.new)
             × HasFound (λ p x h a q. F.step p x h a q) (capacity_of self.now)

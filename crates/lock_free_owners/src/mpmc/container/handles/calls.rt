@@ -9,6 +9,7 @@ ghost use Rattle.model.specs.Families.Indices.Reading.{is_locked};
 ghost use Rattle.lock_free_owners.specs.Robust.Told.{WasFilled, WasGranted, WasFreed, HasReleased, FoundLock};
 ghost use Rattle.lock_free_owners.specs.Container.Told.{placed, HasAdded, HasRemoved, HasReplaced, HasCounted, HasTested, HasLooked, Answered, WasNotAdded};
 ghost use Rattle.lock_free_owners.specs.Container.Names.{history, code_of, capacity_of, IsPassOf, IsHandleFor, IsOwn, GoesOn};
+ghost use Rattle.history.specs.ContainerLooks.{KeepsState};
 ghost use Rattle.history.specs.Passes.{HasSplit};
 ghost use Rattle.lock_free_owners.specs.Container.Handles.{container_in, pass_in, knows};
 
@@ -74,6 +75,7 @@ impl<'a, T: Words> Handle<'a, T> {
     ) -> Result<ContainerHandle, ContainerAddFailure>
         ensures container { container_in self.new ≡ container_in self.old }
         ensures goes_on { GoesOn (pass_in self.old) (pass_in self.new) }
+        ensures keeps { KeepsState (knows self.old) (knows self.new) }
         ensures handle { IfOk result (IsHandleFor (container_in self.old) owner) }
         ensures added { HasAdded (code_of (pass_in self.old)) (record { value = value; owner = owner }) (placed
             result)
@@ -98,6 +100,7 @@ impl<'a, T: Words> Handle<'a, T> {
         ensures foreign { (IsOwn (container_in self.old) handle → ⊥)
             → (result ≡ Err NotOwned) × (knows self.new ≡ knows self.old) }
         ensures goes_on { IsOwn (container_in self.old) handle → GoesOn (pass_in self.old) (pass_in self.new) }
+        ensures keeps { IsOwn (container_in self.old) handle → KeepsState (knows self.old) (knows self.new) }
         ensures own { OnOk result (IsOwn (container_in self.old) handle) }
         ensures removed { IsOwn (container_in self.old) handle → HasRemoved (code_of (pass_in self.old))
             (record { index = handle.index; owner = handle.owner; mode = mode }) result
@@ -116,6 +119,7 @@ impl<'a, T: Words> Handle<'a, T> {
         ensures foreign { (IsOwn (container_in self.old) handle → ⊥)
             → (result ≡ Err NotOwned) × (knows self.new ≡ knows self.old) }
         ensures goes_on { IsOwn (container_in self.old) handle → GoesOn (pass_in self.old) (pass_in self.new) }
+        ensures keeps { IsOwn (container_in self.old) handle → KeepsState (knows self.old) (knows self.new) }
         ensures own { OnOk result (IsOwn (container_in self.old) handle) }
         ensures replaced { IsOwn (container_in self.old) handle → HasReplaced (code_of (pass_in self.old))
             (record { index = handle.index; owner = handle.owner; value = value }) result
@@ -130,6 +134,7 @@ impl<'a, T: Words> Handle<'a, T> {
     pub fn len(&mut self, rt: &impl Wait) -> usize
         ensures container { container_in self.new ≡ container_in self.old }
         ensures goes_on { GoesOn (pass_in self.old) (pass_in self.new) }
+        ensures keeps { KeepsState (knows self.old) (knows self.new) }
         ensures counted { HasCounted (code_of (pass_in self.old)) result (knows self.old) (knows self.new) }
         ensures answered { Answered (code_of (pass_in self.old)) starts.Len (Number result)
             (knows self.old) (knows self.new) }
@@ -143,6 +148,7 @@ impl<'a, T: Words> Handle<'a, T> {
     pub fn is_empty(&mut self, rt: &impl Wait) -> bool
         ensures container { container_in self.new ≡ container_in self.old }
         ensures goes_on { GoesOn (pass_in self.old) (pass_in self.new) }
+        ensures keeps { KeepsState (knows self.old) (knows self.new) }
         ensures tested { HasTested (code_of (pass_in self.old)) result (knows self.old) (knows self.new) }
         ensures answered { Answered (code_of (pass_in self.old)) starts.IsEmpty (Truth result)
             (knows self.old) (knows self.new) }
@@ -155,6 +161,7 @@ impl<'a, T: Words> Handle<'a, T> {
     pub fn is_locked(&mut self) -> bool
         ensures container { container_in self.new ≡ container_in self.old }
         ensures goes_on { GoesOn (pass_in self.old) (pass_in self.new) }
+        ensures keeps { KeepsState (knows self.old) (knows self.new) }
         ensures looked { HasLooked (code_of (pass_in self.old)) result (knows self.old) (knows self.new) }
         ensures answered { Answered (code_of (pass_in self.old)) starts.IsLocked (Truth result)
             (knows self.old) (knows self.new) }

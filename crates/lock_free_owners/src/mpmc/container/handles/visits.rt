@@ -4,6 +4,7 @@ ghost use Rattle.model.specs.declared.event.Answer.TheVariants.{State};
 ghost use Rattle.model.specs.declared.families.container.ContainerStart.TheVariants as starts;
 ghost use Rattle.model.specs.declared.turn.Kind.TheVariants as kinds;
 ghost use Rattle.model.specs.Families.Indices.Reading.{is_locked};
+ghost use Rattle.history.specs.ContainerLooks.{KeepsState};
 ghost use Rattle.history.specs.Passes.{Goes};
 ghost use Rattle.lock_free_owners.specs.Robust.Told.{FoundState};
 ghost use Rattle.lock_free_owners.specs.Container.Callable.{Visit, TakesVisits, HasFound};
@@ -32,6 +33,7 @@ impl<'a, T: Words> Handle<'a, T> {
         ensures container { container_in self.new ≡ container_in self.old }
         ensures goes { Goes (code_of (pass_in self.old)) kinds.Container (capacity_of (container_in self.old))
             (knows self.old) (knows self.new) }
+        ensures keeps { KeepsState (knows self.old) (knows self.new) }
         ensures found { (visits : List (Visit T)) × (last : F)
             × HasSearched (code_of (pass_in self.old)) owner result visits (knows self.old) (knows self.new)
             × HasFound (λ p x h a q. F.step p x h a q) (capacity_of (container_in self.old))
@@ -52,6 +54,7 @@ impl<'a, T: Words> Handle<'a, T> {
             (λ p x b q. F.step p x b q) (capacity_of (container_in self.old)) predicate }
         ensures container { container_in self.new ≡ container_in self.old }
         ensures goes_on { GoesOn (pass_in self.old) (pass_in self.new) }
+        ensures keeps { KeepsState (knows self.old) (knows self.new) }
         ensures recovered { (last : F) × HasRecovered (code_of (pass_in self.old)) (λ p x b q. F.step p x b q)
             (record { owner = owner; mode = mode }) result (capacity_of (container_in self.old)) predicate last
             (knows self.old) (knows self.new) }

@@ -11,6 +11,7 @@ use Rattle.history.specs.Passes.{Goes}
 use Rattle.lock_free_owners.specs.Container.Turns.{BeginsAdd, AddAt, AddEnds}
 use Rattle.lock_free_owners.proofs.ContainerSet.Begins.{add_keeps, add_begins}
 use Rattle.lock_free_owners.proofs.ContainerSet.Facts.{goes, has_added, filled_so, granted_so, within_so, open_so, refused_so, shut}
+use Rattle.lock_free_owners.proofs.ContainerSet.States.{add_leaves}
 use Rattle.lock_free_owners.proofs.mpmc.container.Container.add.Goals as goal
 
 pub drive_on-end-requires-clause-rule : goal.drive_on-end-requires-clause-rule
@@ -132,3 +133,13 @@ returns-in-Err-clause-refused g c =
     let given : Owned g.row.T.Denot = record { value = c.args.value; owner = c.args.owner } in
     let ends = subst (λ z. AddEnds code given v z tt w) c.in-Err.is c.drive_on-end.ensures.end in
     refused_so code v w given c.in-Err.failure ends
+
+pub returns-in-Ok-clause-keeps : goal.returns-in-Ok-clause-keeps
+returns-in-Ok-clause-keeps g c =
+    add_leaves (coding_of g.T.Words.WORDS g.T.Words.words_of g.T.Words.value_of) (seen c.args.pass.now.token.seated) (seen c.drive_on-end.new.self)
+    (record { value = c.args.value; owner = c.args.owner }) c.drive_on-end.result c.drive_on-end.ensures.end
+
+pub returns-in-Err-clause-keeps : goal.returns-in-Err-clause-keeps
+returns-in-Err-clause-keeps g c =
+    add_leaves (coding_of g.T.Words.WORDS g.T.Words.words_of g.T.Words.value_of) (seen c.args.pass.now.token.seated) (seen c.drive_on-end.new.self)
+    (record { value = c.args.value; owner = c.args.owner }) c.drive_on-end.result c.drive_on-end.ensures.end

@@ -46,3 +46,6 @@ returns-clause-found g c =
           c.find_all-found.result.0 found.0 c.find_all-found.result.1)
           (ap (λ (z : SetId). z.capacity) c.requires.pass) found.2,
     )
+
+pub returns-clause-keeps : goal.returns-clause-keeps
+returns-clause-keeps g c = c.find_all-found.ensures.left.keeps

@@ -10,6 +10,7 @@ use Rattle.history.specs.Passes.{Goes}
 use Rattle.lock_free_owners.specs.Container.Turns.{BeginsCount, CountAt}
 use Rattle.lock_free_owners.proofs.ContainerSet.Begins.{count_begins}
 use Rattle.lock_free_owners.proofs.ContainerSet.Facts.{goes, counted, counted_answered, counted_most, counted_none}
+use Rattle.lock_free_owners.proofs.ContainerSet.States.{count_leaves}
 use Rattle.lock_free_owners.proofs.mpmc.container.Container.len.Goals as goal
 
 pub count_all-requires-clause-at : goal.count_all-requires-clause-at
@@ -52,3 +53,7 @@ pub returns-clause-lock : goal.returns-clause-lock
 returns-clause-lock g c locked =
     counted_none (coding_of g.T.Words.WORDS g.T.Words.words_of g.T.Words.value_of) (seen c.args.pass.now.token.seated) (seen c.count_all.new.seat)
     c.count_all.result c.count_all.ensures.ends locked
+
+pub returns-clause-keeps : goal.returns-clause-keeps
+returns-clause-keeps g c =
+    count_leaves (coding_of g.T.Words.WORDS g.T.Words.words_of g.T.Words.value_of) (seen c.args.pass.now.token.seated) (seen c.count_all.new.seat) counts.Len c.count_all.result c.count_all.ensures.ends

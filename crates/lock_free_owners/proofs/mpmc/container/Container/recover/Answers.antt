@@ -11,6 +11,7 @@ use Rattle.lock_free_owners.specs.Container.Questions.{TakesValues}
 use Rattle.lock_free_owners.specs.Container.RecoverTold.{HasRecovered}
 use Rattle.lock_free_owners.specs.Container.RecoverTurns.{RecoverAt}
 use Rattle.lock_free_owners.proofs.ContainerSet.RecoverTurns.{recover_begins, recovered_goes, recovered_answered, recovered_lock}
+use Rattle.lock_free_owners.proofs.ContainerSet.States.{recover_leaves}
 use Rattle.lock_free_owners.proofs.mpmc.container.Container.recover.Goals as goal
 use Rattle.lock_free_owners.proofs.mpmc.container.Container.recover.Given as given
 
@@ -71,3 +72,8 @@ returns-clause-lock g c =
     let law : IsCoding code = record { some = met.some; few = met.few; sized = met.sized; given_back = met.given_back } in
     recovered_lock code law (record { owner = c.args.owner; mode = c.args.mode }) (seen c.args.pass.now.token.seated) (seen c.free_all-state.new.seat)
     c.free_all-state.result.0 c.free_all-state.ensures.ends.0 c.free_all-state.ensures.ends.1
+
+pub returns-clause-keeps : goal.returns-clause-keeps
+returns-clause-keeps g c =
+    recover_leaves (coding_of g.T.Words.WORDS g.T.Words.words_of g.T.Words.value_of) (seen c.args.pass.now.token.seated) (seen c.free_all-state.new.seat)
+    (record { owner = c.args.owner; mode = c.args.mode }) c.free_all-state.result.0 c.free_all-state.ensures.ends.0 c.free_all-state.ensures.ends.1

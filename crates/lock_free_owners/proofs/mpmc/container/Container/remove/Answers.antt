@@ -10,6 +10,7 @@ use Rattle.history.specs.Passes.{Goes}
 use Rattle.lock_free_owners.specs.Container.Turns.{BeginsRemove, RemoveAt}
 use Rattle.lock_free_owners.proofs.ContainerSet.Begins.{remove_keeps, remove_begins}
 use Rattle.lock_free_owners.proofs.ContainerSet.Facts.{goes, has_removed, removed_answered, freed, released}
+use Rattle.lock_free_owners.proofs.ContainerSet.States.{remove_leaves}
 use Rattle.lock_free_owners.proofs.mpmc.container.Container.remove.Goals as goal
 
 pub drive_on-requires-clause-rule : goal.drive_on-requires-clause-rule
@@ -61,3 +62,8 @@ pub returns-clause-released : goal.returns-clause-released
 returns-clause-released g c =
     released (coding_of g.T.Words.WORDS g.T.Words.words_of g.T.Words.value_of) (seen c.args.pass.now.token.seated) (seen c.drive_on.new.self)
     c.args.handle.index c.args.handle.owner c.args.mode c.drive_on.result c.drive_on.ensures.end
+
+pub returns-clause-keeps : goal.returns-clause-keeps
+returns-clause-keeps g c own =
+    remove_leaves (coding_of g.T.Words.WORDS g.T.Words.words_of g.T.Words.value_of) (seen c.args.pass.now.token.seated) (seen c.drive_on.new.self)
+    (record { index = c.args.handle.index; owner = c.args.handle.owner; mode = c.args.mode }) c.drive_on.result c.drive_on.ensures.end

@@ -10,6 +10,7 @@ use Rattle.history.specs.Passes.{Goes}
 use Rattle.lock_free_owners.specs.Container.Turns.{BeginsReplace, ReplaceAt}
 use Rattle.lock_free_owners.proofs.ContainerSet.Begins.{replace_keeps, replace_begins}
 use Rattle.lock_free_owners.proofs.ContainerSet.Facts.{goes, has_replaced, replaced_answered}
+use Rattle.lock_free_owners.proofs.ContainerSet.States.{replace_leaves}
 use Rattle.lock_free_owners.proofs.mpmc.container.Container.replace.Goals as goal
 
 pub drive-requires-clause-rule : goal.drive-requires-clause-rule
@@ -54,4 +55,9 @@ returns-clause-replaced g c own =
 pub returns-clause-answered : goal.returns-clause-answered
 returns-clause-answered g c own =
     replaced_answered (coding_of g.T.Words.WORDS g.T.Words.words_of g.T.Words.value_of) (seen c.args.pass.now.token.seated) (seen c.drive.new.self)
+    (record { index = c.args.handle.index; owner = c.args.handle.owner; value = c.args.value }) c.drive.result c.drive.ensures.end
+
+pub returns-clause-keeps : goal.returns-clause-keeps
+returns-clause-keeps g c own =
+    replace_leaves (coding_of g.T.Words.WORDS g.T.Words.words_of g.T.Words.value_of) (seen c.args.pass.now.token.seated) (seen c.drive.new.self)
     (record { index = c.args.handle.index; owner = c.args.handle.owner; value = c.args.value }) c.drive.result c.drive.ensures.end

@@ -1,0 +1,102 @@
+-- That what a container's recovery wrote tells its visits.
+use Rattle.std.proofs.Common.{◌≡◌, ℕ, Bool, true, false, Option, Some, None, List, [], ◌∷◌, ◌++◌, append_assoc, append-nil, fold, refl, sym, ap, ◌∙◌}
+use Rattle.std.proofs.lemmas.List.Sums.{fold-append}
+use Rattle.steps.specs.Container.Layout.{is_even}
+use Rattle.steps.specs.Indices.Robust.Parts.{locked}
+use Rattle.steps.specs.Picks.{by_test}
+use Rattle.steps.specs.declared.container.recover.RecoverStage.{RecoverStage}
+use Rattle.steps.specs.declared.container.recover.RecoverStage.TheVariants as recovers
+use Rattle.model.specs.declared.event.Event.{Event}
+use Rattle.model.specs.declared.event.Event.TheVariants.{FreedOf, Asked, Told, Locked, Hidden, Copied, Shown}
+use Rattle.model.specs.declared.event.Start.{Start}
+use Rattle.model.specs.Reading.{own_after, Open}
+use Rattle.history.specs.Container.{when}
+use Rattle.history.specs.ContainerRecovery.{Came, HasAsked, HasFound, HasFreed, wrote_found, wrote_of, wrote_visits, with_last, told, freed, hides, came_locked, told_yet}
+
+-- ---- its visits are told by what it wrote
+
+module _ {T : Type 0} (p owner : ℕ) where
+  -- what an event says of them
+  abbrev read : List (ℕ × Came T) → Event T → List (ℕ × Came T)
+  read visits (Copied q index value) = (index, HasAsked value) ∷ visits
+  read visits (Shown q index) = (index, HasFound None) ∷ visits
+  read visits (Told q index o) = with_last told visits
+  read visits (FreedOf q index o) = with_last freed visits
+  read visits (Hidden q index) = with_last (hides true) visits
+  read visits (Locked q) = with_last came_locked visits
+  read visits e = visits
+
+  read_one : (visits : List (ℕ × Came T)) (index : ℕ) (came : Came T) → fold read visits (wrote_of p owner index came) ≡ (index, came) ∷ visits
+  read_one visits index (HasAsked value) = refl
+  read_one visits index (HasFound None) = refl
+  read_one visits index (HasFound (Some value)) = refl
+  read_one visits index (HasFreed None false false) = refl
+  read_one visits index (HasFreed None false true) = refl
+  read_one visits index (HasFreed None true false) = refl
+  read_one visits index (HasFreed None true true) = refl
+  read_one visits index (HasFreed (Some value) false false) = refl
+  read_one visits index (HasFreed (Some value) false true) = refl
+  read_one visits index (HasFreed (Some value) true false) = refl
+  read_one visits index (HasFreed (Some value) true true) = refl
+
+  read_all : (visits : List (ℕ × Came T)) → fold read [] (wrote_visits p owner visits) ≡ visits
+  read_all [] = refl
+  read_all (visit ∷ before) =
+      fold-append read [] (wrote_visits p owner before) (wrote_of p owner visit.0 visit.1)
+      ∙ (ap (λ vs. fold read vs (wrote_of p owner visit.0 visit.1)) (read_all before) ∙ read_one before visit.0 visit.1)
+
+  pub one_list : (xs ys : List (ℕ × Came T)) → wrote_visits p owner xs ≡ wrote_visits p owner ys → xs ≡ ys
+  one_list xs ys e = sym (read_all xs) ∙ (ap (fold read []) e ∙ read_all ys)
+
+  -- ---- they are within its call
+
+  abbrev IsInside : List (Event T) → Type 0
+  IsInside es = (start : Start T) (ws : List (Event T)) → fold own_after (Open start ws) es ≡ Open start (ws ++ es)
+
+  inside_none : IsInside []
+  inside_none start ws = ap (Open start) (sym (append-nil ws))
+
+  pub inside_both : (xs ys : List (Event T)) → IsInside xs → IsInside ys → IsInside (xs ++ ys)
+  inside_both xs ys hx hy start ws =
+      fold-append own_after (Open start ws) xs ys
+      ∙ (ap (λ a. fold own_after a ys) (hx start ws) ∙ (hy start (ws ++ xs) ∙ ap (Open start) (append_assoc ws xs ys)))
+
+  inside_found : (index : ℕ) (found : Option T) → IsInside (wrote_found p owner index found)
+  inside_found index None = λ start ws. refl
+  inside_found index (Some value) =
+      inside_both (Copied p index value ∷ []) (Asked p index owner ∷ Told p index owner ∷ []) (λ start ws. refl)
+      (inside_both (Asked p index owner ∷ []) (Told p index owner ∷ []) (λ start ws. refl) (λ start ws. refl))
+
+  inside_when : (did : Bool) (e : Event T) → IsInside (e ∷ []) → IsInside (when did e)
+  inside_when true e h = h
+  inside_when false e h = inside_none
+
+  inside_of : (index : ℕ) (came : Came T) → IsInside (wrote_of p owner index came)
+  inside_of index (HasAsked value) =
+      inside_both (Copied p index value ∷ []) (Asked p index owner ∷ []) (λ start ws. refl) (λ start ws. refl)
+  inside_of index (HasFound found) = inside_found index found
+  inside_of index (HasFreed found hid locked) =
+      inside_both (wrote_found p owner index found) (FreedOf p index owner ∷ (when hid (Hidden p index) ++ when locked (Locked p))) (inside_found index found)
+      (inside_both (FreedOf p index owner ∷ []) (when hid (Hidden p index) ++ when locked (Locked p)) (λ start ws. refl)
+      (inside_both (when hid (Hidden p index)) (when locked (Locked p)) (inside_when hid (Hidden p index) (λ start ws. refl))
+      (inside_when locked (Locked p) (λ start ws. refl))))
+
+  pub inside_visits : (visits : List (ℕ × Came T)) → IsInside (wrote_visits p owner visits)
+  inside_visits [] = inside_none
+  inside_visits (visit ∷ before) =
+      inside_both (wrote_visits p owner before) (wrote_of p owner visit.0 visit.1) (inside_visits before) (inside_of visit.0 visit.1)
+
+  pub inside_yet : (stage : RecoverStage) → IsInside (told_yet p owner stage)
+  inside_yet recovers.LoadsCounter = inside_none
+  inside_yet (recovers.LoadsCell index) = inside_none
+  inside_yet (recovers.LoadsCount index) = inside_none
+  inside_yet (recovers.LoadsWord index count at) = inside_none
+  inside_yet (recovers.ChecksCount index count) = inside_none
+  inside_yet (recovers.Asks index count) = inside_none
+  inside_yet (recovers.EmptiesCell index count) =
+      by_test IsInside (is_even count) [] (Told p index owner ∷ []) (λ t. inside_none) (λ t start ws. refl)
+  inside_yet (recovers.Hides index count) = inside_none
+  inside_yet (recovers.Raises index raise) = inside_none
+  inside_yet (recovers.Locks index lock) = inside_none
+  inside_yet recovers.LoadsCounterAgain = inside_none
+  inside_yet (recovers.AddsChange state) = inside_none

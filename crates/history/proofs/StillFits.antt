@@ -1,0 +1,81 @@
+-- What a seat knows stays where another party takes a turn.
+use Rattle.std.proofs.Common.{◌≡◌, ◌≢◌, inl, inr, ℕ, ⊎_elim, Option, Some, None, IfSome, List, [], ◌++◌, refl, sym, ap, subst, ◌∙◌, append_assoc, append-nil, arith, sum_by}
+use Rattle.std.proofs.lemmas.Bool.{cases_eq}
+use Rattle.std.proofs.lemmas.List.Sums.{sum_by-append}
+use Rattle.model.specs.declared.event.Event.{Event}
+use Rattle.model.specs.declared.turn.Kind.{Kind}
+use Rattle.model.specs.Families.Container.Looks.{state_in}
+use Rattle.model.specs.World.{Trace}
+use Rattle.history.specs.declared.view.View.{View}
+use Rattle.history.specs.Known.{events_by, by_party, owned}
+use Rattle.history.specs.History.{IsBeginning, Fits, HasSeenOf, call_in, IsLate}
+use Rattle.history.proofs.Known.{by_more, by_same, by_twice, by_apart, owned_none, owned_one, late_none, late_more}
+
+module _ {T : Type 0} where
+  pub longer : (seen events more : List (Event T)) → IsBeginning seen events → IsBeginning seen (events ++ more)
+  longer seen events more h = record { rest = h.rest ++ more; is = ap (λ es. es ++ more) h.is ∙ append_assoc seen h.rest more }
+
+  -- ---- what another writes for a seat's call
+
+  -- a turn of another party keeps what a seat knows: where it writes for the seat's call, the seat has still to see it
+  module _ (kind : Kind) (owner : ℕ → ℕ) (u w : Trace T) (es : List (Event T)) (j : ℕ) (v : View T) (f : Fits owner u j v) (same : u.world.kind ≡ kind) (same' : w.world.kind ≡ kind) (more : w.events ≡ u.events ++ es)
+      (beside : (q : ℕ) → owner q ≡ j → IsLate kind (call_in u.world q) (events_by q es)) (apart : (q : ℕ) → owner q ≡ j → call_in w.world q ≡ call_in u.world q)
+      (held : (q : ℕ) → owner q ≡ j → state_in w.world.kept q ≡ state_in u.world.kept q) where
+    -- a party with no call under way has nothing written for it
+    quiet : (q : ℕ) → owner q ≡ j → call_in u.world q ≡ None → events_by q es ≡ []
+    quiet q of_j none = late_none kind (events_by q es) (subst (λ o. IsLate kind o (events_by q es)) none (beside q of_j))
+
+    quiet_else : (o : Option ℕ) → v.party ≡ o → (q : ℕ) → owner q ≡ j → o ≢ Some q → events_by q es ≡ []
+    quiet_else o is q of_j ne = quiet q of_j (f.idle q of_j (λ e. ne (sym is ∙ e)))
+
+    waits_on : (o : Option ℕ) → v.party ≡ o → IsLate kind v.going (f.late ++ by_party o es)
+    waits_on None is = subst (λ zs. IsLate kind v.going zs) (sym (append-nil f.late)) (subst (λ k. IsLate k v.going f.late) same f.waits)
+    waits_on (Some q) is =
+        let of_j : owner q ≡ j = subst (λ (o : Option ℕ). IfSome o (λ p. owner p ≡ j)) is f.party in
+        late_more kind v.going f.late (events_by q es) (subst (λ k. IsLate k v.going f.late) same f.waits) (subst (λ o. IsLate kind o (events_by q es)) (f.going q of_j is) (beside q of_j))
+
+    of_party_on : (o : Option ℕ) → v.party ≡ o → by_party o (f.late ++ by_party o es) ≡ f.late ++ by_party o es
+    of_party_on None is = (let none : [] ≡ f.late = subst (λ (o : Option ℕ). by_party o f.late ≡ f.late) is f.of_party in none ∙ sym (append-nil f.late))
+    of_party_on (Some q) is =
+        let was : events_by q f.late ≡ f.late = subst (λ (o : Option ℕ). by_party o f.late ≡ f.late) is f.of_party in
+        by_more q f.late (events_by q es) ∙ (ap (λ zs. zs ++ events_by q (events_by q es)) was ∙ ap (λ zs. f.late ++ zs) (by_twice q es))
+
+    -- of one of its parties it is late by just what the turn wrote for it
+    late_is : (o : Option ℕ) → v.party ≡ o → (q : ℕ) → owner q ≡ j → events_by q (by_party o es) ≡ events_by q es
+    late_is None is q of_j = sym (quiet_else None is q of_j (λ e. absurd (cc)))
+    late_is (Some r) is q of_j = ⊎_elim (λ (e : q ≡ r). subst (λ z. events_by z (events_by r es) ≡ events_by z es) (sym e) (by_twice r es)) (λ (ne : q ≢ r). by_apart r q es ne ∙ sym (quiet_else (Some r) is q of_j (λ e. (let is_q : r ≡ q = cc in ne (sym is_q))))) (cases_eq q r)
+
+    own_on : (o : Option ℕ) → v.party ≡ o → (q : ℕ) → owner q ≡ j → HasSeenOf q v f.late u → HasSeenOf q v (f.late ++ by_party o es) w
+    own_on o is q of_j (inl e) =
+        inl (ap (λ zs. events_by q v.seen ++ zs) (by_more q f.late (by_party o es) ∙ ap (λ zs. events_by q f.late ++ zs) (late_is o is q of_j))
+        ∙ (sym (append_assoc (events_by q v.seen) (events_by q f.late) (events_by q es)) ∙ (ap (λ zs. zs ++ events_by q es) e ∙ (sym (by_more q u.events es) ∙ ap (events_by q) (sym more)))))
+    own_on o is q of_j (inr h) = inr (apart q of_j ∙ h.0, h.1 ∙ (sym (by_same q u.events es (quiet q of_j h.0)) ∙ ap (events_by q) (sym more)))
+
+    sums_on : (o : Option ℕ) → v.party ≡ o → (g : Event T → ℕ) → sum_by g (by_party o es) ≡ sum_by (owned owner j g) es
+    sums_on None is g = sym (owned_none owner j g es (λ q of_j. quiet_else None is q of_j (λ e. absurd (cc))))
+    sums_on (Some r) is g =
+        let of_j : owner r ≡ j = subst (λ (o : Option ℕ). IfSome o (λ p. owner p ≡ j)) is f.party in
+        sym (owned_one owner j r g es of_j (λ q mine ne. quiet_else (Some r) is q mine (λ e. (let is_q : r ≡ q = cc in ne (sym is_q)))))
+
+    pub still_fits : Fits owner w j v
+    still_fits =
+        record {
+          seen = subst (λ zs. IsBeginning v.seen zs) (sym more) (longer v.seen u.events es f.seen);
+          other = subst (λ zs. IsBeginning v.other zs) (sym more) (longer v.other u.events es f.other);
+          self = f.self;
+          going = λ q of_j is. apart q of_j ∙ f.going q of_j is;
+          idle = λ q of_j ne. apart q of_j ∙ f.idle q of_j ne;
+          stated = λ q of_j is. held q of_j ∙ f.stated q of_j is;
+          party = f.party;
+          late = f.late ++ by_party v.party es;
+          waits = subst (λ k. IsLate k v.going (f.late ++ by_party v.party es)) (sym same') (waits_on v.party refl);
+          of_party = of_party_on v.party refl;
+          own = λ any q of_j. own_on v.party refl q of_j (f.own any q of_j);
+          made = λ g. (
+              let was = f.made g in
+              let one = sum_by-append g f.late (by_party v.party es) in
+              let two = sum_by-append (owned owner j g) u.events es in
+              let now = sums_on v.party refl g in
+              let all : sum_by (owned owner j g) w.events ≡ sum_by (owned owner j g) (u.events ++ es) = ap (sum_by (owned owner j g)) more in
+              omega arith);
+        }
