@@ -29,8 +29,8 @@ module _ {F : Type 0} (step : F → ℕ → CallbackProgression → F → Type 0
 
   -- A find of an owner's indices called the closure with just these, ascending, and answered how many
   -- they are. It came to all indices below the bound: to all that there are, or up to the one at which
-  -- the closure said to stop. Of those it called the closure with each that had the owner through the
-  -- whole call, and with none that never had him.
+  -- the closure said to stop. Of those it called the closure with each that had the owner at each moment
+  -- from the one history to the other, and with none that never had him there.
   pub record HasFound (capacity owner : ℕ) (f : F) (number : ℕ) (last : F)
       (old new : List (Event ℕ)) : Type 0 where
     pub indices : List ℕ

@@ -185,7 +185,9 @@ impl RobustUniqueIndexSet {
     /// Comes to the indices of `owner`, ascending, each at most once and below the capacity, and calls `visit` with
     /// each, until it says `Stop`: how many it came to, the one on which it was told to stop among them. Each of these had
     /// the owner at a moment of the call. Of the others, up to the one on which it was told to stop, or of all, each had
-    /// another owner or none at some moment of it: so it comes to each that has the owner through the whole call.
+    /// another owner or none at some moment of it: so it comes to each that has the owner through the whole call. (In the
+    /// clause the moments are those from what the pass had seen when it began to what it has seen then: no event marks the
+    /// begin of what is no call of the history.)
     ///
     /// It finds also the indices whose acquire met the lock, since they keep their owner. Each index may have been given
     /// back by the time that `visit` is called with it. It is no call of the history: it looks. At most as many atomic

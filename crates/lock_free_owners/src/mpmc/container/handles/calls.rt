@@ -49,6 +49,7 @@ impl<'a, T: Words> Handle<'a, T> {
         ensures new { IfSome result (λ h. container_in h ≡ container_in self.old) }
         ensures cut { IfSome result (λ h. HasSplit (knows self.old) (knows self.new) (knows h)) }
         ensures going { (knows self.new).going ≡ (knows self.old).going }
+        ensures keeps { KeepsState (knows self.old) (knows self.new) }
         ensures idle { IfSome result (λ h. (knows h).going ≡ None) }
         ensures none { IfNone result (knows self.new ≡ knows self.old) }
     {

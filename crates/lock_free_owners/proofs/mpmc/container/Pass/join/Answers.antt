@@ -119,3 +119,12 @@ returns-clause-all g c whole =
     subst (λ (m : Me (Unit {0}) (View g.row.T.Denot)). Looks code kinds.Container m.0.capacity m.0 c.load-2.new.seat.me.0) me c.load-2.ensures.2.0
     in
     seen.all (subst IsAll seen.share whole)
+
+pub returns-clause-keeps : goal.returns-clause-keeps
+returns-clause-keeps g c p is =
+    let code : Coding g.row.T.Denot = coding_of g.T.Words.WORDS g.T.Words.words_of g.T.Words.value_of in
+    let w = joined_view c.args.self.now.token.seated.seat.me.0 c.load.new.seat.me.0 in
+    let me : c.join_seat.new.seat.me ≡ (w, []) = search rules in
+    let seen : Looks code kinds.Container w.capacity w c.load-2.new.seat.me.0 =
+    subst (λ (m : Me (Unit {0}) (View g.row.T.Denot)). Looks code kinds.Container m.0.capacity m.0 c.load-2.new.seat.me.0) me c.load-2.ensures.2.0
+    in (seen.party ∙ is, seen.state)
