@@ -1,9 +1,9 @@
-//! Values at indices that have owners, shared between threads. A state of a container shows what stood there when it
-//! was brought up to date. A container can be locked. The indices of an owner that is dead are recovered.
+//! Values at indices that have owners, shared between threads. A state of a container shows values that were copied from
+//! it. A container can be locked. The indices of an owner that is dead are recovered.
 //!
 //! Each call but `capacity` and `is_state_of` is made with a pass of its container, which is the caller's concern. A pass
-//! knows a beginning of the container's one history, and what of it is its own doing; once it has seen the lock the calls
-//! that are made with it find the container locked.
+//! knows a beginning of the container's one history, and what of it is its own doing. Once it has seen the lock its adds
+//! answer `IsLocked`, its lengths 0 and its `is_locked` true, and its recoveries ask about nothing.
 //!
 //! Three things are the caller's concern besides, which no contract asks for: a handle is given back at most once, by
 //! its holder; no remove and no replace of a handle is begun while a replace of it is under way; and nobody acts for an

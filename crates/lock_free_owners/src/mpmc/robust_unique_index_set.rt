@@ -2,8 +2,8 @@
 //! that is dead are recovered.
 //!
 //! Each call but `capacity` is made with a pass of its set, which is the caller's concern. A pass knows a beginning of
-//! the set's one history, and what of it is its own doing; once it has seen the lock the calls that are made with it find
-//! the set locked.
+//! the set's one history, and what of it is its own doing. Once it has seen the lock its acquires answer `IsLocked`, its
+//! `borrowed_indices` 0 and its `is_locked` true, and its recoveries come to no index.
 //!
 //! Two things are the caller's concern besides, which no contract asks for: an index is given back at most once, by its
 //! holder; and nobody acts for an owner once its recovery has begun. In a history where nobody breaks them (`IsProper`,
@@ -11,7 +11,7 @@
 //! says, but an index may be handed out that somebody still uses.
 //!
 //! The generation counter of a set ends at `u64::MAX - 1`. From there on no index is handed out, and the set is locked
-//! no more.
+//! no more (so `steps` has it, and tests say; a contract only excuses then what it says of a refusal).
 ghost use Rattle.std.specs.Prelude.{◌≡◌, ◌<◌, ◌+◌, [], None};
 ghost use Rattle.std.specs.Arc.{arc_value};
 ghost use Rattle.lock_free_owners.specs.Robust.Turns.{size};

@@ -9,7 +9,7 @@ mod states;
 mod visits;
 
 /// A container with a pass of it. Its calls are those of the container, and ask for nothing but a state of it, which an
-/// `if` with `is_state_of` shows. Each thread has a handle of its own, by `split`. This project's own.
+/// `if` with `is_state_of` shows, and closures that may be called. Each thread has a handle of its own, by `split`. This project's own.
 #[derive(Drop)]
 pub struct Handle<'a, T: Words> {
     container: &'a Container<T>,
