@@ -1,5 +1,7 @@
 -- Who took out what, by one history, and what that comes to once the passes are joined.
-use Rattle.std.proofs.Common.{◌≡◌, ◌≢◌, ◌⊎◌, inl, inr, ℕ, suc, ◌+◌, ◌-◌, ◌^◌, ◌<◌, ◌≤◌, Bool, true, false, true≢false, if◌then◌else◌, List, [], ◌∷◌, ◌++◌, length, map, get_or, take, sym, refl, ap, subst, ◌∙◌, arith, append-nil, append_assoc, length-append, sum_by}
+use Rattle.std.proofs.Common.{◌≡◌, ◌≢◌, ◌⊎◌, inl, inr, ℕ, suc, ◌+◌, ◌-◌, ◌^◌, ◌<◌, ◌≤◌, Bool, true, false, true≢false}
+use Rattle.std.proofs.Common.{if◌then◌else◌, List, [], ◌∷◌, ◌++◌, length, map, get_or, take, sym, refl, ap, subst, ◌∙◌}
+use Rattle.std.proofs.Common.{arith, append-nil, append_assoc, length-append, sum_by}
 use mathlib.Core.List.{map-append}
 use Rattle.std.specs.Prelude.{Some, None, Option}
 use Rattle.std.specs.Option.{option_map}
@@ -72,18 +74,23 @@ module _ (by : List (Event ℕ) → Bool) (lasts : (xs ys : List (Event ℕ)) �
   grows zs [] ys h = in_nothing zs (taken by ys) h
   grows zs (HandedOut p x ∷ es) ys h = go (by (events_by p es)) refl (λ vs. grows vs es ys) h
     where
-      here : (us : List (Item ℕ)) → ((vs : List (Item ℕ)) → StandIn vs (taken by es) → StandIn vs (taken by (es ++ ys))) → StandIn us (x ∷ taken by es) → StandIn us (x ∷ taken by (es ++ ys))
+      here : (us : List (Item ℕ))
+          → ((vs : List (Item ℕ)) → StandIn vs (taken by es) → StandIn vs (taken by (es ++ ys)))
+          → StandIn us (x ∷ taken by es) → StandIn us (x ∷ taken by (es ++ ys))
       here [] later k = tt
       here (u ∷ us) later (inl k) = inl (k.0, later us k.1)
       here (u ∷ us) later (inr k) = inr (later (u ∷ us) k)
 
-      go : (b : Bool) → by (events_by p es) ≡ b → ((vs : List (Item ℕ)) → StandIn vs (taken by es) → StandIn vs (taken by (es ++ ys))) → StandIn zs (if b then x ∷ taken by es else taken by es) → StandIn zs (taken by (HandedOut p x ∷ (es ++ ys)))
+      go : (b : Bool) → by (events_by p es) ≡ b
+          → ((vs : List (Item ℕ)) → StandIn vs (taken by es) → StandIn vs (taken by (es ++ ys)))
+          → StandIn zs (if b then x ∷ taken by es else taken by es) → StandIn zs (taken by (HandedOut p x ∷ (es ++ ys)))
       go true t later k = (let more = next_lasts p es ys t in rw more (here zs later k))
       go false t later k = either (by (events_by p (es ++ ys))) zs x (taken by (es ++ ys)) (later zs k)
   grows zs (e ∷ es) ys h = grows zs es ys h
 
   -- one more that was taken out so stands behind them
-  one_more : (zs : List (Item ℕ)) (p : ℕ) (x : Item ℕ) (xs ys : List (Event ℕ)) → by (events_by p ys) ≡ true → StandIn zs (taken by xs) → StandIn (zs ++ x ∷ []) (taken by (xs ++ HandedOut p x ∷ ys))
+  one_more : (zs : List (Item ℕ)) (p : ℕ) (x : Item ℕ) (xs ys : List (Event ℕ)) → by (events_by p ys) ≡ true
+      → StandIn zs (taken by xs) → StandIn (zs ++ x ∷ []) (taken by (xs ++ HandedOut p x ∷ ys))
   one_more [] p x [] ys t h = rw t (inl (refl, tt))
   one_more (z ∷ zs) p x [] ys t h = absurd h
   one_more zs p x (HandedOut q y ∷ es) ys t h = go (by (events_by q es)) refl (λ vs. one_more vs p x es ys t) h
@@ -91,12 +98,17 @@ module _ (by : List (Event ℕ) → Bool) (lasts : (xs ys : List (Event ℕ)) �
       rest : List (Event ℕ)
       rest = es ++ HandedOut p x ∷ ys
 
-      here : (us : List (Item ℕ)) → ((vs : List (Item ℕ)) → StandIn vs (taken by es) → StandIn (vs ++ x ∷ []) (taken by rest)) → StandIn us (y ∷ taken by es) → StandIn (us ++ x ∷ []) (y ∷ taken by rest)
+      here : (us : List (Item ℕ))
+          → ((vs : List (Item ℕ)) → StandIn vs (taken by es) → StandIn (vs ++ x ∷ []) (taken by rest))
+          → StandIn us (y ∷ taken by es) → StandIn (us ++ x ∷ []) (y ∷ taken by rest)
       here [] later k = inr (later [] tt)
       here (u ∷ us) later (inl k) = inl (k.0, later us k.1)
       here (u ∷ us) later (inr k) = inr (later (u ∷ us) k)
 
-      go : (b : Bool) → by (events_by q es) ≡ b → ((vs : List (Item ℕ)) → StandIn vs (taken by es) → StandIn (vs ++ x ∷ []) (taken by rest)) → StandIn zs (if b then y ∷ taken by es else taken by es) → StandIn (zs ++ x ∷ []) (taken by (HandedOut q y ∷ rest))
+      go : (b : Bool) → by (events_by q es) ≡ b
+          → ((vs : List (Item ℕ)) → StandIn vs (taken by es) → StandIn (vs ++ x ∷ []) (taken by rest))
+          → StandIn zs (if b then y ∷ taken by es else taken by es)
+          → StandIn (zs ++ x ∷ []) (taken by (HandedOut q y ∷ rest))
       go true s later k = (let more = next_lasts q es (HandedOut p x ∷ ys) s in rw more (here zs later k))
       go false s later k = either (by (events_by q rest)) (zs ++ x ∷ []) y (taken by rest) (later zs k)
   one_more zs p x (e ∷ es) ys t h = one_more zs p x es ys t h
@@ -107,13 +119,21 @@ module _ (by : List (Event ℕ) → Bool) (lasts : (xs ys : List (Event ℕ)) �
       (subst (λ zs. StandIn zs (taken by (v.seen ++ begins.rest))) (sym (append-nil earlier)) (grows earlier v.seen begins.rest h))
 
   took_same : (xs : List ℕ) (v w u : View ℕ) → TookOut by xs v w → IsBeginning w.seen u.seen → TookOut by xs v u
-  took_same xs v w u k begins earlier h = subst (λ es. StandIn (earlier ++ map Index xs) (taken by es)) (sym begins.is) (grows (earlier ++ map Index xs) w.seen begins.rest (k earlier h))
+  took_same xs v w u k begins earlier h =
+      subst (λ es. StandIn (earlier ++ map Index xs) (taken by es)) (sym begins.is)
+      (grows (earlier ++ map Index xs) w.seen begins.rest (k earlier h))
 
-  took_more : (xs : List ℕ) (x p : ℕ) (v w u : View ℕ) (before after : List (Event ℕ)) → TookOut by xs v w → IsBeginning w.seen before → u.seen ≡ before ++ HandedOut p (Index x) ∷ after → by (events_by p after) ≡ true → TookOut by (xs ++ x ∷ []) v u
+  took_more : (xs : List ℕ) (x p : ℕ) (v w u : View ℕ) (before after : List (Event ℕ)) → TookOut by xs v w
+      → IsBeginning w.seen before → u.seen ≡ before ++ HandedOut p (Index x) ∷ after → by (events_by p after) ≡ true
+      → TookOut by (xs ++ x ∷ []) v u
   took_more xs x p v w u before after k begins is t earlier h =
-      let there : StandIn (earlier ++ map Index xs) (taken by before) = subst (λ es. StandIn (earlier ++ map Index xs) (taken by es)) (sym begins.is) (grows (earlier ++ map Index xs) w.seen begins.rest (k earlier h)) in
-      let more : StandIn ((earlier ++ map Index xs) ++ item x ∷ []) (taken by (before ++ HandedOut p (Index x) ∷ after)) = one_more (earlier ++ map Index xs) p (item x) before after t there in
-      let list : (earlier ++ map Index xs) ++ item x ∷ [] ≡ earlier ++ map Index (xs ++ x ∷ []) = append_assoc earlier (map Index xs) (item x ∷ []) ∙ ap (λ zs. earlier ++ zs) (sym (map-append Index xs (x ∷ []))) in
+      let there : StandIn (earlier ++ map Index xs) (taken by before) =
+      subst (λ es. StandIn (earlier ++ map Index xs) (taken by es)) (sym begins.is)
+      (grows (earlier ++ map Index xs) w.seen begins.rest (k earlier h)) in
+      let more : StandIn ((earlier ++ map Index xs) ++ item x ∷ []) (taken by (before ++ HandedOut p (Index x) ∷ after)) =
+      one_more (earlier ++ map Index xs) p (item x) before after t there in
+      let list : (earlier ++ map Index xs) ++ item x ∷ [] ≡ earlier ++ map Index (xs ++ x ∷ []) =
+      append_assoc earlier (map Index xs) (item x ∷ []) ∙ ap (λ zs. earlier ++ zs) (sym (map-append Index xs (x ∷ []))) in
       subst (λ es. StandIn (earlier ++ map Index (xs ++ x ∷ [])) (taken by es)) (sym is)
       (subst (λ zs. StandIn zs (taken by (before ++ HandedOut p (Index x) ∷ after))) list more)
 
@@ -138,14 +158,18 @@ few_taken : (es : List (Event ℕ)) → length (taken by_pop es) + length (taken
 few_taken [] = omega arith
 few_taken (HandedOut p x ∷ es) = go (by_pop (events_by p es)) (by_push (events_by p es)) refl refl (few_taken es)
   where
-    go : (a b : Bool) → by_pop (events_by p es) ≡ a → by_push (events_by p es) ≡ b → length (taken by_pop es) + length (taken by_push es) ≤ length (handed_out es) → length (if a then x ∷ taken by_pop es else taken by_pop es) + length (if b then x ∷ taken by_push es else taken by_push es) ≤ suc (length (handed_out es))
+    go : (a b : Bool) → by_pop (events_by p es) ≡ a → by_push (events_by p es) ≡ b
+        → length (taken by_pop es) + length (taken by_push es) ≤ length (handed_out es)
+        → length (if a then x ∷ taken by_pop es else taken by_pop es) + length (if b then x ∷ taken by_push es else taken by_push es)
+        ≤ suc (length (handed_out es))
     go true true s t few = absurd (true≢false (sym t ∙ one_of_two (events_by p es) s))
     go true false s t few = omega arith
     go false true s t few = omega arith
     go false false s t few = omega arith
 few_taken (e ∷ es) = few_taken es
 
-merged : (es : List (Event ℕ)) → length (taken by_pop es) + length (taken by_push es) ≡ length (handed_out es) → Merges (taken by_pop es) (taken by_push es) (handed_out es)
+merged : (es : List (Event ℕ)) → length (taken by_pop es) + length (taken by_push es) ≡ length (handed_out es)
+    → Merges (taken by_pop es) (taken by_push es) (handed_out es)
 merged [] e = (refl, refl)
 merged (HandedOut p x ∷ es) e = go (by_pop (events_by p es)) (by_push (events_by p es)) refl refl (few_taken es) (λ k. merged es k) e
   where
@@ -155,7 +179,9 @@ merged (HandedOut p x ∷ es) e = go (by_pop (events_by p es)) (by_push (events_
     pushes : List (Item ℕ)
     pushes = taken by_push es
 
-    go : (a b : Bool) → by_pop (events_by p es) ≡ a → by_push (events_by p es) ≡ b → length pops + length pushes ≤ length (handed_out es) → (length pops + length pushes ≡ length (handed_out es) → Merges pops pushes (handed_out es))
+    go : (a b : Bool) → by_pop (events_by p es) ≡ a → by_push (events_by p es) ≡ b
+        → length pops + length pushes ≤ length (handed_out es)
+        → (length pops + length pushes ≡ length (handed_out es) → Merges pops pushes (handed_out es))
         → length (if a then x ∷ pops else pops) + length (if b then x ∷ pushes else pushes) ≡ suc (length (handed_out es))
         → Merges (if a then x ∷ pops else pops) (if b then x ∷ pushes else pushes) (x ∷ handed_out es)
     go true true s t few later k = absurd (true≢false (sym t ∙ one_of_two (events_by p es) s))
@@ -198,7 +224,14 @@ pop_wrote xs x v w u k h =
     took_more by_pop pop_lasts xs x p v w u at.before at.after k at.since at.is (ap by_pop at.mine)
 
 pub takes_none : (c : ℕ) (role : Role) (v w : View ℕ) → GoesOn c v w → HasAcquired role true v w → HasTaken [] v w
-takes_none c role v w goes h = record { since = goes.since; popped = took_none by_pop pop_lasts v w goes.since; done = done_acquired v w role true h; share = goes.share; all = λ none. goes.all }
+takes_none c role v w goes h =
+    record {
+      since = goes.since;
+      popped = took_none by_pop pop_lasts v w goes.since;
+      done = done_acquired v w role true h;
+      share = goes.share;
+      all = λ none. goes.all;
+    }
 
 pub takes_one : (c : ℕ) (xs : List ℕ) (x : ℕ) (v w u : View ℕ) → HasTaken xs v w → GoesOn c w u → HasPopped (Some (Index x)) w u → HasTaken (xs ++ x ∷ []) v u
 takes_one c xs x v w u k goes h =
@@ -211,10 +244,21 @@ takes_one c xs x v w u k goes h =
     }
 
 same_done : (a b : ℕ) (v w u : View ℕ) → HasDone a b v w → HasDone 0 0 w u → HasDone a b v u
-same_done a b v w u x y = record { puts_more = (let p = x.puts_more in let q = y.puts_more in omega arith); gets_more = (let p = x.gets_more in let q = y.gets_more in omega arith) }
+same_done a b v w u x y =
+    record {
+      puts_more = (let p = x.puts_more in let q = y.puts_more in omega arith);
+      gets_more = (let p = x.gets_more in let q = y.gets_more in omega arith);
+    }
 
 takes_same : (c : ℕ) (xs : List ℕ) (v w u : View ℕ) → HasTaken xs v w → GoesOn c w u → HasDone 0 0 w u → HasTaken xs v u
-takes_same c xs v w u k goes done = record { since = begins_on k.since goes.since; popped = took_same by_pop pop_lasts xs v w u k.popped goes.since; done = same_done 0 (length xs) v w u k.done done; share = goes.share ∙ k.share; all = λ none. goes.all }
+takes_same c xs v w u k goes done =
+    record {
+      since = begins_on k.since goes.since;
+      popped = took_same by_pop pop_lasts xs v w u k.popped goes.since;
+      done = same_done 0 (length xs) v w u k.done done;
+      share = goes.share ∙ k.share;
+      all = λ none. goes.all;
+    }
 
 pub takes_nothing : (c : ℕ) (xs : List ℕ) (v w u : View ℕ) → HasTaken xs v w → GoesOn c w u → HasPopped None w u → HasTaken xs v u
 takes_nothing c xs v w u k goes h = takes_same c xs v w u k goes (done_none w u h)
@@ -223,9 +267,17 @@ pub takes_all : (c : ℕ) (xs : List ℕ) (role : Role) (v w u : View ℕ) → H
 takes_all c xs role v w u k goes h = takes_same c xs v w u k goes (done_released w u role h)
 
 pub takes_here : (v : View ℕ) → HasTaken [] v v
-takes_here v = record { since = record { rest = []; is = sym (append-nil v.seen) }; popped = took_none by_pop pop_lasts v v (record { rest = []; is = sym (append-nil v.seen) }); done = record { puts_more = omega arith; gets_more = omega arith }; share = refl; all = λ none. none }
+takes_here v =
+    record {
+      since = record { rest = []; is = sym (append-nil v.seen) };
+      popped = took_none by_pop pop_lasts v v (record { rest = []; is = sym (append-nil v.seen) });
+      done = record { puts_more = omega arith; gets_more = omega arith };
+      share = refl;
+      all = λ none. none;
+    }
 
-pub drained : (c : ℕ) (old new more : List ℕ) (v w u : View ℕ) → new ≡ old ++ more → HasTaken more v w → GoesOn c w u → HasPopped None w u → HasDrained old new v u
+pub drained : (c : ℕ) (old new more : List ℕ) (v w u : View ℕ) → new ≡ old ++ more → HasTaken more v w
+    → GoesOn c w u → HasPopped None w u → HasDrained old new v u
 drained c old new more v w u is k goes h =
     record {
       more = more;
@@ -236,7 +288,8 @@ drained c old new more v w u is k goes h =
 
 -- ---- pushes
 
-push_wrote : (back : List ℕ) (value oldest : ℕ) (v w u : View ℕ) → TookOut by_push back v w → HasOverflowed value (Some oldest) w u → TookOut by_push (back ++ oldest ∷ []) v u
+push_wrote : (back : List ℕ) (value oldest : ℕ) (v w u : View ℕ) → TookOut by_push back v w
+    → HasOverflowed value (Some oldest) w u → TookOut by_push (back ++ oldest ∷ []) v u
 push_wrote back value oldest v w u k h =
     let p = h.by in
     let act : Event ℕ = Acted p (Queues (PushIndex value)) (PoppedIndex oldest) in
@@ -244,9 +297,16 @@ push_wrote back value oldest v w u k h =
     let at = first_wrote p (Queues (PushIndex value)) (PoppedIndex oldest) (Published p (Index value)) (HandedOut p (Index oldest) ∷ act ∷ []) w u h.called in
     let part = find_own p at.after (act ∷ last ∷ []) (HandedOut p (Index oldest)) at.mine in
     let before : List (Event ℕ) = at.before ++ Published p (Index value) ∷ part.0 in
-    let is : u.seen ≡ before ++ HandedOut p (Index oldest) ∷ part.1 = at.is ∙ (ap (λ es. at.before ++ Published p (Index value) ∷ es) part.2 ∙ sym (append_assoc at.before (Published p (Index value) ∷ part.0) (HandedOut p (Index oldest) ∷ part.1))) in
+    let is : u.seen ≡ before ++ HandedOut p (Index oldest) ∷ part.1 =
+    at.is ∙ (ap (λ es. at.before ++ Published p (Index value) ∷ es) part.2
+    ∙ sym (append_assoc at.before (Published p (Index value) ∷ part.0) (HandedOut p (Index oldest) ∷ part.1))) in
     let since : IsBeginning w.seen before =
-    record { rest = at.since.rest ++ Published p (Index value) ∷ part.0; is = ap (λ es. es ++ Published p (Index value) ∷ part.0) at.since.is ∙ append_assoc w.seen at.since.rest (Published p (Index value) ∷ part.0) } in
+    record {
+      rest = at.since.rest ++ Published p (Index value) ∷ part.0;
+      is =
+          ap (λ es. es ++ Published p (Index value) ∷ part.0) at.since.is
+          ∙ append_assoc w.seen at.since.rest (Published p (Index value) ∷ part.0);
+    } in
     took_more by_push push_lasts back oldest p v w u before part.1 k since is (ap by_push part.4)
 
 -- what was published stays so
@@ -258,7 +318,8 @@ seen_later v w begins =
     let both = sum_by-append puts v.seen begins.rest in
     omega arith
 
-counted_as : (xs : List ℕ) (put got put' got' : ℕ) (v w : View ℕ) → put ≡ put' → got ≡ got' → HasAdded publishes xs put got v w → HasAdded publishes xs put' got' v w
+counted_as : (xs : List ℕ) (put got put' got' : ℕ) (v w : View ℕ) → put ≡ put' → got ≡ got'
+    → HasAdded publishes xs put got v w → HasAdded publishes xs put' got' v w
 counted_as xs put got put' got' v w p q k = subst (λ (t : ℕ × ℕ). HasAdded publishes xs t.0 t.1 v w) (λ i. (p i, q i)) k
 
 pub pushed_none : (c : ℕ) (all : List ℕ) (role : Role) (v w : View ℕ) → GoesOn c v w → HasAcquired role true v w → HasPushedUpTo (take 0 all) [] v w
@@ -285,7 +346,10 @@ module _ (c : ℕ) (some : 0 < c) (xs back : List ℕ) (x : ℕ) (v w u : View �
         share = goes.share ∙ k.share;
         all = λ under. (let was = earlier under in
             record {
-              added = counted_as (xs ++ x ∷ []) (length xs + 1) (length back + 0) (length (xs ++ x ∷ [])) (length back) v u (sym long) (omega arith) (added_more publishes xs (length xs) (length back) v w u was.added goes.share x 1 0 done p.list);
+              added =
+                  counted_as (xs ++ x ∷ []) (length xs + 1) (length back + 0) (length (xs ++ x ∷ [])) (length back) v u
+                  (sym long) (omega arith)
+                  (added_more publishes xs (length xs) (length back) v w u was.added goes.share x 1 0 done p.list);
               returned = took_same by_push push_lasts back v w u was.returned goes.since;
             });
       }
@@ -298,7 +362,10 @@ module _ (c : ℕ) (some : 0 < c) (xs back : List ℕ) (x : ℕ) (v w u : View �
         share = goes.share ∙ k.share;
         all = λ under. (let was = earlier under in
             record {
-              added = counted_as (xs ++ x ∷ []) (length xs + 1) (length back + 1) (length (xs ++ x ∷ [])) (length (back ++ oldest ∷ [])) v u (sym long) (sym (length-append back (oldest ∷ []))) (added_more publishes xs (length xs) (length back) v w u was.added goes.share x 1 1 done p.list);
+              added =
+                  counted_as (xs ++ x ∷ []) (length xs + 1) (length back + 1) (length (xs ++ x ∷ []))
+                  (length (back ++ oldest ∷ [])) v u (sym long) (sym (length-append back (oldest ∷ [])))
+                  (added_more publishes xs (length xs) (length back) v w u was.added goes.share x 1 1 done p.list);
               returned = push_wrote back x oldest v w u was.returned h;
             });
       }
@@ -317,22 +384,37 @@ module _ (c : ℕ) (some : 0 < c) (xs back : List ℕ) (x : ℕ) (v w u : View �
   adds (inl h) p = pushes_one h p
   adds (inr h) p = took_none_there back h.1
 
-  pub returns_one : {Taken : Type 0} (y : ℕ) → HasOverflowed x (Some y) w u ⊎ (Some y ≡ Some x) × TookNone c w u → HasPublished (Index x) w u × Taken ⊎ (y ≡ x) × TookNone c w u → HasPushedUpTo (xs ++ x ∷ []) (back ++ y ∷ []) v u
+  pub returns_one : {Taken : Type 0} (y : ℕ) → HasOverflowed x (Some y) w u ⊎ (Some y ≡ Some x) × TookNone c w u
+      → HasPublished (Index x) w u × Taken ⊎ (y ≡ x) × TookNone c w u
+      → HasPushedUpTo (xs ++ x ∷ []) (back ++ y ∷ []) v u
   returns_one y (inl h) (inl p) = replaces_one y h p.0
   returns_one y (inl h) (inr p) = took_none_there (back ++ y ∷ []) p.1
   returns_one y (inr h) p = took_none_there (back ++ y ∷ []) h.1
 
-module _ (c : ℕ) (some : 0 < c) (all : List ℕ) (n x : ℕ) (back : List ℕ) (v w u : View ℕ) (lt : n < length all) (is : x ≡ get_or all n 0) (k : HasPushedUpTo (take n all) back v w) (goes : GoesOn c w u) where
+module _ (c : ℕ) (some : 0 < c) (all : List ℕ) (n x : ℕ) (back : List ℕ) (v w u : View ℕ) (lt : n < length all)
+    (is : x ≡ get_or all n 0) (k : HasPushedUpTo (take n all) back v w) (goes : GoesOn c w u) where
   longer : take n all ++ x ∷ [] ≡ take (n + 1) all
   longer = ap (λ z. take n all ++ z ∷ []) is ∙ sym (take_more all n 0 lt)
 
-  pub pushes_next : (answer : Option ℕ) → answer ≡ None → HasOverflowed x answer w u ⊎ (answer ≡ Some x) × TookNone c w u → HasPublished (Index x) w u → HasPushedUpTo (take (n + 1) all) back v u
-  pushes_next answer none called p = subst (λ xs. HasPushedUpTo xs back v u) longer (adds c some (take n all) back x v w u k goes (subst (λ o. HasOverflowed x o w u ⊎ (o ≡ Some x) × TookNone c w u) none called) p)
+  pub pushes_next : (answer : Option ℕ) → answer ≡ None
+      → HasOverflowed x answer w u ⊎ (answer ≡ Some x) × TookNone c w u → HasPublished (Index x) w u
+      → HasPushedUpTo (take (n + 1) all) back v u
+  pushes_next answer none called p =
+      subst (λ xs. HasPushedUpTo xs back v u) longer
+      (adds c some (take n all) back x v w u k goes (subst (λ o. HasOverflowed x o w u ⊎ (o ≡ Some x) × TookNone c w u) none called) p)
 
-  pub returns_next : {Taken : Type 0} (answer : Option ℕ) (y : ℕ) → answer ≡ Some y → HasOverflowed x answer w u ⊎ (answer ≡ Some x) × TookNone c w u → HasPublished (Index x) w u × Taken ⊎ (y ≡ x) × TookNone c w u → HasPushedUpTo (take (n + 1) all) (back ++ y ∷ []) v u
-  returns_next answer y one called p = subst (λ xs. HasPushedUpTo xs (back ++ y ∷ []) v u) longer (returns_one c some (take n all) back x v w u k goes y (subst (λ o. HasOverflowed x o w u ⊎ (o ≡ Some x) × TookNone c w u) one called) p)
+  pub returns_next : {Taken : Type 0} (answer : Option ℕ) (y : ℕ) → answer ≡ Some y
+      → HasOverflowed x answer w u ⊎ (answer ≡ Some x) × TookNone c w u
+      → HasPublished (Index x) w u × Taken ⊎ (y ≡ x) × TookNone c w u
+      → HasPushedUpTo (take (n + 1) all) (back ++ y ∷ []) v u
+  returns_next answer y one called p =
+      subst (λ xs. HasPushedUpTo xs (back ++ y ∷ []) v u) longer
+      (returns_one c some (take n all) back x v w u k goes y
+      (subst (λ o. HasOverflowed x o w u ⊎ (o ≡ Some x) × TookNone c w u) one called) p)
 
-pub pushed_all : (c : ℕ) (all : List ℕ) (n : ℕ) (back : List ℕ) (role : Role) (v w u : View ℕ) → length all ≤ n → HasPushedUpTo (take n all) back v w → GoesOn c w u → HasReleased role w u → published u.seen ≡ published w.seen → HasPushedUpTo all back v u
+pub pushed_all : (c : ℕ) (all : List ℕ) (n : ℕ) (back : List ℕ) (role : Role) (v w u : View ℕ) → length all ≤ n
+    → HasPushedUpTo (take n all) back v w → GoesOn c w u → HasReleased role w u → published u.seen ≡ published w.seen
+    → HasPushedUpTo all back v u
 pushed_all c all n back role v w u past k goes h is =
     let done = done_released w u role h in
     subst (λ xs. HasPushedUpTo xs back v u) (take_all n all past)
@@ -348,7 +430,10 @@ pushed_all c all n back role v w u past k goes h is =
 
 -- ---- both joined, and what waited is popped
 
-module _ (d n : ℕ) (role : Role) (all back came new : List ℕ) (v left right a b z k u : View ℕ) (fits : length all < 2 ^ 64 - 1) (opens : v ≡ first_view n) (cut : HasSplit v left right) (s : HasPushedUpTo all back left a) (r : HasTaken came right b) (h : HasJoined a b z) (none : MissesNothing z) (goes : GoesOn d z k) (acquired : HasAcquired role true z k) (drain : HasDrained came new k u) where
+module _ (d n : ℕ) (role : Role) (all back came new : List ℕ) (v left right a b z k u : View ℕ)
+    (fits : length all < 2 ^ 64 - 1) (opens : v ≡ first_view n) (cut : HasSplit v left right)
+    (s : HasPushedUpTo all back left a) (r : HasTaken came right b) (h : HasJoined a b z) (none : MissesNothing z)
+    (goes : GoesOn d z k) (acquired : HasAcquired role true z k) (drain : HasDrained came new k u) where
   whole : IsAll k.share
   whole =
       let start : v.share ≡ all_shares = ap (λ (t : View ℕ). t.share) opens in
@@ -386,7 +471,9 @@ module _ (d n : ℕ) (role : Role) (all back came new : List ℕ) (v left right 
   pushed = s.all (let low = seen_later a u since in let size = counted.0 in let few = s.few in let one = puts_all in let start = mine in omega arith)
 
   all_published : published u.seen ≡ map Index all
-  all_published = only_these publishes all (length all) (length back) left a u.seen (ap published fresh_left) pushed.added since (let size = counted.0 in let one = puts_all in let start = mine in let put = pushed.added.done.puts_more in omega arith)
+  all_published =
+      only_these publishes all (length all) (length back) left a u.seen (ap published fresh_left) pushed.added since
+      (let size = counted.0 in let one = puts_all in let start = mine in let put = pushed.added.done.puts_more in omega arith)
 
   emptied : handed_out u.seen ≡ published u.seen
   emptied = drain.emptied whole goes.all
@@ -405,26 +492,57 @@ module _ (d n : ℕ) (role : Role) (all back came new : List ℕ) (v left right 
 
   -- what each had stands in what its calls took out
   in_pushes : StandIn (map Index back) (taken by_push u.seen)
-  in_pushes = subst (λ es. StandIn (map Index back) (taken by_push es)) (sym since.is) (grows by_push push_lasts (map Index back) a.seen since.rest (pushed.returned [] tt))
+  in_pushes =
+      subst (λ es. StandIn (map Index back) (taken by_push es)) (sym since.is)
+      (grows by_push push_lasts (map Index back) a.seen since.rest (pushed.returned [] tt))
 
   in_pops : StandIn (map Index came ++ map Index drain.more) (taken by_pop u.seen)
   in_pops =
       let on = begins_on h.others goes.since in
-      drain.popped.popped (map Index came) (subst (λ es. StandIn (map Index came) (taken by_pop es)) (sym on.is) (grows by_pop pop_lasts (map Index came) b.seen on.rest (r.popped [] tt)))
+      drain.popped.popped (map Index came)
+      (subst (λ es. StandIn (map Index came) (taken by_pop es)) (sym on.is)
+      (grows by_pop pop_lasts (map Index came) b.seen on.rest (r.popped [] tt)))
 
-  sizes : (length (map {B = Item ℕ} Index back) ≡ length back) × (length (map {B = Item ℕ} Index came ++ map Index drain.more) ≡ length came + length drain.more)
-  sizes = (same_length back, (let e = length-append (map {B = Item ℕ} Index came) (map Index drain.more) in let x = same_length came in let y = same_length drain.more in omega arith))
+  sizes : (length (map {B = Item ℕ} Index back) ≡ length back)
+      × (length (map {B = Item ℕ} Index came ++ map Index drain.more) ≡ length came + length drain.more)
+  sizes = (
+    same_length back,
+    (let e = length-append (map {B = Item ℕ} Index came) (map Index drain.more) in
+        let x = same_length came in
+        let y = same_length drain.more in
+        omega arith),
+  )
 
   all_pushes : map Index back ≡ taken by_push u.seen
-  all_pushes = same_list (map Index back) (taken by_push u.seen) in_pushes (let x = sizes.0 in let y = sizes.1 in let low = no_longer _ _ in_pops in let few = few_taken u.seen in let all = gets_all in omega arith)
+  all_pushes =
+      same_list (map Index back) (taken by_push u.seen) in_pushes
+      (let x = sizes.0 in
+      let y = sizes.1 in
+      let low = no_longer _ _ in_pops in
+      let few = few_taken u.seen in
+      let all = gets_all in
+      omega arith)
 
   all_pops : map Index came ++ map Index drain.more ≡ taken by_pop u.seen
-  all_pops = same_list (map Index came ++ map Index drain.more) (taken by_pop u.seen) in_pops (let x = sizes.0 in let y = sizes.1 in let low = no_longer _ _ in_pushes in let few = few_taken u.seen in let all = gets_all in omega arith)
+  all_pops =
+      same_list (map Index came ++ map Index drain.more) (taken by_pop u.seen) in_pops
+      (let x = sizes.0 in
+      let y = sizes.1 in
+      let low = no_longer _ _ in_pushes in
+      let few = few_taken u.seen in
+      let all = gets_all in
+      omega arith)
 
   -- so what was pushed is a merge of both
   pub overflowed : Merges new back all
   overflowed =
-      let both = merged u.seen (let x = sizes.0 in let y = sizes.1 in let p = ap length all_pops in let q = ap length all_pushes in let all = gets_all in omega arith) in
+      let both =
+      merged u.seen (let x = sizes.0 in
+      let y = sizes.1 in
+      let p = ap length all_pops in
+      let q = ap length all_pushes in
+      let all = gets_all in
+      omega arith) in
       let pops : taken by_pop u.seen ≡ map item new = sym all_pops ∙ (sym (map-append Index came drain.more) ∙ ap (map item) (sym drain.numbers)) in
       numbers_merge new back all
       (subst (λ zs. Merges (map item new) (map item back) zs) (emptied ∙ all_published)
