@@ -33,7 +33,8 @@ use Rattle.history.specs.Stages.{Calling, Starts, rows_as}
 use Rattle.history.specs.Views.{first_view}
 use Rattle.history.proofs.Reached.{reached_as_opening, fresh_as_opening}
 use Rattle.history.proofs.Calls.{call_then, stateless_none}
-use Rattle.history.proofs.Known.{known_alone, by_mine, AreOf}
+use Rattle.history.proofs.Known.{by_mine, AreOf}
+use Rattle.history.proofs.AllSeen.{known_alone}
 use Rattle.history.proofs.Steps.{settle}
 use Rattle.history.proofs.Turns.{KeptLaws, MachineLaws, kept_laws, goes_on_alike, Between, begun, begun_at, gone, goes_to, told, own_told}
 

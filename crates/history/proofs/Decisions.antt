@@ -34,7 +34,8 @@ use Rattle.history.proofs.Calls.{stands, flight_is}
 use Rattle.history.proofs.Turns.{KeptLaws, Between, heard, decided, decided_at, made_between}
 use Rattle.history.proofs.Steps.{view_after, settle}
 use Rattle.history.proofs.CallsIn.{by_bool, goes, AsksFor, StepsOf, StepsThere, ActsAlone, written_alone, steps_alone}
-use Rattle.history.proofs.CallTurns.{still_stands, Ready, ready, Told_by, since_turn}
+use Rattle.history.proofs.CallTurns.{since_turn}
+use Rattle.history.proofs.CallReady.{still_stands, Ready, ready, Told_by}
 use Rattle.history.proofs.Drives.{ToldOver, keeps_at, next_ended}
 
 -- A call that may put questions. It begins with none, and puts none right after another.

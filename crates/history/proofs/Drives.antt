@@ -30,9 +30,11 @@ use Rattle.history.proofs.Known.{by_mine, late_none, AreOf}
 use Rattle.history.proofs.Calls.{get_left}
 use Rattle.history.proofs.Turns.{KindLaws, KeptLaws, MachineLaws, kept_laws, goes_on_alike, machine_laws, Between}
 use Rattle.history.proofs.Steps.{settle}
-use Rattle.history.proofs.Passes.{set_same, looks_at}
+use Rattle.history.proofs.Passes.{set_same}
+use Rattle.history.proofs.PassLooks.{looks_at}
 use Rattle.history.proofs.CallsIn.{by_bool, AsksFor, StepsIn, StepsThere, IsCallThere, ActsAlone, steps_alone, with_goes}
-use Rattle.history.proofs.CallTurns.{same_capacity, some_share, still_stands, Ready, ready, then_gained, next_between, view_then, goes_then, ends_then}
+use Rattle.history.proofs.CallTurns.{then_gained, next_between, view_then, goes_then, ends_then}
+use Rattle.history.proofs.CallReady.{same_capacity, some_share, still_stands, Ready, ready}
 pub use Rattle.history.proofs.CallsIn.{goes, IsCallOf, Met, IsCallIn, in_machine, NeverPushes}
 pub use Rattle.history.proofs.Called.{called, at_itself}
 pub use Rattle.history.proofs.Sized.{AtSized, EndsSized, keeps_sized}

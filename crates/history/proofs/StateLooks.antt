@@ -47,7 +47,8 @@ use Rattle.history.specs.Known.{events_by}
 use Rattle.history.specs.Stages.{Calling, At}
 use Rattle.history.proofs.Calls.{stands, no_flight}
 use Rattle.history.proofs.CallsIn.{AsksFor, goes}
-use Rattle.history.proofs.CallTurns.{same_capacity, some_share, still_stands, Ready, ready, then_trace, then_gained}
+use Rattle.history.proofs.CallTurns.{then_trace, then_gained}
+use Rattle.history.proofs.CallReady.{same_capacity, some_share, still_stands, Ready, ready}
 use Rattle.history.proofs.CallTurns.{next_between, comes_now, kept_now, view_then, goes_then, ends_then}
 use Rattle.history.proofs.ContainerLooks.{look_words, look_found, LookGoes, looks_so, look_goes_so, look_keeps_so, look_writes_so}
 use Rattle.history.proofs.Containers.{container_effects, effects_of_party, container_words, containers_owe, kept_there}

@@ -14,7 +14,8 @@ use Rattle.model.specs.World.{Trace}
 use Rattle.history.specs.declared.view.View.{View}
 use Rattle.history.specs.History.{IsBeginning, IsMachine, Fits, call_in}
 use Rattle.history.specs.Known.{events_by}
-use Rattle.history.proofs.Known.{within, known_step, none_late}
+use Rattle.history.proofs.Known.{within, none_late}
+use Rattle.history.proofs.AllSeen.{known_step}
 use Rattle.history.proofs.Turns.{Between}
 
 module _ {T : Type 0} (code : Coding T) (kind : Kind) (capacity id p : ℕ) where

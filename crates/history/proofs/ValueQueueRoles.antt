@@ -22,7 +22,7 @@ use Rattle.history.proofs.AnyRoles.{wider, acquire_first_on, release_first_on, l
 use Rattle.history.proofs.Drives.{keeps_all, keeps_sized}
 use Rattle.history.specs.Views.{first_view}
 use Rattle.history.proofs.Passes.{opens}
-use Rattle.history.proofs.QueueCalls.{acquire_is_call, release_is_call, len_is_call}
+use Rattle.history.proofs.QueueRoles.{acquire_is_call, release_is_call, len_is_call}
 use Rattle.history.proofs.Queues.{queue_effects, values_owe}
 
 module _ {T : Type 0} (code : Coding T) (law : IsCoding code) where

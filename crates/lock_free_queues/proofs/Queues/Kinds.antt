@@ -24,7 +24,7 @@ use Rattle.history.specs.Stages.{Calling, At, Ends}
 use Rattle.history.specs.Views.{WhenIdle}
 use Rattle.history.proofs.OverflowRoles.{over_acquire_keeps, over_release_keeps, over_lens_keep}
 use Rattle.history.proofs.Overflows.{overflow_owes}
-use Rattle.history.proofs.QueueCalls.{acquire_keeps, release_keeps, lens_keep}
+use Rattle.history.proofs.QueueRoles.{acquire_keeps, release_keeps, lens_keep}
 use Rattle.history.proofs.Queues.{index_owes, values_owe}
 use Rattle.history.proofs.ValueQueueRoles.{value_acquire_keeps, value_release_keeps, value_lens_keep}
 use Rattle.lock_free_queues.specs.Queues.Kinds.{words_in_cells, opened_by}

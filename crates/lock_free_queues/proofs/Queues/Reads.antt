@@ -15,7 +15,7 @@ use Rattle.queue_laws.proofs.Queues.Invariant.{machine_kind}
 use Rattle.history.specs.declared.view.View.{View}
 use Rattle.history.specs.History.{IsBeginning, IsMachine, IsRun}
 use Rattle.history.specs.Views.{Looks, LooksAt}
-use Rattle.history.proofs.Passes.{looks_word}
+use Rattle.history.proofs.PassLooks.{looks_word}
 use Rattle.lock_free_queues.specs.Queues.Kinds.{words_in_cells}
 use Rattle.lock_free_queues.specs.Queues.Told.{HasLooked}
 use Rattle.lock_free_queues.proofs.Queues.Kinds.{told_idle, words_long}

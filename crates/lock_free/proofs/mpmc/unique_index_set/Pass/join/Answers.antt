@@ -7,7 +7,8 @@ use Rattle.history.specs.declared.view.View.{View}
 use Rattle.history.specs.History.{IsMachine}
 use Rattle.history.specs.Views.{joined_view, Looks}
 use Rattle.lock_free_sp.proofs.Shares.{positive}
-use Rattle.history.proofs.Passes.{joins, looks}
+use Rattle.history.proofs.Passes.{joins}
+use Rattle.history.proofs.PassLooks.{looks}
 use Rattle.lock_free.specs.Unique.Held.{IsDone}
 use Rattle.lock_free.proofs.Unique.Facts.{apart, sound}
 use Rattle.lock_free.proofs.Unique.Whole.{joined_done}
