@@ -4,7 +4,7 @@ use Rattle.std.specs.Option.{option_map}
 use Rattle.lock_free.specs.Queues.Item.TheVariants.{Index}
 use Rattle.lock_free.specs.Queues.Overflowing.{consumer_view, consumer_queue, QueueId}
 use Rattle.lock_free.specs.Queues.Told.{HasPopped}
-use Rattle.clients.proofs.Merging.{takes_here, takes_one, drained}
+use Rattle.clients.proofs.TakenOut.{takes_here, takes_one, drained}
 use Rattle.clients.proofs.relay_overflow.drain.Goals as goal
 
 pub loop-init : goal.loop-init

@@ -7,7 +7,7 @@ use Rattle.lock_free.specs.Queues.Overflowing.{view, consumer_view, consumer_que
 use Rattle.lock_free.specs.Queues.Role.TheVariants as roles
 use Rattle.lock_free.specs.Queues.Told.{HasPopped}
 use Rattle.clients.specs.Overflow.{HasTaken}
-use Rattle.clients.proofs.Merging.{takes_none, takes_one, takes_nothing, takes_all}
+use Rattle.clients.proofs.TakenOut.{takes_none, takes_one, takes_nothing, takes_all}
 use Rattle.clients.proofs.relay_overflow.pop_some.Goals as goal
 
 pub loop-init : goal.loop-init

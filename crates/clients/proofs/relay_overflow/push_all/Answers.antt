@@ -4,7 +4,7 @@ use Rattle.std.proofs.lemmas.Result.{IfOk-at_ok}
 use Rattle.lock_free.specs.Queues.Overflowing.{view, producer_view, producer_queue, QueueId}
 use Rattle.lock_free.specs.Queues.Role.TheVariants as roles
 use Rattle.clients.specs.Overflow.{HasPushedUpTo}
-use Rattle.clients.proofs.Merging.{pushed_none, pushes_next, returns_next, pushed_all}
+use Rattle.clients.proofs.TakenOut.{pushed_none, pushes_next, returns_next, pushed_all}
 use Rattle.clients.proofs.relay_overflow.push_all.Goals as goal
 
 pub loop-next-init : goal.loop-next-init
