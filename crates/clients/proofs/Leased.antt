@@ -1,5 +1,6 @@
 -- Where all that was made is known, and no lease has ended, no index was leased twice.
-use Rattle.std.proofs.Common.{◌≡◌, ◌≢◌, ⊎_elim, ℕ, ◌+◌, ◌≤◌, ◌==◌, true, false, Option, Some, None, Ok, List, [], ◌∷◌, ◌++◌, fold, refl, sym, ap, subst, ◌∙◌, append_assoc, arith, sum_by}
+use Rattle.std.proofs.Common.{◌≡◌, ◌≢◌, ⊎_elim, ℕ, ◌+◌, ◌≤◌, ◌==◌, true, false, Option, Some, None, Ok, List, [], ◌∷◌}
+use Rattle.std.proofs.Common.{◌++◌, fold, refl, sym, ap, subst, ◌∙◌, append_assoc, arith, sum_by}
 use Rattle.std.specs.List.{All, AllPairs}
 use Rattle.std.proofs.lemmas.Bool.{cases_eq}
 use Rattle.std.proofs.lemmas.Bool.Decides.{nat_tests}
@@ -142,7 +143,8 @@ module _ (i : ℕ) where
       let b = sum_by-cons (grants i) e es in
       let longer : (before ++ e ∷ []) ++ es ≡ before ++ e ∷ es = append_assoc before (e ∷ []) es in
       let here = holds_on before e (omega arith) (each before es e refl) in
-      let next : held (holder_of i (before ++ e ∷ [])) ≡ held (holder_after i (holder_of i before) e) = ap held (fold-append (holder_after i) None before (e ∷ [])) in
+      let next : held (holder_of i (before ++ e ∷ [])) ≡ held (holder_after i (holder_of i before) e) =
+      ap held (fold-append (holder_after i) None before (e ∷ [])) in
       let rest = at_most_once (before ++ e ∷ []) es (omega arith) (subst (Each HoldsRight) (sym longer) each) in
       omega arith
 

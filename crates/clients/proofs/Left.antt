@@ -27,7 +27,9 @@ waits x (y ∷ ys) e =
     let there : y ≡ 2 = cc in
     (here, ap (λ z. z ∷ ys) there ∙ ap (λ zs. 2 ∷ zs) (none_more ys rest))
 
-pub left : (c n : ℕ) (v left right a b z : View ℕ) (x : ℕ) (q : Bounded ℕ) → v ≡ first_view n → HasSplit v left right → HasSent (1 ∷ 2 ∷ []) left a → HasReceived (x ∷ []) right b → HasJoined a b z → HasHistory c z → MissesNothing z → Closes Index n z q
+pub left : (c n : ℕ) (v left right a b z : View ℕ) (x : ℕ) (q : Bounded ℕ) → v ≡ first_view n
+    → HasSplit v left right → HasSent (1 ∷ 2 ∷ []) left a → HasReceived (x ∷ []) right b → HasJoined a b z
+    → HasHistory c z → MissesNothing z → Closes Index n z q
     → (x ≡ 1) × (front q ≡ Some 2) × (front (popped q) ≡ None)
 left c n v l r a b z x q opens cut s t h history none closed =
     let all = whole c n (1 ∷ 2 ∷ []) (x ∷ []) v l r a b z opens cut s t h history none in

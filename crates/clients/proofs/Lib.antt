@@ -1,6 +1,7 @@
 mod Halves
 mod Leased
 pub mod Left
+mod TakenOut
 mod Merging
 pub mod Rings
 pub mod Rows

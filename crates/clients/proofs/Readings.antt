@@ -1,5 +1,6 @@
 -- Values that were stored and seen, and what is known of them once the passes are joined.
-use Rattle.std.proofs.Common.{◌≡◌, ℕ, suc, true, ◌+◌, ◌<◌, ◌≤◌, List, [], ◌∷◌, ◌++◌, length, get_or, take, sym, refl, ap, subst, ◌∙◌, arith, append-nil, append_assoc, length-append, sum_by}
+use Rattle.std.proofs.Common.{◌≡◌, ℕ, suc, true, ◌+◌, ◌<◌, ◌≤◌, List, [], ◌∷◌, ◌++◌, length, get_or, take, sym, refl}
+use Rattle.std.proofs.Common.{ap, subst, ◌∙◌, arith, append-nil, append_assoc, length-append, sum_by}
 use Rattle.std.specs.List.{All, Contains}
 use Rattle.std.proofs.lemmas.List.{take_more, take_all, get_or_append_left, get_or_push}
 use Rattle.std.proofs.lemmas.List.Concat.{flat_map-append}
@@ -56,7 +57,8 @@ module _ {T : Type 0} where
         share = goes.share;
       }
 
-  written_more : {code : Coding T} (xs : List T) (x : T) (v w u : View T) → HasWritten xs v w → GoesOn code w u → HasStored x w u → HasWritten (xs ++ x ∷ []) v u
+  written_more : {code : Coding T} (xs : List T) (x : T) (v w u : View T) → HasWritten xs v w → GoesOn code w u
+      → HasStored x w u → HasWritten (xs ++ x ∷ []) v u
   written_more xs x v w u k goes h =
       record {
         others = k.others;
@@ -65,15 +67,23 @@ module _ {T : Type 0} where
         share = goes.share ∙ k.share;
       }
 
-  pub writes : {code : Coding T} (all : List T) (n : ℕ) (x d : T) (v w u : View T) → n < length all → x ≡ get_or all n d → HasWritten (take n all) v w → GoesOn code w u → HasStored x w u → HasWritten (take (n + 1) all) v u
-  writes all n x d v w u lt is k goes h = subst (λ xs. HasWritten xs v u) (ap (λ z. take n all ++ z ∷ []) is ∙ sym (take_more all n d lt)) (written_more (take n all) x v w u k goes h)
+  pub writes : {code : Coding T} (all : List T) (n : ℕ) (x d : T) (v w u : View T) → n < length all
+      → x ≡ get_or all n d → HasWritten (take n all) v w → GoesOn code w u → HasStored x w u
+      → HasWritten (take (n + 1) all) v u
+  writes all n x d v w u lt is k goes h =
+      subst (λ xs. HasWritten xs v u) (ap (λ z. take n all ++ z ∷ []) is ∙ sym (take_more all n d lt))
+      (written_more (take n all) x v w u k goes h)
 
-  pub written_all : {code : Coding T} (all : List T) (n : ℕ) (v w u : View T) → length all ≤ n → HasWritten (take n all) v w → GoesOn code w u → HasReleased w u → HasWritten all v u
+  pub written_all : {code : Coding T} (all : List T) (n : ℕ) (v w u : View T) → length all ≤ n
+      → HasWritten (take n all) v w → GoesOn code w u → HasReleased w u → HasWritten all v u
   written_all all n v w u past k goes h =
       record {
         others = k.others;
         list = h.list ∙ (k.list ∙ ap (λ ys. (stored v.seen ++ k.others) ++ ys) (take_all n all past));
-        made = let one = made_more w.made u.made _ h.called.made in let before = k.made in let whole : length (take n all) ≡ length all = ap length (take_all n all past) in omega arith;
+        made = let one = made_more w.made u.made _ h.called.made in
+            let before = k.made in
+            let whole : length (take n all) ≡ length all = ap length (take_all n all past) in
+            omega arith;
         share = goes.share ∙ k.share;
       }
 
@@ -92,15 +102,23 @@ module _ {T : Type 0} where
   loaded_is_there : (x : T) (w u : View T) → HasLoaded x w u → Contains (stored u.seen) x
   loaded_is_there x w u h =
       let last = h.last in
-      let whole : stored u.seen ≡ (last.others ++ x ∷ []) ++ stored h.after = ap stored h.is ∙ (flat_map-append stores h.before _ ∙ ap (λ ys. ys ++ stored h.after) last.is) in
+      let whole : stored u.seen ≡ (last.others ++ x ∷ []) ++ stored h.after =
+      ap stored h.is ∙ (flat_map-append stores h.before _ ∙ ap (λ ys. ys ++ stored h.after) last.is) in
       still_there (last.others ++ x ∷ []) (stored h.after) (stored u.seen) whole x
       (length last.others, (let long = length-append last.others (x ∷ []) in omega arith), get_or_push last.others x x (length last.others) refl)
 
   pub read_more : {code : Coding T} (xs : List T) (x : T) (v w u : View T) → HasRead xs v w → GoesOn code w u → HasLoaded x w u → HasRead (xs ++ x ∷ []) v u
   read_more xs x v w u k goes h =
       record {
-        since = record { rest = k.since.rest ++ goes.since.rest; is = goes.since.is ∙ (ap (λ es. es ++ goes.since.rest) k.since.is ∙ append_assoc v.seen k.since.rest goes.since.rest) };
-        all = All-push (Contains (stored u.seen)) xs x (all_there (stored w.seen) (stored goes.since.rest) (stored u.seen) xs (stored_on w.seen u.seen goes.since) k.all) (loaded_is_there x w u h);
+        since =
+            record {
+              rest = k.since.rest ++ goes.since.rest;
+              is = goes.since.is ∙ (ap (λ es. es ++ goes.since.rest) k.since.is ∙ append_assoc v.seen k.since.rest goes.since.rest);
+            };
+        all =
+            All-push (Contains (stored u.seen)) xs x
+            (all_there (stored w.seen) (stored goes.since.rest) (stored u.seen) xs (stored_on w.seen u.seen goes.since) k.all)
+            (loaded_is_there x w u h);
         made = let one = made_more w.made u.made _ h.called.made in let before = k.made in omega arith;
         share = goes.share ∙ k.share;
       }
@@ -129,7 +147,9 @@ module _ {T : Type 0} where
         let theirs : stores_in right.made ≡ 0 = ap stores_in cut.right_made in
         let wrote = s.made in
         let read = r.made in
-        let list : stored z.seen ≡ ((first ∷ s.others) ++ all) ++ stored h.ours.rest = stored_on a.seen z.seen h.ours ∙ ap (λ ys. ys ++ stored h.ours.rest) (s.list ∙ ap (λ ys. (ys ++ s.others) ++ all) opened_with) in
+        let list : stored z.seen ≡ ((first ∷ s.others) ++ all) ++ stored h.ours.rest =
+        stored_on a.seen z.seen h.ours
+        ∙ ap (λ ys. ys ++ stored h.ours.rest) (s.list ∙ ap (λ ys. (ys ++ s.others) ++ all) opened_with) in
         let size : length (stored z.seen) ≡ length (((first ∷ s.others) ++ all) ++ stored h.ours.rest) = ap length list in
         let one = length-append ((first ∷ s.others) ++ all) (stored h.ours.rest) in
         let two = length-append (first ∷ s.others) all in
@@ -138,7 +158,9 @@ module _ {T : Type 0} where
         list ∙ (ap (λ ys. ((first ∷ s.others) ++ all) ++ ys) no_rest ∙ (append-nil ((first ∷ s.others) ++ all) ∙ ap (λ ys. (first ∷ ys) ++ all) no_others))
 
     pub all_seen : All (Contains (first ∷ all)) seen
-    all_seen = subst (λ ys. All (Contains ys) seen) all_stored (all_there (stored b.seen) (stored h.others.rest) (stored z.seen) seen (stored_on b.seen z.seen h.others) r.all)
+    all_seen =
+        subst (λ ys. All (Contains ys) seen) all_stored
+        (all_there (stored b.seen) (stored h.others.rest) (stored z.seen) seen (stored_on b.seen z.seen h.others) r.all)
 
     pub last_is : {code : Coding T} (y : T) (u : View T) → GoesOn code z u → HasLoaded y z u → y ≡ last_of first all
     last_is y u goes load =

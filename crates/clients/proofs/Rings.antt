@@ -1,5 +1,6 @@
 -- What each call adds to the lists of bells, and what that comes to once all passes are joined.
-use Rattle.std.proofs.Common.{◌≡◌, ◌==◌, ℕ, ◌+◌, ◌<◌, ◌≤◌, Bool, true, false, cond, Some, None, List, [], ◌∷◌, ◌++◌, length, get_or, take, refl, sym, ap, subst, ◌∙◌, arith}
+use Rattle.std.proofs.Common.{◌≡◌, ◌==◌, ℕ, ◌+◌, ◌<◌, ◌≤◌, Bool, true, false, cond, Some, None, List, [], ◌∷◌, ◌++◌}
+use Rattle.std.proofs.Common.{length, get_or, take, refl, sym, ap, subst, ◌∙◌, arith}
 use Rattle.std.specs.List.{All, sum_by}
 use Rattle.std.proofs.lemmas.List.{take_more}
 use Rattle.std.proofs.lemmas.List.Sums.{sum_by_push, sum_by-append}
@@ -16,7 +17,8 @@ use Rattle.lock_free.proofs.Bits.Sums.{set_adds, set_adds_none, was_set, reset_a
 use Rattle.clients.specs.Bells.{times, WereSet, HasRung, BothRung, HearsMore}
 
 -- the shares of a pass that was split twice make the whole
-pub split_twice : (first left third mine other : Share) → first ≡ all_shares → left ≡ half_of first → third ≡ half_of first → mine ≡ half_of left → other ≡ half_of left → IsAll (both_of (both_of mine other) third)
+pub split_twice : (first left third mine other : Share) → first ≡ all_shares → left ≡ half_of first
+    → third ≡ half_of first → mine ≡ half_of left → other ≡ half_of left → IsAll (both_of (both_of mine other) third)
 split_twice first left third mine other all l t m o =
     let half = l ∙ ap half_of all in
     let p = m ∙ ap half_of half in
@@ -29,7 +31,8 @@ times_push bell b xs = sum_by_push (λ x. cond (x == bell) 1 0) xs b
 
 -- ---- a set
 
-pub rings : (xs more : List ℕ) (b : ℕ) (answer : Bool) (old new : View ℕ) → answer ≡ true → HasSet b answer old new → more ≡ xs ++ b ∷ [] → HasRung xs old.made → HasRung more new.made
+pub rings : (xs more : List ℕ) (b : ℕ) (answer : Bool) (old new : View ℕ) → answer ≡ true → HasSet b answer old new
+    → more ≡ xs ++ b ∷ [] → HasRung xs old.made → HasRung more new.made
 rings xs more b answer old new began h is was =
     let added : HasSet b true old new = subst (λ t. HasSet b t old new) began h in
     subst (λ z. HasRung z new.made) (sym is)
@@ -38,7 +41,8 @@ rings xs more b answer old new began h is was =
       cleared = λ bell. (set_adds old new b added bell).1 ∙ was.cleared bell;
     })
 
-pub rings_again : (xs : List ℕ) (b : ℕ) (answer : Bool) (old new : View ℕ) → answer ≡ false → HasSet b answer old new → HasRung xs old.made → HasRung xs new.made
+pub rings_again : (xs : List ℕ) (b : ℕ) (answer : Bool) (old new : View ℕ) → answer ≡ false
+    → HasSet b answer old new → HasRung xs old.made → HasRung xs new.made
 rings_again xs b answer old new stood h was =
     let added : HasSet b false old new = subst (λ t. HasSet b t old new) stood h in
     record {
@@ -47,18 +51,25 @@ rings_again xs b answer old new stood h was =
     }
 
 pub rang_still : (bells : List ℕ) (seen then : List (Event ℕ)) → IsBeginning seen then → WereSet bells seen → WereSet bells then
-rang_still bells seen then begins all = All-weaker (λ b. 1 ≤ sets b seen) (λ b. 1 ≤ sets b then) (λ b some. let grown = sum_grows (λ e. cond (is_set_of b e) 1 0) seen then begins in omega arith) bells all
+rang_still bells seen then begins all =
+    All-weaker (λ b. 1 ≤ sets b seen) (λ b. 1 ≤ sets b then)
+    (λ b some. let grown = sum_grows (λ e. cond (is_set_of b e) 1 0) seen then begins in omega arith) bells all
 
 -- each of the bells so far was set, and so is one more, whichever the set answered
-pub rang_on : (bells : List ℕ) (n b : ℕ) (answer : Bool) (old new : View ℕ) → n < length bells → b ≡ get_or bells n 0 → HasSet b answer old new → (answer ≡ false → StoodOnce b new) → WereSet (take n bells) old.seen → WereSet (take (n + 1) bells) new.seen
+pub rang_on : (bells : List ℕ) (n b : ℕ) (answer : Bool) (old new : View ℕ) → n < length bells
+    → b ≡ get_or bells n 0 → HasSet b answer old new → (answer ≡ false → StoodOnce b new)
+    → WereSet (take n bells) old.seen → WereSet (take (n + 1) bells) new.seen
 rang_on bells n b answer old new lt is h stood all =
     let more : take n bells ++ b ∷ [] ≡ take (n + 1) bells = ap (λ z. take n bells ++ z ∷ []) is ∙ sym (take_more bells n 0 lt) in
     let begins : IsBeginning old.seen new.seen = seen_begins h.by _ _ _ old new h.called in
-    subst (λ xs. WereSet xs new.seen) more (All-push (λ z. 1 ≤ sets z new.seen) (take n bells) b (rang_still (take n bells) old.seen new.seen begins all) (was_set old new b answer h stood))
+    subst (λ xs. WereSet xs new.seen) more
+    (All-push (λ z. 1 ≤ sets z new.seen) (take n bells) b (rang_still (take n bells) old.seen new.seen begins all)
+    (was_set old new b answer h stood))
 
 -- ---- a reset
 
-pub hears : (xs ys more : List ℕ) (b : ℕ) (first : List (Event ℕ)) (old new : View ℕ) → HasReset (Some b) old new → more ≡ ys ++ b ∷ [] → HearsMore xs ys first old.made → HearsMore xs more first new.made
+pub hears : (xs ys more : List ℕ) (b : ℕ) (first : List (Event ℕ)) (old new : View ℕ) → HasReset (Some b) old new
+    → more ≡ ys ++ b ∷ [] → HearsMore xs ys first old.made → HearsMore xs more first new.made
 hears xs ys more b first old new h is was =
     subst (λ z. HearsMore xs z first new.made) (sym is)
     (record {
@@ -66,7 +77,8 @@ hears xs ys more b first old new h is was =
       cleared = λ bell. (let adds = (reset_adds old new b h bell).1 in let so_far = was.cleared bell in let push = times_push bell b ys in omega arith);
     })
 
-pub hears_none : (xs ys : List ℕ) (first : List (Event ℕ)) (old new : View ℕ) → HasReset None old new → HearsMore xs ys first old.made → HearsMore xs ys first new.made
+pub hears_none : (xs ys : List ℕ) (first : List (Event ℕ)) (old new : View ℕ) → HasReset None old new
+    → HearsMore xs ys first old.made → HearsMore xs ys first new.made
 hears_none xs ys first old new h was =
     record {
       set = λ bell. (reset_adds_none old new h bell).0 ∙ was.set bell;
@@ -74,7 +86,9 @@ hears_none xs ys first old new h was =
     }
 
 -- who found none at last has heard all that stood
-pub rest_heard : (ys : List ℕ) (first : List (Event ℕ)) (old new : View ℕ) (bell : ℕ) → HearsMore [] ys first old.made → HasReset None old new → sets bell new.made ≡ clears bell new.made → sets bell first ≡ clears bell first + times bell ys
+pub rest_heard : (ys : List ℕ) (first : List (Event ℕ)) (old new : View ℕ) (bell : ℕ)
+    → HearsMore [] ys first old.made → HasReset None old new → sets bell new.made ≡ clears bell new.made
+    → sets bell first ≡ clears bell first + times bell ys
 rest_heard ys first old new bell was h none =
     let s = (reset_adds_none old new h bell).0 in
     let c = (reset_adds_none old new h bell).1 in
@@ -101,7 +115,9 @@ both_rung one two xs ys h g =
       cleared = λ bell. (let c = sum_by-append (λ e. cond (is_clear_of bell e) 1 0) xs ys in let a = h.cleared bell in let b = g.cleared bell in omega arith);
     }
 
-module _ (one two heard left : List ℕ) (rung start listened joined : List (Event ℕ)) (rang : BothRung one two rung) (fresh : start ≡ []) (listens : HearsMore [] heard start listened) (is : joined ≡ rung ++ listened) (rest : (bell : ℕ) → sets bell joined ≡ clears bell joined + times bell left) where
+module _ (one two heard left : List ℕ) (rung start listened joined : List (Event ℕ)) (rang : BothRung one two rung)
+    (fresh : start ≡ []) (listens : HearsMore [] heard start listened) (is : joined ≡ rung ++ listened)
+    (rest : (bell : ℕ) → sets bell joined ≡ clears bell joined + times bell left) where
   -- all that was set
   set_in_all : (bell : ℕ) → sets bell joined ≡ times bell one + times bell two
   set_in_all bell =
@@ -124,6 +140,9 @@ module _ (one two heard left : List ℕ) (rung start listened joined : List (Eve
       omega arith
 
   -- whoever was seen to be set by then was heard, or still rang
-  pub none_lost : (bells : List ℕ) (then : List (Event ℕ)) → ((f : Event ℕ → ℕ) → sum_by f then ≡ sum_by f joined) → WereSet bells then → All (λ b. 1 ≤ times b heard + times b left) bells
+  pub none_lost : (bells : List ℕ) (then : List (Event ℕ)) → ((f : Event ℕ → ℕ) → sum_by f then ≡ sum_by f joined)
+      → WereSet bells then → All (λ b. 1 ≤ times b heard + times b left) bells
   none_lost bells then same all =
-      All-weaker (λ b. 1 ≤ sets b then) (λ b. 1 ≤ times b heard + times b left) (λ b some. let h = all_heard b in let s = set_in_all b in let e = same (λ x. cond (is_set_of b x) 1 0) in omega arith) bells all
+      All-weaker (λ b. 1 ≤ sets b then) (λ b. 1 ≤ times b heard + times b left)
+      (λ b some. let h = all_heard b in let s = set_in_all b in let e = same (λ x. cond (is_set_of b x) 1 0) in omega arith)
+      bells all

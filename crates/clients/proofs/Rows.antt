@@ -1,5 +1,7 @@
 -- Numbers that were pushed and popped, and what is known of them once the passes are joined.
-use Rattle.std.proofs.Common.{◌≡◌, ◌≢◌, ◌⊎◌, inl, inr, ℕ, suc, ◌+◌, ◌<◌, ◌≤◌, Bool, true, false, true≢false, List, [], ◌∷◌, ◌++◌, length, map, get_or, take, sym, refl, ap, subst, ◌∙◌, arith, append-nil, append_assoc, length-append, sum_by}
+use Rattle.std.proofs.Common.{◌≡◌, ◌≢◌, ◌⊎◌, inl, inr, ℕ, suc, ◌+◌, ◌<◌, ◌≤◌, Bool, true, false, true≢false, List, []}
+use Rattle.std.proofs.Common.{◌∷◌, ◌++◌, length, map, get_or, take, sym, refl, ap, subst, ◌∙◌, arith, append-nil}
+use Rattle.std.proofs.Common.{append_assoc, length-append, sum_by}
 use mathlib.Core.List.{map-append}
 use Rattle.std.specs.Prelude.{Some, None, Option, Result, Ok, Err, IfOk, IfSome, IfNone, MatchResult, is_ok, is_some, not}
 use Rattle.std.specs.Option.{option_map}
@@ -21,7 +23,8 @@ use Rattle.lock_free.specs.Queues.QueueKind as kinds
 use Rattle.lock_free.specs.Queues.Reading.{publishes, hands_out, published, handed_out, waiting}
 use Rattle.lock_free.specs.Queues.Role.{Role}
 use Rattle.lock_free.specs.Queues.Sums.{puts, gets, HasDone}
-use Rattle.lock_free.specs.Queues.Told.{HasPushed, HasPublished, WasAtEnd, WasFull, HasPopped, HasTakenOut, WasEmpty, HasAcquired, HasReleased, HasSplit, HasJoined}
+use Rattle.lock_free.specs.Queues.Told.{HasPushed, HasPublished, WasAtEnd, WasFull, HasPopped, HasTakenOut, WasEmpty}
+use Rattle.lock_free.specs.Queues.Told.{HasAcquired, HasReleased, HasSplit, HasJoined}
 use Rattle.lock_free.specs.Queues.Views.{first_view}
 use Rattle.lock_free.proofs.QueuePromises.{sound}
 use Rattle.lock_free.proofs.QueueSums.{done_pushed, done_refused, done_popped, done_none, done_acquired, done_released, done_then, whole_counted}
@@ -42,7 +45,8 @@ same_length (x ∷ xs) = ap suc (same_length xs)
 
 -- ---- what a call said, where its answer was handed on
 
-pub said_of_ok : {A E D : Type 0} (P : A → Type 0) (Q : E → Type 0) {m : Result A D} (r : Result A E) (x : A) → MatchResult r (λ y. m ≡ Ok y) Q → is_ok m ≡ is_ok r → m ≡ Ok x → IfOk r P → P x
+pub said_of_ok : {A E D : Type 0} (P : A → Type 0) (Q : E → Type 0) {m : Result A D} (r : Result A E) (x : A)
+    → MatchResult r (λ y. m ≡ Ok y) Q → is_ok m ≡ is_ok r → m ≡ Ok x → IfOk r P → P x
 said_of_ok P Q (Ok y) x same ok is said = (let e : y ≡ x = cc in subst P e said)
 said_of_ok P Q (Err e) x same ok is said = absurd (true≢false (sym (ap is_ok is) ∙ ok))
 
@@ -56,19 +60,23 @@ module _ (tells : Event ℕ → List (Item ℕ)) where
   added_none v w begins share done =
       record {
         others = flat_map tells begins.rest;
-        list = ap (flat_map tells) begins.is ∙ (flat_map-append tells v.seen begins.rest ∙ sym (append-nil (flat_map tells v.seen ++ flat_map tells begins.rest)));
+        list =
+            ap (flat_map tells) begins.is
+            ∙ (flat_map-append tells v.seen begins.rest ∙ sym (append-nil (flat_map tells v.seen ++ flat_map tells begins.rest)));
         done = done;
         share = share;
       }
 
   module _ (xs : List ℕ) (put got : ℕ) (v w u : View ℕ) (k : HasAdded tells xs put got v w) (share : u.share ≡ w.share) where
-    pub added_more : (x p g : ℕ) → HasDone p g w u → flat_map tells u.seen ≡ flat_map tells w.seen ++ Index x ∷ [] → HasAdded tells (xs ++ x ∷ []) (put + p) (got + g) v u
+    pub added_more : (x p g : ℕ) → HasDone p g w u → flat_map tells u.seen ≡ flat_map tells w.seen ++ Index x ∷ []
+        → HasAdded tells (xs ++ x ∷ []) (put + p) (got + g) v u
     added_more x p g done is =
         record {
           others = k.others;
           list = is
               ∙ (ap (λ ys. ys ++ Index x ∷ []) k.list
-              ∙ (append_assoc (flat_map tells v.seen ++ k.others) (map Index xs) (Index x ∷ []) ∙ ap (λ ys. (flat_map tells v.seen ++ k.others) ++ ys) (sym (map-append Index xs (x ∷ [])))));
+              ∙ (append_assoc (flat_map tells v.seen ++ k.others) (map Index xs) (Index x ∷ [])
+              ∙ ap (λ ys. (flat_map tells v.seen ++ k.others) ++ ys) (sym (map-append Index xs (x ∷ [])))));
           done = done_then put got p g v w u k.done done;
           share = share ∙ k.share;
         }
@@ -79,15 +87,24 @@ module _ (tells : Event ℕ → List (Item ℕ)) where
         record {
           others = k.others;
           list = is ∙ k.list;
-          done = record { puts_more = (let p = a.puts_more in let q = done.puts_more in omega arith); gets_more = (let p = a.gets_more in let q = done.gets_more in omega arith) };
+          done =
+              record {
+                puts_more = (let p = a.puts_more in let q = done.puts_more in omega arith);
+                gets_more = (let p = a.gets_more in let q = done.gets_more in omega arith);
+              };
           share = share ∙ k.share;
         }
 
   -- nothing else was told where the list is no longer
-  pub only_these : (xs : List ℕ) (put got : ℕ) (v w : View ℕ) (seen : List (Event ℕ)) → flat_map tells v.seen ≡ [] → HasAdded tells xs put got v w → IsBeginning w.seen seen → length (flat_map tells seen) ≡ length xs → flat_map tells seen ≡ map Index xs
+  pub only_these : (xs : List ℕ) (put got : ℕ) (v w : View ℕ) (seen : List (Event ℕ)) → flat_map tells v.seen ≡ []
+      → HasAdded tells xs put got v w → IsBeginning w.seen seen → length (flat_map tells seen) ≡ length xs
+      → flat_map tells seen ≡ map Index xs
   only_these xs put got v w seen fresh k begins long =
       let rest : List (Item ℕ) = flat_map tells begins.rest in
-      let list : flat_map tells seen ≡ (k.others ++ map Index xs) ++ rest = ap (flat_map tells) begins.is ∙ (flat_map-append tells w.seen begins.rest ∙ ap (λ ys. ys ++ rest) (k.list ∙ ap (λ ys. (ys ++ k.others) ++ map Index xs) fresh)) in
+      let list : flat_map tells seen ≡ (k.others ++ map Index xs) ++ rest =
+      ap (flat_map tells) begins.is
+      ∙ (flat_map-append tells w.seen begins.rest
+      ∙ ap (λ ys. ys ++ rest) (k.list ∙ ap (λ ys. (ys ++ k.others) ++ map Index xs) fresh)) in
       let size = ap length list in
       let one = length-append (k.others ++ map Index xs) rest in
       let two = length-append k.others (map Index xs) in
@@ -105,34 +122,55 @@ was_pushed item taken w u is (inr h) = absurd (true≢false (sym is ∙ h.0))
 pub sent_none : (c : ℕ) (all : List ℕ) (role : Role) (v w : View ℕ) → GoesOn c v w → HasAcquired role true v w → HasSent (take 0 all) v w
 sent_none c all role v w goes h = added_none publishes v w goes.since goes.share (done_acquired v w role true h)
 
-pub sent_more : (c : ℕ) (xs : List ℕ) (x : ℕ) (taken : Bool) (v w u : View ℕ) → HasSent xs v w → GoesOn c w u → taken ≡ true → HasPushed (Index x) taken w u ⊎ (taken ≡ false) × WasAtEnd w u → HasPublished (Index x) w u → HasSent (xs ++ x ∷ []) v u
-sent_more c xs x taken v w u k goes is h p = subst (λ n. HasAdded publishes (xs ++ x ∷ []) n 0 v u) (sym (length-append xs (x ∷ []))) (added_more publishes xs (length xs) 0 v w u k goes.share x 1 0 (done_pushed w u (Index x) (was_pushed (Index x) taken w u is h)) p.list)
+pub sent_more : (c : ℕ) (xs : List ℕ) (x : ℕ) (taken : Bool) (v w u : View ℕ) → HasSent xs v w → GoesOn c w u
+    → taken ≡ true → HasPushed (Index x) taken w u ⊎ (taken ≡ false) × WasAtEnd w u → HasPublished (Index x) w u
+    → HasSent (xs ++ x ∷ []) v u
+sent_more c xs x taken v w u k goes is h p =
+    subst (λ n. HasAdded publishes (xs ++ x ∷ []) n 0 v u) (sym (length-append xs (x ∷ [])))
+    (added_more publishes xs (length xs) 0 v w u k goes.share x 1 0
+    (done_pushed w u (Index x) (was_pushed (Index x) taken w u is h)) p.list)
 
-pub sends : (c : ℕ) (all : List ℕ) (n x : ℕ) (taken : Bool) (v w u : View ℕ) → n < length all → x ≡ get_or all n 0 → HasSent (take n all) v w → GoesOn c w u → taken ≡ true → HasPushed (Index x) taken w u ⊎ (taken ≡ false) × WasAtEnd w u → HasPublished (Index x) w u → HasSent (take (n + 1) all) v u
-sends c all n x taken v w u lt is k goes took h p = subst (λ xs. HasSent xs v u) (ap (λ z. take n all ++ z ∷ []) is ∙ sym (take_more all n 0 lt)) (sent_more c (take n all) x taken v w u k goes took h p)
+pub sends : (c : ℕ) (all : List ℕ) (n x : ℕ) (taken : Bool) (v w u : View ℕ) → n < length all → x ≡ get_or all n 0
+    → HasSent (take n all) v w → GoesOn c w u → taken ≡ true
+    → HasPushed (Index x) taken w u ⊎ (taken ≡ false) × WasAtEnd w u → HasPublished (Index x) w u
+    → HasSent (take (n + 1) all) v u
+sends c all n x taken v w u lt is k goes took h p =
+    subst (λ xs. HasSent xs v u) (ap (λ z. take n all ++ z ∷ []) is ∙ sym (take_more all n 0 lt))
+    (sent_more c (take n all) x taken v w u k goes took h p)
 
-pub sends_none : (c : ℕ) (xs : List ℕ) (x : ℕ) (taken : Bool) (v w u : View ℕ) → HasSent xs v w → GoesOn c w u → taken ≡ false → HasPushed (Index x) taken w u ⊎ (taken ≡ false) × WasAtEnd w u → WasFull c (Index x) w u ⊎ WasAtEnd w u → HasSent xs v u
-sends_none c xs x taken v w u k goes refused h full = added_same publishes xs (length xs) 0 v w u k goes.share (done_refused w u (Index x) taken refused h) (same full)
+pub sends_none : (c : ℕ) (xs : List ℕ) (x : ℕ) (taken : Bool) (v w u : View ℕ) → HasSent xs v w → GoesOn c w u
+    → taken ≡ false → HasPushed (Index x) taken w u ⊎ (taken ≡ false) × WasAtEnd w u
+    → WasFull c (Index x) w u ⊎ WasAtEnd w u → HasSent xs v u
+sends_none c xs x taken v w u k goes refused h full =
+    added_same publishes xs (length xs) 0 v w u k goes.share (done_refused w u (Index x) taken refused h) (same full)
   where
     same : WasFull c (Index x) w u ⊎ WasAtEnd w u → published u.seen ≡ published w.seen
     same (inl f) = f.list
     same (inr f) = f.list
 
-pub sent_all : (c : ℕ) (all : List ℕ) (n : ℕ) (role : Role) (v w u : View ℕ) → length all ≤ n → HasSent (take n all) v w → GoesOn c w u → HasReleased role w u → published u.seen ≡ published w.seen → HasSent all v u
-sent_all c all n role v w u past k goes h is = subst (λ xs. HasSent xs v u) (take_all n all past) (added_same publishes (take n all) (length (take n all)) 0 v w u k goes.share (done_released w u role h) is)
+pub sent_all : (c : ℕ) (all : List ℕ) (n : ℕ) (role : Role) (v w u : View ℕ) → length all ≤ n
+    → HasSent (take n all) v w → GoesOn c w u → HasReleased role w u → published u.seen ≡ published w.seen
+    → HasSent all v u
+sent_all c all n role v w u past k goes h is =
+    subst (λ xs. HasSent xs v u) (take_all n all past)
+    (added_same publishes (take n all) (length (take n all)) 0 v w u k goes.share (done_released w u role h) is)
 
 -- ---- the receiver
 
 pub received_none : (c : ℕ) (role : Role) (v w : View ℕ) → GoesOn c v w → HasAcquired role true v w → HasReceived [] v w
 received_none c role v w goes h = added_none hands_out v w goes.since goes.share (done_acquired v w role true h)
 
-pub gets_one : (c : ℕ) (xs : List ℕ) (x : ℕ) (v w u : View ℕ) → HasReceived xs v w → GoesOn c w u → HasPopped (Some (Index x)) w u → HasTakenOut (Index x) w u → HasReceived (xs ++ x ∷ []) v u
-gets_one c xs x v w u k goes h p = subst (λ n. HasAdded hands_out (xs ++ x ∷ []) 0 n v u) (sym (length-append xs (x ∷ []))) (added_more hands_out xs 0 (length xs) v w u k goes.share x 0 1 (done_popped w u (Index x) h) p.list)
+pub gets_one : (c : ℕ) (xs : List ℕ) (x : ℕ) (v w u : View ℕ) → HasReceived xs v w → GoesOn c w u
+    → HasPopped (Some (Index x)) w u → HasTakenOut (Index x) w u → HasReceived (xs ++ x ∷ []) v u
+gets_one c xs x v w u k goes h p =
+    subst (λ n. HasAdded hands_out (xs ++ x ∷ []) 0 n v u) (sym (length-append xs (x ∷ [])))
+    (added_more hands_out xs 0 (length xs) v w u k goes.share x 0 1 (done_popped w u (Index x) h) p.list)
 
 pub gets_none : (c : ℕ) (xs : List ℕ) (v w u : View ℕ) → HasReceived xs v w → GoesOn c w u → HasPopped None w u → WasEmpty w u → HasReceived xs v u
 gets_none c xs v w u k goes h p = added_same hands_out xs 0 (length xs) v w u k goes.share (done_none w u h) p.list
 
-pub received_all : (c : ℕ) (xs : List ℕ) (role : Role) (v w u : View ℕ) → HasReceived xs v w → GoesOn c w u → HasReleased role w u → handed_out u.seen ≡ handed_out w.seen → HasReceived xs v u
+pub received_all : (c : ℕ) (xs : List ℕ) (role : Role) (v w u : View ℕ) → HasReceived xs v w → GoesOn c w u
+    → HasReleased role w u → handed_out u.seen ≡ handed_out w.seen → HasReceived xs v u
 received_all c xs role v w u k goes h is = added_same hands_out xs 0 (length xs) v w u k goes.share (done_released w u role h) is
 
 -- ---- both joined
@@ -157,7 +195,9 @@ same_numbers (x ∷ xs) (y ∷ ys) e =
     let same : x ≡ y = cc in
     ap (λ ws. x ∷ ws) (same_numbers xs ys more) ∙ ap (λ w. w ∷ ys) same
 
-module _ (c n : ℕ) (all xs : List ℕ) (v left right a b z : View ℕ) (opens : v ≡ first_view n) (cut : HasSplit v left right) (s : HasSent all left a) (r : HasReceived xs right b) (h : HasJoined a b z) (history : HasHistory c z) (none : MissesNothing z) where
+module _ (c n : ℕ) (all xs : List ℕ) (v left right a b z : View ℕ) (opens : v ≡ first_view n)
+    (cut : HasSplit v left right) (s : HasSent all left a) (r : HasReceived xs right b) (h : HasJoined a b z)
+    (history : HasHistory c z) (none : MissesNothing z) where
   pub whole : IsAll z.share
   whole =
       let start : v.share ≡ all_shares = ap (λ (t : View ℕ). t.share) opens in
@@ -256,10 +296,13 @@ module _ (c n : ℕ) (all xs : List ℕ) (v left right a b z : View ℕ) (opens 
         omega arith
 
     -- by what the pop answered
-    pub came_where_none : (answer : Option ℕ) (none_left_there : Bool) → is_some answer ≡ not none_left_there → none_left_there ≡ true → HasPopped (option_map Index answer) k u → IfNone answer (WasEmpty k u) → xs ≡ all
+    pub came_where_none : (answer : Option ℕ) (none_left_there : Bool) → is_some answer ≡ not none_left_there
+        → none_left_there ≡ true → HasPopped (option_map Index answer) k u → IfNone answer (WasEmpty k u) → xs ≡ all
     came_where_none None t is yes_none popping empty = came_all popping empty
     came_where_none (Some x) t is yes_none popping empty = absurd (true≢false (is ∙ ap not yes_none))
 
-    pub came_where_some : (answer : Option ℕ) (none_left_there : Bool) → is_some answer ≡ not none_left_there → none_left_there ≡ false → HasPopped (option_map Index answer) k u → IfSome answer (λ x. HasTakenOut (Index x) k u) → length xs < length all
+    pub came_where_some : (answer : Option ℕ) (none_left_there : Bool) → is_some answer ≡ not none_left_there
+        → none_left_there ≡ false → HasPopped (option_map Index answer) k u
+        → IfSome answer (λ x. HasTakenOut (Index x) k u) → length xs < length all
     came_where_some None t is no_none popping took = absurd (true≢false (sym (is ∙ ap not no_none)))
     came_where_some (Some x) t is no_none popping took = came_less x popping took

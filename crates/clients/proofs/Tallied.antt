@@ -1,5 +1,6 @@
 -- What each call adds to the counts, and what they come to once all passes are joined.
-use Rattle.std.proofs.Common.{◌≡◌, ◌==◌, ℕ, ◌+◌, ◌-◌, ◌%◌, ◌^◌, ◌<◌, ◌≤◌, cond, List, [], ◌∷◌, ◌++◌, length, get_or, take, refl, sym, ap, subst, ◌∙◌, arith, mod-eq_of_lt, ⊎_elim, zero, suc, length-append}
+use Rattle.std.proofs.Common.{◌≡◌, ◌==◌, ℕ, ◌+◌, ◌-◌, ◌%◌, ◌^◌, ◌<◌, ◌≤◌, cond, List, [], ◌∷◌, ◌++◌, length, get_or}
+use Rattle.std.proofs.Common.{take, refl, sym, ap, subst, ◌∙◌, arith, mod-eq_of_lt, ⊎_elim, zero, suc, length-append}
 use Rattle.std.proofs.lemmas.Bool.{cases_lt}
 use Rattle.std.proofs.lemmas.List.{take_more}
 use Rattle.std.proofs.lemmas.List.Sums.{sum_by_push, sum_by-append, count_by-le-length}
@@ -13,7 +14,8 @@ use Rattle.lock_free.proofs.Counts.Sums.{count_adds}
 use Rattle.clients.specs.Tallies.{times, CountsThese, BothCount}
 
 -- the shares of a pass that was split twice make the whole
-pub split_twice : (first left third mine other : Share) → first ≡ all_shares → left ≡ half_of first → third ≡ half_of first → mine ≡ half_of left → other ≡ half_of left → IsAll (both_of (both_of mine other) third)
+pub split_twice : (first left third mine other : Share) → first ≡ all_shares → left ≡ half_of first
+    → third ≡ half_of first → mine ≡ half_of left → other ≡ half_of left → IsAll (both_of (both_of mine other) third)
 split_twice first left third mine other all l t m o =
     let half = l ∙ ap half_of all in
     let p = m ∙ ap half_of half in
@@ -27,7 +29,8 @@ times_push bell b xs = sum_by_push (λ x. cond (x == bell) 1 0) xs b
 pub none_counted : (events : List (Event ℕ)) → events ≡ [] → CountsThese [] events
 none_counted events e = subst (CountsThese []) (sym e) (record { counted = λ bell. refl; taken = λ bell. refl })
 
-pub counts_on : (bells : List ℕ) (n bell number : ℕ) (old new : View ℕ) → n < length bells → bell ≡ get_or bells n 0 → HasCounted bell number old new → CountsThese (take n bells) old.made → CountsThese (take (n + 1) bells) new.made
+pub counts_on : (bells : List ℕ) (n bell number : ℕ) (old new : View ℕ) → n < length bells → bell ≡ get_or bells n 0
+    → HasCounted bell number old new → CountsThese (take n bells) old.made → CountsThese (take (n + 1) bells) new.made
 counts_on bells n bell number old new lt is h was =
     subst (λ xs. CountsThese xs new.made) (ap (λ z. take n bells ++ z ∷ []) is ∙ sym (take_more bells n 0 lt))
     (record {
@@ -43,7 +46,9 @@ both_counted one two xs ys h g =
     }
 
 -- what is left and what was taken make all that was counted, where that is less than 2^64
-pub adds_up : (bell one two : ℕ) (rung start taken joined : List (Event ℕ)) → counts bell rung ≡ one + two → takes bell rung ≡ 0 → start ≡ [] → counts bell taken ≡ counts bell start → joined ≡ rung ++ taken → one + two < 2 ^ 64 → takes bell joined ≤ counts bell joined
+pub adds_up : (bell one two : ℕ) (rung start taken joined : List (Event ℕ)) → counts bell rung ≡ one + two
+    → takes bell rung ≡ 0 → start ≡ [] → counts bell taken ≡ counts bell start → joined ≡ rung ++ taken
+    → one + two < 2 ^ 64 → takes bell joined ≤ counts bell joined
     → takes bell joined + (counts bell joined - takes bell joined) % 2 ^ 64 ≡ one + two
 adds_up bell one two rung start taken joined counted none fresh never is few within =
     let s = ap (counts bell) is ∙ sum_by-append (λ e. cond (is_count_of bell e) 1 0) rung taken in
@@ -74,7 +79,8 @@ at_last (y ∷ xs) x = at_last xs x
 pub push_length : (ys xs : List ℕ) (x n : ℕ) → ys ≡ xs ++ x ∷ [] → length xs ≡ n → length ys ≡ n + 1
 push_length ys xs x n is long = let e = ap length is ∙ length-append xs (x ∷ []) in omega arith
 
-pub read_on : (P : ℕ → ℕ) (ys xs : List ℕ) (x n : ℕ) → ys ≡ xs ++ x ∷ [] → length xs ≡ n → ((b : ℕ) → b < n → get_or xs b 0 ≡ P b) → x ≡ P n → (b : ℕ) → b < n + 1 → get_or ys b 0 ≡ P b
+pub read_on : (P : ℕ → ℕ) (ys xs : List ℕ) (x n : ℕ) → ys ≡ xs ++ x ∷ [] → length xs ≡ n
+    → ((b : ℕ) → b < n → get_or xs b 0 ≡ P b) → x ≡ P n → (b : ℕ) → b < n + 1 → get_or ys b 0 ≡ P b
 read_on P ys xs x n is long had here b lt = ⊎_elim below last (cases_lt b n)
   where
     below : b < n → get_or ys b 0 ≡ P b

@@ -1,5 +1,6 @@
 -- A machine that one party has to itself, of any kind: what it is after the calls of that party, from its opening on.
-use Rattle.std.proofs.Common.{◌≡◌, ◌≢◌, ℕ, zero, suc, ◌+◌, ◌<◌, Option, Some, None, List, [], ◌∷◌, ◌++◌, slice_index, slice_set, refl, sym, ap, subst, ◌∙◌, append-nil, arith, sum_by}
+use Rattle.std.proofs.Common.{◌≡◌, ◌≢◌, ℕ, zero, suc, ◌+◌, ◌<◌, Option, Some, None, List, [], ◌∷◌, ◌++◌, slice_index}
+use Rattle.std.proofs.Common.{slice_set, refl, sym, ap, subst, ◌∙◌, append-nil, arith, sum_by}
 use mathlib.Core.Option.{some, some-injective, some-ne-none}
 use lib.ListN.{get_elem?}
 use Rattle.atomic_table.specs.Table.{State, opening}
@@ -32,7 +33,8 @@ use Rattle.history.specs.Stages.{Calling, Starts, rows_as}
 use Rattle.history.specs.Views.{first_view}
 use Rattle.history.proofs.Reached.{reached_as_opening, fresh_as_opening}
 use Rattle.history.proofs.Calls.{call_then, stateless_none}
-use Rattle.history.proofs.Known.{known_alone, by_mine, AreOf}
+use Rattle.history.proofs.Known.{by_mine, AreOf}
+use Rattle.history.proofs.AllSeen.{known_alone}
 use Rattle.history.proofs.Steps.{settle}
 use Rattle.history.proofs.Turns.{KeptLaws, MachineLaws, kept_laws, goes_on_alike, Between, begun, begun_at, gone, goes_to, told, own_told}
 
@@ -40,7 +42,8 @@ use Rattle.history.proofs.Turns.{KeptLaws, MachineLaws, kept_laws, goes_on_alike
 abbrev pub same_seat : ℕ → ℕ
 same_seat p = p
 
-module _ {T : Type 0} (code : Coding T) (kind : Kind) (capacity size : ℕ) (effects : World T → ℕ → Flight T → ℕ → List (Event T)) (laws : MachineLaws code kind capacity size effects) where
+module _ {T : Type 0} (code : Coding T) (kind : Kind) (capacity size : ℕ)
+    (effects : World T → ℕ → Flight T → ℕ → List (Event T)) (laws : MachineLaws code kind capacity size effects) where
   there_laws : KeptLaws code kind capacity size effects
   there_laws = kept_laws code kind capacity size effects laws
 
@@ -93,7 +96,10 @@ module _ {T : Type 0} (code : Coding T) (kind : Kind) (capacity size : ℕ) (eff
       other (suc j) v ne at = some-ne-none v (sym at)
 
       made_own : (v : View T) → get_elem? (first_view capacity ∷ []) 0 ≡ some v → (f : Event T → ℕ) → sum_by f v.made + 0 ≡ 0
-      made_own v at f = (let same = some-injective (first_view capacity) v at in let none : sum_by f v.made ≡ 0 = ap (λ (z : View T). sum_by f z.made) (sym same) in omega arith)
+      made_own v at f =
+          (let same = some-injective (first_view capacity) v at in
+          let none : sum_by f v.made ≡ 0 = ap (λ (z : View T). sum_by f z.made) (sym same) in
+          omega arith)
 
   -- ---- a call begins
 
@@ -101,23 +107,34 @@ module _ {T : Type 0} (code : Coding T) (kind : Kind) (capacity size : ℕ) (eff
   abbrev pub maker : List (Event T) → View T
   maker es = record { capacity = capacity; party = Some 0; share = all_shares; seen = es; other = []; made = es; going = None; state = None }
 
-  pub sums : (words : List ℕ) (es : List (Event T)) (going : Option (Start T × Flight T)) → (h : Here words es going) → (f : Event T → ℕ) → sum_by f (maker es).made ≡ sum_by (owned same_seat 0 f) h.u.events
+  pub sums : (words : List ℕ) (es : List (Event T)) (going : Option (Start T × Flight T))
+      → (h : Here words es going) → (f : Event T → ℕ)
+      → sum_by f (maker es).made ≡ sum_by (owned same_seat 0 f) h.u.events
   sums words es going h f = (let all = h.between.made_own (first_view capacity) refl f in omega arith)
 
-  pub begins : {C M E : Type 0} (call : Calling T C M E) (c : C) (m : M) (words : List ℕ) (es : List (Event T)) → (h : Here words es None) → Starts code kind call (maker es) c m h.u same_seat 0 → Here words (es ++ Begun 0 call.start ∷ []) (Some (call.start, call.flight c m))
+  pub begins : {C M E : Type 0} (call : Calling T C M E) (c : C) (m : M) (words : List ℕ) (es : List (Event T))
+      → (h : Here words es None) → Starts code kind call (maker es) c m h.u same_seat 0
+      → Here words (es ++ Begun 0 call.start ∷ []) (Some (call.start, call.flight c m))
   begins call c m words es h s =
       let is : s.party ≡ 0 = s.mine in
-      let may : first_row (rows_as kind capacity h.u.world.kept 0 call.start) ≡ None = subst (λ p. first_row (rows_as kind capacity h.u.world.kept p call.start) ≡ None) is s.may in
+      let may : first_row (rows_as kind capacity h.u.world.kept 0 call.start) ≡ None =
+      subst (λ p. first_row (rows_as kind capacity h.u.world.kept p call.start) ≡ None) is s.may in
       record {
         u = after_turn h.u (Begin 0 call.start);
-        between = begun code kind capacity size effects there_laws same_seat (alone words) 0 0 es h.u h.between call.start (call.flight c m) h.there s.first may;
+        between =
+            begun code kind capacity size effects there_laws same_seat (alone words) 0 0 es h.u h.between call.start
+            (call.flight c m) h.there s.first may;
         events = ap (λ xs. xs ++ Begun 0 call.start ∷ []) h.events;
-        there = begun_at code kind capacity size effects there_laws same_seat (alone words) 0 0 es h.u h.between call.start (call.flight c m) h.there s.first may;
+        there =
+            begun_at code kind capacity size effects there_laws same_seat (alone words) 0 0 es h.u h.between call.start
+            (call.flight c m) h.there s.first may;
       }
 
   -- ---- it takes a step
 
-  module _ (words : List ℕ) (es : List (Event T)) (start : Start T) (flight : Flight T) (h : Here words es (Some (start, flight))) (a : Ask) (low : a.word < size) (asks : want_of code flight ≡ wants.Ask a) (finds : IsFreshCall (slice_index words a.word) flight) where
+  module _ (words : List ℕ) (es : List (Event T)) (start : Start T) (flight : Flight T)
+      (h : Here words es (Some (start, flight))) (a : Ask) (low : a.word < size)
+      (asks : want_of code flight ≡ wants.Ask a) (finds : IsFreshCall (slice_index words a.word) flight) where
     abbrev found : ℕ
     found = slice_index words a.word
 
@@ -127,7 +144,8 @@ module _ {T : Type 0} (code : Coding T) (kind : Kind) (capacity size : ℕ) (eff
     comes_there : goes_of code 0 flight found h.u.world.kept ≡ comes
     comes_there = goes_on_alike code kind capacity size effects laws h.u h.between.run 0 flight found
 
-    ends_so : (own : List (Event T)) → own ++ ending_of 0 start (answer_in (goes_of code 0 flight found h.u.world.kept)) ≡ own ++ ending_of 0 start (answer_in comes)
+    ends_so : (own : List (Event T))
+        → own ++ ending_of 0 start (answer_in (goes_of code 0 flight found h.u.world.kept)) ≡ own ++ ending_of 0 start (answer_in comes)
     ends_so own = ap (λ (r : After (Flight T) (Answer T)). own ++ ending_of 0 start (answer_in r)) comes_there
 
     -- it wrote this, all of it its own
@@ -137,29 +155,48 @@ module _ {T : Type 0} (code : Coding T) (kind : Kind) (capacity size : ℕ) (eff
 
       took : Here (slice_set words a.word (written a.op found)) (es ++ wrote) (call_then start comes)
       took =
-          let tells : events_of h.u.world (Next 0) ≡ wrote = told code kind capacity size effects there_laws same_seat (alone words) 0 0 es h.u h.between start flight (Some a) low h.there asks finds ∙ (ends_so (effects h.u.world 0 flight found) ∙ ap (λ zs. zs ++ ending_of 0 start (answer_in comes)) is) in
+          let tells : events_of h.u.world (Next 0) ≡ wrote =
+          told code kind capacity size effects there_laws same_seat (alone words) 0 0 es h.u h.between start flight
+          (Some a) low h.there asks finds
+          ∙ (ends_so (effects h.u.world 0 flight found) ∙ ap (λ zs. zs ++ ending_of 0 start (answer_in comes)) is) in
           let mine : events_by 0 (effects h.u.world 0 flight found) ≡ own = ap (events_by 0) is ∙ by_mine 0 own only in
-          let told_own : events_by 0 (events_of h.u.world (Next 0)) ≡ wrote = own_told code kind capacity size effects there_laws same_seat (alone words) 0 0 es h.u h.between start flight (Some a) low h.there asks finds ∙ (ends_so (events_by 0 (effects h.u.world 0 flight found)) ∙ ap (λ zs. zs ++ ending_of 0 start (answer_in comes)) mine) in
+          let told_own : events_by 0 (events_of h.u.world (Next 0)) ≡ wrote =
+          own_told code kind capacity size effects there_laws same_seat (alone words) 0 0 es h.u h.between start
+          flight (Some a) low h.there asks finds
+          ∙ (ends_so (events_by 0 (effects h.u.world 0 flight found)) ∙ ap (λ zs. zs ++ ending_of 0 start (answer_in comes)) mine) in
           record {
             u = after_turn h.u (Next 0);
-            between = subst (λ zs. Between code kind capacity same_seat (alone (slice_set words a.word (written a.op found))) 0 0 (es ++ zs) (after_turn h.u (Next 0))) told_own (gone code kind capacity size effects there_laws same_seat (alone words) 0 0 es h.u h.between start flight (Some a) low h.there asks finds);
+            between =
+                subst (λ zs. Between code kind capacity same_seat (alone (slice_set words a.word (written a.op found))) 0 0
+                (es ++ zs) (after_turn h.u (Next 0)))
+                told_own
+                (gone code kind capacity size effects there_laws same_seat (alone words) 0 0 es h.u h.between start
+                flight (Some a) low h.there asks finds);
             events = ap (λ xs. xs ++ events_of h.u.world (Next 0)) h.events ∙ ap (λ zs. es ++ zs) tells;
             there = goes_to code kind capacity size effects there_laws same_seat (alone words) 0 0 es h.u h.between start flight (Some a) low h.there asks finds
                 ∙ ap (call_then start) comes_there;
           }
 
     -- it goes on, and tells nothing
-    pub goes_on : (words' : List ℕ) (next : Flight T) → slice_set words a.word (written a.op found) ≡ words' → comes ≡ GoOn next → effects h.u.world 0 flight found ≡ [] → Here words' es (Some (start, next))
+    pub goes_on : (words' : List ℕ) (next : Flight T) → slice_set words a.word (written a.op found) ≡ words'
+        → comes ≡ GoOn next → effects h.u.world 0 flight found ≡ [] → Here words' es (Some (start, next))
     goes_on words' next same is none =
         let quiet : es ++ wrote [] none tt ≡ es = ap (λ (r : After (Flight T) (Answer T)). es ++ ending_of 0 start (answer_in r)) is ∙ append-nil es in
-        subst (λ o. Here words' es o) (ap (call_then start) is) (subst (λ zs. Here words' zs (call_then start comes)) quiet (subst (λ ws. Here ws (es ++ wrote [] none tt) (call_then start comes)) same (took [] none tt)))
+        subst (λ o. Here words' es o) (ap (call_then start) is)
+        (subst (λ zs. Here words' zs (call_then start comes)) quiet
+        (subst (λ ws. Here ws (es ++ wrote [] none tt) (call_then start comes)) same (took [] none tt)))
 
     -- it ends
-    pub ends : (words' : List ℕ) (answer : Answer T) (own : List (Event T)) → slice_set words a.word (written a.op found) ≡ words' → comes ≡ Done answer → effects h.u.world 0 flight found ≡ own → AreOf 0 own → Here words' (es ++ (own ++ ending_of 0 start (Some answer))) None
+    pub ends : (words' : List ℕ) (answer : Answer T) (own : List (Event T))
+        → slice_set words a.word (written a.op found) ≡ words' → comes ≡ Done answer
+        → effects h.u.world 0 flight found ≡ own → AreOf 0 own
+        → Here words' (es ++ (own ++ ending_of 0 start (Some answer))) None
     ends words' answer own same is wrote_own only =
         let last : List (Event T) = own ++ ending_of 0 start (Some answer) in
         let all : wrote own wrote_own only ≡ last = ap (λ (r : After (Flight T) (Answer T)). own ++ ending_of 0 start (answer_in r)) is in
-        subst (λ o. Here words' (es ++ last) o) (ap (call_then start) is) (subst (λ zs. Here words' (es ++ zs) (call_then start comes)) all (subst (λ ws. Here ws (es ++ wrote own wrote_own only) (call_then start comes)) same (took own wrote_own only)))
+        subst (λ o. Here words' (es ++ last) o) (ap (call_then start) is)
+        (subst (λ zs. Here words' (es ++ zs) (call_then start comes)) all
+        (subst (λ ws. Here ws (es ++ wrote own wrote_own only) (call_then start comes)) same (took own wrote_own only)))
 
   -- ---- a table opens so
 
@@ -167,8 +204,26 @@ module _ {T : Type 0} (code : Coding T) (kind : Kind) (capacity size : ℕ) (eff
   opens_so words es h =
       let first : View T = first_view capacity in
       subst (λ v. IsMachine code kind capacity (opening words [] v))
-      (ap (λ zs. record { capacity = capacity; party = Some 0; share = all_shares; seen = zs; other = []; made = es; going = call_in h.u.world 0; state = state_in h.u.world.kept 0 }) h.events
-      ∙ (ap (λ o. record { capacity = capacity; party = Some 0; share = all_shares; seen = es; other = []; made = es; going = o; state = state_in h.u.world.kept 0 }) h.there
+      (ap (λ zs. record {
+        capacity = capacity;
+        party = Some 0;
+        share = all_shares;
+        seen = zs;
+        other = [];
+        made = es;
+        going = call_in h.u.world 0;
+        state = state_in h.u.world.kept 0;
+      }) h.events
+      ∙ (ap (λ o. record {
+        capacity = capacity;
+        party = Some 0;
+        share = all_shares;
+        seen = es;
+        other = [];
+        made = es;
+        going = o;
+        state = state_in h.u.world.kept 0;
+      }) h.there
       ∙ ap (λ z. record { capacity = capacity; party = Some 0; share = all_shares; seen = es; other = []; made = es; going = None; state = z })
       (stateless_none h.u.world.kept 0 (laws.stateless h.u h.between.run))))
       (settle code kind capacity 0 0 same_seat words (alone words) first es h.u refl (omega arith) h.between)

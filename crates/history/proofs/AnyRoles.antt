@@ -27,7 +27,9 @@ use Rattle.history.proofs.QueueCalls.{holds_it}
 use Rattle.history.proofs.Queues.{plain_starts, role_starts}
 
 -- a call of a structure is one of a structure with more words
-pub wider : {T C M E : Type 0} (code : Coding T) (effects : ℕ → Flight T → ℕ → List (Event T)) (some more : ℕ → ℕ) (want : C → Want (Unit {0})) (after : C → ℕ → After C E) (kept : C → M → ℕ → M) (call : Calling T C M E) → ((n : ℕ) → some n ≤ more n)
+pub wider : {T C M E : Type 0} (code : Coding T) (effects : ℕ → Flight T → ℕ → List (Event T)) (some more : ℕ → ℕ)
+    (want : C → Want (Unit {0})) (after : C → ℕ → After C E) (kept : C → M → ℕ → M) (call : Calling T C M E)
+    → ((n : ℕ) → some n ≤ more n)
     → IsCallOf code effects some want after kept call → IsCallOf code effects more want after kept call
 wider code effects some more want after kept call low h =
     record {
@@ -44,7 +46,9 @@ wider code effects some more want after kept call low h =
     }
 
 module _ {T : Type 0} where
-  acquire_is : (kd : QueueKind) (r : Role) (c : ℕ) (m : Unit {0}) (kept : Kept T) → ◌≡◌ {A = Option (Flight T)} (first_of (machine_kind kd) c (Queues (acquire_start r)) kept) (Some ((takes_role r).flight (record { word = role_word r }) m))
+  acquire_is : (kd : QueueKind) (r : Role) (c : ℕ) (m : Unit {0}) (kept : Kept T)
+      → ◌≡◌ {A = Option (Flight T)} (first_of (machine_kind kd) c (Queues (acquire_start r)) kept)
+      (Some ((takes_role r).flight (record { word = role_word r }) m))
   acquire_is IndexQueue Producer c m kept = refl
   acquire_is IndexQueue Consumer c m kept = refl
   acquire_is Overflow Producer c m kept = refl
@@ -52,7 +56,9 @@ module _ {T : Type 0} where
   acquire_is Queue Producer c m kept = refl
   acquire_is Queue Consumer c m kept = refl
 
-  release_is : (kd : QueueKind) (r : Role) (c : ℕ) (m : Unit {0}) (kept : Kept T) → ◌≡◌ {A = Option (Flight T)} (first_of (machine_kind kd) c (Queues (release_start r)) kept) (Some ((gives_role r).flight (record { word = role_word r }) m))
+  release_is : (kd : QueueKind) (r : Role) (c : ℕ) (m : Unit {0}) (kept : Kept T)
+      → ◌≡◌ {A = Option (Flight T)} (first_of (machine_kind kd) c (Queues (release_start r)) kept)
+      (Some ((gives_role r).flight (record { word = role_word r }) m))
   release_is IndexQueue Producer c m kept = refl
   release_is IndexQueue Consumer c m kept = refl
   release_is Overflow Producer c m kept = refl
@@ -60,7 +66,9 @@ module _ {T : Type 0} where
   release_is Queue Producer c m kept = refl
   release_is Queue Consumer c m kept = refl
 
-  len_is : (kd : QueueKind) (which : LengthOf) (c : ℕ) (m : Unit {0}) (kept : Kept T) → ◌≡◌ {A = Option (Flight T)} (first_of (machine_kind kd) c (Queues (length_start which)) kept) (Some ((counts_waiting which c).flight (first_len c) m))
+  len_is : (kd : QueueKind) (which : LengthOf) (c : ℕ) (m : Unit {0}) (kept : Kept T)
+      → ◌≡◌ {A = Option (Flight T)} (first_of (machine_kind kd) c (Queues (length_start which)) kept)
+      (Some ((counts_waiting which c).flight (first_len c) m))
   len_is IndexQueue Len c m kept = refl
   len_is IndexQueue IsEmpty c m kept = refl
   len_is IndexQueue IsFull c m kept = refl
@@ -86,7 +94,8 @@ len_lacks T Len roles p = refl
 len_lacks T IsEmpty roles p = refl
 len_lacks T IsFull roles p = refl
 
-module _ {T : Type 0} (code : Coding T) (kd : QueueKind) (x : View T) (m : Unit {0}) (idle : x.going ≡ None) (alone : x.other ≡ []) (any : 0 < x.share.part) where
+module _ {T : Type 0} (code : Coding T) (kd : QueueKind) (x : View T) (m : Unit {0}) (idle : x.going ≡ None)
+    (alone : x.other ≡ []) (any : 0 < x.share.part) where
   pub acquire_first_on : (role : Role) → At code (machine_kind kd) (takes_role role) x x (record { word = role_word role }) m
   acquire_first_on role =
       inl (record {
@@ -96,7 +105,9 @@ module _ {T : Type 0} (code : Coding T) (kd : QueueKind) (x : View T) (m : Unit 
         standing = refl;
         some = any;
         first = acquire_is kd role x.capacity m ((opening_of (machine_kind kd)).kept x.capacity);
-        starts = plain_starts code kd x (takes_role role) (acquire_start role) (record { word = role_word role }) m refl (acquire_is kd role x.capacity m) (λ o p h. h) (acquire_lacks T role);
+        starts =
+            plain_starts code kd x (takes_role role) (acquire_start role) (record { word = role_word role }) m refl
+            (acquire_is kd role x.capacity m) (λ o p h. h) (acquire_lacks T role);
         wrote = λ p. refl;
       })
 
@@ -109,7 +120,9 @@ module _ {T : Type 0} (code : Coding T) (kd : QueueKind) (x : View T) (m : Unit 
         standing = refl;
         some = any;
         first = release_is kd role x.capacity m ((opening_of (machine_kind kd)).kept x.capacity);
-        starts = role_starts code kd x (gives_role role) (release_start role) (record { word = role_word role }) m refl (release_is kd role x.capacity m) role (λ o p. tt) (release_lacks T role) has;
+        starts =
+            role_starts code kd x (gives_role role) (release_start role) (record { word = role_word role }) m refl
+            (release_is kd role x.capacity m) role (λ o p. tt) (release_lacks T role) has;
         wrote = λ p. refl;
       })
 
@@ -123,6 +136,8 @@ module _ {T : Type 0} (code : Coding T) (kd : QueueKind) (x : View T) (m : Unit 
         standing = (refl, refl);
         some = any;
         first = len_is kd which x.capacity m ((opening_of (machine_kind kd)).kept x.capacity);
-        starts = plain_starts code kd x (counts_waiting which x.capacity) (length_start which) (first_len x.capacity) m refl (len_is kd which x.capacity m) (λ o p h. h) (len_lacks T which);
+        starts =
+            plain_starts code kd x (counts_waiting which x.capacity) (length_start which) (first_len x.capacity) m refl
+            (len_is kd which x.capacity m) (λ o p h. h) (len_lacks T which);
         wrote = λ p. refl;
       }))

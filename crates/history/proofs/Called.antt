@@ -13,7 +13,8 @@ use Rattle.history.specs.Stages.{Calling, opened, At, Ends}
 
 module _ {T C M E : Type 0} (code : Coding T) (kind : Kind) (call : Calling T C M E) where
   -- where no call was under way before it, it began
-  pub called : (base w : View T) (e : E) (m : M) → base.going ≡ None → (ends : Ends code kind call base e m w) → Called ends.party call.start (call.answer e m) ends.wrote base w
+  pub called : (base w : View T) (e : E) (m : M) → base.going ≡ None → (ends : Ends code kind call base e m w)
+      → Called ends.party call.start (call.answer e m) ends.wrote base w
   called base w e m idle ends =
       let since = ends.since in
       let opens : opened ends.party call.start base.going ≡ Begun ends.party call.start ∷ [] = ap (opened ends.party call.start) idle in
@@ -29,8 +30,20 @@ module _ {T C M E : Type 0} (code : Coding T) (kind : Kind) (call : Calling T C 
       }
 
   -- a call may be told of from where it stands as well
-  pub at_itself : (base v : View T) (c : C) (m : M) → ((p : ℕ) → call.by (Some p) p) → ((n p : ℕ) → call.wrote n p (Some (call.start, call.flight c m)) c m []) → At code kind call base v c m → At code kind call v v c m
-  at_itself base v c m own none (inl first) = subst (λ z. At code kind call z z c m) (sym first.is) (inl (record { is = refl; idle = first.idle; fresh = first.fresh; standing = first.standing; some = first.some; first = first.first; starts = first.starts; wrote = first.wrote }))
+  pub at_itself : (base v : View T) (c : C) (m : M) → ((p : ℕ) → call.by (Some p) p)
+      → ((n p : ℕ) → call.wrote n p (Some (call.start, call.flight c m)) c m []) → At code kind call base v c m
+      → At code kind call v v c m
+  at_itself base v c m own none (inl first) =
+      subst (λ z. At code kind call z z c m) (sym first.is) (inl (record {
+        is = refl;
+        idle = first.idle;
+        fresh = first.fresh;
+        standing = first.standing;
+        some = first.some;
+        first = first.first;
+        starts = first.starts;
+        wrote = first.wrote;
+      }))
   at_itself base v c m own none (inr under) =
       let opens : opened under.party call.start v.going ≡ [] = ap (opened under.party call.start) under.going in
       inr (record {

@@ -1,5 +1,6 @@
 -- Where the calls of a machine stand after a turn.
-use Rattle.std.proofs.Common.{◌≡◌, ◌≢◌, ℕ, zero, suc, ◌<◌, ◌==◌, ◌&&◌, Bool, true, false, Option, Some, None, List, [], ◌∷◌, ◌++◌, length, get_or, set, refl, ap, ◌∙◌, arith}
+use Rattle.std.proofs.Common.{◌≡◌, ◌≢◌, ℕ, zero, suc, ◌<◌, ◌==◌, ◌&&◌, Bool, true, false, Option, Some, None, List, []}
+use Rattle.std.proofs.Common.{◌∷◌, ◌++◌, length, get_or, set, refl, ap, ◌∙◌, arith}
 use Rattle.std.proofs.lemmas.Bool.Decides.{nat_tests}
 use Rattle.steps.specs.declared.ask.Ask.{Ask}
 use Rattle.steps.specs.declared.ask.After.{After}
@@ -26,7 +27,9 @@ use Rattle.model.specs.Families.Container.Keeping.{is_look_of}
 use Rattle.model.specs.Families.Container.Looks.{state_in, is_looking}
 use Rattle.model.specs.Parties.{party_of, doing_of, flight_of}
 use Rattle.model.specs.Step.{Step, answer_in}
-use Rattle.model.specs.Turns.{after_begin, after_next, after_answer, after_decision, after_step, party_after, party_at_begin, step_count, change_of, number_of, step_in, events_of_next, events_of_decision, events_of_step, events_of_answer, ending_of, old_of, ask_of_doing}
+use Rattle.model.specs.Turns.{after_begin, after_next, after_answer, after_decision, after_step, party_after}
+use Rattle.model.specs.Turns.{party_at_begin, step_count, change_of, number_of, step_in, events_of_next}
+use Rattle.model.specs.Turns.{events_of_decision, events_of_step, events_of_answer, ending_of, old_of, ask_of_doing}
 use Rattle.model.specs.World.{World, flight_in}
 use Rattle.model.proofs.Parties.{party_put_same, party_put_other}
 use Rattle.history.specs.History.{call_at, call_of, call_in}
@@ -49,7 +52,8 @@ module _ {T : Type 0} where
     pub named : x.start ≡ start
     pub doing : x.doing ≡ Going flight since
 
-  at_doing : (start : Start T) (doing : Doing T) (name : Start T) (flight : Flight T) → call_at start doing ≡ Some (name, flight) → (start ≡ name) × (since : ℕ) × (doing ≡ Going flight since)
+  at_doing : (start : Start T) (doing : Doing T) (name : Start T) (flight : Flight T)
+      → call_at start doing ≡ Some (name, flight) → (start ≡ name) × (since : ℕ) × (doing ≡ Going flight since)
   at_doing start (Over others) name flight e = absurd (cc)
   at_doing start (Going f since) name flight e =
       let same : (start, f) ≡ (name, flight) = cc in
@@ -84,7 +88,9 @@ module _ {T : Type 0} where
   next_other w p q ne None = refl
   next_other w p q ne (Some x) = go x.doing
     where
-      go : (doing : Doing T) → call_in (after_answer w p x (ask_of_doing w.coding x.doing) (old_of w.words (ask_of_doing w.coding x.doing)) doing) q ≡ call_in w q
+      go : (doing : Doing T)
+          → call_in (after_answer w p x (ask_of_doing w.coding x.doing) (old_of w.words (ask_of_doing w.coding x.doing)) doing) q
+          ≡ call_in w q
       go (Over others) = refl
       go (Going flight since) = ap call_of (party_put_other q p _ w.latest ne)
 
@@ -108,7 +114,8 @@ module _ {T : Type 0} where
   IsStateless (kepts.TheVariants.Loan book) = ⊥
   IsStateless kept = Unit {0}
 
-  pub goes_alike : (code : Coding T) (p : ℕ) (flight : Flight T) (n : ℕ) (kept : Kept T) → IsStateless kept → goes_of code p flight n kept ≡ after_of code flight n
+  pub goes_alike : (code : Coding T) (p : ℕ) (flight : Flight T) (n : ℕ) (kept : Kept T) → IsStateless kept
+      → goes_of code p flight n kept ≡ after_of code flight n
   goes_alike code p (flights.TheVariants.Container flight) n (kepts.TheVariants.Container dead states) none = absurd none
   goes_alike code p (flights.TheVariants.Loan flight) n (kepts.TheVariants.Loan book) none = absurd none
   goes_alike code p flight n kept none = refl
@@ -167,7 +174,8 @@ module _ {T : Type 0} where
   call_then start (GoOn flight) = Some (start, flight)
   call_then start (Done answer) = None
 
-  pub begin_own : (w : World T) (p : ℕ) (start : Start T) (flight : Flight T) (o : Option (Flight T)) → o ≡ Some flight → call_in (after_begin w p start o) p ≡ Some (start, flight)
+  pub begin_own : (w : World T) (p : ℕ) (start : Start T) (flight : Flight T) (o : Option (Flight T))
+      → o ≡ Some flight → call_in (after_begin w p start o) p ≡ Some (start, flight)
   begin_own w p start flight None e = absurd (cc)
   begin_own w p start flight (Some f) e =
       let same : f ≡ flight = cc in
@@ -178,7 +186,8 @@ module _ {T : Type 0} where
     pub going : call_in (after_next w p (party_of p w.latest)) p ≡ call_then start (goes_of w.coding p flight old w.kept)
     pub events : events_of_next w p (party_of p w.latest) ≡ wrote ++ ending_of p start (answer_in (goes_of w.coding p flight old w.kept))
 
-  then_at : (start : Start T) (changes since : ℕ) (after : After (Flight T) (Answer T)) → call_at start (Rattle.model.specs.Turns.doing_after changes since after) ≡ call_then start after
+  then_at : (start : Start T) (changes since : ℕ) (after : After (Flight T) (Answer T))
+      → call_at start (Rattle.model.specs.Turns.doing_after changes since after) ≡ call_then start after
   then_at start changes since (GoOn flight) = refl
   then_at start changes since (Done answer) = refl
 
@@ -211,7 +220,8 @@ module _ {T : Type 0} where
         record { going = rw (h.found, h.doing) (stepped ask (old_of w.words ask)); events = rw (h.found, h.doing) (tells ask (old_of w.words ask)) }
 
     -- handed an answer to its question
-    pub heard_going : (said : Bool) → call_in (after_decision w p said (party_of p w.latest)) p ≡ call_then start (goes_of w.coding p flight (number_of said) w.kept)
+    pub heard_going : (said : Bool)
+        → call_in (after_decision w p said (party_of p w.latest)) p ≡ call_then start (goes_of w.coding p flight (number_of said) w.kept)
     heard_going said = rw (h.found, h.doing) (stepped None (number_of said))
 
     pub heard_events : (said : Bool) → events_of_decision w p said (party_of p w.latest) ≡ writes (number_of said) ++ ending_of p start

@@ -1,5 +1,6 @@
 -- What a call of the driver is as a call of a machine, and what is so as it takes a step.
-use Rattle.std.proofs.Common.{◌^◌, Bool, true, false, ◌≡◌, ℕ, ◌<◌, Option, Some, None, List, [], ◌∷◌, ◌++◌, refl, sym, ap, subst, ◌∙◌, append_assoc, append-nil, arith, fold, ◌==◌}
+use Rattle.std.proofs.Common.{◌^◌, Bool, true, false, ◌≡◌, ℕ, ◌<◌, Option, Some, None, List, [], ◌∷◌, ◌++◌, refl, sym}
+use Rattle.std.proofs.Common.{ap, subst, ◌∙◌, append_assoc, append-nil, arith, fold, ◌==◌}
 use Rattle.std.proofs.lemmas.Bool.Decides.{nat_tests}
 use Rattle.std.proofs.lemmas.List.Sums.{fold-append}
 use Rattle.steps.specs.Ask.{written}
@@ -46,7 +47,9 @@ none_after (x ∷ xs) rest e = absurd (cc)
 
 -- a list that a call begins or goes on with, and more of it
 pub regroup : {A : Type 0} → (xs os ds es ls : List A) → (xs ++ (os ++ ds)) ++ (es ++ ls) ≡ xs ++ (os ++ ((ds ++ es) ++ ls))
-regroup xs os ds es ls = append_assoc xs (os ++ ds) (es ++ ls) ∙ ap (λ zs. xs ++ zs) (append_assoc os ds (es ++ ls) ∙ ap (λ zs. os ++ zs) (sym (append_assoc ds es ls)))
+regroup xs os ds es ls =
+    append_assoc xs (os ++ ds) (es ++ ls)
+    ∙ ap (λ zs. xs ++ zs) (append_assoc os ds (es ++ ls) ∙ ap (λ zs. os ++ zs) (sym (append_assoc ds es ls)))
 
 -- a call of the driver as a call of the model
 module _ {T C M E : Type 0} (call : Calling T C M E) where
@@ -69,8 +72,13 @@ pub record StepsOf {T C M E : Type 0} (Asks : Type 0) (code : Coding T) (effects
   pub past : (capacity : ℕ) (c d : C) (n k : ℕ) → call.stands capacity c → after c n ≡ GoOn d → call.skips d k ≡ false
   pub finds : (c : C) (m : M) (n : ℕ) → n < 2 ^ 64 → call.skips c n ≡ false → IsFreshCall n (call.flight c m)
   pub leaves : (c : C) (a : Ask) (n : ℕ) → call.skips c n ≡ true → want c ≡ wants.Ask a → (written a.op n ≡ n) × (e : E) × call.left e × (after c n ≡ Done e)
-  pub tells : (capacity p : ℕ) (from : Option (Start T × Flight T)) (c d : C) (m : M) (n : ℕ) (es : List (Event T)) → call.stands capacity c → call.wrote capacity p from c m es → after c n ≡ GoOn d → call.wrote capacity p from d (kept c m n) (es ++ effects p (call.flight c m) n)
-  pub tells_all : (capacity p : ℕ) (from : Option (Start T × Flight T)) (c : C) (e : E) (m : M) (n : ℕ) (es : List (Event T)) → call.stands capacity c → call.skips c n ≡ false → call.wrote capacity p from c m es → after c n ≡ Done e → is_question (want c) ≡ false → call.wrote_all capacity p from e (kept c m n) (es ++ effects p (call.flight c m) n)
+  pub tells : (capacity p : ℕ) (from : Option (Start T × Flight T)) (c d : C) (m : M) (n : ℕ) (es : List (Event T))
+      → call.stands capacity c → call.wrote capacity p from c m es → after c n ≡ GoOn d
+      → call.wrote capacity p from d (kept c m n) (es ++ effects p (call.flight c m) n)
+  pub tells_all : (capacity p : ℕ) (from : Option (Start T × Flight T)) (c : C) (e : E) (m : M) (n : ℕ) (es : List (Event T))
+      → call.stands capacity c → call.skips c n ≡ false → call.wrote capacity p from c m es → after c n ≡ Done e
+      → is_question (want c) ≡ false
+      → call.wrote_all capacity p from e (kept c m n) (es ++ effects p (call.flight c m) n)
 
 -- each step of it is at a word
 abbrev pub IsCallOf : {T C M E : Type 0} → Coding T → (ℕ → Flight T → ℕ → List (Event T)) → (ℕ → ℕ) → (C → Want (Unit {0})) → (C → ℕ → After C E)
@@ -80,7 +88,8 @@ IsCallOf {T} {C} {M} {E} code effects size_of want after kept call =
 
 -- what is so as a call is to take a step: of a machine that has this word there, of which the party, where its call began
 -- in this drive, wrote this since then
-pub record Met {T : Type 0} (code : Coding T) (kind : Kind) (capacity : ℕ) (start : Start T) (flight : Flight T) (p : ℕ) (from : Option (Start T × Flight T)) (es : List (Event T)) (n : ℕ) (t : Trace T) : Type 0 where
+pub record Met {T : Type 0} (code : Coding T) (kind : Kind) (capacity : ℕ) (start : Start T) (flight : Flight T)
+    (p : ℕ) (from : Option (Start T × Flight T)) (es : List (Event T)) (n : ℕ) (t : Trace T) : Type 0 where
   pub run : IsRun code kind capacity t
   pub there : call_in t.world p ≡ Some (start, flight)
   pub found : old_of t.world.words (ask_of (want_of code flight)) ≡ n
@@ -108,10 +117,18 @@ pub record StepsAs {T C M E : Type 0} (Asks Goes : Type 0) (code : Coding T) (ki
   pub past : (capacity : ℕ) (c d : C) (n k : ℕ) → call.stands capacity c → after c n ≡ GoOn d → call.skips d k ≡ false
   pub finds : (c : C) (m : M) (n : ℕ) → n < 2 ^ 64 → call.skips c n ≡ false → IsFreshCall n (call.flight c m)
   pub leaves : (c : C) (a : Ask) (n : ℕ) → call.skips c n ≡ true → want c ≡ wants.Ask a → (written a.op n ≡ n) × (e : E) × call.left e × (after c n ≡ Done e)
-  pub tells : (capacity p : ℕ) (from : Option (Start T × Flight T)) (c d : C) (m : M) (n : ℕ) (es late : List (Event T)) (t : Trace T) → call.stands capacity c → call.wrote capacity p from c m es → IsLate kind (Some (call.start, call.flight c m)) late
-      → Met code kind capacity call.start (call.flight c m) p from (es ++ late) n t → after c n ≡ GoOn d → call.wrote capacity p from d (kept c m n) ((es ++ late) ++ events_by p (effects t.world p (call.flight c m) n))
-  pub tells_all : (capacity p : ℕ) (from : Option (Start T × Flight T)) (c : C) (e : E) (m : M) (n : ℕ) (es late : List (Event T)) (t : Trace T) → call.stands capacity c → call.skips c n ≡ false → call.wrote capacity p from c m es → IsLate kind (Some (call.start, call.flight c m)) late
-      → Met code kind capacity call.start (call.flight c m) p from (es ++ late) n t → after c n ≡ Done e → is_question (want c) ≡ false → call.wrote_all capacity p from e (kept c m n) ((es ++ late) ++ events_by p (effects t.world p (call.flight c m) n))
+  pub tells : (capacity p : ℕ) (from : Option (Start T × Flight T)) (c d : C) (m : M) (n : ℕ) (es late : List (Event T)) (t : Trace T)
+      → call.stands capacity c → call.wrote capacity p from c m es
+      → IsLate kind (Some (call.start, call.flight c m)) late
+      → Met code kind capacity call.start (call.flight c m) p from (es ++ late) n t → after c n ≡ GoOn d
+      → call.wrote capacity p from d (kept c m n) ((es ++ late) ++ events_by p (effects t.world p (call.flight c m) n))
+  pub tells_all : (capacity p : ℕ) (from : Option (Start T × Flight T)) (c : C) (e : E) (m : M) (n : ℕ)
+      (es late : List (Event T)) (t : Trace T)
+      → call.stands capacity c → call.skips c n ≡ false → call.wrote capacity p from c m es
+      → IsLate kind (Some (call.start, call.flight c m)) late
+      → Met code kind capacity call.start (call.flight c m) p from (es ++ late) n t → after c n ≡ Done e
+      → is_question (want c) ≡ false
+      → call.wrote_all capacity p from e (kept c m n) ((es ++ late) ++ events_by p (effects t.world p (call.flight c m) n))
 
 -- of a call that goes on by itself, and of one that may go on by what is kept
 abbrev pub StepsIn : {T C M E : Type 0} → Type 0 → Coding T → Kind → (World T → ℕ → Flight T → ℕ → List (Event T)) → (C → Want (Unit {0}))
@@ -151,14 +168,24 @@ steps_as {T} {C} {M} {E} {Asks} {Goes} code kind effects own want after kept cal
       past = h.past;
       finds = h.finds;
       leaves = h.leaves;
-      tells = λ capacity p from c d m n es late t stands wrote waits met e. subst (λ zs. call.wrote capacity p from d (kept c m n) zs) (sym (all capacity p from c m n es late t waits met)) (h.tells capacity p from c d m n es stands wrote e);
-      tells_all = λ capacity p from c e m n es late t stands skip wrote waits met is still. subst (λ zs. call.wrote_all capacity p from e (kept c m n) zs) (sym (all capacity p from c m n es late t waits met)) (h.tells_all capacity p from c e m n es stands skip wrote is still);
+      tells =
+          λ capacity p from c d m n es late t stands wrote waits met e. subst
+          (λ zs. call.wrote capacity p from d (kept c m n) zs) (sym (all capacity p from c m n es late t waits met))
+          (h.tells capacity p from c d m n es stands wrote e);
+      tells_all =
+          λ capacity p from c e m n es late t stands skip wrote waits met is still. subst
+          (λ zs. call.wrote_all capacity p from e (kept c m n) zs) (sym (all capacity p from c m n es late t waits met))
+          (h.tells_all capacity p from c e m n es stands skip wrote is still);
     }
   where
-    all : (capacity p : ℕ) (from : Option (Start T × Flight T)) (c : C) (m : M) (n : ℕ) (es late : List (Event T)) (t : Trace T) → IsLate kind (Some (call.start, call.flight c m)) late → Met code kind capacity call.start (call.flight c m) p from (es ++ late) n t → (es ++ late) ++ events_by p (effects t.world p (call.flight c m) n) ≡ es ++ own p (call.flight c m) n
+    all : (capacity p : ℕ) (from : Option (Start T × Flight T)) (c : C) (m : M) (n : ℕ) (es late : List (Event T)) (t : Trace T)
+        → IsLate kind (Some (call.start, call.flight c m)) late
+        → Met code kind capacity call.start (call.flight c m) p from (es ++ late) n t
+        → (es ++ late) ++ events_by p (effects t.world p (call.flight c m) n) ≡ es ++ own p (call.flight c m) n
     all capacity p from c m n es late t waits met =
         ap (λ zs. (es ++ zs) ++ events_by p (effects t.world p (call.flight c m) n)) (never c m late waits)
-        ∙ (ap (λ zs. zs ++ events_by p (effects t.world p (call.flight c m) n)) (append-nil es) ∙ ap (λ zs. es ++ zs) (same capacity p c m n t met.run met.there))
+        ∙ (ap (λ zs. zs ++ events_by p (effects t.world p (call.flight c m) n)) (append-nil es)
+        ∙ ap (λ zs. es ++ zs) (same capacity p c m n t met.run met.there))
 
 pub steps_in : {T C M E Asks : Type 0} (code : Coding T) (kind : Kind) (effects : World T → ℕ → Flight T → ℕ → List (Event T))
     (own : ℕ → Flight T → ℕ → List (Event T)) (want : C → Want (Unit {0})) (after : C → ℕ → After C E) (kept : C → M → ℕ → M) (call : Calling T C M E)
@@ -190,15 +217,18 @@ with_goes code kind effects want after kept call goes_so h =
 pub record ActsAlone {T C M E : Type 0} (code : Coding T) (kind : Kind) (effects : World T → ℕ → Flight T → ℕ → List (Event T))
     (own : ℕ → Flight T → ℕ → List (Event T)) (call : Calling T C M E) : Type 0 where
   pub never : (c : C) (m : M) (late : List (Event T)) → IsLate kind (Some (call.start, call.flight c m)) late → late ≡ []
-  pub same : (capacity p : ℕ) (c : C) (m : M) (n : ℕ) (t : Trace T) → IsRun code kind capacity t → effects t.world p (call.flight c m) n ≡ own p (call.flight c m) n
+  pub same : (capacity p : ℕ) (c : C) (m : M) (n : ℕ) (t : Trace T) → IsRun code kind capacity t
+      → effects t.world p (call.flight c m) n ≡ own p (call.flight c m) n
   pub its_own : (capacity p : ℕ) (c : C) (m : M) (n : ℕ) (t : Trace T) → IsRun code kind capacity t → call_in t.world p ≡ Some (call.start, call.flight c m)
       → AreOf p (own p (call.flight c m) n)
-  pub alike : (capacity p : ℕ) (c : C) (m : M) (n : ℕ) (t : Trace T) → IsRun code kind capacity t → goes_of code p (call.flight c m) n t.world.kept ≡ after_of code (call.flight c m) n
+  pub alike : (capacity p : ℕ) (c : C) (m : M) (n : ℕ) (t : Trace T) → IsRun code kind capacity t
+      → goes_of code p (call.flight c m) n t.world.kept ≡ after_of code (call.flight c m) n
 
 module _ {T C M E : Type 0} (code : Coding T) (kind : Kind) (effects : World T → ℕ → Flight T → ℕ → List (Event T))
     (own : ℕ → Flight T → ℕ → List (Event T)) (call : Calling T C M E) (acts : ActsAlone code kind effects own call) where
   -- what it writes is its own
-  pub written_alone : (capacity p : ℕ) (c : C) (m : M) (n : ℕ) (t : Trace T) → IsRun code kind capacity t → call_in t.world p ≡ Some (call.start, call.flight c m)
+  pub written_alone : (capacity p : ℕ) (c : C) (m : M) (n : ℕ) (t : Trace T) → IsRun code kind capacity t
+      → call_in t.world p ≡ Some (call.start, call.flight c m)
       → events_by p (effects t.world p (call.flight c m) n) ≡ own p (call.flight c m) n
   written_alone capacity p c m n t run there =
       ap (events_by p) (acts.same capacity p c m n t run) ∙ by_mine p (own p (call.flight c m) n) (acts.its_own capacity p c m n t run there)
@@ -237,9 +267,11 @@ span_by : {T : Type 0} (p : ℕ) (a : Span T) (es : List (Event T)) → fold (sp
 span_by p a [] = refl
 span_by p a (e ∷ es) = by_bool (is_party p (whose e)) (λ t. rw t (span_by p (own_after a e) es)) (λ t. rw t (span_by p a es))
 
-pub span_since : {T : Type 0} (p : ℕ) (start : Start T) (xs during : List (Event T)) → span_of p (xs ++ Begun p start ∷ during) ≡ fold own_after (Open start []) (events_by p during)
+pub span_since : {T : Type 0} (p : ℕ) (start : Start T) (xs during : List (Event T))
+    → span_of p (xs ++ Begun p start ∷ during) ≡ fold own_after (Open start []) (events_by p during)
 span_since {T} p start xs during =
-    fold-append (span_after p) Never xs (Begun p start ∷ during) ∙ (ap (λ a. fold (span_after p) a during) (begins (span_of p xs)) ∙ span_by p (Open start []) during)
+    fold-append (span_after p) Never xs (Begun p start ∷ during)
+    ∙ (ap (λ a. fold (span_after p) a during) (begins (span_of p xs)) ∙ span_by p (Open start []) during)
   where
     begins : (a : Span T) → span_after p a (Begun p start) ≡ Open start []
     begins a = (let same : (p == p) ≡ true = grind (arith, nat_tests) in rw same refl)

@@ -1,5 +1,6 @@
 -- That an add and a replace of the container are calls of the model.
-use Rattle.std.proofs.Common.{◌≡◌, inl, ℕ, ◌+◌, ◌<◌, ◌==◌, nat_lt, true, false, None, Ok, Err, List, [], ◌++◌, append_assoc, append-nil, refl, sym, ap, subst, ◌∙◌, arith}
+use Rattle.std.proofs.Common.{◌≡◌, inl, ℕ, ◌+◌, ◌<◌, ◌==◌, nat_lt, true, false, None, Ok, Err, List, [], ◌++◌}
+use Rattle.std.proofs.Common.{append_assoc, append-nil, refl, sym, ap, subst, ◌∙◌, arith}
 use Rattle.std.proofs.lemmas.Bool.Decides.{nat_tests}
 use Rattle.steps.specs.Container.Add.{Added, first_add, inner_acquire, add_asks, add_want, add_acquired, add_takes, add_after}
 use Rattle.steps.specs.Container.Layout.{is_even, total_words}
@@ -217,7 +218,8 @@ module _ {T : Type 0} (words_of : T → List ℕ) (size : ℕ) where
   replace_words : (capacity : ℕ) (stage : ReplaceStage) (given : Replacement T) → given.index < capacity → ReplaceIn size stage
       → AsksFor (total_words capacity size) (replace_asks words_of size capacity stage given)
   replace_words capacity replaces.Refuses given low h = absurd h
-  replace_words capacity replaces.LoadsCell given low h = (_, (let below : 1 + given.index < capacity + 1 = omega arith in let all = set_words capacity size in omega arith), refl)
+  replace_words capacity replaces.LoadsCell given low h =
+      (_, (let below : 1 + given.index < capacity + 1 = omega arith in let all = set_words capacity size in omega arith), refl)
   replace_words capacity replaces.LoadsCount given low h = (_, count_low capacity size given.index low, refl)
   replace_words capacity (replaces.Hides count) given low h = (_, count_low capacity size given.index low, refl)
   replace_words capacity (replaces.Stores at) given low h = (_, data_within capacity size given.index at low h, refl)

@@ -77,7 +77,9 @@ module _ {T : Type 0} (code : Coding T) (which : CountOf) where
         hears = λ c m a n e. (ap (borrowed_after c) (count_found c.count a n e), refl);
         stays = λ capacity c d n h e. subst (CountGoes capacity) e
             (counts_so capacity c h.0 (count_after c.capacity c.count n) (count_on capacity c.capacity h.0 c.count n));
-        asks = λ capacity c h. fewer (capacity + 1) (container_words code capacity) (borrowed_want c) (set_words capacity code.size) (count_asks capacity c.count h.1);
+        asks =
+            λ capacity c h. fewer (capacity + 1) (container_words code capacity) (borrowed_want c)
+            (set_words capacity code.size) (count_asks capacity c.count h.1);
         past = λ capacity c d n k h e. refl;
         finds = λ c m n small t. tt;
         leaves = λ c a n t e. absurd (cc);
@@ -85,7 +87,8 @@ module _ {T : Type 0} (code : Coding T) (which : CountOf) where
         tells_all = λ capacity p from c end m n es h skip wrote e still. ap (λ zs. zs ++ []) wrote;
       }
 
-  pub container_count_keeps : KeepsRule (λ (z : View T). z.capacity) (At code kinds.Container (counts_values which)) (Ends code kinds.Container (counts_values which))
+  pub container_count_keeps : KeepsRule (λ (z : View T). z.capacity) (At code kinds.Container (counts_values which))
+      (Ends code kinds.Container (counts_values which))
       (λ key. container_words code key + 1) (λ key. key) (λ key. IsMachine code kinds.Container key) borrowed_want borrowed_after (λ c m n. m)
   container_count_keeps = container_keeps code (counts_values which) (λ c m. tt) borrowed_want borrowed_after (λ c m n. m) count_call (λ c n. refl)
 
@@ -255,7 +258,8 @@ module _ {T : Type 0} (code : Coding T) (given : GiveBack) where
         tells_all = λ capacity p from c end m n es h skip wrote e still new. goes_so capacity p c n es (Done end) h (wrote new) e;
       }
 
-  pub container_remove_keeps : KeepsRule (λ (z : View T). z.capacity) (At code kinds.Container (removes_value given)) (Ends code kinds.Container (removes_value given))
+  pub container_remove_keeps : KeepsRule (λ (z : View T). z.capacity)
+      (At code kinds.Container (removes_value given)) (Ends code kinds.Container (removes_value given))
       (λ key. container_words code key + 1) (λ key. key) (λ key. IsMachine code kinds.Container key) (λ c. remove_want c given) after (λ c m n. m)
   container_remove_keeps = container_keeps code (removes_value given) (λ c m. tt) (λ c. remove_want c given) after (λ c m n. m) remove_call (λ c n. refl)
 

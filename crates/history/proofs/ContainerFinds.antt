@@ -1,5 +1,7 @@
 -- That a find on a container is a call of the model, which may rest at its question.
-use Rattle.std.proofs.Common.{Bool, true, false, if◌then◌else◌, option_map, ◌≡◌, ◌⊎◌, inl, inr, ℕ, ◌+◌, ◌*◌, ◌<◌, ◌≤◌, ◌==◌, nat_lt, Option, Some, None, List, [], ◌∷◌, ◌++◌, slice_set, append-nil, append_assoc, fold, refl, sym, ap, subst, ◌∙◌, arith}
+use Rattle.std.proofs.Common.{Bool, true, false, if◌then◌else◌, option_map, ◌≡◌, ◌⊎◌, inl, inr, ℕ, ◌+◌, ◌*◌, ◌<◌, ◌≤◌}
+use Rattle.std.proofs.Common.{◌==◌, nat_lt, Option, Some, None, List, [], ◌∷◌, ◌++◌, slice_set, append-nil}
+use Rattle.std.proofs.Common.{append_assoc, fold, refl, sym, ap, subst, ◌∙◌, arith}
 use Rattle.std.proofs.Math.Nat.{mul-le-mul_left}
 use Rattle.std.proofs.lemmas.Bool.Decides.{nat_tests}
 use Rattle.std.proofs.lemmas.List.{map-append}
@@ -45,7 +47,8 @@ use Rattle.history.specs.Rooms.{room_of}
 use Rattle.history.specs.Settled.{IsResting, RestsAt, EndsAsked}
 use Rattle.history.specs.Value.{value_of_room}
 use Rattle.history.proofs.CallsIn.{goes, AsksFor, StepsOf}
-use Rattle.history.proofs.Containers.{container_effects, plain_effects, container_words, containers_owe, plain_acts, goes_plain, container_first, container_starts}
+use Rattle.history.proofs.Containers.{container_effects, plain_effects, container_words, containers_owe, plain_acts}
+use Rattle.history.proofs.Containers.{goes_plain, container_first, container_starts}
 use Rattle.history.proofs.Decisions.{IsAskingIn, keeps_said, hears_said, ends_said}
 use Rattle.history.proofs.RobustParts.{found_of}
 use Rattle.history.proofs.Rooms.{room_set, room_read}
@@ -118,26 +121,34 @@ module _ {T R : Type 0} (code : Coding T) (law : IsCoding code) (words_in : R �
       ≡ goes finding (find_takes code.size c stage owner n) (find_keeps with_word stage m.0 n, m.1)
   goes_alike c m n (finds.LoadsCell index found) h = go (n == owner) refl
     where
-      go : (b : Bool) → (n == owner) ≡ b → as_model (room m.0) (find_takes code.size (call_at c.capacity (finds.LoadsCell index found)) (finds.LoadsCell index found) owner n)
+      go : (b : Bool) → (n == owner) ≡ b
+          → as_model (room m.0)
+          (find_takes code.size (call_at c.capacity (finds.LoadsCell index found)) (finds.LoadsCell index found) owner n)
           ≡ goes finding (find_takes code.size c (finds.LoadsCell index found) owner n) m
       go true t = rw t refl
       go false t = rw t (comes_alike c m (finds.LoadsCell index found) (index + 1) found)
   goes_alike c m n (finds.LoadsCount index found) h = go (is_even n) refl
     where
-      go : (b : Bool) → is_even n ≡ b → as_model (room m.0) (find_takes code.size (call_at c.capacity (finds.LoadsCount index found)) (finds.LoadsCount index found) owner n)
+      go : (b : Bool) → is_even n ≡ b
+          → as_model (room m.0)
+          (find_takes code.size (call_at c.capacity (finds.LoadsCount index found)) (finds.LoadsCount index found) owner n)
           ≡ goes finding (find_takes code.size c (finds.LoadsCount index found) owner n) m
       go true t = rw t (comes_alike c m (finds.LoadsCount index found) (index + 1) found)
       go false t = rw t refl
   goes_alike c m n (finds.LoadsWord index found count at) h = go (nat_lt (at + 1) code.size) refl
     where
       go : (b : Bool) → nat_lt (at + 1) code.size ≡ b
-          → as_model (kept_at (room m.0) at n) (find_takes code.size (call_at c.capacity (finds.LoadsWord index found count at)) (finds.LoadsWord index found count at) owner n)
+          → as_model (kept_at (room m.0) at n)
+          (find_takes code.size (call_at c.capacity (finds.LoadsWord index found count at))
+          (finds.LoadsWord index found count at) owner n)
           ≡ goes finding (find_takes code.size c (finds.LoadsWord index found count at) owner n) (with_word m.0 at n, m.1)
       go true t = rw t (ap (λ x. as_model x (GoOn (call_at c.capacity (finds.LoadsWord index found count (at + 1))))) (put_there m.0 at n h.1))
       go false t = rw t (ap (λ x. as_model x (GoOn (call_at c.capacity (finds.ChecksCount index found count)))) (put_there m.0 at n h.1))
   goes_alike c m n (finds.ChecksCount index found count) h = go (n == count) refl
     where
-      go : (b : Bool) → (n == count) ≡ b → as_model (room m.0) (find_takes code.size (call_at c.capacity (finds.ChecksCount index found count)) (finds.ChecksCount index found count) owner n)
+      go : (b : Bool) → (n == count) ≡ b
+          → as_model (room m.0)
+          (find_takes code.size (call_at c.capacity (finds.ChecksCount index found count)) (finds.ChecksCount index found count) owner n)
           ≡ goes finding (find_takes code.size c (finds.ChecksCount index found count) owner n) m
       go true t = rw t refl
       go false t = rw t (comes_alike c m (finds.ChecksCount index found count) (index + 1) found)
@@ -185,7 +196,8 @@ module _ {T R : Type 0} (code : Coding T) (law : IsCoding code) (words_in : R �
   StandsThen capacity (GoOn d) = (d.capacity ≡ capacity) × FindIn code.size capacity d.stage
   StandsThen capacity (Done found) = Unit {0}
 
-  stands_then : (capacity : ℕ) (c : Finding T R) (same : c.capacity ≡ capacity) (stage : FindStage) (n : ℕ) → FindIn code.size capacity stage → (d : Finding T R)
+  stands_then : (capacity : ℕ) (c : Finding T R) (same : c.capacity ≡ capacity) (stage : FindStage) (n : ℕ)
+      → FindIn code.size capacity stage → (d : Finding T R)
       → find_takes code.size c stage owner n ≡ GoOn d → (d.capacity ≡ capacity) × FindIn code.size capacity d.stage
   stands_then capacity c same stage n h d e = onward (find_takes code.size c stage owner n) (there stage h) e
     where
@@ -197,7 +209,8 @@ module _ {T R : Type 0} (code : Coding T) (law : IsCoding code) (words_in : R �
 
       comes : (index found : ℕ) → index < capacity → Stands (find_comes_to c (index + 1) found)
       comes index found low =
-          by_test Stands (nat_lt (index + 1) c.capacity) _ _ (λ t. (same, (let below : index + 1 < c.capacity = grind (arith, nat_tests) in omega arith))) (λ t. tt)
+          by_test Stands (nat_lt (index + 1) c.capacity) _ _
+          (λ t. (same, (let below : index + 1 < c.capacity = grind (arith, nat_tests) in omega arith))) (λ t. tt)
 
       there : (stage : FindStage) → FindIn code.size capacity stage → Stands (find_takes code.size c stage owner n)
       there (finds.LoadsCell index found) h = by_test Stands (n == owner) _ _ (λ t. (same, h)) (λ t. comes index found h)
@@ -214,7 +227,9 @@ module _ {T R : Type 0} (code : Coding T) (law : IsCoding code) (words_in : R �
   goes_any (GoOn d) x xs ys = refl
   goes_any (Done e) x xs ys = refl
 
-  find_steps : StepsOf ((capacity : ℕ) (c : Finding T R) → finding.stands capacity c → is_question (want c) ≡ false → AsksFor (container_words code capacity) (want c)) code
+  find_steps : StepsOf ((capacity : ℕ) (c : Finding T R) → finding.stands capacity c → is_question (want c) ≡ false
+      → AsksFor (container_words code capacity) (want c))
+      code
       (plain_effects code) want after kept finding
   find_steps =
       record {
@@ -254,7 +269,8 @@ module _ {T R : Type 0} (code : Coding T) (law : IsCoding code) (words_in : R �
   AsksNone (GoOn d) = is_question (want d) ≡ false
   AsksNone (Done found) = Unit {0}
 
-  asks_none : (c : Finding T R) (n : ℕ) (stage : FindStage) → is_question (find_asks code.size c.capacity stage) ≡ true → AsksNone (find_takes code.size c stage owner n)
+  asks_none : (c : Finding T R) (n : ℕ) (stage : FindStage)
+      → is_question (find_asks code.size c.capacity stage) ≡ true → AsksNone (find_takes code.size c stage owner n)
   asks_none c n (finds.LoadsCell index found) due = absurd (cc)
   asks_none c n (finds.LoadsCount index found) due = absurd (cc)
   asks_none c n (finds.LoadsWord index found count at) due = absurd (cc)
@@ -321,7 +337,8 @@ module _ {T R : Type 0} (code : Coding T) (law : IsCoding code) (words_in : R �
       (plain_acts code finding (λ c m. tt)) find_call FindOver ended_step rests_so
 
   -- in a room of zeros in which a value fits
-  pub container_find_first : (v : View T) (m : Room) → room m.0 ≡ fresh_cell → m.1 ≡ [] → v.going ≡ None → v.other ≡ [] → 0 < v.share.part → 0 < v.capacity → owner < empty
+  pub container_find_first : (v : View T) (m : Room) → room m.0 ≡ fresh_cell → m.1 ≡ [] → v.going ≡ None
+      → v.other ≡ [] → 0 < v.share.part → 0 < v.capacity → owner < empty
       → AtAsked code kinds.Container after kept finding v v (first_find v.capacity) m
   container_find_first v m zeros none idle alone any some fits =
       let named : nat_lt owner empty ≡ true = grind (arith, nat_tests) in
@@ -334,7 +351,9 @@ module _ {T R : Type 0} (code : Coding T) (law : IsCoding code) (words_in : R �
         fresh = alone;
         standing = (refl, some);
         some = any;
-        first = container_first code v finding (Find owner) (first_find v.capacity) m refl (λ o p h. h) named flies ((opening_of kinds.Container).kept v.capacity);
+        first =
+            container_first code v finding (Find owner) (first_find v.capacity) m refl (λ o p h. h) named flies
+            ((opening_of kinds.Container).kept v.capacity);
         starts = container_starts code v finding (Find owner) (first_find v.capacity) m refl (λ o p h. h) named flies;
         wrote = λ p new. ap (copies_of p) (sym none);
       }))
@@ -409,8 +428,15 @@ module _ {T R : Type 0} (code : Coding T) (law : IsCoding code) (words_in : R �
   asked_at c true e (finds.Asks index found) due ends m = go (nat_lt (index + 1) c.capacity) refl
     where
       go : (b : Bool) → nat_lt (index + 1) c.capacity ≡ b
-          → as_model (room m.0) (find_takes code.size (call_at c.capacity (finds.Asks index found)) (finds.Asks index found) owner (number_of false)) ≡ Done (answers.Number e)
-      go true t = (let no : ◌≡◌ {A = After (Finding T R) ℕ} (GoOn (record { capacity = c.capacity; stage = finds.LoadsCell (index + 1) found; of = record {} })) (Done e) = rw t at ends in absurd (cc))
+          → as_model (room m.0)
+          (find_takes code.size (call_at c.capacity (finds.Asks index found)) (finds.Asks index found) owner (number_of false))
+          ≡ Done (answers.Number e)
+      go true t =
+          (let no : ◌≡◌ {A = After (Finding T R) ℕ}
+          (GoOn (record { capacity = c.capacity; stage = finds.LoadsCell (index + 1) found; of = record {} }))
+          (Done e) =
+          rw t at ends in
+          absurd (cc))
       go false t =
           let over : ◌≡◌ {A = After (Finding T R) ℕ} (Done found) (Done e) = rw t at ends in
           let same : found ≡ e = cc in
@@ -430,13 +456,16 @@ module _ {T R : Type 0} (code : Coding T) (law : IsCoding code) (words_in : R �
         answer = answers.Number e;
         ends = λ there.
             goes_plain code under.party (finding.flight h.asking m) (number_of false) there tt
-            ∙ (ap (λ x. as_model x (find_takes code.size (call_at h.asking.capacity h.asking.stage) h.asking.stage owner (number_of false))) (asks_room h.asking.stage h.asks)
+            ∙ (ap
+            (λ x. as_model x (find_takes code.size (call_at h.asking.capacity h.asking.stage) h.asking.stage owner (number_of false)))
+            (asks_room h.asking.stage h.asks)
             ∙ asked_at h.asking h.said e h.asking.stage h.asks h.goes m);
         alone = under.alone;
         some = under.some;
       }
     where
-      asks_room : (stage : FindStage) → is_question (find_asks code.size h.asking.capacity stage) ≡ true → find_keeps kept_at stage (room m.0) (number_of false) ≡ room m.0
+      asks_room : (stage : FindStage) → is_question (find_asks code.size h.asking.capacity stage) ≡ true
+          → find_keeps kept_at stage (room m.0) (number_of false) ≡ room m.0
       asks_room (finds.LoadsCell index found) due = absurd (cc)
       asks_room (finds.LoadsCount index found) due = absurd (cc)
       asks_room (finds.LoadsWord index found count at) due = absurd (cc)

@@ -1,5 +1,6 @@
 -- What a look of a state comes to, where the machine has the state for its party that its drive has.
-use Rattle.std.proofs.Common.{◌≡◌, inl, inr, ℕ, suc, ◌+◌, ◌<◌, ◌≤◌, ◌==◌, nat_lt, Bool, true, false, Option, List, [], ◌∷◌, ◌++◌, slice_index_or, append-nil, refl, sym, ap, subst, ◌∙◌, arith}
+use Rattle.std.proofs.Common.{◌≡◌, inl, inr, ℕ, suc, ◌+◌, ◌<◌, ◌≤◌, ◌==◌, nat_lt, Bool, true, false, Option, List, []}
+use Rattle.std.proofs.Common.{◌∷◌, ◌++◌, slice_index_or, append-nil, refl, sym, ap, subst, ◌∙◌, arith}
 use Rattle.std.proofs.lemmas.Bool.Decides.{nat_tests}
 use Rattle.steps.specs.Container.Layout.{is_even, total_words}
 use Rattle.steps.specs.Container.Look.{look_asks, look_comes_to, look_finds, look_takes, look_after, look_kept}
@@ -102,7 +103,9 @@ module _ {T : Type 0} (size : ℕ) (some : 0 < size) (which : LookOf) (capacity 
     where
       go : (b : Bool) → (k == count) ≡ b → LookGoes (es ++ look_effects p value (looks.ChecksCount index count) k)
           (look_takes size c (looks.ChecksCount index count) seen k)
-      go true e = rw e (next_to index h (es ++ Copied p index value ∷ []) (inr (es, value, at, (let same : index ≡ 0 + index = omega arith in ap (λ n. es ++ Copied p n value ∷ []) same))))
+      go true e =
+          rw e (next_to index h (es ++ Copied p index value ∷ [])
+          (inr (es, value, at, (let same : index ≡ 0 + index = omega arith in ap (λ n. es ++ Copied p n value ∷ []) same))))
       go false e = rw e (quiet es (look_finds c index k) (finds index k h es at))
 
 -- ---- the state that the machine has for its party
@@ -114,7 +117,8 @@ module _ {T : Type 0} (code : Coding T) (which : LookOf) (capacity : ℕ) (seen 
   abbrev kept_shown : Looking T → Showing T → ℕ → Showing T
   kept_shown c m n = look_kept code.value_of code.size c m n
 
-  came_so : (m : Showing T) (r : After (Looking T) Bool) → as_call flights.Container (λ (answer : Answer T). answer) (look_came which (state_of_look capacity seen m) r)
+  came_so : (m : Showing T) (r : After (Looking T) Bool)
+      → as_call flights.Container (λ (answer : Answer T). answer) (look_came which (state_of_look capacity seen m) r)
       ≡ goes drives r m
   came_so m (GoOn d) = refl
   came_so m (Done changed) = refl
@@ -139,4 +143,5 @@ module _ {T : Type 0} (code : Coding T) (which : LookOf) (capacity : ℕ) (seen 
   pub look_writes_so : (c : Looking T) (m : Showing T) (n : ℕ) (w : World T) → w.coding ≡ code → HasState w.kept p (state_of_look capacity seen m)
       → container_effects w p (flights.Container (calls.Look which c)) n ≡ look_effects p (value_in code.value_of code.size m.copy) c.stage n ++ []
   look_writes_so c m n w coded has =
-      ap (λ o. look_effects_of w.coding p c.stage n o ++ []) has ∙ ap (λ (z : Coding T). look_effects p (value_in z.value_of z.size m.copy) c.stage n ++ []) coded
+      ap (λ o. look_effects_of w.coding p c.stage n o ++ []) has
+      ∙ ap (λ (z : Coding T). look_effects p (value_in z.value_of z.size m.copy) c.stage n ++ []) coded

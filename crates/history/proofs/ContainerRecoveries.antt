@@ -1,9 +1,12 @@
 -- That a recovery of the container is a call of the model, which puts questions.
-use Rattle.std.proofs.Common.{◌≡◌, ◌⊎◌, inl, inr, ℕ, ◌+◌, ◌<◌, ◌==◌, nat_lt, Bool, true, false, Option, Some, None, option_map, List, [], ◌∷◌, ◌++◌, slice_set, if◌then◌else◌, fold, refl, sym, ap, subst, ◌∙◌, arith}
+use Rattle.std.proofs.Common.{◌≡◌, ◌⊎◌, inl, inr, ℕ, ◌+◌, ◌<◌, ◌==◌, nat_lt, Bool, true, false, Option, Some, None}
+use Rattle.std.proofs.Common.{option_map, List, [], ◌∷◌, ◌++◌, slice_set, if◌then◌else◌, fold, refl, sym, ap, subst}
+use Rattle.std.proofs.Common.{◌∙◌, arith}
 use Rattle.std.proofs.lemmas.Bool.Decides.{nat_tests}
 use Rattle.std.proofs.lemmas.List.{append_cancel_right}
 use Rattle.steps.specs.Container.Layout.{is_even}
-use Rattle.steps.specs.Container.Recover.{first_recover, recover_asks, recover_want, recover_keeps, recover_raised, recover_locked, recover_takes, recover_after}
+use Rattle.steps.specs.Container.Recover.{first_recover, recover_asks, recover_want, recover_keeps, recover_raised}
+use Rattle.steps.specs.Container.Recover.{recover_locked, recover_takes, recover_after}
 use Rattle.steps.specs.Indices.Robust.Parts.{empty, locked, raise_want, raise_after, lock_want, lock_after}
 use Rattle.steps.specs.Routine.{went_on}
 use Rattle.steps.specs.declared.ask.After.{After}
@@ -104,7 +107,8 @@ module _ {T R : Type 0} (code : Coding T) (law : IsCoding code) (words_in : R �
         after_of code (flight_at c.capacity stage room) n ≡ goes_with (recover_keeps kept_at stage room n) (recover_takes code.size c stage given n)
 
     same_raised : (index : ℕ) (mode : ReleaseMode) (r : After Raise ReleaseState) → as_call flights.Container (λ (answer : Answer T). answer)
-        (as_call calls.Recover State (went_on as_it_is given room (recover_raised (model_call c) index mode r))) ≡ goes_with room (recover_raised c index mode r)
+        (as_call calls.Recover State (went_on as_it_is given room (recover_raised (model_call c) index mode r)))
+        ≡ goes_with room (recover_raised c index mode r)
     same_raised index LockIfLastIndex (GoOn raise) = refl
     same_raised index Default (GoOn raise) = refl
     same_raised index LockIfLastIndex (Done states.Locked) = refl
@@ -185,9 +189,12 @@ module _ {T R : Type 0} (code : Coding T) (law : IsCoding code) (words_in : R �
 
   goes_so : (capacity p : ℕ) (c : Recovering T R) (m : Room) (n : ℕ) (es : List (Event T)) (r : After (Recovering T R) ReleaseState)
       → (h : recovering.stands capacity c) → WroteAt p c.stage (value_at m) m.1 es → after c n ≡ r
-      → RecoverGoes code has_words words_in capacity c h.0 p given (value_at (kept c m n)) (kept c m n).1 (es ++ plain_effects code p (recovering.flight c m) n) r
+      → RecoverGoes code has_words words_in capacity c h.0 p given (value_at (kept c m n)) (kept c m n).1
+      (es ++ plain_effects code p (recovering.flight c m) n) r
   goes_so capacity p c m n es r h at e =
-      subst (RecoverGoes code has_words words_in capacity c h.0 p given (value_at (kept c m n)) (kept c m n).1 (es ++ plain_effects code p (recovering.flight c m) n)) e
+      subst (RecoverGoes code has_words words_in capacity c h.0 p given (value_at (kept c m n)) (kept c m n).1
+      (es ++ plain_effects code p (recovering.flight c m) n))
+      e
       (subst (λ v. RecoverGoes code has_words words_in capacity c h.0 p given (value_at (kept c m n)) (kept c m n).1
       (es ++ (recover_effects p given v c.stage n ++ question_of p given c.stage n)) (after c n)) (sym (value_in_room m.0))
       (recovers_so code has_words words_in capacity c h.0 p given (value_at m) (value_at (kept c m n)) c.stage n m.1 es
@@ -286,7 +293,8 @@ module _ {T R : Type 0} (code : Coding T) (law : IsCoding code) (words_in : R �
           (λ quiet. recover_words code.size capacity given c.stage h.1 quiet) still
 
   -- each step of a recovery keeps the rule of the table; at a question the machine is handed the answer with the step after it
-  pub container_recover_keeps : KeepsRule (λ (z : View T). z.capacity) (AtAsked code kinds.Container after kept recovering) (Ends code kinds.Container recovering)
+  pub container_recover_keeps : KeepsRule (λ (z : View T). z.capacity)
+      (AtAsked code kinds.Container after kept recovering) (Ends code kinds.Container recovering)
       (λ key. container_words code key + 1) (λ key. key) (λ key. IsMachine code kinds.Container key) want after kept
   container_recover_keeps =
       keeps_asked code kinds.Container tt container_effects (plain_effects code) (container_words code) (containers_owe code) want after kept recovering
@@ -301,7 +309,8 @@ module _ {T R : Type 0} (code : Coding T) (law : IsCoding code) (words_in : R �
       (plain_acts code recovering (λ c m. tt)) recover_call
 
   -- in a room of zeros in which a value fits
-  pub container_recover_first : (v : View T) (m : Room) → room_in m.0 ≡ fresh_cell → m.1 ≡ [] → v.going ≡ None → v.other ≡ [] → 0 < v.share.part → given.owner < empty
+  pub container_recover_first : (v : View T) (m : Room) → room_in m.0 ≡ fresh_cell → m.1 ≡ [] → v.going ≡ None
+      → v.other ≡ [] → 0 < v.share.part → given.owner < empty
       → AtAsked code kinds.Container after kept recovering v v (first_recover v.capacity) m
   container_recover_first v m zeros none idle alone any fits =
       let named : nat_lt given.owner empty ≡ true = grind (arith, nat_tests) in
@@ -365,11 +374,16 @@ module _ {T R : Type 0} (code : Coding T) (law : IsCoding code) (words_in : R �
           let p = x.3.party in
           let same = same_written code kinds.Container recovering base other v x.0 y.0 x.1 y.1 idle still x.3 y.3
           (long base x.0 x.1 idle x.3) (long other y.0 y.1 still y.3) in
-          let both : ◌≡◌ {A = Option (Start T × Flight T)} (Some (start, recovering.flight x.0 x.1)) (Some (start, recovering.flight y.0 y.1)) = sym x.3.going ∙ y.3.going in
+          let both : ◌≡◌ {A = Option (Start T × Flight T)} (Some (start, recovering.flight x.0 x.1))
+          (Some (start, recovering.flight y.0 y.1)) =
+          sym x.3.going ∙ y.3.going in
           let pair : ◌≡◌ {A = Start T × Flight T} (start, recovering.flight x.0 x.1) (start, recovering.flight y.0 y.1) = cc in
           let call : x.0 ≡ y.0 = ap (λ (z : Start T × Flight T). recovery_of x.0 z.1) pair in
-          let lists : wrote_visits p given.owner x.1.1 ++ told_yet p given.owner x.0.stage ≡ wrote_visits p given.owner y.1.1 ++ told_yet p given.owner x.0.stage
-          = sym (x.3.tells idle).1 ∙ (same.1 ∙ ((y.3.tells still).1 ∙ (ap (λ q. wrote_visits q given.owner y.1.1 ++ told_yet q given.owner y.0.stage) (sym same.0)
+          let lists : wrote_visits p given.owner x.1.1 ++ told_yet p given.owner x.0.stage
+          ≡ wrote_visits p given.owner y.1.1 ++ told_yet p given.owner x.0.stage
+          =
+          sym (x.3.tells idle).1 ∙ (same.1
+          ∙ ((y.3.tells still).1 ∙ (ap (λ q. wrote_visits q given.owner y.1.1 ++ told_yet q given.owner y.0.stage) (sym same.0)
           ∙ ap (λ (z : Recovering T R). wrote_visits p given.owner y.1.1 ++ told_yet p given.owner z.stage) (sym call)))) in
           sym x.2 ∙ (one_list p given.owner x.1.1 y.1.1
           (append_cancel_right (wrote_visits p given.owner x.1.1) (wrote_visits p given.owner y.1.1) (told_yet p given.owner x.0.stage) lists) ∙ y.2)

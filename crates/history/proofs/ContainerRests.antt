@@ -111,7 +111,8 @@ module _ {T : Type 0} (code : Coding T) where
   abbrev pub Keeps : {C M E : Type 0} → (View T → View T → C → M → Type 0) → (View T → E → M → View T → Type 0) → (C → Want (Unit {0})) → (C → ℕ → After C E)
       → (C → M → ℕ → M) → Type 0
   Keeps at ends want after kept =
-      KeepsRule (λ (z : View T). z.capacity) at ends (λ key. container_words code key + 1) (λ key. key) (λ key. IsMachine code kinds.Container key) want after kept
+      KeepsRule (λ (z : View T). z.capacity) at ends (λ key. container_words code key + 1) (λ key. key)
+      (λ key. IsMachine code kinds.Container key) want after kept
 
   pub never_late : (going : Option (Start T × Flight T)) (late : List (Event T)) → IsLate kinds.Container going late → late ≡ []
   never_late going late h = h
@@ -122,14 +123,16 @@ module _ {T : Type 0} (code : Coding T) where
   container_settles = settles_at code kinds.Container tt container_effects (container_words code) (containers_owe code) never_late (ends_quiet code)
 
   module _ {C M E : Type 0} (call : Calling T C M E) (want : C → Want (Unit {0})) (same_want : (c : C) (m : M) → want_of code (call.flight c m) ≡ want c) where
-    module _ (Begins : ℕ → C → M → Type 0) (asks : (capacity : ℕ) (c : C) (m : M) → Begins capacity c m → AsksFor (container_words code capacity) (want c)) where
+    module _ (Begins : ℕ → C → M → Type 0)
+        (asks : (capacity : ℕ) (c : C) (m : M) → Begins capacity c m → AsksFor (container_words code capacity) (want c)) where
       at_word : (capacity : ℕ) (c : C) (m : M) → Begins capacity c m → is_question (want c) ≡ false
       at_word capacity c m begins = ap is_question (asks capacity c m begins).2
 
       -- who rests has not begun the next
       apart_at : (base v : View T) (c : C) (m k : M) → IsResting code v → Begins v.capacity c k → At code kinds.Container call base v c m → ⊥
       apart_at base v c m k h begins (inl first) =
-          let none : ◌≡◌ {A = Option (Start T × Flight T)} None (Some (h.start, h.flight)) = sym first.idle ∙ (ap (λ (z : View T). z.going) (sym first.is) ∙ h.going) in
+          let none : ◌≡◌ {A = Option (Start T × Flight T)} None (Some (h.start, h.flight)) =
+          sym first.idle ∙ (ap (λ (z : View T). z.going) (sym first.is) ∙ h.going) in
           absurd (cc)
       apart_at base v c m k h begins (inr under) =
           let both : ◌≡◌ {A = Option (Start T × Flight T)} (Some (h.start, h.flight)) (Some (call.start, call.flight c m)) = sym h.going ∙ under.going in
@@ -160,10 +163,13 @@ module _ {T : Type 0} (code : Coding T) where
     -- and of one that puts none, whatever is in its room where it begins
     module _ (Begins : ℕ → C → Type 0) (asks : (capacity : ℕ) (c : C) → Begins capacity c → AsksFor (container_words code capacity) (want c))
         (after : C → ℕ → After C E) (kept : C → M → ℕ → M) (keeps : Keeps (At code kinds.Container call) (Ends code kinds.Container call) want after kept)
-        (first : (v : View T) (c : C) (m : M) → Begins v.capacity c → v.going ≡ None → v.other ≡ [] → 0 < v.share.part → At code kinds.Container call v v c m) where
-      pub rested_keeps : Keeps (AtRested code kinds.Container (λ capacity c m. Begins capacity c) (At code kinds.Container call) (Ends code kinds.Container call))
+        (first : (v : View T) (c : C) (m : M) → Begins v.capacity c → v.going ≡ None → v.other ≡ []
+        → 0 < v.share.part → At code kinds.Container call v v c m) where
+      pub rested_keeps : Keeps (AtRested code kinds.Container (λ capacity c m. Begins capacity c) (At code kinds.Container call)
+          (Ends code kinds.Container call))
           (EndsRested code kinds.Container (λ capacity c m. Begins capacity c) (At code kinds.Container call) (Ends code kinds.Container call)) want after kept
       rested_keeps =
           keeps_rested code kinds.Container tt container_effects (container_words code) (containers_owe code) never_late (ends_quiet code) want after kept
-          (At code kinds.Container call) (Ends code kinds.Container call) keeps (λ capacity c m. Begins capacity c) (λ capacity c m begins. asks capacity c begins) first
+          (At code kinds.Container call) (Ends code kinds.Container call) keeps (λ capacity c m. Begins capacity c)
+          (λ capacity c m begins. asks capacity c begins) first
           (λ base v c m. apart_at (λ capacity c m. Begins capacity c) (λ capacity c m begins. asks capacity c begins) base v c m m)

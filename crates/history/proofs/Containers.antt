@@ -13,7 +13,9 @@ use Rattle.model.specs.declared.families.Flight as flights
 use Rattle.model.specs.declared.families.Kept.{Kept}
 use Rattle.model.specs.declared.families.Kept as kepts
 use Rattle.model.specs.declared.families.container.ContainerStart.{ContainerStart}
-use Rattle.model.specs.declared.families.container.ContainerStart.TheVariants.{Add, Remove, Replace, Find, Recover, GetState, UpdateState, Len, IsEmpty, IsLocked}
+use Rattle.model.specs.declared.families.container.ContainerStart.TheVariants.{Add, Remove, Replace, Find, Recover}
+use Rattle.model.specs.declared.families.container.ContainerStart.TheVariants.{GetState, UpdateState, Len, IsEmpty}
+use Rattle.model.specs.declared.families.container.ContainerStart.TheVariants.{IsLocked}
 use Rattle.model.specs.declared.families.container.calls.ContainerFlight.{ContainerFlight}
 use Rattle.model.specs.declared.families.container.calls.ContainerFlight.TheVariants as calls
 use Rattle.model.specs.declared.party.Party.{Party}
@@ -105,7 +107,8 @@ module _ {T : Type 0} where
   plain_goes code p flight n kept plain = refl
 
   -- and goes on by itself
-  pub goes_plain : (code : Coding T) (p : ℕ) (flight : Flight T) (n : ℕ) (kept : Kept T) → IsPlain flight → goes_of code p flight n kept ≡ after_of code flight n
+  pub goes_plain : (code : Coding T) (p : ℕ) (flight : Flight T) (n : ℕ) (kept : Kept T) → IsPlain flight
+      → goes_of code p flight n kept ≡ after_of code flight n
   goes_plain code p (flights.TheVariants.Container flight) n kept plain = plain_goes code p flight n kept plain
   goes_plain code p flight n kept plain = absurd plain
 
@@ -149,7 +152,9 @@ module _ {T : Type 0} (code : Coding T) (capacity : ℕ) where
 
   -- ---- what a step comes to
 
-  no_rows : (t : Trace T) → IsOn t → (c z : ℕ) (all : List Deed) (done : List (Act T)) (start : Start T) (flight : Flight T) → FlightAt c z all done start flight
+  no_rows : (t : Trace T) → IsOn t
+      → (c z : ℕ) (all : List Deed) (done : List (Act T)) (start : Start T) (flight : Flight T)
+      → FlightAt c z all done start flight
       → first_row (going_rows t.world.coding t.world.kept (Some flight) None) ≡ None
   no_rows t r c z all done (Container start) (flights.TheVariants.Container flight) at =
       step_is_free by_word t.world.coding t.world.capacity t (container_sound t r) (all_live t r) flight
@@ -158,14 +163,18 @@ module _ {T : Type 0} (code : Coding T) (capacity : ℕ) where
   writes_there : (y : Coding T) (words ws : List ℕ) (beside : Option (ℕ × ℕ)) (c z p old : ℕ) (all : List Deed) (done : List (Act T)) (kept : Kept T)
       (s : ContainerNow T) (start : Start T) (flight : Flight T) → Fit kept ws s → FlightAt c z all done start flight
       → (step_of y words beside p start flight old kept).wrote ≡ kept_effects y kept p flight old
-  writes_there y words ws beside c z p old all done (kepts.TheVariants.Container dead states) s (Container start) (flights.TheVariants.Container flight) fit at = refl
+  writes_there y words ws beside c z p old all done (kepts.TheVariants.Container dead states) s (Container start)
+      (flights.TheVariants.Container flight) fit at =
+      refl
   writes_there y words ws beside c z p old all done kept s (Container start) (flights.TheVariants.Container flight) fit at = absurd fit
   writes_there y words ws beside c z p old all done kept s start flight fit at = absurd at
 
   goes_there : (y : Coding T) (words ws : List ℕ) (beside : Option (ℕ × ℕ)) (c z p old : ℕ) (all : List Deed) (done : List (Act T)) (kept : Kept T)
       (s : ContainerNow T) (start : Start T) (flight : Flight T) → Fit kept ws s → FlightAt c z all done start flight
       → (step_of y words beside p start flight old kept).after ≡ goes_of y p flight old kept
-  goes_there y words ws beside c z p old all done (kepts.TheVariants.Container dead states) s (Container start) (flights.TheVariants.Container flight) fit at = refl
+  goes_there y words ws beside c z p old all done (kepts.TheVariants.Container dead states) s (Container start)
+      (flights.TheVariants.Container flight) fit at =
+      refl
   goes_there y words ws beside c z p old all done kept s (Container start) (flights.TheVariants.Container flight) fit at = absurd fit
   goes_there y words ws beside c z p old all done kept s start flight fit at = absurd at
 
@@ -249,7 +258,8 @@ module _ {T C M E : Type 0} (code : Coding T) (call : Calling T C M E) (plain : 
       record {
         never = λ c m late h. h;
         same = λ capacity p c m n t run.
-            ap (λ (z : Coding T). kept_effects z t.world.kept p (call.flight c m) n) run.coded ∙ writes_alike code t.world.kept p (call.flight c m) n (plain c m);
+            ap (λ (z : Coding T). kept_effects z t.world.kept p (call.flight c m) n) run.coded
+            ∙ writes_alike code t.world.kept p (call.flight c m) n (plain c m);
         its_own = λ capacity p c m n t run there. plain_of_party code p (call.flight c m) n;
         alike = λ capacity p c m n t run. goes_plain code p (call.flight c m) n t.world.kept (plain c m);
       }

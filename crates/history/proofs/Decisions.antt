@@ -1,5 +1,6 @@
 -- Calls that put questions: the machine is handed an answer with the call's next step, as it is told of a begin with the first.
-use Rattle.std.proofs.Common.{Bool, true, false, ◌≡◌, inl, inr, ℕ, ◌+◌, ◌<◌, Option, Some, None, List, [], ◌++◌, slice_index, slice_set, set-set, refl, sym, ap, subst, ◌∙◌, append-nil, arith}
+use Rattle.std.proofs.Common.{Bool, true, false, ◌≡◌, inl, inr, ℕ, ◌+◌, ◌<◌, Option, Some, None, List, [], ◌++◌}
+use Rattle.std.proofs.Common.{slice_index, slice_set, set-set, refl, sym, ap, subst, ◌∙◌, append-nil, arith}
 use Rattle.std.proofs.lemmas.List.Sums.{sum_by-append}
 use mathlib.Core.Option.{some}
 use lib.ListN.{get_elem?}
@@ -33,7 +34,8 @@ use Rattle.history.proofs.Calls.{stands, flight_is}
 use Rattle.history.proofs.Turns.{KeptLaws, Between, heard, decided, decided_at, made_between}
 use Rattle.history.proofs.Steps.{view_after, settle}
 use Rattle.history.proofs.CallsIn.{by_bool, goes, AsksFor, StepsOf, StepsThere, ActsAlone, written_alone, steps_alone}
-use Rattle.history.proofs.CallTurns.{still_stands, Ready, ready, Told_by, since_turn}
+use Rattle.history.proofs.CallTurns.{since_turn}
+use Rattle.history.proofs.CallReady.{still_stands, Ready, ready, Told_by}
 use Rattle.history.proofs.Drives.{ToldOver, keeps_at, next_ended}
 
 -- A call that may put questions. It begins with none, and puts none right after another.
@@ -391,8 +393,12 @@ module _ {T C M E : Type 0} (code : Coding T) (kind : Kind) (decides : MayDecide
 
   pub keeps_asked : KeepsRule (λ (z : View T). z.capacity) (AtAsked code kind after kept call) (Ends code kind call) (λ key. size_of key + 1) (λ key. key)
       (λ key. IsMachine code kind key) want after kept
-  keeps_asked = keeps_said code kind decides effects own size_of laws want after kept call acts is_call.asking (Ends code kind call) (λ base e m w h. h) never_ends
+  keeps_asked =
+      keeps_said code kind decides effects own size_of laws want after kept call acts is_call.asking
+      (Ends code kind call) (λ base e m w h. h) never_ends
 
   pub hears_answer : (base v : View T) (c d : C) (m : M) (said : Bool) → is_question (want c) ≡ true → after c (number_of said) ≡ GoOn d
       → AtAsked code kind after kept call base v c m → AtAsked code kind after kept call base v d (kept c m (number_of said))
-  hears_answer = hears_said code kind decides effects own size_of laws want after kept call acts is_call.asking (Ends code kind call) (λ base e m w h. h) never_ends
+  hears_answer =
+      hears_said code kind decides effects own size_of laws want after kept call acts is_call.asking
+      (Ends code kind call) (λ base e m w h. h) never_ends

@@ -1,5 +1,6 @@
 -- The driver over the rule of a machine: what it asks of the steps of a call, shown once for all calls of all kinds.
-use Rattle.std.proofs.Common.{◌^◌, true, false, ◌≡◌, inl, inr, ℕ, ◌+◌, ◌<◌, Some, None, List, [], ◌∷◌, ◌++◌, length, slice_index, slice_set, refl, sym, ap, subst, ◌∙◌, arith}
+use Rattle.std.proofs.Common.{◌^◌, true, false, ◌≡◌, inl, inr, ℕ, ◌+◌, ◌<◌, Some, None, List, [], ◌∷◌, ◌++◌, length}
+use Rattle.std.proofs.Common.{slice_index, slice_set, refl, sym, ap, subst, ◌∙◌, arith}
 use mathlib.Core.Option.{some}
 use lib.ListN.{get_elem?}
 use Rattle.atomic_table.specs.Table.{State, Allows}
@@ -29,9 +30,11 @@ use Rattle.history.proofs.Known.{by_mine, late_none, AreOf}
 use Rattle.history.proofs.Calls.{get_left}
 use Rattle.history.proofs.Turns.{KindLaws, KeptLaws, MachineLaws, kept_laws, goes_on_alike, machine_laws, Between}
 use Rattle.history.proofs.Steps.{settle}
-use Rattle.history.proofs.Passes.{set_same, looks_at}
+use Rattle.history.proofs.Passes.{set_same}
+use Rattle.history.proofs.PassLooks.{looks_at}
 use Rattle.history.proofs.CallsIn.{by_bool, AsksFor, StepsIn, StepsThere, IsCallThere, ActsAlone, steps_alone, with_goes}
-use Rattle.history.proofs.CallTurns.{same_capacity, some_share, still_stands, Ready, ready, then_gained, next_between, view_then, goes_then, ends_then}
+use Rattle.history.proofs.CallTurns.{then_gained, next_between, view_then, goes_then, ends_then}
+use Rattle.history.proofs.CallReady.{same_capacity, some_share, still_stands, Ready, ready}
 pub use Rattle.history.proofs.CallsIn.{goes, IsCallOf, Met, IsCallIn, in_machine, NeverPushes}
 pub use Rattle.history.proofs.Called.{called, at_itself}
 pub use Rattle.history.proofs.Sized.{AtSized, EndsSized, keeps_sized}
@@ -42,7 +45,11 @@ module _ {T C M E Asks : Type 0} (code : Coding T) (kind : Kind) (effects : Worl
   abbrev Step : View T → After C E → M → View T → Type 0
   Step base a m w = NextKnown (λ (z : View T). z.capacity) (At code kind call) (Over code kind call) base a m w
 
-  module _ (s : State (Unit {0}) (View T)) (v : View T) (key id : ℕ) (c : C) (m : M) (at : get_elem? s.views id ≡ some v) (known : v.capacity ≡ key) (y : Ready code kind effects size_of laws call s v key id c m) (ask : Ask) (low : ask.word < size_of key) (wants_it : want c ≡ wants.Ask ask) (small : slice_index s.words ask.word < 2 ^ 64) (skip : call.skips c (slice_index s.words ask.word) ≡ false) where
+  module _ (s : State (Unit {0}) (View T)) (v : View T) (key id : ℕ) (c : C) (m : M)
+      (at : get_elem? s.views id ≡ some v) (known : v.capacity ≡ key)
+      (y : Ready code kind effects size_of laws call s v key id c m) (ask : Ask) (low : ask.word < size_of key)
+      (wants_it : want c ≡ wants.Ask ask) (small : slice_index s.words ask.word < 2 ^ 64)
+      (skip : call.skips c (slice_index s.words ask.word) ≡ false) where
     abbrev n : ℕ
     n = slice_index s.words ask.word
 
@@ -63,20 +70,31 @@ module _ {T C M E Asks : Type 0} (code : Coding T) (kind : Kind) (effects : Worl
 
     known_then : (base : View T) → At code kind call base v c m → (r : After C E) → after c n ≡ r → Step base r (kept c m n) view_now
     known_then base stage (GoOn d) e =
-        inr (goes_then code kind effects size_of laws call s v key id c m at known y (Some ask) low asks_it finds_it base stage d (kept c m n) (comes_there base stage ∙ ap (λ r. goes call r (kept c m n)) e)
-        (is_call.stays base.capacity c d n (still_stands code kind effects size_of laws call base v c m stage) e) (λ k. is_call.past base.capacity c d n k (still_stands code kind effects size_of laws call base v c m stage) e) (λ es late h waits met. is_call.tells base.capacity y.p base.going c d m n es late y.u (still_stands code kind effects size_of laws call base v c m stage) h waits met e))
+        inr (goes_then code kind effects size_of laws call s v key id c m at known y (Some ask) low asks_it finds_it
+        base stage d (kept c m n) (comes_there base stage ∙ ap (λ r. goes call r (kept c m n)) e)
+        (is_call.stays base.capacity c d n (still_stands code kind effects size_of laws call base v c m stage) e)
+        (λ k. is_call.past base.capacity c d n k (still_stands code kind effects size_of laws call base v c m stage) e)
+        (λ es late h waits met. is_call.tells base.capacity y.p base.going c d m n es late y.u
+        (still_stands code kind effects size_of laws call base v c m stage) h waits met e))
     known_then base stage (Done end) e =
-        inl (ends_then code kind effects size_of laws call s v key id c m at known y (Some ask) low asks_it finds_it base stage end (kept c m n) (comes_there base stage ∙ ap (λ r. goes call r (kept c m n)) e)
-        (λ es late h waits met. is_call.tells_all base.capacity y.p base.going c end m n es late y.u (still_stands code kind effects size_of laws call base v c m stage) skip h waits met e (ap is_question wants_it)))
+        inl (ends_then code kind effects size_of laws call s v key id c m at known y (Some ask) low asks_it finds_it
+        base stage end (kept c m n) (comes_there base stage ∙ ap (λ r. goes call r (kept c m n)) e)
+        (λ es late h waits met. is_call.tells_all base.capacity y.p base.going c end m n es late y.u
+        (still_stands code kind effects size_of laws call base v c m stage) skip h waits met e
+        (ap is_question wants_it)))
 
     pub told : Told (λ (z : View T). z.capacity) (At code kind call) (Over code kind call) after kept c m v (answered ask.op n) view_now
     told =
         let hears = is_call.hears c m ask n wants_it in (
           refl,
-          λ base stage. subst (λ (z : After C E × M). Step base z.0 z.1 view_now) (λ i. (sym hears.0 i, sym hears.1 i)) (known_then base stage (after c n) refl),
+          λ base stage. subst (λ (z : After C E × M). Step base z.0 z.1 view_now)
+              (λ i. (sym hears.0 i, sym hears.1 i)) (known_then base stage (after c n) refl),
         )
 
-    pub between_then : Between code kind key y.owner (record { words = slice_set s.words ask.word (written ask.op n); homes = s.homes; views = s.views }) id y.p (then_gained code kind effects size_of laws call s v key id c m at known y (Some ask) low asks_it finds_it) (after_turn y.u (Next y.p))
+    pub between_then : Between code kind key y.owner
+        (record { words = slice_set s.words ask.word (written ask.op n); homes = s.homes; views = s.views }) id y.p
+        (then_gained code kind effects size_of laws call s v key id c m at known y (Some ask) low asks_it finds_it)
+        (after_turn y.u (Next y.p))
     between_then = next_between code kind effects size_of laws call s v key id c m at known y (Some ask) low asks_it finds_it
 
     abbrev pub gained_now : List (Event T)
@@ -84,7 +102,11 @@ module _ {T C M E Asks : Type 0} (code : Coding T) (kind : Kind) (effects : Worl
 
   -- ---- a call that finds the last position is a look
 
-  module _ (s : State (Unit {0}) (View T)) (v w : View T) (key : ℕ) (c : C) (m : M) (ask : Ask) (known : v.capacity ≡ key) (wants_it : want c ≡ wants.Ask ask) (skip : call.skips c (slice_index s.words ask.word) ≡ true) (looked : Looks code kind key v w) (t : Trace T) (run : IsRun code kind key t) (same_seen : w.seen ≡ t.events) (same_word : slice_index t.world.words ask.word ≡ slice_index s.words ask.word) where
+  module _ (s : State (Unit {0}) (View T)) (v w : View T) (key : ℕ) (c : C) (m : M) (ask : Ask)
+      (known : v.capacity ≡ key) (wants_it : want c ≡ wants.Ask ask)
+      (skip : call.skips c (slice_index s.words ask.word) ≡ true) (looked : Looks code kind key v w) (t : Trace T)
+      (run : IsRun code kind key t) (same_seen : w.seen ≡ t.events)
+      (same_word : slice_index t.world.words ask.word ≡ slice_index s.words ask.word) where
     abbrev seen_word : ℕ
     seen_word = slice_index s.words ask.word
 
@@ -114,11 +136,13 @@ module _ {T C M E Asks : Type 0} (code : Coding T) (kind : Kind) (effects : Worl
         let hears = is_call.hears c m ask seen_word wants_it in
         let out = is_call.leaves c ask seen_word skip wants_it in (
           looked.capacity,
-          λ base stage. subst (λ (z : After C E × M). Step base z.0 z.1 w) (λ i. (sym hears.0 i, sym hears.1 i)) (subst (λ a. Step base a (kept c m seen_word) w) (sym out.3) (inr (left_out base stage out.1 (kept c m seen_word) out.2))),
+          λ base stage. subst (λ (z : After C E × M). Step base z.0 z.1 w) (λ i. (sym hears.0 i, sym hears.1 i))
+              (subst (λ a. Step base a (kept c m seen_word) w) (sym out.3) (inr (left_out base stage out.1 (kept c m seen_word) out.2))),
         )
 
   -- it has not begun, so nothing is late for it
-  calm : (base v : View T) (c : C) (m : M) (n : ℕ) → call.skips c n ≡ true → At code kind call base v c m → (late : List (Event T)) → IsLate kind v.going late → late ≡ []
+  calm : (base v : View T) (c : C) (m : M) (n : ℕ) → call.skips c n ≡ true → At code kind call base v c m
+      → (late : List (Event T)) → IsLate kind v.going late → late ≡ []
   calm base v c m n skip (inl first) late h = late_none kind late (subst (λ o. IsLate kind o late) (ap (λ (z : View T). z.going) first.is ∙ first.idle) h)
   calm base v c m n skip (inr under) late h = (let no : true ≡ false = sym skip ∙ under.past n in absurd (cc))
 
@@ -139,9 +163,13 @@ module _ {T C M E Asks : Type 0} (code : Coding T) (kind : Kind) (effects : Worl
         below,
         λ s r long at small. by_bool (call.skips c (slice_index s.words ask.word)) (λ skip. (
             let out = is_call.leaves c ask (slice_index s.words ask.word) skip asked.2 in
-            let look = looks_at code kind key slots id ask.word v (some_share code kind effects size_of laws call base₀ v c m at₀) (calm base₀ v c m (slice_index s.words ask.word) skip at₀) s r long at small in
+            let look =
+            looks_at code kind key slots id ask.word v
+            (some_share code kind effects size_of laws call base₀ v c m at₀)
+            (calm base₀ v c m (slice_index s.words ask.word) skip at₀) s r long at small in
             let wide : length r.trace.world.words ≡ size_of key = (laws key).size r.trace r.run in
-            let same_word : slice_index r.trace.world.words ask.word ≡ slice_index s.words ask.word = sym (ap (λ ws. slice_index ws ask.word) r.words ∙ get_left r.trace.world.words (0 ∷ []) ask.word (omega arith)) in (
+            let same_word : slice_index r.trace.world.words ask.word ≡ slice_index s.words ask.word =
+            sym (ap (λ ws. slice_index ws ask.word) r.words ∙ get_left r.trace.world.words (0 ∷ []) ask.word (omega arith)) in (
               look.0,
               look.1,
               look.2,
@@ -152,7 +180,9 @@ module _ {T C M E Asks : Type 0} (code : Coding T) (kind : Kind) (effects : Worl
               view_now s v key id c m at known y ask low asked.2 small skip,
               table.keeps,
               tt,
-              settle code kind key id y.p y.owner (slice_set s.words ask.word (written ask.op (slice_index s.words ask.word))) s v (gained_now s v key id c m at known y ask low asked.2 small skip) (after_turn y.u (Next y.p)) at
+              settle code kind key id y.p y.owner
+                  (slice_set s.words ask.word (written ask.op (slice_index s.words ask.word))) s v
+                  (gained_now s v key id c m at known y ask low asked.2 small skip) (after_turn y.u (Next y.p)) at
                   (some_share code kind effects size_of laws call base₀ v c m at₀) (between_then s v key id c m at known y ask low asked.2 small skip),
               (told s v key id c m at known y ask low asked.2 small skip, refl),
             ))),
@@ -181,7 +211,8 @@ module _ {T C M E Asks : Type 0} (code : Coding T) (kind : Kind) (effects : Worl
         (λ key. IsMachine code kind key) want after kept
     keeps_ends keeps base₀ v c m key words slots id wide known at₀ = go (want c) (keeps base₀ v c m key words slots id wide known at₀)
       where
-        go : (w : Want (Unit {0})) → Owes (IsMachine code kind key) words slots id (ToldOver c m) w (v, []) → Owes (IsMachine code kind key) words slots id (ToldEnds c m) w (v, [])
+        go : (w : Want (Unit {0})) → Owes (IsMachine code kind key) words slots id (ToldOver c m) w (v, [])
+            → Owes (IsMachine code kind key) words slots id (ToldEnds c m) w (v, [])
         go (wants.Ask a) h = (h.0, λ s r long at small. (let x = h.1 s r long at small in (x.0, x.1, x.2, x.3, (told_all c m v _ x.0 x.4.0, x.4.1))))
         go (wants.Question q) h = told_all c m v 0 v h
         go wants.Nothing h = told_all c m v 0 v h
@@ -252,14 +283,20 @@ acts_alone code kind effects size_of laws call =
           goes_on_alike code kind capacity (size_of capacity) (λ w. effects) (all_laws code kind effects size_of laws capacity) t run p (call.flight c m) n;
     }
 
-module _ {T C M E : Type 0} (code : Coding T) (kind : Kind) (effects : ℕ → Flight T → ℕ → List (Event T)) (size_of : ℕ → ℕ) (laws : (capacity : ℕ) → KindLaws code kind capacity (size_of capacity) effects) (want : C → Want (Unit {0})) (after : C → ℕ → After C E) (kept : C → M → ℕ → M) (call : Calling T C M E) (is_call : IsCallOf code effects size_of want after kept call) where
+module _ {T C M E : Type 0} (code : Coding T) (kind : Kind) (effects : ℕ → Flight T → ℕ → List (Event T))
+    (size_of : ℕ → ℕ) (laws : (capacity : ℕ) → KindLaws code kind capacity (size_of capacity) effects)
+    (want : C → Want (Unit {0})) (after : C → ℕ → After C E) (kept : C → M → ℕ → M) (call : Calling T C M E)
+    (is_call : IsCallOf code effects size_of want after kept call) where
   by_itself : IsCallThere code kind (λ w. effects) size_of want after kept call
   by_itself = steps_alone code kind (λ w. effects) effects call (acts_alone code kind effects size_of laws call) want after kept is_call
 
-  pub keeps : KeepsRule (λ (z : View T). z.capacity) (At code kind call) (Over code kind call) (λ key. size_of key + 1) (λ key. key) (λ key. IsMachine code kind key) want after kept
+  pub keeps : KeepsRule (λ (z : View T). z.capacity) (At code kind call) (Over code kind call)
+      (λ key. size_of key + 1) (λ key. key) (λ key. IsMachine code kind key) want after kept
   keeps = keeps_there code kind (λ w. effects) size_of (all_kept_laws code kind effects size_of laws) want after kept call by_itself
 
-  pub keeps_all : ((c : C) (n : ℕ) → call.skips c n ≡ false) → KeepsRule (λ (z : View T). z.capacity) (At code kind call) (Ends code kind call) (λ key. size_of key + 1) (λ key. key) (λ key. IsMachine code kind key) want after kept
+  pub keeps_all : ((c : C) (n : ℕ) → call.skips c n ≡ false)
+      → KeepsRule (λ (z : View T). z.capacity) (At code kind call) (Ends code kind call) (λ key. size_of key + 1)
+      (λ key. key) (λ key. IsMachine code kind key) want after kept
   keeps_all = keeps_all_there code kind (λ w. effects) size_of (all_kept_laws code kind effects size_of laws) want after kept call by_itself
 
 module _ {T C M E : Type 0} (code : Coding T) (kind : Kind) (effects : World T → ℕ → Flight T → ℕ → List (Event T)) (size_of : ℕ → ℕ)
@@ -292,13 +329,21 @@ module _ {T C M E : Type 0} (code : Coding T) (kind : Kind) (effects : World T �
         ),
       )
 
-module _ {T C M E : Type 0} (code : Coding T) (kind : Kind) (effects : ℕ → Flight T → ℕ → List (Event T)) (size_of : ℕ → ℕ) (laws : (capacity : ℕ) → KindLaws code kind capacity (size_of capacity) effects) (call : Calling T C M E) where
-  pub at_once : (v : View T) (c : C) (m m' : M) (end : E) (key slots id word : ℕ) → v.capacity ≡ key → IsFirst code kind call v v c m → want_of code (call.flight c m) ≡ wants.Nothing → IsFreshCall 0 (call.flight c m) → after_of code (call.flight c m) 0 ≡ Done (call.answer end m')
-      → ((p : ℕ) → call.wrote_all v.capacity p v.going end m' ([] ++ effects p (call.flight c m) 0)) → ((p : ℕ) (wrote : List (Event T)) → call.wrote v.capacity p v.going c m wrote → wrote ≡ [])
+module _ {T C M E : Type 0} (code : Coding T) (kind : Kind) (effects : ℕ → Flight T → ℕ → List (Event T))
+    (size_of : ℕ → ℕ) (laws : (capacity : ℕ) → KindLaws code kind capacity (size_of capacity) effects)
+    (call : Calling T C M E) where
+  pub at_once : (v : View T) (c : C) (m m' : M) (end : E) (key slots id word : ℕ) → v.capacity ≡ key
+      → IsFirst code kind call v v c m → want_of code (call.flight c m) ≡ wants.Nothing
+      → IsFreshCall 0 (call.flight c m) → after_of code (call.flight c m) 0 ≡ Done (call.answer end m')
+      → ((p : ℕ) → call.wrote_all v.capacity p v.going end m' ([] ++ effects p (call.flight c m) 0))
+      → ((p : ℕ) (wrote : List (Event T)) → call.wrote v.capacity p v.going c m wrote → wrote ≡ [])
       → Allows (IsMachine code kind key) slots id (v, []) word (λ n. n) (λ found me. Ends code kind call v end m' me.0 × (me.1 ≡ []))
   at_once v c m m' end key slots id word known first asks_none finds afters tells none =
-      at_once_there code kind (λ w. effects) size_of (all_kept_laws code kind effects size_of laws) call v c m m' end key slots id word known first asks_none finds
-      (λ p t run there. goes_on_alike code kind key (size_of key) (λ w. effects) (all_laws code kind effects size_of laws key) t run p (call.flight c m) 0 ∙ afters)
+      at_once_there code kind (λ w. effects) size_of (all_kept_laws code kind effects size_of laws) call v c m m'
+      end key slots id word known first asks_none finds
+      (λ p t run there. goes_on_alike code kind key (size_of key) (λ w. effects)
+      (all_laws code kind effects size_of laws key) t run p (call.flight c m) 0
+      ∙ afters)
       (λ p es late t run there h waits.
       (let own : AreOf p (effects p (call.flight c m) 0) = ((laws key).goes_on t run p call.start (call.flight c m) there).own 0 in
       subst (λ ws. call.wrote_all v.capacity p v.going end m' ws)

@@ -17,7 +17,8 @@ use Rattle.model.specs.Parties.{party_of, doing_of, flight_of}
 use Rattle.model.specs.Reading.{Each}
 use Rattle.model.specs.Refusals.{call_refusal, is_due}
 use Rattle.model.specs.Step.{answer_in}
-use Rattle.model.specs.Turns.{after_turn, events_of, events_of_next, events_of_decision, events_of_answer, ending_of, old_of, ask_of_doing, number_of, unless_refused, attempt_on, run_on, step_in}
+use Rattle.model.specs.Turns.{after_turn, events_of, events_of_next, events_of_decision, events_of_answer, ending_of}
+use Rattle.model.specs.Turns.{old_of, ask_of_doing, number_of, unless_refused, attempt_on, run_on, step_in}
 use Rattle.model.specs.World.{Trace, flight_in}
 use Rattle.model.proofs.Frame.{Family, Sound, is_true}
 use Rattle.model.proofs.Rows.{row_passed}
@@ -28,9 +29,14 @@ use Rattle.queue_laws.proofs.Queues.Runs.{LawsAt, AllMay, attempt_sound}
 abbrev pub IsHanded : {T : Type 0} → Trace T → Flight T → ℕ → Type 0
 IsHanded t flight n = (n ≡ old_of t.world.words (ask_of (want_of t.world.coding flight))) ⊎ (is_due t.world.coding (Some flight) ≡ true)
 
-module _ {T : Type 0} (F : Family T) (May : Trace T → Turn T → Type 0) (laws : LawsAt F May) (P : List (Event T) → Event T → Type 0) (begun : (before : List (Event T)) (p : ℕ) (start : Start T) → P before (Begun p start))
-    (finished : (before : List (Event T)) (p : ℕ) (start : Start T) (answer : Answer T) → P before (Finished p start answer)) (died : (before : List (Event T)) (owner : ℕ) → P before (Died owner))
-    (writes : (t : Trace T) → Sound F t → (p n : ℕ) (x : Party T) (flight : Flight T) (since : ℕ) → party_of p t.world.latest ≡ Some x → x.doing ≡ Going flight since → IsHanded t flight n → AreRight P t.events (step_in t.world p x flight n).wrote) where
+module _ {T : Type 0} (F : Family T) (May : Trace T → Turn T → Type 0) (laws : LawsAt F May)
+    (P : List (Event T) → Event T → Type 0)
+    (begun : (before : List (Event T)) (p : ℕ) (start : Start T) → P before (Begun p start))
+    (finished : (before : List (Event T)) (p : ℕ) (start : Start T) (answer : Answer T) → P before (Finished p start answer))
+    (died : (before : List (Event T)) (owner : ℕ) → P before (Died owner))
+    (writes : (t : Trace T) → Sound F t → (p n : ℕ) (x : Party T) (flight : Flight T) (since : ℕ)
+    → party_of p t.world.latest ≡ Some x → x.doing ≡ Going flight since → IsHanded t flight n
+    → AreRight P t.events (step_in t.world p x flight n).wrote) where
   both : (before xs ys : List (Event T)) → AreRight P before xs → ((b : List (Event T)) → AreRight P b ys) → AreRight P before (xs ++ ys)
   both before [] ys a b = b before
   both before (x ∷ xs) ys a b = (a.0, both (before ++ x ∷ []) xs ys a.1 b)
@@ -45,10 +51,14 @@ module _ {T : Type 0} (F : Family T) (May : Trace T → Turn T → Type 0) (laws
     HandedAt n (Over others) = Unit {0}
     HandedAt n (Going flight since) = IsHanded t flight n
 
-    answer_right : (p n : ℕ) (x : Party T) → party_of p t.world.latest ≡ Some x → (doing : Doing T) → x.doing ≡ doing → HandedAt n doing → AreRight P t.events (events_of_answer t.world p x n doing)
+    answer_right : (p n : ℕ) (x : Party T) → party_of p t.world.latest ≡ Some x → (doing : Doing T)
+        → x.doing ≡ doing → HandedAt n doing → AreRight P t.events (events_of_answer t.world p x n doing)
     answer_right p n x found (Over others) d h = tt
     answer_right p n x found (Going flight since) d h =
-        both t.events (step_in t.world p x flight n).wrote (ending_of p x.start (answer_in (step_in t.world p x flight n).after)) (writes t s p n x flight since found d h) (λ b. ending_right p x.start (answer_in (step_in t.world p x flight n).after) b)
+        both t.events (step_in t.world p x flight n).wrote
+        (ending_of p x.start (answer_in (step_in t.world p x flight n).after))
+        (writes t s p n x flight since found d h)
+        (λ b. ending_right p x.start (answer_in (step_in t.world p x flight n).after) b)
 
     next_right : (p : ℕ) (o : Option (Party T)) → party_of p t.world.latest ≡ o → AreRight P t.events (events_of_next t.world p o)
     next_right p None e = tt
@@ -58,7 +68,9 @@ module _ {T : Type 0} (F : Family T) (May : Trace T → Turn T → Type 0) (laws
         handed (Over others) = tt
         handed (Going flight since) = inl refl
 
-    decision_right : (p : ℕ) (said : Bool) (o : Option (Party T)) → party_of p t.world.latest ≡ o → is_due t.world.coding (flight_of (doing_of o)) ≡ true → AreRight P t.events (events_of_decision t.world p said o)
+    decision_right : (p : ℕ) (said : Bool) (o : Option (Party T)) → party_of p t.world.latest ≡ o
+        → is_due t.world.coding (flight_of (doing_of o)) ≡ true
+        → AreRight P t.events (events_of_decision t.world p said o)
     decision_right p said None e due = tt
     decision_right p said (Some x) e due = answer_right p (number_of said) x e x.doing refl (handed x.doing due)
       where
@@ -79,11 +91,14 @@ module _ {T : Type 0} (F : Family T) (May : Trace T → Turn T → Type 0) (laws
     turn_right (Decide p said) free = decision_right p said (party_of p t.world.latest) refl (due_of p said free)
     turn_right (Die owner) free = (died t.events owner, tt)
 
-  attempt_right : (t : Trace T) (turn : Turn T) (o : Option Refusal) → call_refusal t.world turn ≡ o → Sound F t → Each P t.events → Each P (unless_refused t (after_turn t turn) o).events
+  attempt_right : (t : Trace T) (turn : Turn T) (o : Option Refusal) → call_refusal t.world turn ≡ o → Sound F t
+      → Each P t.events → Each P (unless_refused t (after_turn t turn) o).events
   attempt_right t turn None free s all = Each-append P t.events (events_of t.world turn) all (turn_right t s turn free)
   attempt_right t turn (Some refusal) free s all = all
 
   pub each_event : (turns : List (Turn T)) (t : Trace T) → AllMay May turns t → Sound F t → Each P t.events → Each P (run_on turns t).events
   each_event [] t may s all = all
   each_event (turn ∷ turns) t may s all =
-      each_event turns (attempt_on t turn) may.1 (attempt_sound F May laws t turn (call_refusal t.world turn) refl may.0 s) (attempt_right t turn (call_refusal t.world turn) refl s all)
+      each_event turns (attempt_on t turn) may.1
+      (attempt_sound F May laws t turn (call_refusal t.world turn) refl may.0 s)
+      (attempt_right t turn (call_refusal t.world turn) refl s all)

@@ -27,7 +27,8 @@ module _ {T : Type 0} (owner : ℕ → ℕ) (j c i : ℕ) where
           taken (claims i) (frees i) (holder_after i) owner j before (Claimed p index) p refl (rw t refl) refl free (rw t refl)
 
       there : index ≢ i → MovesIt before (Claimed p index)
-      there ne = let t : (index == i) ≡ false = grind (arith, nat_tests) in still (claims i) (frees i) (holder_after i) owner j before (Claimed p index) (rw t refl) refl (rw t refl)
+      there ne = let t : (index == i) ≡ false = grind (arith, nat_tests) in
+          still (claims i) (frees i) (holder_after i) owner j before (Claimed p index) (rw t refl) refl (rw t refl)
   moves before (Freed p index) h = ⊎_elim here there (cases_eq index i)
     where
       here : index ≡ i → MovesIt before (Freed p index)
@@ -37,15 +38,19 @@ module _ {T : Type 0} (owner : ℕ → ℕ) (j c i : ℕ) where
           given (claims i) (frees i) (holder_after i) owner j before (Freed p index) p refl refl (rw t refl) held (rw t refl)
 
       there : index ≢ i → MovesIt before (Freed p index)
-      there ne = let t : (index == i) ≡ false = grind (arith, nat_tests) in still (claims i) (frees i) (holder_after i) owner j before (Freed p index) refl (rw t refl) (rw t refl)
+      there ne = let t : (index == i) ≡ false = grind (arith, nat_tests) in
+          still (claims i) (frees i) (holder_after i) owner j before (Freed p index) refl (rw t refl) (rw t refl)
   moves before e h = still (claims i) (frees i) (holder_after i) owner j before e refl refl refl
 
   all_move : (all : List (Event T)) → Each (HoldsRight c) all → Each MovesIt all
   all_move all each before after e is = moves before e (each before after e is)
 
-  pub held_by : (all made : List (Event T)) → Each (HoldsRight c) all → ((f : Event T → ℕ) → sum_by f made ≡ sum_by (owned owner j f) all) → Holds i made → (p : ℕ) × (owner p ≡ j) × (holder_of i all ≡ Some p)
+  pub held_by : (all made : List (Event T)) → Each (HoldsRight c) all
+      → ((f : Event T → ℕ) → sum_by f made ≡ sum_by (owned owner j f) all) → Holds i made
+      → (p : ℕ) × (owner p ≡ j) × (holder_of i all ≡ Some p)
   held_by all made each sums holds = held_by_one (claims i) (frees i) (holder_after i) owner j all made (all_move all each) sums holds
 
 -- a pass freed what it claimed, or holds it once
-pub holds_once : {T : Type 0} (c i : ℕ) (v : View T) → Each (HoldsRight c) v.seen → IsOfParties v → (sum_by (frees i) v.made ≤ sum_by (claims i) v.made) × (sum_by (claims i) v.made ≤ sum_by (frees i) v.made + 1)
+pub holds_once : {T : Type 0} (c i : ℕ) (v : View T) → Each (HoldsRight c) v.seen → IsOfParties v
+    → (sum_by (frees i) v.made ≤ sum_by (claims i) v.made) × (sum_by (claims i) v.made ≤ sum_by (frees i) v.made + 1)
 holds_once c i v each h = at_most (claims i) (frees i) (holder_after i) h.owner h.seat v.seen v.made (all_move h.owner h.seat c i v.seen each) h.sums

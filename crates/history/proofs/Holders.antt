@@ -1,6 +1,8 @@
 -- In a bounded queue only the holder of a role publishes, or takes out; there is room for what is published, and what is
 -- taken out waited first.
-use Rattle.std.proofs.Common.{◌≡◌, ◌<◌, ◌≤◌, ℕ, Bool, true, false, Option, Some, None, is_none, List, [], ◌∷◌, ◌++◌, ◌==◌, length, map, fold, refl, sym, ap, subst, ◌∙◌, append-nil, append_assoc, length-append, arith}
+use Rattle.std.proofs.Common.{◌≡◌, ◌<◌, ◌≤◌, ℕ, Bool, true, false, Option, Some, None, is_none, List, [], ◌∷◌, ◌++◌}
+use Rattle.std.proofs.Common.{◌==◌, length, map, fold, refl, sym, ap, subst, ◌∙◌, append-nil, append_assoc}
+use Rattle.std.proofs.Common.{length-append, arith}
 use Rattle.std.proofs.lemmas.List.{length-map}
 use Rattle.std.proofs.lemmas.Grind.{flat_map-append}
 use Rattle.std.proofs.lemmas.Bool.Decides.{nat_tests}
@@ -22,7 +24,9 @@ use Rattle.model.specs.declared.families.Kept.{Kept}
 use Rattle.model.specs.declared.families.Kept as kepts
 use Rattle.model.specs.declared.families.queues.QueueKind.TheVariants.{IndexQueue, Queue}
 use Rattle.model.specs.declared.families.queues.QueueStart.{QueueStart}
-use Rattle.model.specs.declared.families.queues.QueueStart.TheVariants.{AcquireProducer, ReleaseProducer, AcquireConsumer, ReleaseConsumer, PushIndex, Push, Pop}
+use Rattle.model.specs.declared.families.queues.QueueStart.TheVariants.{AcquireProducer, ReleaseProducer}
+use Rattle.model.specs.declared.families.queues.QueueStart.TheVariants.{AcquireConsumer, ReleaseConsumer, PushIndex}
+use Rattle.model.specs.declared.families.queues.QueueStart.TheVariants.{Push, Pop}
 use Rattle.model.specs.declared.families.queues.Roles.{Roles}
 use Rattle.model.specs.declared.families.queues.calls.RingCall as rings
 use Rattle.model.specs.declared.families.queues.calls.QueueFlight.{QueueFlight}
@@ -93,7 +97,8 @@ module _ {T : Type 0} (c : ℕ) where
   push_of of_indices v = PushIndex v
   push_of of_values v = Push v
 
-  push_acts : (r : Ring) (p : ℕ) (v : Val T (kind_of r)) (o : Option (Answer T)) (before : List (Event T)) → producer_of before ≡ Some p → Right before (acts_if_done p (push_of r v) o)
+  push_acts : (r : Ring) (p : ℕ) (v : Val T (kind_of r)) (o : Option (Answer T)) (before : List (Event T))
+      → producer_of before ≡ Some p → Right before (acts_if_done p (push_of r v) o)
   push_acts r p v None before holds = tt
   push_acts of_indices p v (Some answer) before holds = ((holds, tt), tt)
   push_acts of_values p v (Some answer) before holds = ((holds, tt), tt)
@@ -106,17 +111,28 @@ module _ {T : Type 0} (c : ℕ) where
   ending_right p start None before = tt
   ending_right p start (Some answer) before = ((tt, tt), tt)
 
-  push_right : (r : Ring) (p : ℕ) (v : Val T (kind_of r)) (item : Item T) (stage : pushes.PushStage) (o : Option (Answer T)) (before : List (Event T)) → producer_of before ≡ Some p → RoomAt before stage → Right before (effects_of p (push_of r v) (push_effect item stage) o)
+  push_right : (r : Ring) (p : ℕ) (v : Val T (kind_of r)) (item : Item T) (stage : pushes.PushStage)
+      (o : Option (Answer T)) (before : List (Event T))
+      → producer_of before ≡ Some p → RoomAt before stage
+      → Right before (effects_of p (push_of r v) (push_effect item stage) o)
   push_right r p v item pushes.TheVariants.LoadsWrite o before holds room = tt
   push_right r p v item (pushes.TheVariants.LoadsRead write) o before holds room = push_acts r p v o before holds
   push_right r p v item (pushes.TheVariants.StoresCell write cell at) o before holds room = tt
-  push_right r p v item (pushes.TheVariants.StoresWrite write) o before holds room = ((holds, room), push_acts r p v o (before ++ Published p item ∷ []) (fold-append producer_after None before (Published p item ∷ []) ∙ holds))
+  push_right r p v item (pushes.TheVariants.StoresWrite write) o before holds room = (
+    (holds, room),
+    push_acts r p v o (before ++ Published p item ∷ []) (fold-append producer_after None before (Published p item ∷ []) ∙ holds),
+  )
 
-  pop_right : (p : ℕ) (item : Item T) (stage : pops.PopStage) (o : Option (Answer T)) (before : List (Event T)) → consumer_of before ≡ Some p → FirstAt before item stage → Right before (effects_of p Pop (pop_effect item stage) o)
+  pop_right : (p : ℕ) (item : Item T) (stage : pops.PopStage) (o : Option (Answer T)) (before : List (Event T))
+      → consumer_of before ≡ Some p → FirstAt before item stage
+      → Right before (effects_of p Pop (pop_effect item stage) o)
   pop_right p item pops.TheVariants.LoadsRead o before holds first = tt
   pop_right p item (pops.TheVariants.LoadsWrite read) o before holds first = pop_acts p o before holds
   pop_right p item (pops.TheVariants.LoadsCell read cell at) o before holds first = tt
-  pop_right p item (pops.TheVariants.StoresRead read) o before holds first = ((holds, first), pop_acts p o (before ++ HandedOut p item ∷ []) (fold-append consumer_after None before (HandedOut p item ∷ []) ∙ holds))
+  pop_right p item (pops.TheVariants.StoresRead read) o before holds first = (
+    (holds, first),
+    pop_acts p o (before ++ HandedOut p item ∷ []) (fold-append consumer_after None before (HandedOut p item ∷ []) ∙ holds),
+  )
 
   -- what a push and a pop know of the list, where these values wait
   module _ {V : Type 0} (code : Coding V) (named : V → Item T) (k : Core V) (before : List (Event T)) (same : waiting before ≡ map named k.waiting) where
@@ -124,7 +140,10 @@ module _ {T : Type 0} (c : ℕ) where
     room_at v pushes.TheVariants.LoadsWrite knows = tt
     room_at v (pushes.TheVariants.LoadsRead write) knows = tt
     room_at v (pushes.TheVariants.StoresCell write cell at) knows = tt
-    room_at v (pushes.TheVariants.StoresWrite write) knows = (let room = knows.1 in let long : length (waiting before) ≡ length k.waiting = ap length same ∙ length-map k.waiting named in omega arith)
+    room_at v (pushes.TheVariants.StoresWrite write) knows =
+        (let room = knows.1 in
+        let long : length (waiting before) ≡ length k.waiting = ap length same ∙ length-map k.waiting named in
+        omega arith)
 
     first_at : (words : List ℕ) (stage : pops.PopStage) → KnowsPop code c k words stage → FirstAt before (named (value_in code.value_of code.size words)) stage
     first_at words pops.TheVariants.LoadsRead knows = tt
@@ -132,15 +151,28 @@ module _ {T : Type 0} (c : ℕ) where
     first_at words (pops.TheVariants.LoadsCell read cell at) knows = tt
     first_at words (pops.TheVariants.StoresRead read) knows = (map named knows.0, same ∙ ap (map named) knows.2)
 
-  module _ (en : Coding T) (words : List ℕ) (waits : Option (ℕ × ℕ)) (p n : ℕ) (ro : Roles) (before : List (Event T)) (producers : producer_of before ≡ ro.producer) (consumers : consumer_of before ≡ ro.consumer) where
-    flight_right : (r : Ring) (k : Core (Val T (kind_of r))) → waiting before ≡ map (values.item (kind_of r)) k.waiting → (start : QueueStart T) (flight : QueueFlight T) → At {T = T} en (kind_of r) c ro k p start flight → Right before (step_of en words waits p (Queues start) (flights.TheVariants.Queues flight) n (kepts.TheVariants.Queues ro)).wrote
-    flight_right of_indices k same (PushIndex v) (Indices (rings.TheVariants.Push run)) at = push_right of_indices p v _ run.call.stage _ before (producers ∙ at.0) (room_at one_word (values.item IndexQueue) k before same v run.call.stage at.3)
-    flight_right of_indices k same Pop (Indices (rings.TheVariants.Pop run)) at = pop_right p _ run.call.stage _ before (consumers ∙ at.0) (first_at one_word (values.item IndexQueue) k before same (run.room.0 ∷ []) run.call.stage at.2)
+  module _ (en : Coding T) (words : List ℕ) (waits : Option (ℕ × ℕ)) (p n : ℕ) (ro : Roles)
+      (before : List (Event T)) (producers : producer_of before ≡ ro.producer)
+      (consumers : consumer_of before ≡ ro.consumer) where
+    flight_right : (r : Ring) (k : Core (Val T (kind_of r)))
+        → waiting before ≡ map (values.item (kind_of r)) k.waiting → (start : QueueStart T) (flight : QueueFlight T)
+        → At {T = T} en (kind_of r) c ro k p start flight
+        → Right before (step_of en words waits p (Queues start) (flights.TheVariants.Queues flight) n (kepts.TheVariants.Queues ro)).wrote
+    flight_right of_indices k same (PushIndex v) (Indices (rings.TheVariants.Push run)) at =
+        push_right of_indices p v _ run.call.stage _ before (producers ∙ at.0)
+        (room_at one_word (values.item IndexQueue) k before same v run.call.stage at.3)
+    flight_right of_indices k same Pop (Indices (rings.TheVariants.Pop run)) at =
+        pop_right p _ run.call.stage _ before (consumers ∙ at.0)
+        (first_at one_word (values.item IndexQueue) k before same (run.room.0 ∷ []) run.call.stage at.2)
     flight_right of_indices k same start (Indices call) at = absurd at
     flight_right of_indices k same start (Values call) at = absurd at
     flight_right of_indices k same start (Overflow call) at = absurd at
-    flight_right of_values k same (Push v) (Values (rings.TheVariants.Push run)) at = push_right of_values p v _ run.call.stage _ before (producers ∙ at.0) (room_at en (values.item Queue) k before same v run.call.stage at.3)
-    flight_right of_values k same Pop (Values (rings.TheVariants.Pop run)) at = pop_right p _ run.call.stage _ before (consumers ∙ at.0) (first_at en (values.item Queue) k before same run.room.words run.call.stage at.2)
+    flight_right of_values k same (Push v) (Values (rings.TheVariants.Push run)) at =
+        push_right of_values p v _ run.call.stage _ before (producers ∙ at.0)
+        (room_at en (values.item Queue) k before same v run.call.stage at.3)
+    flight_right of_values k same Pop (Values (rings.TheVariants.Pop run)) at =
+        pop_right p _ run.call.stage _ before (consumers ∙ at.0)
+        (first_at en (values.item Queue) k before same run.room.words run.call.stage at.2)
     flight_right of_values k same start (Indices call) at = absurd at
     flight_right of_values k same start (Values call) at = absurd at
     flight_right of_values k same start (Overflow call) at = absurd at
@@ -152,14 +184,19 @@ module _ {T : Type 0} (c : ℕ) where
     SoundAt t = frame.Sound (family en (kind_of r) c) t
 
     module _ (t : Trace T) (s : SoundAt t) where
-      any_right : (p n : ℕ) (waits : Option (ℕ × ℕ)) (start : Start T) (flight : Flight T) (kept : Kept T) → kept ≡ kepts.TheVariants.Queues s.state.roles → (family en (kind_of r) c).At s.state p start flight → Right t.events (step_of t.world.coding t.world.words waits p start flight n kept).wrote
+      any_right : (p n : ℕ) (waits : Option (ℕ × ℕ)) (start : Start T) (flight : Flight T) (kept : Kept T)
+          → kept ≡ kepts.TheVariants.Queues s.state.roles → (family en (kind_of r) c).At s.state p start flight
+          → Right t.events (step_of t.world.coding t.world.words waits p start flight n kept).wrote
       any_right p n waits (Queues start) (flights.TheVariants.Queues flight) kept e at =
           subst (λ z. Right t.events (step_of z t.world.words waits p (Queues start) (flights.TheVariants.Queues flight) n kept).wrote) (sym s.coding)
           (subst (λ k. Right t.events (step_of en t.world.words waits p (Queues start) (flights.TheVariants.Queues flight) n k).wrote) (sym e)
-          (flight_right en t.world.words waits p n s.state.roles t.events s.holds.producers s.holds.consumers r s.state.core (waiting_is t.events (map (values.item (kind_of r)) s.state.core.waiting) s.holds.book) start flight at))
+          (flight_right en t.world.words waits p n s.state.roles t.events s.holds.producers s.holds.consumers r
+          s.state.core (waiting_is t.events (map (values.item (kind_of r)) s.state.core.waiting) s.holds.book) start
+          flight at))
       any_right p n waits start flight kept e at = absurd at
 
-      answer_right : (p n : ℕ) (x : Party T) → party_of p t.world.latest ≡ Some x → (doing : Doing T) → x.doing ≡ doing → Right t.events (events_of_answer t.world p x n doing)
+      answer_right : (p n : ℕ) (x : Party T) → party_of p t.world.latest ≡ Some x → (doing : Doing T)
+          → x.doing ≡ doing → Right t.events (events_of_answer t.world p x n doing)
       answer_right p n x found (Over others) d = tt
       answer_right p n x found (Going flight since) d =
           let there = stands_there (family en (kind_of r) c) t s p x since flight found d in
@@ -171,7 +208,8 @@ module _ {T : Type 0} (c : ℕ) where
       next_right p None e = tt
       next_right p (Some x) e = answer_right p (old_of t.world.words (ask_of_doing t.world.coding x.doing)) x e x.doing refl
 
-      decision_right : (p : ℕ) (said : Bool) (o : Option (Party T)) → party_of p t.world.latest ≡ o → Right t.events (Rattle.model.specs.Turns.events_of_decision t.world p said o)
+      decision_right : (p : ℕ) (said : Bool) (o : Option (Party T)) → party_of p t.world.latest ≡ o
+          → Right t.events (Rattle.model.specs.Turns.events_of_decision t.world p said o)
       decision_right p said None e = tt
       decision_right p said (Some x) e = answer_right p (number_of said) x e x.doing refl
 
@@ -188,10 +226,13 @@ module _ {T : Type 0} (c : ℕ) where
     attempt_right t turn None s all = Each-append Rightly t.events (events_of t.world turn) all (turn_right t s turn)
     attempt_right t turn (Some refusal) s all = all
 
-    runs_right : (law : Rattle.model.specs.Coding.IsCoding en) (turns : List (Turn T)) (t : Trace T) → AllMay IsFreshTurn turns t → SoundAt t → AllBy t → AllBy (run_on turns t)
+    runs_right : (law : Rattle.model.specs.Coding.IsCoding en) (turns : List (Turn T)) (t : Trace T)
+        → AllMay IsFreshTurn turns t → SoundAt t → AllBy t → AllBy (run_on turns t)
     runs_right law [] t may s all = all
     runs_right law (turn ∷ turns) t may s all =
-        runs_right law turns (attempt_on t turn) may.1 (attempt_sound (family en (kind_of r) c) IsFreshTurn (fresh_laws en law (kind_of r) c) t turn (call_refusal t.world turn) refl may.0 s)
+        runs_right law turns (attempt_on t turn) may.1
+        (attempt_sound (family en (kind_of r) c) IsFreshTurn (fresh_laws en law (kind_of r) c) t turn
+        (call_refusal t.world turn) refl may.0 s)
         (attempt_right t turn (call_refusal t.world turn) s all)
 
 module _ {T : Type 0} (code : Coding T) (r : Ring) (capacity : ℕ) where
@@ -231,16 +272,28 @@ module _ {T : Type 0} (c : ℕ) where
   one_more : (before : List (Event T)) (e : Event T) → KeepsList c before e → IsListed before → IsListed (before ++ e ∷ [])
   one_more before (Published p x) room l =
       let more : published (before ++ Published p x ∷ []) ≡ published before ++ x ∷ [] = flat_map-append publishes before (Published p x ∷ []) in
-      let same : handed_out (before ++ Published p x ∷ []) ≡ handed_out before = flat_map-append hands_out before (Published p x ∷ []) ∙ append-nil (handed_out before) in
-      let book : published (before ++ Published p x ∷ []) ≡ handed_out (before ++ Published p x ∷ []) ++ (waiting before ++ x ∷ []) = more ∙ (ap (λ xs. xs ++ x ∷ []) l.book ∙ (append_assoc (handed_out before) (waiting before) (x ∷ []) ∙ ap (λ xs. xs ++ (waiting before ++ x ∷ [])) (sym same))) in
+      let same : handed_out (before ++ Published p x ∷ []) ≡ handed_out before =
+      flat_map-append hands_out before (Published p x ∷ []) ∙ append-nil (handed_out before) in
+      let book : published (before ++ Published p x ∷ []) ≡ handed_out (before ++ Published p x ∷ []) ++ (waiting before ++ x ∷ []) =
+      more ∙ (ap (λ xs. xs ++ x ∷ []) l.book
+      ∙ (append_assoc (handed_out before) (waiting before) (x ∷ []) ∙ ap (λ xs. xs ++ (waiting before ++ x ∷ [])) (sym same))) in
       let rest = waiting_is (before ++ Published p x ∷ []) (waiting before ++ x ∷ []) book in
-      record { book = book ∙ ap (λ xs. handed_out (before ++ Published p x ∷ []) ++ xs) (sym rest); few = (let long = length-append (waiting before) (x ∷ []) in let all = ap length rest in omega arith) }
+      record {
+        book = book ∙ ap (λ xs. handed_out (before ++ Published p x ∷ []) ++ xs) (sym rest);
+        few = (let long = length-append (waiting before) (x ∷ []) in let all = ap length rest in omega arith);
+      }
   one_more before (HandedOut p x) first l =
       let more : handed_out (before ++ HandedOut p x ∷ []) ≡ handed_out before ++ x ∷ [] = flat_map-append hands_out before (HandedOut p x ∷ []) in
-      let same : published (before ++ HandedOut p x ∷ []) ≡ published before = flat_map-append publishes before (HandedOut p x ∷ []) ∙ append-nil (published before) in
-      let book : published (before ++ HandedOut p x ∷ []) ≡ handed_out (before ++ HandedOut p x ∷ []) ++ first.0 = same ∙ (l.book ∙ (ap (λ xs. handed_out before ++ xs) first.1 ∙ (sym (append_assoc (handed_out before) (x ∷ []) first.0) ∙ ap (λ xs. xs ++ first.0) (sym more)))) in
+      let same : published (before ++ HandedOut p x ∷ []) ≡ published before =
+      flat_map-append publishes before (HandedOut p x ∷ []) ∙ append-nil (published before) in
+      let book : published (before ++ HandedOut p x ∷ []) ≡ handed_out (before ++ HandedOut p x ∷ []) ++ first.0 =
+      same ∙ (l.book ∙ (ap (λ xs. handed_out before ++ xs) first.1
+      ∙ (sym (append_assoc (handed_out before) (x ∷ []) first.0) ∙ ap (λ xs. xs ++ first.0) (sym more)))) in
       let rest = waiting_is (before ++ HandedOut p x ∷ []) first.0 book in
-      record { book = book ∙ ap (λ xs. handed_out (before ++ HandedOut p x ∷ []) ++ xs) (sym rest); few = (let long = ap length first.1 in let all = ap length rest in let was = l.few in omega arith) }
+      record {
+        book = book ∙ ap (λ xs. handed_out (before ++ HandedOut p x ∷ []) ++ xs) (sym rest);
+        few = (let long = ap length first.1 in let all = ap length rest in let was = l.few in omega arith);
+      }
   one_more before e room l =
       let out : published (before ++ e ∷ []) ≡ published before = flat_map-append publishes before (e ∷ []) ∙ append-nil (published before) in
       let same : handed_out (before ++ e ∷ []) ≡ handed_out before = flat_map-append hands_out before (e ∷ []) ∙ append-nil (handed_out before) in
@@ -255,9 +308,14 @@ module _ {T : Type 0} (c : ℕ) where
       subst IsListed longer (listed_from (before ++ e ∷ []) es (subst (Each (KeepsList c)) (sym longer) each) (one_more before e (each before es e refl) l))
 
   pub listed_in : (events : List (Event T)) → Each (KeepsList c) events → (part rest : List (Event T)) → events ≡ part ++ rest → IsListed part
-  listed_in events each part rest is = listed_from [] part (λ before after e at. each before (after ++ rest) e (is ∙ (ap (λ xs. xs ++ rest) at ∙ append_assoc before (e ∷ after) rest))) (record { book = refl; few = omega arith })
+  listed_in events each part rest is =
+      listed_from [] part
+      (λ before after e at. each before (after ++ rest) e (is ∙ (ap (λ xs. xs ++ rest) at ∙ append_assoc before (e ∷ after) rest)))
+      (record { book = refl; few = omega arith })
 
-  pub always_listed : (code : Coding T) (r : Ring) (events : List (Event T)) → IsHistory code (machine_kind (kind_of r)) c events → (part rest : List (Event T)) → events ≡ part ++ rest → IsListed part
+  pub always_listed : (code : Coding T) (r : Ring) (events : List (Event T))
+      → IsHistory code (machine_kind (kind_of r)) c events → (part rest : List (Event T)) → events ≡ part ++ rest
+      → IsListed part
   always_listed code r events h = listed_in events (subst (Each (KeepsList c)) (sym h.is) (lists_kept code r c h.trace h.run))
 
 is_other : (p q : ℕ) (A : Type 0) → (q == p) ≡ false → ◌≡◌ {A = Option ℕ} (Some q) (Some p) → A
@@ -284,24 +342,33 @@ module _ {T : Type 0} (p : ℕ) where
   abbrev Backs : Side → List (Event T) → Event T → Type 0
   Backs role before e = (held role before ≡ Some p) × (marks role e ≡ [])
 
-  back_from : (role : Side) (before : List (Event T)) (e : Event T) → ByHolderOf role before e → is_party p (whose e) ≡ false → role_after role (held role before) e ≡ Some p → Backs role before e
+  back_from : (role : Side) (before : List (Event T)) (e : Event T) → ByHolderOf role before e
+      → is_party p (whose e) ≡ false → role_after role (held role before) e ≡ Some p → Backs role before e
   back_from Producer before (Published q y) holds ne now = is_other p q (Backs Producer before (Published q y)) ne (sym holds ∙ now)
-  back_from Producer before (Finished q (Queues AcquireProducer) (Truth true)) holds ne now = is_other p q (Backs Producer before (Finished q (Queues AcquireProducer) (Truth true))) ne now
+  back_from Producer before (Finished q (Queues AcquireProducer) (Truth true)) holds ne now =
+      is_other p q (Backs Producer before (Finished q (Queues AcquireProducer) (Truth true))) ne now
   back_from Producer before (Finished q (Queues ReleaseProducer) answer) holds ne now = absurd (cc)
   back_from Consumer before (HandedOut q y) holds ne now = is_other p q (Backs Consumer before (HandedOut q y)) ne (sym holds ∙ now)
-  back_from Consumer before (Finished q (Queues AcquireConsumer) (Truth true)) holds ne now = is_other p q (Backs Consumer before (Finished q (Queues AcquireConsumer) (Truth true))) ne now
+  back_from Consumer before (Finished q (Queues AcquireConsumer) (Truth true)) holds ne now =
+      is_other p q (Backs Consumer before (Finished q (Queues AcquireConsumer) (Truth true))) ne now
   back_from Consumer before (Finished q (Queues ReleaseConsumer) answer) holds ne now = absurd (cc)
   back_from Producer before e holds ne now = (now, refl)
   back_from Consumer before e holds ne now = (now, refl)
 
-  pub back_over_of : (role : Side) (before es : List (Event T)) → Each (ByHolderOf role) (before ++ es) → events_by p es ≡ [] → held role (before ++ es) ≡ Some p → (held role before ≡ Some p) × (flat_map (marks role) es ≡ [])
+  pub back_over_of : (role : Side) (before es : List (Event T)) → Each (ByHolderOf role) (before ++ es)
+      → events_by p es ≡ [] → held role (before ++ es) ≡ Some p
+      → (held role before ≡ Some p) × (flat_map (marks role) es ≡ [])
   back_over_of role before [] each none now = (ap (held role) (sym (append-nil before)) ∙ now, refl)
-  back_over_of role before (e ∷ es) each none now = go (λ rest. back_over_of role (before ++ e ∷ []) es (subst (Each (ByHolderOf role)) (sym longer) each) rest (ap (held role) longer ∙ now)) (is_party p (whose e)) refl
+  back_over_of role before (e ∷ es) each none now =
+      go (λ rest. back_over_of role (before ++ e ∷ []) es (subst (Each (ByHolderOf role)) (sym longer) each) rest
+      (ap (held role) longer ∙ now))
+      (is_party p (whose e)) refl
     where
       longer : (before ++ e ∷ []) ++ es ≡ before ++ e ∷ es
       longer = append_assoc before (e ∷ []) es
 
-      go : (events_by p es ≡ [] → (held role (before ++ e ∷ []) ≡ Some p) × (flat_map (marks role) es ≡ [])) → (b : Bool) → is_party p (whose e) ≡ b → (held role before ≡ Some p) × (flat_map (marks role) (e ∷ es) ≡ [])
+      go : (events_by p es ≡ [] → (held role (before ++ e ∷ []) ≡ Some p) × (flat_map (marks role) es ≡ []))
+          → (b : Bool) → is_party p (whose e) ≡ b → (held role before ≡ Some p) × (flat_map (marks role) (e ∷ es) ≡ [])
       go later true t = (let mine : e ∷ events_by p es ≡ [] = rw t at none in absurd (cc))
       go later false t =
           let rest : events_by p es ≡ [] = rw t at none in
@@ -309,7 +376,8 @@ module _ {T : Type 0} (p : ℕ) where
           let one = back_from role before e (each before es e refl) t (sym (fold-append (role_after role) None before (e ∷ [])) ∙ more.0) in
           (one.0, ap (λ xs. xs ++ flat_map (marks role) es) one.1 ∙ more.1)
 
-  pub back_over : (role : Side) (before es : List (Event T)) → Each ByHolder (before ++ es) → events_by p es ≡ [] → held role (before ++ es) ≡ Some p → (held role before ≡ Some p) × (flat_map (marks role) es ≡ [])
+  pub back_over : (role : Side) (before es : List (Event T)) → Each ByHolder (before ++ es) → events_by p es ≡ []
+      → held role (before ++ es) ≡ Some p → (held role before ≡ Some p) × (flat_map (marks role) es ≡ [])
   back_over role before es each = back_over_of role before es (each_of role (before ++ es) each)
 
 -- ---- and it stays with the party until the party gives it back
@@ -323,25 +391,36 @@ module _ {T : Type 0} (p : ℕ) where
   ArePlain role [] = Unit {0}
   ArePlain role (e ∷ es) = IsPlain role e × ArePlain role es
 
-  forth_from : (role : Side) (before : List (Event T)) (e : Event T) → ByHolderOf role before e → GrantsRight before e → is_party p (whose e) ≡ false → held p role before ≡ Some p → IsPlain role e
+  forth_from : (role : Side) (before : List (Event T)) (e : Event T) → ByHolderOf role before e
+      → GrantsRight before e → is_party p (whose e) ≡ false → held p role before ≡ Some p → IsPlain role e
   forth_from Producer before (Published q y) holds grants ne now = is_other p q (IsPlain Producer (Published q y)) ne (sym holds ∙ now)
-  forth_from Producer before (Finished q (Queues AcquireProducer) (Truth true)) holds grants ne now = (let no : ◌≡◌ {A = Bool} true false = (let same : true ≡ is_none (producer_of before) = cc in same ∙ ap is_none now) in absurd (cc))
-  forth_from Producer before (Finished q (Queues ReleaseProducer) answer) holds grants ne now = is_other p q (IsPlain Producer (Finished q (Queues ReleaseProducer) answer)) ne (sym grants.1 ∙ now)
+  forth_from Producer before (Finished q (Queues AcquireProducer) (Truth true)) holds grants ne now =
+      (let no : ◌≡◌ {A = Bool} true false = (let same : true ≡ is_none (producer_of before) = cc in same ∙ ap is_none now) in absurd (cc))
+  forth_from Producer before (Finished q (Queues ReleaseProducer) answer) holds grants ne now =
+      is_other p q (IsPlain Producer (Finished q (Queues ReleaseProducer) answer)) ne (sym grants.1 ∙ now)
   forth_from Consumer before (HandedOut q y) holds grants ne now = is_other p q (IsPlain Consumer (HandedOut q y)) ne (sym holds ∙ now)
-  forth_from Consumer before (Finished q (Queues AcquireConsumer) (Truth true)) holds grants ne now = (let no : ◌≡◌ {A = Bool} true false = (let same : true ≡ is_none (consumer_of before) = cc in same ∙ ap is_none now) in absurd (cc))
-  forth_from Consumer before (Finished q (Queues ReleaseConsumer) answer) holds grants ne now = is_other p q (IsPlain Consumer (Finished q (Queues ReleaseConsumer) answer)) ne (sym grants.1 ∙ now)
+  forth_from Consumer before (Finished q (Queues AcquireConsumer) (Truth true)) holds grants ne now =
+      (let no : ◌≡◌ {A = Bool} true false = (let same : true ≡ is_none (consumer_of before) = cc in same ∙ ap is_none now) in absurd (cc))
+  forth_from Consumer before (Finished q (Queues ReleaseConsumer) answer) holds grants ne now =
+      is_other p q (IsPlain Consumer (Finished q (Queues ReleaseConsumer) answer)) ne (sym grants.1 ∙ now)
   forth_from Producer before e holds grants ne now = (refl, refl)
   forth_from Consumer before e holds grants ne now = (refl, refl)
 
-  pub forth_over_of : (role : Side) (before es : List (Event T)) → Each (ByHolderOf role) (before ++ es) → Each GrantsRight (before ++ es) → ArePlain role (events_by p es) → held p role before ≡ Some p → flat_map (marks role) es ≡ []
+  pub forth_over_of : (role : Side) (before es : List (Event T)) → Each (ByHolderOf role) (before ++ es)
+      → Each GrantsRight (before ++ es) → ArePlain role (events_by p es) → held p role before ≡ Some p
+      → flat_map (marks role) es ≡ []
   forth_over_of role before [] each grants plain now = refl
   forth_over_of role before (e ∷ es) each grants plain now =
-      go (λ rest still. forth_over_of role (before ++ e ∷ []) es (subst (Each (ByHolderOf role)) (sym longer) each) (subst (Each GrantsRight) (sym longer) grants) rest (fold-append (role_after role) None before (e ∷ []) ∙ (ap (λ o. role_after role o e) now ∙ still))) (is_party p (whose e)) refl
+      go (λ rest still. forth_over_of role (before ++ e ∷ []) es (subst (Each (ByHolderOf role)) (sym longer) each)
+      (subst (Each GrantsRight) (sym longer) grants) rest
+      (fold-append (role_after role) None before (e ∷ []) ∙ (ap (λ o. role_after role o e) now ∙ still)))
+      (is_party p (whose e)) refl
     where
       longer : (before ++ e ∷ []) ++ es ≡ before ++ e ∷ es
       longer = append_assoc before (e ∷ []) es
 
-      go : (ArePlain role (events_by p es) → role_after role (Some p) e ≡ Some p → flat_map (marks role) es ≡ []) → (b : Bool) → is_party p (whose e) ≡ b → flat_map (marks role) (e ∷ es) ≡ []
+      go : (ArePlain role (events_by p es) → role_after role (Some p) e ≡ Some p → flat_map (marks role) es ≡ [])
+          → (b : Bool) → is_party p (whose e) ≡ b → flat_map (marks role) (e ∷ es) ≡ []
       go later true t =
           let own : IsPlain role e × ArePlain role (events_by p es) = rw t at plain in
           ap (λ xs. xs ++ flat_map (marks role) es) own.0.0 ∙ later own.1 own.0.1
@@ -350,5 +429,7 @@ module _ {T : Type 0} (p : ℕ) where
           let one = forth_from role before e (each before es e refl) (grants before es e refl) t now in
           ap (λ xs. xs ++ flat_map (marks role) es) one.0 ∙ later rest one.1
 
-  pub forth_over : (role : Side) (before es : List (Event T)) → Each ByHolder (before ++ es) → Each GrantsRight (before ++ es) → ArePlain role (events_by p es) → held p role before ≡ Some p → flat_map (marks role) es ≡ []
+  pub forth_over : (role : Side) (before es : List (Event T)) → Each ByHolder (before ++ es)
+      → Each GrantsRight (before ++ es) → ArePlain role (events_by p es) → held p role before ≡ Some p
+      → flat_map (marks role) es ≡ []
   forth_over role before es each = forth_over_of role before es (each_of role (before ++ es) each)

@@ -1,5 +1,6 @@
 -- What the unique index set owes, from its laws.
-use Rattle.std.proofs.Common.{◌≡◌, ℕ, ◌<◌, ◌==◌, nat_le, true, false, Option, Some, None, is_none, IfSome, List, [], length, refl, sym, ap, subst, ◌∙◌, arith, sum_by, slice_index_or}
+use Rattle.std.proofs.Common.{◌≡◌, ℕ, ◌<◌, ◌==◌, nat_le, true, false, Option, Some, None, is_none, IfSome, List, []}
+use Rattle.std.proofs.Common.{length, refl, sym, ap, subst, ◌∙◌, arith, sum_by, slice_index_or}
 use Rattle.std.proofs.lemmas.Bool.Decides.{nat_tests}
 use Rattle.steps.specs.declared.indices.enums.ReleaseMode.{ReleaseMode}
 use Rattle.steps.specs.declared.indices.enums.ReleaseState.TheVariants.{Locked}
@@ -77,27 +78,35 @@ module _ {T : Type 0} (code : Coding T) (capacity : ℕ) where
       let s = sound t r in
       ap length (kept_is t.world.kept t.world.words s.state s.fit).1 ∙ (s.holds.good.wide ∙ ap core.size r.sized)
 
-  no_rows : (z : Coding T) (c : ℕ) (kept : Kept T) (holders : List (Option ℕ)) (p : ℕ) (start : Start T) (flight : Flight T) → FlightAt c holders p start flight → first_row (going_rows z kept (Some flight) None) ≡ None
+  no_rows : (z : Coding T) (c : ℕ) (kept : Kept T) (holders : List (Option ℕ)) (p : ℕ) (start : Start T) (flight : Flight T)
+      → FlightAt c holders p start flight → first_row (going_rows z kept (Some flight) None) ≡ None
   no_rows z c kept holders p (Indices start) (flights.TheVariants.Indices flight) at = refl
   no_rows z c kept holders p start flight at = absurd at
 
-  writes_there : (z : Coding T) (words ws : List ℕ) (beside : Option (ℕ × ℕ)) (c p old : ℕ) (kept : Kept T) (s : IndexSet) (start : Start T) (flight : Flight T) → Fit kept ws s → FlightAt c s.holders p start flight
+  writes_there : (z : Coding T) (words ws : List ℕ) (beside : Option (ℕ × ℕ)) (c p old : ℕ) (kept : Kept T)
+      (s : IndexSet) (start : Start T) (flight : Flight T)
+      → Fit kept ws s → FlightAt c s.holders p start flight
       → (step_of z words beside p start flight old kept).wrote ≡ index_effects p flight old
   writes_there z words ws beside c p old (kepts.TheVariants.Indices holders) s (Indices start) (flights.TheVariants.Indices flight) fit at = refl
   writes_there z words ws beside c p old kept s (Indices start) (flights.TheVariants.Indices flight) fit at = absurd fit
   writes_there z words ws beside c p old kept s start flight fit at = absurd at
 
-  goes_there : (z : Coding T) (words ws : List ℕ) (beside : Option (ℕ × ℕ)) (c p old : ℕ) (kept : Kept T) (s : IndexSet) (start : Start T) (flight : Flight T) → Fit kept ws s → FlightAt c s.holders p start flight
+  goes_there : (z : Coding T) (words ws : List ℕ) (beside : Option (ℕ × ℕ)) (c p old : ℕ) (kept : Kept T)
+      (s : IndexSet) (start : Start T) (flight : Flight T)
+      → Fit kept ws s → FlightAt c s.holders p start flight
       → (step_of z words beside p start flight old kept).after ≡ after_of z flight old
   goes_there z words ws beside c p old (kepts.TheVariants.Indices holders) s (Indices start) (flights.TheVariants.Indices flight) fit at = refl
   goes_there z words ws beside c p old kept s (Indices start) (flights.TheVariants.Indices flight) fit at = absurd fit
   goes_there z words ws beside c p old kept s start flight fit at = absurd at
 
-  own_there : (c p old : ℕ) (holders : List (Option ℕ)) (start : Start T) (flight : Flight T) → FlightAt c holders p start flight → AreOf p (index_effects p flight old)
+  own_there : (c p old : ℕ) (holders : List (Option ℕ)) (start : Start T) (flight : Flight T)
+      → FlightAt c holders p start flight → AreOf p (index_effects p flight old)
   own_there c p old holders (Indices start) (flights.TheVariants.Indices flight) at = effects_own p (frees flight) (answer_in (after flight old))
   own_there c p old holders start flight at = absurd at
 
-  goes_on : (t : Trace T) → IsIndices t → (p : ℕ) (start : Start T) (flight : Flight T) → call_in t.world p ≡ Some (start, flight) → CallGoesOn code kinds.TheVariants.Indices capacity (core.size capacity) index_effects t p flight
+  goes_on : (t : Trace T) → IsIndices t → (p : ℕ) (start : Start T) (flight : Flight T)
+      → call_in t.world p ≡ Some (start, flight)
+      → CallGoesOn code kinds.TheVariants.Indices capacity (core.size capacity) index_effects t p flight
   goes_on t r p start flight at =
       let w = t.world in
       let s = sound t r in
@@ -109,10 +118,14 @@ module _ {T : Type 0} (code : Coding T) (capacity : ℕ) where
         own = λ n. own_there w.capacity p n s.state.holders here.x.start flight mine;
         writes = λ x n found. (
             let same : here.x ≡ x = (let both : Some here.x ≡ Some x = sym here.found ∙ found in cc) in
-            subst (λ (z : Party T). (step_in w p z flight n).wrote ≡ index_effects p flight n) same (writes_there w.coding w.words w.words (beside_of w.words w.kept w.latest p) w.capacity p n w.kept s.state here.x.start flight s.fit mine));
+            subst (λ (z : Party T). (step_in w p z flight n).wrote ≡ index_effects p flight n) same
+            (writes_there w.coding w.words w.words (beside_of w.words w.kept w.latest p) w.capacity p n w.kept
+            s.state here.x.start flight s.fit mine));
         goes = λ x n found. (
             let same : here.x ≡ x = (let both : Some here.x ≡ Some x = sym here.found ∙ found in cc) in
-            subst (λ (z : Party T). (step_in w p z flight n).after ≡ after_of w.coding flight n) same (goes_there w.coding w.words w.words (beside_of w.words w.kept w.latest p) w.capacity p n w.kept s.state here.x.start flight s.fit mine));
+            subst (λ (z : Party T). (step_in w p z flight n).after ≡ after_of w.coding flight n) same
+            (goes_there w.coding w.words w.words (beside_of w.words w.kept w.latest p) w.capacity p n w.kept s.state
+            here.x.start flight s.fit mine));
       }
 
   pub indices_owe : KindLaws code kinds.TheVariants.Indices capacity (core.size capacity) index_effects
@@ -133,9 +146,14 @@ module _ {T : Type 0} (code : Coding T) (base : View T) where
   kept_there t r = let s = sound code base.capacity t r in (s.state.holders, (kept_is t.world.kept t.world.words s.state s.fit).0)
 
   -- a call that names no index always may, as the party that the pass was last
-  module _ {C M E : Type 0} (call : Calling T C M E) (start : IndexStart) (c : C) (m : M) (named : call.start ≡ Indices start) (by_last : (o : Option ℕ) (p : ℕ) → IfSome o (λ q. q ≡ p) → call.by o p)
-      (first_is : (kept : Kept T) → first_of kinds.TheVariants.Indices base.capacity (Indices start) kept ≡ Some (call.flight c m)) (free : (holders : List (Option ℕ)) (p : ℕ) → first_row (call_rows base.capacity holders p start) ≡ None) where
-    pub plain_starts : (t : Trace T) (owner : ℕ → ℕ) (j : ℕ) → IsOn t → owner j ≡ j → IfSome base.party (λ p. owner p ≡ j) → ((f : Event T → ℕ) → sum_by f base.made ≡ sum_by (owned owner j f) t.events) → Starts code kinds.TheVariants.Indices call base c m t owner j
+  module _ {C M E : Type 0} (call : Calling T C M E) (start : IndexStart) (c : C) (m : M)
+      (named : call.start ≡ Indices start) (by_last : (o : Option ℕ) (p : ℕ) → IfSome o (λ q. q ≡ p) → call.by o p)
+      (first_is : (kept : Kept T) → first_of kinds.TheVariants.Indices base.capacity (Indices start) kept ≡ Some (call.flight c m))
+      (free : (holders : List (Option ℕ)) (p : ℕ) → first_row (call_rows base.capacity holders p start) ≡ None) where
+    pub plain_starts : (t : Trace T) (owner : ℕ → ℕ) (j : ℕ) → IsOn t → owner j ≡ j
+        → IfSome base.party (λ p. owner p ≡ j)
+        → ((f : Event T → ℕ) → sum_by f base.made ≡ sum_by (owned owner j f) t.events)
+        → Starts code kinds.TheVariants.Indices call base c m t owner j
     plain_starts t owner j run self party sums =
         starts_by_last code kinds.TheVariants.Indices call base c m t owner j by_last self party first_here may
       where
@@ -152,9 +170,15 @@ module _ {T : Type 0} (code : Coding T) (base : View T) where
         first_here = rw named (first_is t.world.kept)
 
   -- a release may, as that of the pass's parties which holds the index
-  module _ {C M E : Type 0} (call : Calling T C M E) (index : ℕ) (mode : ReleaseMode) (c : C) (m : M) (named : call.start ≡ Indices (Release index mode)) (by_any : (o : Option ℕ) (p : ℕ) → call.by o p)
-      (first_is : (kept : Kept T) → first_of kinds.TheVariants.Indices base.capacity (Indices (Release index mode)) kept ≡ Some (call.flight c m)) (below : index < base.capacity) (held : Holds index base.made) where
-    pub release_starts : (t : Trace T) (owner : ℕ → ℕ) (j : ℕ) → IsOn t → owner j ≡ j → IfSome base.party (λ p. owner p ≡ j) → ((f : Event T → ℕ) → sum_by f base.made ≡ sum_by (owned owner j f) t.events) → Starts code kinds.TheVariants.Indices call base c m t owner j
+  module _ {C M E : Type 0} (call : Calling T C M E) (index : ℕ) (mode : ReleaseMode) (c : C) (m : M)
+      (named : call.start ≡ Indices (Release index mode)) (by_any : (o : Option ℕ) (p : ℕ) → call.by o p)
+      (first_is : (kept : Kept T)
+      → first_of kinds.TheVariants.Indices base.capacity (Indices (Release index mode)) kept ≡ Some (call.flight c m))
+      (below : index < base.capacity) (held : Holds index base.made) where
+    pub release_starts : (t : Trace T) (owner : ℕ → ℕ) (j : ℕ) → IsOn t → owner j ≡ j
+        → IfSome base.party (λ p. owner p ≡ j)
+        → ((f : Event T → ℕ) → sum_by f base.made ≡ sum_by (owned owner j f) t.events)
+        → Starts code kinds.TheVariants.Indices call base c m t owner j
     release_starts t owner j run self party sums =
         let set = is_index_set t run.of_kind run.reached in
         let kept = kept_there t run in
@@ -163,7 +187,8 @@ module _ {T : Type 0} (code : Coding T) (base : View T) where
         let mine : slice_index_or kept.0 index None ≡ Some by.0 = keeps index ∙ by.2 in
         let past : nat_le base.capacity index ≡ false = grind (arith, nat_tests) in
         let it : (by.0 == by.0) ≡ true = grind (arith, nat_tests) in
-        let is_some : is_none (first_of kinds.TheVariants.Indices base.capacity (Indices (Release index mode)) t.world.kept) ≡ false = ap is_none (first_is t.world.kept) in
+        let is_some : is_none (first_of kinds.TheVariants.Indices base.capacity (Indices (Release index mode)) t.world.kept) ≡ false =
+        ap is_none (first_is t.world.kept) in
         let free : first_row (call_rows base.capacity kept.0 by.0 (Release index mode)) ≡ None = rw (past, mine, it) refl in
         record {
           party = by.0;

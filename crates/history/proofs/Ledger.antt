@@ -1,5 +1,6 @@
 -- Which party holds what a pass holds, where what it took and gave back is read from what it made: one of its own.
-use Rattle.std.proofs.Common.{◌≡◌, ◌≢◌, ◌≤◌, ⊎_elim, ℕ, ◌+◌, ◌==◌, true, false, Option, Some, None, List, [], ◌∷◌, ◌++◌, fold, refl, sym, ap, subst, ◌∙◌, append_assoc, append-nil, arith, sum_by}
+use Rattle.std.proofs.Common.{◌≡◌, ◌≢◌, ◌≤◌, ⊎_elim, ℕ, ◌+◌, ◌==◌, true, false, Option, Some, None, List, [], ◌∷◌}
+use Rattle.std.proofs.Common.{◌++◌, fold, refl, sym, ap, subst, ◌∙◌, append_assoc, append-nil, arith, sum_by}
 use Rattle.std.proofs.lemmas.Bool.{cases_eq}
 use Rattle.std.proofs.lemmas.Bool.Decides.{nat_tests}
 use Rattle.std.proofs.lemmas.List.Sums.{fold-append}
@@ -10,15 +11,28 @@ use Rattle.history.proofs.Known.{sum_first}
 
 pub nothing_owned : (owner : ℕ → ℕ) (j : ℕ) (o : Option ℕ) → if_owned owner j o 0 ≡ 0
 nothing_owned owner j None = refl
-nothing_owned owner j (Some p) = ⊎_elim (λ (e : owner p ≡ j). (let t : (owner p == j) ≡ true = grind (arith, nat_tests) in rw t refl)) (λ (ne : owner p ≢ j). (let t : (owner p == j) ≡ false = grind (arith, nat_tests) in rw t refl)) (cases_eq (owner p) j)
+nothing_owned owner j (Some p) =
+    ⊎_elim (λ (e : owner p ≡ j). (let t : (owner p == j) ≡ true = grind (arith, nat_tests) in rw t refl))
+    (λ (ne : owner p ≢ j). (let t : (owner p == j) ≡ false = grind (arith, nat_tests) in rw t refl))
+    (cases_eq (owner p) j)
 
 one_of : (owner : ℕ → ℕ) (j : ℕ) (o : Option ℕ) → if_owned owner j o 1 ≡ 1 → (p : ℕ) × (owner p ≡ j) × (o ≡ Some p)
 one_of owner j None e = absurd (omega arith)
-one_of owner j (Some p) e = ⊎_elim (λ (mine : owner p ≡ j). (p, mine, refl)) (λ (ne : owner p ≢ j). (let t : (owner p == j) ≡ false = grind (arith, nat_tests) in let none : if_owned owner j (Some p) 1 ≡ 0 = rw t refl in absurd (omega arith))) (cases_eq (owner p) j)
+one_of owner j (Some p) e =
+    ⊎_elim (λ (mine : owner p ≡ j). (p, mine, refl))
+    (λ (ne : owner p ≢ j). (let t : (owner p == j) ≡ false = grind (arith, nat_tests) in
+    let none : if_owned owner j (Some p) 1 ≡ 0 = rw t refl in
+    absurd (omega arith)))
+    (cases_eq (owner p) j)
 
 at_most_one : (owner : ℕ → ℕ) (j : ℕ) (o : Option ℕ) → if_owned owner j o 1 ≤ 1
 at_most_one owner j None = omega arith
-at_most_one owner j (Some p) = ⊎_elim (λ (e : owner p ≡ j). (let t : (owner p == j) ≡ true = grind (arith, nat_tests) in let is : if_owned owner j (Some p) 1 ≡ 1 = rw t refl in omega arith)) (λ (ne : owner p ≢ j). (let t : (owner p == j) ≡ false = grind (arith, nat_tests) in let is : if_owned owner j (Some p) 1 ≡ 0 = rw t refl in omega arith)) (cases_eq (owner p) j)
+at_most_one owner j (Some p) =
+    ⊎_elim (λ (e : owner p ≡ j).
+    (let t : (owner p == j) ≡ true = grind (arith, nat_tests) in let is : if_owned owner j (Some p) 1 ≡ 1 = rw t refl in omega arith))
+    (λ (ne : owner p ≢ j).
+    (let t : (owner p == j) ≡ false = grind (arith, nat_tests) in let is : if_owned owner j (Some p) 1 ≡ 0 = rw t refl in omega arith))
+    (cases_eq (owner p) j)
 
 -- what is taken and given back one at a time, and who holds it by the events
 module _ {T : Type 0} (takes gives : Event T → ℕ) (after : Option ℕ → Event T → Option ℕ) where
@@ -38,7 +52,8 @@ module _ {T : Type 0} (takes gives : Event T → ℕ) (after : Option ℕ → Ev
         omega arith
 
     -- a party takes what nobody holds
-    pub taken : (before : List (Event T)) (e : Event T) (p : ℕ) → whose e ≡ Some p → takes e ≡ 1 → gives e ≡ 0 → held_in before ≡ None → after (held_in before) e ≡ Some p → Moves before e
+    pub taken : (before : List (Event T)) (e : Event T) (p : ℕ) → whose e ≡ Some p → takes e ≡ 1 → gives e ≡ 0
+        → held_in before ≡ None → after (held_in before) e ≡ Some p → Moves before e
     taken before e p by one none free now =
         let a : owned owner j takes e ≡ if_owned owner j (Some p) 1 = ap (λ n. if_owned owner j (whose e) n) one ∙ ap (λ o. if_owned owner j o 1) by in
         let b : owned owner j gives e ≡ 0 = ap (λ n. if_owned owner j (whose e) n) none ∙ nothing_owned owner j (whose e) in
@@ -47,7 +62,8 @@ module _ {T : Type 0} (takes gives : Event T → ℕ) (after : Option ℕ → Ev
         omega arith
 
     -- its holder gives it back
-    pub given : (before : List (Event T)) (e : Event T) (p : ℕ) → whose e ≡ Some p → takes e ≡ 0 → gives e ≡ 1 → held_in before ≡ Some p → after (held_in before) e ≡ None → Moves before e
+    pub given : (before : List (Event T)) (e : Event T) (p : ℕ) → whose e ≡ Some p → takes e ≡ 0 → gives e ≡ 1
+        → held_in before ≡ Some p → after (held_in before) e ≡ None → Moves before e
     given before e p by none one held now =
         let a : owned owner j takes e ≡ 0 = ap (λ n. if_owned owner j (whose e) n) none ∙ nothing_owned owner j (whose e) in
         let b : owned owner j gives e ≡ if_owned owner j (Some p) 1 = ap (λ n. if_owned owner j (whose e) n) one ∙ ap (λ o. if_owned owner j o 1) by in
@@ -58,18 +74,25 @@ module _ {T : Type 0} (takes gives : Event T → ℕ) (after : Option ℕ → Ev
     -- what the parties of a seat took and did not give back is held by one of them
     adds_up : (before es : List (Event T)) → Each Moves (before ++ es)
         → sum_by (owned owner j takes) es + if_owned owner j (held_in before) 1 ≡ sum_by (owned owner j gives) es + if_owned owner j (held_in (before ++ es)) 1
-    adds_up before [] each = let same : if_owned owner j (held_in (before ++ [])) 1 ≡ if_owned owner j (held_in before) 1 = ap (λ xs. if_owned owner j (held_in xs) 1) (append-nil before) in omega arith
+    adds_up before [] each =
+        let same : if_owned owner j (held_in (before ++ [])) 1 ≡ if_owned owner j (held_in before) 1 =
+        ap (λ xs. if_owned owner j (held_in xs) 1) (append-nil before) in
+        omega arith
     adds_up before (e ∷ es) each =
         let here = each before es e refl in
         let longer : (before ++ e ∷ []) ++ es ≡ before ++ e ∷ es = append_assoc before (e ∷ []) es in
         let more = adds_up (before ++ e ∷ []) es (subst (Each Moves) (sym longer) each) in
-        let last : if_owned owner j (held_in ((before ++ e ∷ []) ++ es)) 1 ≡ if_owned owner j (held_in (before ++ e ∷ es)) 1 = ap (λ xs. if_owned owner j (held_in xs) 1) longer in
-        let next : if_owned owner j (held_in (before ++ e ∷ [])) 1 ≡ if_owned owner j (after (held_in before) e) 1 = ap (λ o. if_owned owner j o 1) (fold-append after None before (e ∷ [])) in
+        let last : if_owned owner j (held_in ((before ++ e ∷ []) ++ es)) 1 ≡ if_owned owner j (held_in (before ++ e ∷ es)) 1 =
+        ap (λ xs. if_owned owner j (held_in xs) 1) longer in
+        let next : if_owned owner j (held_in (before ++ e ∷ [])) 1 ≡ if_owned owner j (after (held_in before) e) 1 =
+        ap (λ o. if_owned owner j o 1) (fold-append after None before (e ∷ [])) in
         let a = sum_first (owned owner j takes) e es in
         let b = sum_first (owned owner j gives) e es in
         omega arith
 
-    pub held_by_one : (all made : List (Event T)) → Each Moves all → ((f : Event T → ℕ) → sum_by f made ≡ sum_by (owned owner j f) all) → sum_by takes made ≡ sum_by gives made + 1 → (p : ℕ) × (owner p ≡ j) × (held_in all ≡ Some p)
+    pub held_by_one : (all made : List (Event T)) → Each Moves all
+        → ((f : Event T → ℕ) → sum_by f made ≡ sum_by (owned owner j f) all) → sum_by takes made ≡ sum_by gives made + 1
+        → (p : ℕ) × (owner p ≡ j) × (held_in all ≡ Some p)
     held_by_one all made each sums holds =
         let a = sums takes in
         let b = sums gives in
@@ -77,7 +100,9 @@ module _ {T : Type 0} (takes gives : Event T → ℕ) (after : Option ℕ → Ev
         let one : if_owned owner j (held_in all) 1 ≡ 1 = omega arith in
         one_of owner j (held_in all) one
 
-    pub at_most : (all made : List (Event T)) → Each Moves all → ((f : Event T → ℕ) → sum_by f made ≡ sum_by (owned owner j f) all) → (sum_by gives made ≤ sum_by takes made) × (sum_by takes made ≤ sum_by gives made + 1)
+    pub at_most : (all made : List (Event T)) → Each Moves all
+        → ((f : Event T → ℕ) → sum_by f made ≡ sum_by (owned owner j f) all)
+        → (sum_by gives made ≤ sum_by takes made) × (sum_by takes made ≤ sum_by gives made + 1)
     at_most all made each sums =
         let a = sums takes in
         let b = sums gives in

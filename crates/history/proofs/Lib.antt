@@ -1,15 +1,18 @@
 -- The rule of a machine, for all kinds and calls.
 pub mod Known
+pub mod AllSeen
 pub mod Reached
 pub mod Calls
 pub mod StillFits
 pub mod Turns
 pub mod Steps
 pub mod Passes
+pub mod PassLooks
 pub mod Looking
 pub mod Called
 pub mod Sized
 pub mod CallsIn
+pub mod CallReady
 pub mod CallTurns
 pub mod Written
 pub mod Drives
@@ -43,6 +46,7 @@ pub mod Queues
 pub mod Overflows
 pub mod QueueLaws
 pub mod QueueCalls
+pub mod QueueRoles
 pub mod OverflowCalls
 pub mod AnyRoles
 pub mod OverflowPops

@@ -37,7 +37,9 @@ module _ {T : Type 0} (start : Start T) where
       ⊎ ((p : ℕ) × (v.party ≡ Some p) × (flight : Flight T) × (v.going ≡ Some (start, flight)) × (v.made ≡ base.made ++ Begun p start ∷ wrote p))
 
   -- one step more, which wrote `more` and then `last`
-  pub made_with : (base v w : View T) (wrote more : ℕ → List (Event T)) (last es : List (Event T)) (p : ℕ) → base.going ≡ None → MadeSoFar base v wrote → IfSome v.party (λ q. q ≡ p) → Since p start es last v w → es ≡ more p → w.made ≡ base.made ++ Begun p start ∷ ((wrote p ++ more p) ++ last)
+  pub made_with : (base v w : View T) (wrote more : ℕ → List (Event T)) (last es : List (Event T)) (p : ℕ)
+      → base.going ≡ None → MadeSoFar base v wrote → IfSome v.party (λ q. q ≡ p) → Since p start es last v w
+      → es ≡ more p → w.made ≡ base.made ++ Begun p start ∷ ((wrote p ++ more p) ++ last)
   made_with base v w wrote more last es p idle (inl first) known since is =
       since.made
       ∙ (ap (λ (z : View T). z.made ++ (opened p start z.going ++ (es ++ last))) first.0
@@ -52,8 +54,19 @@ module _ {T : Type 0} (start : Start T) where
       ∙ (ap (λ o. v.made ++ (opened p start o ++ (es ++ last))) under.3
       ∙ (ap (λ zs. zs ++ (es ++ last)) was
       ∙ (ap (λ zs. (base.made ++ Begun p start ∷ wrote p) ++ (zs ++ last)) is
-      ∙ (append_assoc base.made (Begun p start ∷ wrote p) (more p ++ last) ∙ ap (λ zs. base.made ++ Begun p start ∷ zs) (sym (append_assoc (wrote p) (more p) last))))))
+      ∙ (append_assoc base.made (Begun p start ∷ wrote p) (more p ++ last)
+      ∙ ap (λ zs. base.made ++ Begun p start ∷ zs) (sym (append_assoc (wrote p) (more p) last))))))
 
-  pub made_more : (base v w : View T) (wrote more : ℕ → List (Event T)) (es : List (Event T)) (p : ℕ) (flight : Flight T) → base.going ≡ None → MadeSoFar base v wrote → IfSome v.party (λ q. q ≡ p) → w.party ≡ Some p → w.going ≡ Some (start, flight) → Since p start es [] v w → es ≡ more p → MadeSoFar base w (λ z. wrote z ++ more z)
+  pub made_more : (base v w : View T) (wrote more : ℕ → List (Event T)) (es : List (Event T)) (p : ℕ) (flight : Flight T)
+      → base.going ≡ None → MadeSoFar base v wrote → IfSome v.party (λ q. q ≡ p) → w.party ≡ Some p
+      → w.going ≡ Some (start, flight) → Since p start es [] v w → es ≡ more p
+      → MadeSoFar base w (λ z. wrote z ++ more z)
   made_more base v w wrote more es p flight idle so_far known mine going since is =
-      inr (p, mine, flight, going, made_with base v w wrote more [] es p idle so_far known since is ∙ ap (λ zs. base.made ++ Begun p start ∷ zs) (append-nil (wrote p ++ more p)))
+      inr (
+        p,
+        mine,
+        flight,
+        going,
+        made_with base v w wrote more [] es p idle so_far known since is
+            ∙ ap (λ zs. base.made ++ Begun p start ∷ zs) (append-nil (wrote p ++ more p)),
+      )

@@ -1,6 +1,8 @@
 -- The calls on the overflowing queue as calls of the model. What a push has written is read from the machine, since a pop
 -- may have written its act.
-use Rattle.std.proofs.Common.{inl, ◌≡◌, ◌≢◌, ℕ, ◌+◌, ◌-◌, ◌^◌, ◌%◌, ◌<◌, ◌==◌, Bool, true, false, cond, Option, Some, None, List, [], ◌∷◌, ◌++◌, get_or, slice_index, fold, refl, sym, ap, subst, ◌∙◌, append_assoc, append-nil, arith}
+use Rattle.std.proofs.Common.{inl, ◌≡◌, ◌≢◌, ℕ, ◌+◌, ◌-◌, ◌^◌, ◌%◌, ◌<◌, ◌==◌, Bool, true, false, cond, Option, Some}
+use Rattle.std.proofs.Common.{None, List, [], ◌∷◌, ◌++◌, get_or, slice_index, fold, refl, sym, ap, subst, ◌∙◌}
+use Rattle.std.proofs.Common.{append_assoc, append-nil, arith}
 use Rattle.std.proofs.lemmas.Bool.Decides.{nat_tests}
 use Rattle.std.specs.List.{AllByRecursion}
 use Rattle.steps.specs.Ask.{written}
@@ -76,16 +78,22 @@ module _ {T : Type 0} where
   within_effect p start (PublishesAndActs item) o = (λ a. refl, (λ a. refl, tt))
   within_effect p start (HandsOut item) o = (λ a. refl, within_acts p start o)
   within_effect p start (TakesOut index) o = (λ a. refl, (λ a. refl, tt))
-  within_effect p start (MakesRoom item q pushed) o = (λ a. refl, within_both (acts_if_done p start o) (Acted q (Queues (PushIndex pushed)) PoppedNone ∷ []) (within_acts p start o) (λ a. refl, tt))
+  within_effect p start (MakesRoom item q pushed) o = (
+    λ a. refl,
+    within_both (acts_if_done p start o) (Acted q (Queues (PushIndex pushed)) PoppedNone ∷ []) (within_acts p start o) (λ a. refl, tt),
+  )
 
-  within_late : (start : Start T) (late : List (Event T)) → AllByRecursion (λ (e : Event T). (p : ℕ) × (e ≡ Acted p start PoppedNone)) late → AllByRecursion IsWithin late
+  within_late : (start : Start T) (late : List (Event T))
+      → AllByRecursion (λ (e : Event T). (p : ℕ) × (e ≡ Acted p start PoppedNone)) late → AllByRecursion IsWithin late
   within_late start [] h = tt
   within_late start (e ∷ es) h = (λ a. subst (λ z. own_after a z ≡ longer a z) (sym h.0.1) refl, within_late start es h.1)
 
   -- such events make a span longer
   spans_on : (start : Start T) (xs ys : List (Event T)) → AllByRecursion IsWithin ys → fold own_after (Open start xs) ys ≡ Open start (xs ++ ys)
   spans_on start xs [] h = ap (λ es. Open start es) (sym (append-nil xs))
-  spans_on start xs (y ∷ ys) h = ap (λ a. fold own_after a ys) (h.0 (Open start xs)) ∙ (spans_on start (xs ++ y ∷ []) ys h.1 ∙ ap (λ es. Open start es) (append_assoc xs (y ∷ []) ys))
+  spans_on start xs (y ∷ ys) h =
+      ap (λ a. fold own_after a ys) (h.0 (Open start xs))
+      ∙ (spans_on start (xs ++ y ∷ []) ys h.1 ∙ ap (λ es. Open start es) (append_assoc xs (y ∷ []) ys))
 
   same_open : (start other : Start T) (xs ys : List (Event T)) → Open start xs ≡ Open other ys → xs ≡ ys
   same_open start other xs ys e = cc
@@ -109,15 +117,18 @@ module _ {T : Type 0} (code : Coding T) (v : ℕ) where
   abbrev Next : ℕ → Pushing → Type 0
   Next capacity d = (d.capacity ≡ capacity) × HasPushWord d.stage × ((k : ℕ) → over_push_skips d.stage k ≡ false)
 
-  stays : (capacity : ℕ) (c d : Pushing) (n : ℕ) (stage : pushes.PushStage) → c.capacity ≡ capacity → HasPushWord stage → push_takes c stage n ≡ GoOn d → Next capacity d
+  stays : (capacity : ℕ) (c d : Pushing) (n : ℕ) (stage : pushes.PushStage) → c.capacity ≡ capacity
+      → HasPushWord stage → push_takes c stage n ≡ GoOn d → Next capacity d
   stays capacity c d n pushes.TheVariants.HandsBack same h e = absurd h
   stays capacity c d n pushes.TheVariants.LoadsWrite same h e = go (n == 2 ^ 64 - 1) e
     where
       go : (t : Bool) → cond t (Done Own) (GoOn (at_push c (pushes.TheVariants.LoadsRead n))) ≡ GoOn d → Next capacity d
       go true e = absurd (cc)
       go false e = (let is : at_push c (pushes.TheVariants.LoadsRead n) ≡ d = cc in subst (Next capacity) is (same, tt, λ k. refl))
-  stays capacity c d n (pushes.TheVariants.LoadsRead write) same h e = (let is : at_push c (pushes.TheVariants.StoresCell write n) ≡ d = cc in subst (Next capacity) is (same, tt, λ k. refl))
-  stays capacity c d n (pushes.TheVariants.StoresCell write read) same h e = (let is : at_push c (pushes.TheVariants.StoresWrite write read) ≡ d = cc in subst (Next capacity) is (same, tt, λ k. refl))
+  stays capacity c d n (pushes.TheVariants.LoadsRead write) same h e =
+      (let is : at_push c (pushes.TheVariants.StoresCell write n) ≡ d = cc in subst (Next capacity) is (same, tt, λ k. refl))
+  stays capacity c d n (pushes.TheVariants.StoresCell write read) same h e =
+      (let is : at_push c (pushes.TheVariants.StoresWrite write read) ≡ d = cc in subst (Next capacity) is (same, tt, λ k. refl))
   stays capacity c d n (pushes.TheVariants.StoresWrite write read) same h e = go (distance write read == c.capacity) e
     where
       go : (t : Bool) → cond t (GoOn (at_push c (pushes.TheVariants.MovesRead read))) (Done Added) ≡ GoOn d → Next capacity d
@@ -130,26 +141,35 @@ module _ {T : Type 0} (code : Coding T) (v : ℕ) where
       go false e = absurd (cc)
   stays capacity c d n (pushes.TheVariants.LoadsCell read) same h e = absurd (cc)
 
-  asks : (capacity own : ℕ) (stage : pushes.PushStage) → own ≡ capacity → HasPushWord stage → (a : Ask) × (a.word < 4 + (capacity + 1)) × (push_asks own stage v ≡ wants.Ask a)
+  asks : (capacity own : ℕ) (stage : pushes.PushStage) → own ≡ capacity → HasPushWord stage
+      → (a : Ask) × (a.word < 4 + (capacity + 1)) × (push_asks own stage v ≡ wants.Ask a)
   asks capacity own pushes.TheVariants.HandsBack same h = absurd h
   asks capacity own pushes.TheVariants.LoadsWrite same h = (record { word = 0; op = Load }, omega arith, refl)
   asks capacity own (pushes.TheVariants.LoadsRead write) same h = (record { word = 1; op = Load }, omega arith, refl)
-  asks capacity own (pushes.TheVariants.StoresCell write read) same h = (record { word = cell_word own write; op = Store v }, (let low : write % (own + 1) < own + 1 = omega arith in omega arith), refl)
+  asks capacity own (pushes.TheVariants.StoresCell write read) same h =
+      (record { word = cell_word own write; op = Store v }, (let low : write % (own + 1) < own + 1 = omega arith in omega arith), refl)
   asks capacity own (pushes.TheVariants.StoresWrite write read) same h = (record { word = 0; op = Store (after_position write) }, omega arith, refl)
   asks capacity own (pushes.TheVariants.MovesRead read) same h = (record { word = 1; op = Exchange read (after_position read) }, omega arith, refl)
-  asks capacity own (pushes.TheVariants.LoadsCell read) same h = (record { word = cell_word own read; op = Load }, (let low : read % (own + 1) < own + 1 = omega arith in omega arith), refl)
+  asks capacity own (pushes.TheVariants.LoadsCell read) same h =
+      (record { word = cell_word own read; op = Load }, (let low : read % (own + 1) < own + 1 = omega arith in omega arith), refl)
 
   abbrev Hears : Pushing → OneWord → Ask → ℕ → pushes.PushStage → Type 0
   Hears c m a n stage = (push_takes c stage (answered a.op n) ≡ push_takes c stage n) × (push_keeps m stage (answered a.op n) ≡ push_keeps m stage n)
 
   hears : (c : Pushing) (m : OneWord) (a : Ask) (n : ℕ) (stage : pushes.PushStage) → push_asks c.capacity stage v ≡ wants.Ask a → Hears c m a n stage
   hears c m a n pushes.TheVariants.HandsBack e = absurd (cc)
-  hears c m a n pushes.TheVariants.LoadsWrite e = (let is : record { word = 0; op = Load } ≡ a = cc in subst (λ z. Hears c m z n pushes.TheVariants.LoadsWrite) is (refl, refl))
-  hears c m a n (pushes.TheVariants.LoadsRead write) e = (let is : record { word = 1; op = Load } ≡ a = cc in subst (λ z. Hears c m z n (pushes.TheVariants.LoadsRead write)) is (refl, refl))
+  hears c m a n pushes.TheVariants.LoadsWrite e =
+      (let is : record { word = 0; op = Load } ≡ a = cc in subst (λ z. Hears c m z n pushes.TheVariants.LoadsWrite) is (refl, refl))
+  hears c m a n (pushes.TheVariants.LoadsRead write) e =
+      (let is : record { word = 1; op = Load } ≡ a = cc in subst (λ z. Hears c m z n (pushes.TheVariants.LoadsRead write)) is (refl, refl))
   hears c m a n (pushes.TheVariants.StoresCell write read) e = (refl, refl)
   hears c m a n (pushes.TheVariants.StoresWrite write read) e = (refl, refl)
-  hears c m a n (pushes.TheVariants.MovesRead read) e = (let is : record { word = 1; op = Exchange read (after_position read) } ≡ a = cc in subst (λ z. Hears c m z n (pushes.TheVariants.MovesRead read)) is (refl, refl))
-  hears c m a n (pushes.TheVariants.LoadsCell read) e = (let is : record { word = cell_word c.capacity read; op = Load } ≡ a = cc in subst (λ z. Hears c m z n (pushes.TheVariants.LoadsCell read)) is (refl, refl))
+  hears c m a n (pushes.TheVariants.MovesRead read) e =
+      (let is : record { word = 1; op = Exchange read (after_position read) } ≡ a = cc in
+      subst (λ z. Hears c m z n (pushes.TheVariants.MovesRead read)) is (refl, refl))
+  hears c m a n (pushes.TheVariants.LoadsCell read) e =
+      (let is : record { word = cell_word c.capacity read; op = Load } ≡ a = cc in
+      subst (λ z. Hears c m z n (pushes.TheVariants.LoadsCell read)) is (refl, refl))
 
   finds : (n : ℕ) (stage : pushes.PushStage) → n < 2 ^ 64 → over_push_skips stage n ≡ false → IsFreshOver n stage
   finds n pushes.TheVariants.HandsBack small t = tt
@@ -160,9 +180,12 @@ module _ {T : Type 0} (code : Coding T) (v : ℕ) where
   finds n (pushes.TheVariants.MovesRead read) small t = tt
   finds n (pushes.TheVariants.LoadsCell read) small t = tt
 
-  leaves : (c : Pushing) (a : Ask) (n : ℕ) (stage : pushes.PushStage) → over_push_skips stage n ≡ true → push_asks c.capacity stage v ≡ wants.Ask a → (written a.op n ≡ n) × (e : PushEnd) × (e ≡ Own) × (push_takes c stage n ≡ Done e)
+  leaves : (c : Pushing) (a : Ask) (n : ℕ) (stage : pushes.PushStage) → over_push_skips stage n ≡ true
+      → push_asks c.capacity stage v ≡ wants.Ask a
+      → (written a.op n ≡ n) × (e : PushEnd) × (e ≡ Own) × (push_takes c stage n ≡ Done e)
   leaves c a n pushes.TheVariants.HandsBack t e = absurd (cc)
-  leaves c a n pushes.TheVariants.LoadsWrite t e = (let is : record { word = 0; op = Load } ≡ a = cc in (ap (λ (z : Ask). written z.op n) (sym is), Own, refl, rw t refl))
+  leaves c a n pushes.TheVariants.LoadsWrite t e =
+      (let is : record { word = 0; op = Load } ≡ a = cc in (ap (λ (z : Ask). written z.op n) (sym is), Own, refl, rw t refl))
   leaves c a n (pushes.TheVariants.LoadsRead write) t e = absurd (cc)
   leaves c a n (pushes.TheVariants.StoresCell write read) t e = absurd (cc)
   leaves c a n (pushes.TheVariants.StoresWrite write read) t e = absurd (cc)
@@ -179,43 +202,68 @@ module _ {T : Type 0} (code : Coding T) (v : ℕ) where
     pub cell : (position : ℕ) → slice_index t.world.words (cell_word capacity position) ≡ get_or core.cells (position % (capacity + 1)) 0
     pub found : old_of t.world.words (ask_of (push_asks capacity c.stage v)) ≡ n
 
-  there : (capacity p : ℕ) (from : Option (Start T × Flight T)) (c : Pushing) (m : OneWord) (n : ℕ) (es : List (Event T)) (t : Trace T) → c.capacity ≡ capacity → from ≡ None → AllByRecursion IsWithin es → Met code kinds.Overflow capacity pushing.start (pushing.flight c m) p from es n t → There capacity p c es n t
+  there : (capacity p : ℕ) (from : Option (Start T × Flight T)) (c : Pushing) (m : OneWord) (n : ℕ) (es : List (Event T)) (t : Trace T)
+      → c.capacity ≡ capacity → from ≡ None → AllByRecursion IsWithin es
+      → Met code kinds.Overflow capacity pushing.start (pushing.flight c m) p from es n t → There capacity p c es n t
   there capacity p from c m n es t same none are met =
       let s = sound_of code capacity queues.TheVariants.Overflow t met.run in
       let at = stands t.world p pushing.start (pushing.flight c m) met.there in
       let now = stands_there (family t.world.coding queues.TheVariants.Overflow t.world.capacity) t s p at.x at.since (pushing.flight c m) at.found at.doing in
       let k = s.state.core in
       let words : t.world.words ≡ layout s.state.roles k = (kept_is t.world.kept t.world.words s.state s.fit).1 in
-      let span : Open at.x.start (overflow_wrote t.world.capacity k p v c.stage) ≡ Open pushing.start es = sym now.span ∙ (met.span none ∙ spans_on pushing.start [] es are) in
+      let span : Open at.x.start (overflow_wrote t.world.capacity k p v c.stage) ≡ Open pushing.start es =
+      sym now.span ∙ (met.span none ∙ spans_on pushing.start [] es are) in
       record {
         core = k;
-        wrote = same_open pushing.start at.x.start es (overflow_wrote t.world.capacity k p v c.stage) (sym span) ∙ ap (λ z. overflow_wrote z k p v c.stage) met.run.sized;
+        wrote =
+            same_open pushing.start at.x.start es (overflow_wrote t.world.capacity k p v c.stage) (sym span)
+            ∙ ap (λ z. overflow_wrote z k p v c.stage) met.run.sized;
         read = ap (λ ws. slice_index ws 1) words;
-        cell = λ position. ap (λ ws. slice_index ws (cell_word capacity position)) words ∙ word_at k.write k.read (free s.state.roles.producer) (free s.state.roles.consumer) k.cells (cell_word capacity position) (position % (capacity + 1)) refl;
+        cell =
+            λ position. ap (λ ws. slice_index ws (cell_word capacity position)) words
+            ∙ word_at k.write k.read (free s.state.roles.producer) (free s.state.roles.consumer) k.cells
+            (cell_word capacity position) (position % (capacity + 1)) refl;
         found = ap (λ z. old_of t.world.words (ask_of (push_asks z c.stage v))) (sym same) ∙ met.found;
       }
 
   -- the effects of a step that goes on, and of one that ends
-  effects_end : (w : World T) (p : ℕ) (c : Pushing) (e : PushEnd) (m : OneWord) (n : ℕ) → push_after c n ≡ Done e → over_effects w p (pushing.flight c m) n ≡ effects_of p (PushIndex v) (overflow_push_effect w.words c.capacity (Index v) c.stage n) (Some (popped (push_answer v (push_kept c m n).0 e)))
+  effects_end : (w : World T) (p : ℕ) (c : Pushing) (e : PushEnd) (m : OneWord) (n : ℕ) → push_after c n ≡ Done e
+      → over_effects w p (pushing.flight c m) n
+      ≡ effects_of p (PushIndex v) (overflow_push_effect w.words c.capacity (Index v) c.stage n)
+      (Some (popped (push_answer v (push_kept c m n).0 e)))
   effects_end w p c e m n is = rw is refl
 
   abbrev Tells : ℕ → ℕ → Pushing → PushEnd → OneWord → ℕ → List (Event T) → World T → pushes.PushStage → Type 0
-  Tells capacity p c e m n es w stage = es ++ effects_of p (PushIndex v) (overflow_push_effect w.words c.capacity (Index v) stage n) (Some (popped (push_answer v (push_keeps m stage n).0 e))) ≡ over_push_wrote p v (push_keeps m stage n).0 e
+  Tells capacity p c e m n es w stage =
+      es ++ effects_of p (PushIndex v) (overflow_push_effect w.words c.capacity (Index v) stage n)
+      (Some (popped (push_answer v (push_keeps m stage n).0 e)))
+      ≡ over_push_wrote p v (push_keeps m stage n).0 e
 
-  tells_end : (capacity p : ℕ) (c : Pushing) (e : PushEnd) (m : OneWord) (n : ℕ) (es : List (Event T)) (t : Trace T) (k : Core ℕ) (stage : pushes.PushStage) → es ≡ overflow_wrote capacity k p v stage → slice_index t.world.words 1 ≡ k.read
-      → ((position : ℕ) → slice_index t.world.words (cell_word capacity position) ≡ get_or k.cells (position % (capacity + 1)) 0) → old_of t.world.words (ask_of (push_asks capacity stage v)) ≡ n → HasPushWord stage → over_push_skips stage n ≡ false → push_takes c stage n ≡ Done e → Tells capacity p c e m n es t.world stage
+  tells_end : (capacity p : ℕ) (c : Pushing) (e : PushEnd) (m : OneWord) (n : ℕ) (es : List (Event T)) (t : Trace T)
+      (k : Core ℕ) (stage : pushes.PushStage)
+      → es ≡ overflow_wrote capacity k p v stage → slice_index t.world.words 1 ≡ k.read
+      → ((position : ℕ) → slice_index t.world.words (cell_word capacity position) ≡ get_or k.cells (position % (capacity + 1)) 0)
+      → old_of t.world.words (ask_of (push_asks capacity stage v)) ≡ n → HasPushWord stage
+      → over_push_skips stage n ≡ false → push_takes c stage n ≡ Done e → Tells capacity p c e m n es t.world stage
   tells_end capacity p c e m n es t k pushes.TheVariants.HandsBack is read cell found h skip ends = absurd h
-  tells_end capacity p c e m n es t k pushes.TheVariants.LoadsWrite is read cell found h skip ends = (let no : GoOn (at_push c (pushes.TheVariants.LoadsRead n)) ≡ Done e = rw skip at ends in absurd (cc))
+  tells_end capacity p c e m n es t k pushes.TheVariants.LoadsWrite is read cell found h skip ends =
+      (let no : GoOn (at_push c (pushes.TheVariants.LoadsRead n)) ≡ Done e = rw skip at ends in absurd (cc))
   tells_end capacity p c e m n es t k (pushes.TheVariants.LoadsRead write) is read cell found h skip ends = absurd (cc)
   tells_end capacity p c e m n es t k (pushes.TheVariants.StoresCell write at) is read cell found h skip ends = absurd (cc)
   tells_end capacity p c e m n es t k (pushes.TheVariants.StoresWrite write at) is read cell found h skip ends = go (distance write at == c.capacity) refl ends
     where
-      go : (b : Bool) → (distance write at == c.capacity) ≡ b → cond b (GoOn (at_push c (pushes.TheVariants.MovesRead at))) (Done Added) ≡ Done e → Tells capacity p c e m n es t.world (pushes.TheVariants.StoresWrite write at)
+      go : (b : Bool) → (distance write at == c.capacity) ≡ b
+          → cond b (GoOn (at_push c (pushes.TheVariants.MovesRead at))) (Done Added) ≡ Done e
+          → Tells capacity p c e m n es t.world (pushes.TheVariants.StoresWrite write at)
       go true d h = absurd (cc)
-      go false d h = (let same : Added ≡ e = cc in subst (λ z. Tells capacity p c z m n es t.world (pushes.TheVariants.StoresWrite write at)) same (rw (is, d) refl))
+      go false d h =
+          (let same : Added ≡ e = cc in
+          subst (λ z. Tells capacity p c z m n es t.world (pushes.TheVariants.StoresWrite write at)) same (rw (is, d) refl))
   tells_end capacity p c e m n es t k (pushes.TheVariants.MovesRead at) is read cell found h skip ends = go (n == at) refl ends
     where
-      go : (b : Bool) → (n == at) ≡ b → cond b (GoOn (at_push c (pushes.TheVariants.LoadsCell at))) (Done Added) ≡ Done e → Tells capacity p c e m n es t.world (pushes.TheVariants.MovesRead at)
+      go : (b : Bool) → (n == at) ≡ b
+          → cond b (GoOn (at_push c (pushes.TheVariants.LoadsCell at))) (Done Added) ≡ Done e
+          → Tells capacity p c e m n es t.world (pushes.TheVariants.MovesRead at)
       go true d h = absurd (cc)
       go false d h =
           let same : Added ≡ e = cc in
@@ -226,7 +274,9 @@ module _ {T : Type 0} (code : Coding T) (v : ℕ) where
   tells_end capacity p c e m n es t k (pushes.TheVariants.LoadsCell at) is read cell found h skip ends =
       let same : Oldest ≡ e = cc in
       let value : get_or k.cells (at % (capacity + 1)) 0 ≡ n = sym (cell at) ∙ found in
-      subst (λ z. Tells capacity p c z m n es t.world (pushes.TheVariants.LoadsCell at)) same (append-nil es ∙ (is ∙ ap (λ u. Published p (Index v) ∷ HandedOut p (Index u) ∷ Acted p (Queues (PushIndex v)) (PoppedIndex u) ∷ []) value))
+      subst (λ z. Tells capacity p c z m n es t.world (pushes.TheVariants.LoadsCell at)) same
+      (append-nil es
+      ∙ (is ∙ ap (λ u. Published p (Index v) ∷ HandedOut p (Index u) ∷ Acted p (Queues (PushIndex v)) (PoppedIndex u) ∷ []) value))
 
   pub push_is_call : IsCallIn code kinds.Overflow over_effects (λ capacity. 4 + (capacity + 1)) (λ c. push_want c v) push_after push_kept pushing
   push_is_call =
@@ -241,20 +291,32 @@ module _ {T : Type 0} (code : Coding T) (v : ℕ) where
         leaves = λ c a n t e. leaves c a n c.stage t e;
         tells = λ capacity p from c d m n es late t h wrote waits met e. (
           wrote.0,
-          within_both (es ++ late) (events_by p (over_effects t.world p (pushing.flight c m) n)) (within_both es late wrote.1 (within_late pushing.start late waits))
-              (subst (λ zs. AllByRecursion IsWithin zs) (sym (by_mine p (over_effects t.world p (pushing.flight c m) n) (push_own t.world p (record { call = c; given = v; room = m }) n))) (within_effect p (PushIndex v) _ _)),
+          within_both (es ++ late) (events_by p (over_effects t.world p (pushing.flight c m) n))
+              (within_both es late wrote.1 (within_late pushing.start late waits))
+              (subst (λ zs. AllByRecursion IsWithin zs)
+              (sym (by_mine p (over_effects t.world p (pushing.flight c m) n)
+              (push_own t.world p (record { call = c; given = v; room = m }) n)))
+              (within_effect p (PushIndex v) _ _)),
         );
         tells_all = λ capacity p from c e m n es late t h skip wrote waits met is still. (
             let x = there capacity p from c m n (es ++ late) t h.1 wrote.0 (within_both es late wrote.1 (within_late pushing.start late waits)) met in
-            ap (λ zs. (es ++ late) ++ zs) (by_mine p (over_effects t.world p (pushing.flight c m) n) (push_own t.world p (record { call = c; given = v; room = m }) n) ∙ effects_end t.world p c e m n is)
+            ap (λ zs. (es ++ late) ++ zs)
+            (by_mine p (over_effects t.world p (pushing.flight c m) n) (push_own t.world p (record { call = c; given = v; room = m }) n)
+            ∙ effects_end t.world p c e m n is)
             ∙ tells_end capacity p c e m n (es ++ late) t x.core c.stage x.wrote x.read x.cell x.found h.2 skip is);
       }
 
   -- each step of a push keeps the rule of the table: it is a machine
-  pub over_push_keeps : KeepsRule (λ (z : View T). z.capacity) (At code kinds.Overflow pushing) (Over code kinds.Overflow pushing) (λ key. 4 + (key + 1) + 1) (λ key. key) (λ key. IsMachine code kinds.Overflow key) (λ c. push_want c v) push_after push_kept
-  over_push_keeps = keeps_in code kinds.Overflow over_effects (λ capacity. 4 + (capacity + 1)) (overflow_owes code) (λ c. push_want c v) push_after push_kept pushing push_is_call
+  pub over_push_keeps : KeepsRule (λ (z : View T). z.capacity) (At code kinds.Overflow pushing)
+      (Over code kinds.Overflow pushing) (λ key. 4 + (key + 1) + 1) (λ key. key)
+      (λ key. IsMachine code kinds.Overflow key) (λ c. push_want c v) push_after push_kept
+  over_push_keeps =
+      keeps_in code kinds.Overflow over_effects (λ capacity. 4 + (capacity + 1)) (overflow_owes code)
+      (λ c. push_want c v) push_after push_kept pushing push_is_call
 
-  pub over_push_first : (x : View T) → x.going ≡ None → x.other ≡ [] → 0 < x.share.part → 0 < x.capacity → x.capacity < 2 ^ 32 → HasRole Producer x.made → At code kinds.Overflow pushing x x (first_push x.capacity) (record { 0 = 0 })
+  pub over_push_first : (x : View T) → x.going ≡ None → x.other ≡ [] → 0 < x.share.part → 0 < x.capacity
+      → x.capacity < 2 ^ 32 → HasRole Producer x.made
+      → At code kinds.Overflow pushing x x (first_push x.capacity) (record { 0 = 0 })
   over_push_first x idle alone any has_cells small has =
       let some : (x.capacity == 0) ≡ false = grind (arith, nat_tests) in
       inl (record {
@@ -264,6 +326,9 @@ module _ {T : Type 0} (code : Coding T) (v : ℕ) where
         standing = (small, refl, rw some tt);
         some = any;
         first = refl;
-        starts = role_starts code queues.TheVariants.Overflow x pushing (PushIndex v) (first_push x.capacity) (record { 0 = 0 }) refl (λ kept. refl) Producer (λ o p. tt) (λ roles p is. holds_it roles.producer p is) has;
+        starts =
+            role_starts code queues.TheVariants.Overflow x pushing (PushIndex v) (first_push x.capacity)
+            (record { 0 = 0 }) refl (λ kept. refl) Producer (λ o p. tt) (λ roles p is. holds_it roles.producer p is)
+            has;
         wrote = λ p. (refl, tt);
       })

@@ -1,6 +1,8 @@
 -- Who writes what of the overflowing queue, and where: the producer alone publishes, where at most the capacity waits, and
 -- what is taken out is what waits first.
-use Rattle.std.proofs.Common.{◌≡◌, inl, inr, ℕ, ◌+◌, ◌%◌, ◌<◌, ◌==◌, Bool, true, false, cond, Option, Some, None, List, [], ◌∷◌, ◌++◌, get_or, length, map, slice_index, refl, sym, ap, subst, ◌∙◌, append_assoc, append-nil, arith}
+use Rattle.std.proofs.Common.{◌≡◌, inl, inr, ℕ, ◌+◌, ◌%◌, ◌<◌, ◌==◌, Bool, true, false, cond, Option, Some, None, List}
+use Rattle.std.proofs.Common.{[], ◌∷◌, ◌++◌, get_or, length, map, slice_index, refl, sym, ap, subst, ◌∙◌, append_assoc}
+use Rattle.std.proofs.Common.{append-nil, arith}
 use Rattle.std.proofs.lemmas.Bool.Decides.{nat_tests}
 use Rattle.std.proofs.lemmas.List.{length-map}
 use Rattle.std.proofs.lemmas.List.Sums.{fold-append}
@@ -78,10 +80,12 @@ module _ {T : Type 0} (c : ℕ) where
   right_both before (x ∷ xs) ys a b = (a.0, right_both (before ++ x ∷ []) xs ys a.1 (subst (λ zs. Right zs ys) (sym (append_assoc before (x ∷ []) xs)) b))
 
   -- an event of a call moves no role
-  produces : (before : List (Event T)) (e : Event T) (p : ℕ) → ((o : Option ℕ) → producer_after o e ≡ o) → producer_of before ≡ Some p → producer_of (before ++ e ∷ []) ≡ Some p
+  produces : (before : List (Event T)) (e : Event T) (p : ℕ) → ((o : Option ℕ) → producer_after o e ≡ o)
+      → producer_of before ≡ Some p → producer_of (before ++ e ∷ []) ≡ Some p
   produces before e p still holds = fold-append producer_after None before (e ∷ []) ∙ (still (producer_of before) ∙ holds)
 
-  consumes : (before : List (Event T)) (e : Event T) (p : ℕ) → ((o : Option ℕ) → consumer_after o e ≡ o) → consumer_of before ≡ Some p → consumer_of (before ++ e ∷ []) ≡ Some p
+  consumes : (before : List (Event T)) (e : Event T) (p : ℕ) → ((o : Option ℕ) → consumer_after o e ≡ o)
+      → consumer_of before ≡ Some p → consumer_of (before ++ e ∷ []) ≡ Some p
   consumes before e p still holds = fold-append consumer_after None before (e ∷ []) ∙ (still (consumer_of before) ∙ holds)
 
   push_acts : (p v : ℕ) (o : Option (Answer T)) (before : List (Event T)) → producer_of before ≡ Some p → Right before (acts_if_done p (PushIndex v) o)
@@ -92,58 +96,82 @@ module _ {T : Type 0} (c : ℕ) where
   pop_acts p None before holds = tt
   pop_acts p (Some answer) before holds = ((holds, tt), tt)
 
-  push_right : (p v : ℕ) (effect : Effect T) (o : Option (Answer T)) (before : List (Event T)) → IsOwn effect → FitsList before effect → producer_of before ≡ Some p → Right before (effects_of p (PushIndex v) effect o)
+  push_right : (p v : ℕ) (effect : Effect T) (o : Option (Answer T)) (before : List (Event T)) → IsOwn effect
+      → FitsList before effect → producer_of before ≡ Some p → Right before (effects_of p (PushIndex v) effect o)
   push_right p v Quiet o before own fits holds = tt
   push_right p v Acts o before own fits holds = push_acts p v o before holds
-  push_right p v (Publishes item) o before own fits holds = ((holds, fits), push_acts p v o (before ++ Published p item ∷ []) (produces before (Published p item) p (λ o. refl) holds))
+  push_right p v (Publishes item) o before own fits holds =
+      ((holds, fits), push_acts p v o (before ++ Published p item ∷ []) (produces before (Published p item) p (λ o. refl) holds))
   push_right p v (PublishesAndActs item) o before own fits holds = ((holds, fits), ((produces before (Published p item) p (λ o. refl) holds, tt), tt))
-  push_right p v (HandsOut item) o before own fits holds = ((inl holds, fits), push_acts p v o (before ++ HandedOut p item ∷ []) (produces before (HandedOut p item) p (λ o. refl) holds))
+  push_right p v (HandsOut item) o before own fits holds =
+      ((inl holds, fits), push_acts p v o (before ++ HandedOut p item ∷ []) (produces before (HandedOut p item) p (λ o. refl) holds))
   push_right p v (TakesOut index) o before own fits holds = ((inl holds, fits), ((produces before (HandedOut p (Index index)) p (λ o. refl) holds, tt), tt))
   push_right p v (MakesRoom item q pushed) o before own fits holds = absurd own
 
-  hands_right : (p : ℕ) (item : Item T) (o : Option (Answer T)) (before : List (Event T)) → FitsList before (HandsOut item) → consumer_of before ≡ Some p → Right before (effects_of p Pop (HandsOut item) o)
-  hands_right p item o before fits holds = ((inr holds, fits), pop_acts p o (before ++ HandedOut p item ∷ []) (consumes before (HandedOut p item) p (λ o. refl) holds))
+  hands_right : (p : ℕ) (item : Item T) (o : Option (Answer T)) (before : List (Event T))
+      → FitsList before (HandsOut item) → consumer_of before ≡ Some p
+      → Right before (effects_of p Pop (HandsOut item) o)
+  hands_right p item o before fits holds =
+      ((inr holds, fits), pop_acts p o (before ++ HandedOut p item ∷ []) (consumes before (HandedOut p item) p (λ o. refl) holds))
 
   -- a pop that makes room moves no role either
-  still : (p : ℕ) (item : Item T) (o : Option (Answer T)) (before : List (Event T)) → producer_of (before ++ effects_of p Pop (HandsOut item) o) ≡ producer_of before
+  still : (p : ℕ) (item : Item T) (o : Option (Answer T)) (before : List (Event T))
+      → producer_of (before ++ effects_of p Pop (HandsOut item) o) ≡ producer_of before
   still p item None before = fold-append producer_after None before (effects_of p Pop (HandsOut item) None)
   still p item (Some answer) before = fold-append producer_after None before (effects_of p Pop (HandsOut item) (Some answer))
 
-  takes_right : (p : ℕ) (item : Item T) (waits : Option (ℕ × ℕ)) (o : Option (Answer T)) (before : List (Event T)) → ((q v : ℕ) → waits ≡ Some (q, v) → producer_of before ≡ Some q) → FitsList before (HandsOut item) → consumer_of before ≡ Some p → Right before (effects_of p Pop (takes_effect item waits) o)
+  takes_right : (p : ℕ) (item : Item T) (waits : Option (ℕ × ℕ)) (o : Option (Answer T)) (before : List (Event T))
+      → ((q v : ℕ) → waits ≡ Some (q, v) → producer_of before ≡ Some q) → FitsList before (HandsOut item)
+      → consumer_of before ≡ Some p → Right before (effects_of p Pop (takes_effect item waits) o)
   takes_right p item None o before known fits holds = hands_right p item o before fits holds
   takes_right p item (Some push) o before known fits holds =
-      right_both before (effects_of p Pop (HandsOut item) o) (Acted push.0 (Queues (PushIndex push.1)) PoppedNone ∷ []) (hands_right p item o before fits holds) ((still p item o before ∙ known push.0 push.1 refl, tt), tt)
+      right_both before (effects_of p Pop (HandsOut item) o)
+      (Acted push.0 (Queues (PushIndex push.1)) PoppedNone ∷ []) (hands_right p item o before fits holds)
+      ((still p item o before ∙ known push.0 push.1 refl, tt), tt)
 
   -- what a pop takes out, where it does
   abbrev PopFits : List (Event T) → List ℕ → ℕ → ℕ → pops.PopStage → Type 0
-  PopFits before words capacity n (pops.TheVariants.MovesRead read) = n ≡ read → FitsList before (HandsOut (Index (slice_index words (cell_word capacity read))))
+  PopFits before words capacity n (pops.TheVariants.MovesRead read) =
+      n ≡ read → FitsList before (HandsOut (Index (slice_index words (cell_word capacity read))))
   PopFits before words capacity n stage = Unit {0}
 
-  pop_right : (words : List ℕ) (capacity p n : ℕ) (waits : Option (ℕ × ℕ)) (stage : pops.PopStage) (o : Option (Answer T)) (before : List (Event T)) → ((q v : ℕ) → waits ≡ Some (q, v) → producer_of before ≡ Some q) → PopFits before words capacity n stage → consumer_of before ≡ Some p → Right before (effects_of p Pop (overflow_pop_effect words waits capacity stage n) o)
+  pop_right : (words : List ℕ) (capacity p n : ℕ) (waits : Option (ℕ × ℕ)) (stage : pops.PopStage)
+      (o : Option (Answer T)) (before : List (Event T))
+      → ((q v : ℕ) → waits ≡ Some (q, v) → producer_of before ≡ Some q) → PopFits before words capacity n stage
+      → consumer_of before ≡ Some p
+      → Right before (effects_of p Pop (overflow_pop_effect words waits capacity stage n) o)
   pop_right words capacity p n waits pops.TheVariants.FindsNone o before known fits holds = pop_acts p o before holds
   pop_right words capacity p n waits pops.TheVariants.LoadsRead o before known fits holds = tt
   pop_right words capacity p n waits (pops.TheVariants.LoadsWrite read) o before known fits holds = pop_acts p o before holds
   pop_right words capacity p n waits (pops.TheVariants.LoadsCell read) o before known fits holds = tt
   pop_right words capacity p n waits (pops.TheVariants.MovesRead read) o before known fits holds = go (n == read) refl
     where
-      go : (b : Bool) → (n == read) ≡ b → Right before (effects_of p Pop (cond b (takes_effect (Index (slice_index words (cell_word capacity read))) waits) Quiet) o)
-      go true d = (let is : n ≡ read = grind (arith, nat_tests) in takes_right p (Index (slice_index words (cell_word capacity read))) waits o before known (fits is) holds)
+      go : (b : Bool) → (n == read) ≡ b
+          → Right before (effects_of p Pop (cond b (takes_effect (Index (slice_index words (cell_word capacity read))) waits) Quiet) o)
+      go true d =
+          (let is : n ≡ read = grind (arith, nat_tests) in
+          takes_right p (Index (slice_index words (cell_word capacity read))) waits o before known (fits is) holds)
       go false d = tt
 
   -- ---- what a call knows of the list
 
-  module _ (k : Core ℕ) (words : List ℕ) (before : List (Event T)) (good : Good 1 words_of_index (c + 1) k) (same : waiting before ≡ map Index k.waiting) (is_read : slice_index words 1 ≡ k.read) (cell : (position : ℕ) → slice_index words (cell_word c position) ≡ get_or k.cells (position % (c + 1)) 0) where
+  module _ (k : Core ℕ) (words : List ℕ) (before : List (Event T)) (good : Good 1 words_of_index (c + 1) k)
+      (same : waiting before ≡ map Index k.waiting) (is_read : slice_index words 1 ≡ k.read)
+      (cell : (position : ℕ) → slice_index words (cell_word c position) ≡ get_or k.cells (position % (c + 1)) 0) where
     -- the front stands in the cell of the read position
     front : (read : ℕ) → read ≡ k.read → 0 < length k.waiting → (rest : List (Item T)) × (waiting before ≡ Index (slice_index words (cell_word c read)) ∷ rest)
     front read here some =
         let old = oldest c k good some in
-        let value : get_or k.cells (k.read % (c + 1)) 0 ≡ slice_index words (cell_word c read) = ap (λ z. get_or k.cells (z % (c + 1)) 0) (sym here) ∙ sym (cell read) in
+        let value : get_or k.cells (k.read % (c + 1)) 0 ≡ slice_index words (cell_word c read) =
+        ap (λ z. get_or k.cells (z % (c + 1)) 0) (sym here) ∙ sym (cell read) in
         (map Index old.0, same ∙ (ap (map Index) old.1 ∙ ap (λ u. Index u ∷ map Index old.0) value))
 
     long : length (waiting before) ≡ length k.waiting
     long = ap length same ∙ length-map k.waiting Index
 
-    push_fits : (v capacity n : ℕ) (stage : pushes.PushStage) → capacity ≡ c → KnowsOverflowPush c k v stage → (stage_found : old_of words (ask_of (push_asks capacity stage v)) ≡ n) → FitsList before (overflow_push_effect words capacity (Index v) stage n)
+    push_fits : (v capacity n : ℕ) (stage : pushes.PushStage) → capacity ≡ c → KnowsOverflowPush c k v stage
+        → (stage_found : old_of words (ask_of (push_asks capacity stage v)) ≡ n)
+        → FitsList before (overflow_push_effect words capacity (Index v) stage n)
     push_fits v capacity n pushes.TheVariants.HandsBack size knows found = tt
     push_fits v capacity n pushes.TheVariants.LoadsWrite size knows found = tt
     push_fits v capacity n (pushes.TheVariants.LoadsRead write) size knows found = tt
@@ -167,7 +195,9 @@ module _ {T : Type 0} (c : ℕ) where
         go false d = tt
     push_fits v capacity n (pushes.TheVariants.LoadsCell read) size knows found = tt
 
-    pop_fits : (room : OneWord) (capacity n : ℕ) (stage : pops.PopStage) → capacity ≡ c → KnowsOverflowPop c k room stage → old_of words (ask_of (pop_asks capacity stage)) ≡ n → PopFits before words capacity n stage
+    pop_fits : (room : OneWord) (capacity n : ℕ) (stage : pops.PopStage) → capacity ≡ c
+        → KnowsOverflowPop c k room stage → old_of words (ask_of (pop_asks capacity stage)) ≡ n
+        → PopFits before words capacity n stage
     pop_fits room capacity n pops.TheVariants.FindsNone size knows found = tt
     pop_fits room capacity n pops.TheVariants.LoadsRead size knows found = tt
     pop_fits room capacity n (pops.TheVariants.LoadsWrite read) size knows found = tt
@@ -191,14 +221,19 @@ module _ {T : Type 0} (c : ℕ) where
     its_cell : (position : ℕ) → slice_index t.world.words (cell_word c position) ≡ get_or s.state.core.cells (position % (c + 1)) 0
     its_cell position =
         let k = s.state.core in
-        ap (λ ws. slice_index ws (cell_word c position)) its_words ∙ word_at k.write k.read (free s.state.roles.producer) (free s.state.roles.consumer) k.cells (cell_word c position) (position % (c + 1)) refl
+        ap (λ ws. slice_index ws (cell_word c position)) its_words
+        ∙ word_at k.write k.read (free s.state.roles.producer) (free s.state.roles.consumer) k.cells
+        (cell_word c position) (position % (c + 1)) refl
 
     -- a push and a pop are handed what stands in their word
-    push_handed : (run : Pushing) (n : ℕ) → IsHanded t (flights.TheVariants.Queues (Overflow (overflows.TheVariants.Push run))) n → old_of t.world.words (ask_of (push_asks run.call.capacity run.call.stage run.given)) ≡ n
+    push_handed : (run : Pushing) (n : ℕ)
+        → IsHanded t (flights.TheVariants.Queues (Overflow (overflows.TheVariants.Push run))) n
+        → old_of t.world.words (ask_of (push_asks run.call.capacity run.call.stage run.given)) ≡ n
     push_handed run n (inl e) = sym e
     push_handed run n (inr due) = no run.call.stage due
       where
-        no : (stage : pushes.PushStage) → is_question (push_asks run.call.capacity stage run.given) ≡ true → old_of t.world.words (ask_of (push_asks run.call.capacity run.call.stage run.given)) ≡ n
+        no : (stage : pushes.PushStage) → is_question (push_asks run.call.capacity stage run.given) ≡ true
+            → old_of t.world.words (ask_of (push_asks run.call.capacity run.call.stage run.given)) ≡ n
         no pushes.TheVariants.HandsBack e = absurd (cc)
         no pushes.TheVariants.LoadsWrite e = absurd (cc)
         no (pushes.TheVariants.LoadsRead write) e = absurd (cc)
@@ -207,26 +242,39 @@ module _ {T : Type 0} (c : ℕ) where
         no (pushes.TheVariants.MovesRead read) e = absurd (cc)
         no (pushes.TheVariants.LoadsCell read) e = absurd (cc)
 
-    pop_handed : (run : Running Popping (Unit {0}) OneWord) (n : ℕ) → IsHanded t (flights.TheVariants.Queues (Overflow (overflows.TheVariants.Pop run))) n → old_of t.world.words (ask_of (pop_asks run.call.capacity run.call.stage)) ≡ n
+    pop_handed : (run : Running Popping (Unit {0}) OneWord) (n : ℕ)
+        → IsHanded t (flights.TheVariants.Queues (Overflow (overflows.TheVariants.Pop run))) n
+        → old_of t.world.words (ask_of (pop_asks run.call.capacity run.call.stage)) ≡ n
     pop_handed run n (inl e) = sym e
     pop_handed run n (inr due) = no run.call.stage due
       where
-        no : (stage : pops.PopStage) → is_question (pop_asks run.call.capacity stage) ≡ true → old_of t.world.words (ask_of (pop_asks run.call.capacity run.call.stage)) ≡ n
+        no : (stage : pops.PopStage) → is_question (pop_asks run.call.capacity stage) ≡ true
+            → old_of t.world.words (ask_of (pop_asks run.call.capacity run.call.stage)) ≡ n
         no pops.TheVariants.FindsNone e = absurd (cc)
         no pops.TheVariants.LoadsRead e = absurd (cc)
         no (pops.TheVariants.LoadsWrite read) e = absurd (cc)
         no (pops.TheVariants.LoadsCell read) e = absurd (cc)
         no (pops.TheVariants.MovesRead read) e = absurd (cc)
 
-    over_right : (p n : ℕ) (start : Start T) (flight : Flight T) → (family en queues.TheVariants.Overflow c).At s.state p start flight → IsHanded t flight n → Right t.events (over_effects t.world p flight n)
+    over_right : (p n : ℕ) (start : Start T) (flight : Flight T)
+        → (family en queues.TheVariants.Overflow c).At s.state p start flight → IsHanded t flight n
+        → Right t.events (over_effects t.world p flight n)
     over_right p n (Queues (PushIndex v)) (flights.TheVariants.Queues (Overflow (overflows.TheVariants.Push run))) at handed =
-        let knows : KnowsOverflowPush c s.state.core run.given run.call.stage = subst (λ z. KnowsOverflowPush c s.state.core z run.call.stage) (sym at.2) at.3 in
-        push_right p run.given (overflow_push_effect t.world.words run.call.capacity (Index run.given) run.call.stage n) (answer_in (after t.world.coding (Overflow (overflows.TheVariants.Push run)) n)) t.events (push_effect_own t.world.words run.call.capacity (Index run.given) run.call.stage n)
-        (push_fits s.state.core t.world.words t.events s.holds.good its_waiting its_read its_cell run.given run.call.capacity n run.call.stage at.1 knows (push_handed run n handed)) (s.holds.producers ∙ at.0)
+        let knows : KnowsOverflowPush c s.state.core run.given run.call.stage =
+        subst (λ z. KnowsOverflowPush c s.state.core z run.call.stage) (sym at.2) at.3 in
+        push_right p run.given (overflow_push_effect t.world.words run.call.capacity (Index run.given) run.call.stage n)
+        (answer_in (after t.world.coding (Overflow (overflows.TheVariants.Push run)) n)) t.events
+        (push_effect_own t.world.words run.call.capacity (Index run.given) run.call.stage n)
+        (push_fits s.state.core t.world.words t.events s.holds.good its_waiting its_read its_cell run.given
+        run.call.capacity n run.call.stage at.1 knows (push_handed run n handed))
+        (s.holds.producers ∙ at.0)
     over_right p n (Queues Pop) (flights.TheVariants.Queues (Overflow (overflows.TheVariants.Pop run))) at handed =
-        pop_right t.world.words run.call.capacity p n (beside_of t.world.words t.world.kept t.world.latest p) run.call.stage (answer_in (after t.world.coding (Overflow (overflows.TheVariants.Pop run)) n)) t.events
+        pop_right t.world.words run.call.capacity p n (beside_of t.world.words t.world.kept t.world.latest p)
+        run.call.stage (answer_in (after t.world.coding (Overflow (overflows.TheVariants.Pop run)) n)) t.events
         (λ q v e. (beside_waits en c t en c s t.world.kept p q v e (kept_is t.world.kept t.world.words s.state s.fit).0).producer)
-        (pop_fits s.state.core t.world.words t.events s.holds.good its_waiting its_read its_cell run.room run.call.capacity n run.call.stage at.1 at.2 (pop_handed run n handed)) (s.holds.consumers ∙ at.0)
+        (pop_fits s.state.core t.world.words t.events s.holds.good its_waiting its_read its_cell run.room
+        run.call.capacity n run.call.stage at.1 at.2 (pop_handed run n handed))
+        (s.holds.consumers ∙ at.0)
     over_right p n (Queues start) (flights.TheVariants.Queues (OnRole call)) at handed = tt
     over_right p n (Queues start) (flights.TheVariants.Queues (Length which run)) at handed = tt
     over_right p n (Queues start) (flights.TheVariants.Queues (Indices call)) at handed = absurd at
@@ -234,10 +282,13 @@ module _ {T : Type 0} (c : ℕ) where
     over_right p n (Queues start) (flights.TheVariants.Queues (Overflow call)) at handed = absurd at
     over_right p n start flight at handed = absurd at
 
-    step_right : (p n : ℕ) (x : Party T) (flight : Flight T) (since : ℕ) → party_of p t.world.latest ≡ Some x → x.doing ≡ Going flight since → IsHanded t flight n → Right t.events (step_in t.world p x flight n).wrote
+    step_right : (p n : ℕ) (x : Party T) (flight : Flight T) (since : ℕ) → party_of p t.world.latest ≡ Some x
+        → x.doing ≡ Going flight since → IsHanded t flight n → Right t.events (step_in t.world p x flight n).wrote
     step_right p n x flight since found doing handed =
         let there = stands_there (family en queues.TheVariants.Overflow c) t s p x since flight found doing in
-        let fact = facts en c t.world en c p n s.state.roles s.state.core x.start flight t.world.kept (kept_is t.world.kept t.world.words s.state s.fit).0 there.at in
+        let fact =
+        facts en c t.world en c p n s.state.roles s.state.core x.start flight t.world.kept
+        (kept_is t.world.kept t.world.words s.state s.fit).0 there.at in
         subst (Right t.events) (sym fact.writes) (over_right p n x.start flight there.at handed)
 
 module _ {T : Type 0} (code : Coding T) (capacity : ℕ) where
@@ -247,20 +298,30 @@ module _ {T : Type 0} (code : Coding T) (capacity : ℕ) where
       let first : Trace T = opening w.coding w.kind w.capacity w.parties in
       let admitted : capacity_error kinds.Overflow w.capacity ≡ None = subst (λ kind. capacity_error kind w.capacity ≡ None) run.of_kind run.reached.admitted in
       let sound : frame.Sound (family w.coding queues.TheVariants.Overflow w.capacity) first =
-      subst (λ kind. frame.Sound (family w.coding queues.TheVariants.Overflow w.capacity) (opening w.coding kind w.capacity w.parties)) (sym run.of_kind) (opening_sound w.coding run.reached.coded queues.TheVariants.Overflow w.capacity w.parties (admitted_fits queues.TheVariants.Overflow w.capacity admitted))
+      subst (λ kind. frame.Sound (family w.coding queues.TheVariants.Overflow w.capacity) (opening w.coding kind w.capacity w.parties))
+      (sym run.of_kind)
+      (opening_sound w.coding run.reached.coded queues.TheVariants.Overflow w.capacity w.parties
+      (admitted_fits queues.TheVariants.Overflow w.capacity admitted))
       in
       subst (λ z. Each (Rightly w.capacity) z.events) (sym run.fresh.is)
-      (each_event (family w.coding queues.TheVariants.Overflow w.capacity) IsFreshTurn (fresh_laws w.coding run.reached.coded queues.TheVariants.Overflow w.capacity) (Rightly w.capacity) (λ before p start. (tt, tt)) (λ before p start answer. (tt, tt)) (λ before owner. (tt, tt)) (λ t s. step_right w.capacity w.coding t s) run.fresh.turns first run.fresh.fresh sound (Each-nil (Rightly w.capacity)))
+      (each_event (family w.coding queues.TheVariants.Overflow w.capacity) IsFreshTurn
+      (fresh_laws w.coding run.reached.coded queues.TheVariants.Overflow w.capacity) (Rightly w.capacity)
+      (λ before p start. (tt, tt)) (λ before p start answer. (tt, tt)) (λ before owner. (tt, tt))
+      (λ t s. step_right w.capacity w.coding t s) run.fresh.turns first run.fresh.fresh sound
+      (Each-nil (Rightly w.capacity)))
 
   pub history_by_over_holders : (events : List (Event T)) → IsHistory code kinds.Overflow capacity events → Each ByOverHolder events
   history_by_over_holders events h = subst (Each ByOverHolder) (sym h.is) (λ before after e is. (rightly h.trace h.run before after e is).0)
 
   -- a value is published where at most the capacity waits, and taken out, by a push or by a pop, where it waits first
   pub over_lists_kept : (events : List (Event T)) → IsHistory code kinds.Overflow capacity events → Each (KeepsList (capacity + 1)) events
-  over_lists_kept events h = subst (Each (KeepsList (capacity + 1))) (sym h.is) (λ before after e is. subst (λ n. KeepsList (n + 1) before e) h.run.sized (rightly h.trace h.run before after e is).1)
+  over_lists_kept events h =
+      subst (Each (KeepsList (capacity + 1))) (sym h.is)
+      (λ before after e is. subst (λ n. KeepsList (n + 1) before e) h.run.sized (rightly h.trace h.run before after e is).1)
 
   -- at any time what was taken out is a beginning of what was published, and at most one more than the capacity waits
-  pub over_listed : (events : List (Event T)) → IsHistory code kinds.Overflow capacity events → (part rest : List (Event T)) → events ≡ part ++ rest → IsListed (capacity + 1) part
+  pub over_listed : (events : List (Event T)) → IsHistory code kinds.Overflow capacity events
+      → (part rest : List (Event T)) → events ≡ part ++ rest → IsListed (capacity + 1) part
   over_listed events h part rest is = listed_in (capacity + 1) events (over_lists_kept events h) part rest is
 
   producer_of_it : (before : List (Event T)) (e : Event T) → ByOverHolder before e → ByHolderOf Producer before e

@@ -1,6 +1,7 @@
 -- The pop of the overflowing queue as a call of the model. The value that it takes out is the one that it has read, for as
 -- long as the read position stays.
-use Rattle.std.proofs.Common.{inl, ◌≡◌, ◌≢◌, ℕ, ◌+◌, ◌^◌, ◌%◌, ◌<◌, ◌==◌, Bool, true, false, cond, Option, Some, None, List, [], ◌∷◌, ◌++◌, get_or, length, slice_index, refl, sym, ap, subst, ◌∙◌, arith}
+use Rattle.std.proofs.Common.{inl, ◌≡◌, ◌≢◌, ℕ, ◌+◌, ◌^◌, ◌%◌, ◌<◌, ◌==◌, Bool, true, false, cond, Option, Some, None}
+use Rattle.std.proofs.Common.{List, [], ◌∷◌, ◌++◌, get_or, length, slice_index, refl, sym, ap, subst, ◌∙◌, arith}
 use Rattle.std.proofs.lemmas.Bool.Decides.{nat_tests}
 use Rattle.steps.specs.declared.ask.Ask.{Ask}
 use Rattle.steps.specs.declared.ask.Op.TheVariants.{Load, Exchange}
@@ -68,7 +69,8 @@ module _ {T : Type 0} (code : Coding T) where
   abbrev Next : ℕ → Popping → Type 0
   Next capacity d = (d.capacity ≡ capacity) × HasPopWord d.stage
 
-  stays : (capacity : ℕ) (c d : Popping) (n : ℕ) (stage : pops.PopStage) → c.capacity ≡ capacity → HasPopWord stage → pop_takes c stage n ≡ GoOn d → Next capacity d
+  stays : (capacity : ℕ) (c d : Popping) (n : ℕ) (stage : pops.PopStage) → c.capacity ≡ capacity → HasPopWord stage
+      → pop_takes c stage n ≡ GoOn d → Next capacity d
   stays capacity c d n pops.TheVariants.FindsNone same h e = absurd h
   stays capacity c d n pops.TheVariants.LoadsRead same h e = (let is : at_pop c (pops.TheVariants.LoadsWrite n) ≡ d = cc in subst (Next capacity) is (same, tt))
   stays capacity c d n (pops.TheVariants.LoadsWrite read) same h e = go (n == read) e
@@ -76,18 +78,21 @@ module _ {T : Type 0} (code : Coding T) where
       go : (t : Bool) → cond t (Done false) (GoOn (at_pop c (pops.TheVariants.LoadsCell read))) ≡ GoOn d → Next capacity d
       go true e = absurd (cc)
       go false e = (let is : at_pop c (pops.TheVariants.LoadsCell read) ≡ d = cc in subst (Next capacity) is (same, tt))
-  stays capacity c d n (pops.TheVariants.LoadsCell read) same h e = (let is : at_pop c (pops.TheVariants.MovesRead read) ≡ d = cc in subst (Next capacity) is (same, tt))
+  stays capacity c d n (pops.TheVariants.LoadsCell read) same h e =
+      (let is : at_pop c (pops.TheVariants.MovesRead read) ≡ d = cc in subst (Next capacity) is (same, tt))
   stays capacity c d n (pops.TheVariants.MovesRead read) same h e = go (n == read) e
     where
       go : (t : Bool) → cond t (Done true) (GoOn (at_pop c (pops.TheVariants.LoadsCell n))) ≡ GoOn d → Next capacity d
       go true e = absurd (cc)
       go false e = (let is : at_pop c (pops.TheVariants.LoadsCell n) ≡ d = cc in subst (Next capacity) is (same, tt))
 
-  asks : (capacity own : ℕ) (stage : pops.PopStage) → own ≡ capacity → HasPopWord stage → (a : Ask) × (a.word < 4 + (capacity + 1)) × (pop_asks own stage ≡ wants.Ask a)
+  asks : (capacity own : ℕ) (stage : pops.PopStage) → own ≡ capacity → HasPopWord stage
+      → (a : Ask) × (a.word < 4 + (capacity + 1)) × (pop_asks own stage ≡ wants.Ask a)
   asks capacity own pops.TheVariants.FindsNone same h = absurd h
   asks capacity own pops.TheVariants.LoadsRead same h = (record { word = 1; op = Load }, omega arith, refl)
   asks capacity own (pops.TheVariants.LoadsWrite read) same h = (record { word = 0; op = Load }, omega arith, refl)
-  asks capacity own (pops.TheVariants.LoadsCell read) same h = (record { word = cell_word own read; op = Load }, (let low : read % (own + 1) < own + 1 = omega arith in omega arith), refl)
+  asks capacity own (pops.TheVariants.LoadsCell read) same h =
+      (record { word = cell_word own read; op = Load }, (let low : read % (own + 1) < own + 1 = omega arith in omega arith), refl)
   asks capacity own (pops.TheVariants.MovesRead read) same h = (record { word = 1; op = Exchange read (after_position read) }, omega arith, refl)
 
   abbrev Hears : Popping → OneWord → Ask → ℕ → pops.PopStage → Type 0
@@ -95,33 +100,50 @@ module _ {T : Type 0} (code : Coding T) where
 
   hears : (c : Popping) (m : OneWord) (a : Ask) (n : ℕ) (stage : pops.PopStage) → pop_asks c.capacity stage ≡ wants.Ask a → Hears c m a n stage
   hears c m a n pops.TheVariants.FindsNone e = absurd (cc)
-  hears c m a n pops.TheVariants.LoadsRead e = (let is : record { word = 1; op = Load } ≡ a = cc in subst (λ z. Hears c m z n pops.TheVariants.LoadsRead) is (refl, refl))
-  hears c m a n (pops.TheVariants.LoadsWrite read) e = (let is : record { word = 0; op = Load } ≡ a = cc in subst (λ z. Hears c m z n (pops.TheVariants.LoadsWrite read)) is (refl, refl))
-  hears c m a n (pops.TheVariants.LoadsCell read) e = (let is : record { word = cell_word c.capacity read; op = Load } ≡ a = cc in subst (λ z. Hears c m z n (pops.TheVariants.LoadsCell read)) is (refl, refl))
-  hears c m a n (pops.TheVariants.MovesRead read) e = (let is : record { word = 1; op = Exchange read (after_position read) } ≡ a = cc in subst (λ z. Hears c m z n (pops.TheVariants.MovesRead read)) is (refl, refl))
+  hears c m a n pops.TheVariants.LoadsRead e =
+      (let is : record { word = 1; op = Load } ≡ a = cc in subst (λ z. Hears c m z n pops.TheVariants.LoadsRead) is (refl, refl))
+  hears c m a n (pops.TheVariants.LoadsWrite read) e =
+      (let is : record { word = 0; op = Load } ≡ a = cc in subst (λ z. Hears c m z n (pops.TheVariants.LoadsWrite read)) is (refl, refl))
+  hears c m a n (pops.TheVariants.LoadsCell read) e =
+      (let is : record { word = cell_word c.capacity read; op = Load } ≡ a = cc in
+      subst (λ z. Hears c m z n (pops.TheVariants.LoadsCell read)) is (refl, refl))
+  hears c m a n (pops.TheVariants.MovesRead read) e =
+      (let is : record { word = 1; op = Exchange read (after_position read) } ≡ a = cc in
+      subst (λ z. Hears c m z n (pops.TheVariants.MovesRead read)) is (refl, refl))
 
   -- ---- what it writes
 
-  effects_on : (w : World T) (p : ℕ) (c d : Popping) (m : OneWord) (n : ℕ) → pop_after c n ≡ GoOn d → over_effects w p (popping.flight c m) n ≡ effects_of p Pop (overflow_pop_effect w.words (beside_of w.words w.kept w.latest p) c.capacity c.stage n) None
+  effects_on : (w : World T) (p : ℕ) (c d : Popping) (m : OneWord) (n : ℕ) → pop_after c n ≡ GoOn d
+      → over_effects w p (popping.flight c m) n
+      ≡ effects_of p Pop (overflow_pop_effect w.words (beside_of w.words w.kept w.latest p) c.capacity c.stage n) None
   effects_on w p c d m n is = rw is refl
 
-  effects_end : (w : World T) (p : ℕ) (c : Popping) (b : Bool) (m : OneWord) (n : ℕ) → pop_after c n ≡ Done b → over_effects w p (popping.flight c m) n ≡ effects_of p Pop (overflow_pop_effect w.words (beside_of w.words w.kept w.latest p) c.capacity c.stage n) (Some (popped (pop_answer (pop_kept c m n).0 b)))
+  effects_end : (w : World T) (p : ℕ) (c : Popping) (b : Bool) (m : OneWord) (n : ℕ) → pop_after c n ≡ Done b
+      → over_effects w p (popping.flight c m) n
+      ≡ effects_of p Pop (overflow_pop_effect w.words (beside_of w.words w.kept w.latest p) c.capacity c.stage n)
+      (Some (popped (pop_answer (pop_kept c m n).0 b)))
   effects_end w p c b m n is = rw is refl
 
   -- nothing, where it goes on
-  quiet : (words : List ℕ) (waits : Option (ℕ × ℕ)) (p n : ℕ) (c d : Popping) (stage : pops.PopStage) → pop_takes c stage n ≡ GoOn d → effects_of {T = T} p Pop (overflow_pop_effect words waits c.capacity stage n) None ≡ []
+  quiet : (words : List ℕ) (waits : Option (ℕ × ℕ)) (p n : ℕ) (c d : Popping) (stage : pops.PopStage)
+      → pop_takes c stage n ≡ GoOn d
+      → effects_of {T = T} p Pop (overflow_pop_effect words waits c.capacity stage n) None ≡ []
   quiet words waits p n c d pops.TheVariants.FindsNone e = absurd (cc)
   quiet words waits p n c d pops.TheVariants.LoadsRead e = refl
   quiet words waits p n c d (pops.TheVariants.LoadsWrite read) e = refl
   quiet words waits p n c d (pops.TheVariants.LoadsCell read) e = refl
   quiet words waits p n c d (pops.TheVariants.MovesRead read) e = go (n == read) refl e
     where
-      go : (t : Bool) → (n == read) ≡ t → cond t (Done true) (GoOn (at_pop c (pops.TheVariants.LoadsCell n))) ≡ GoOn d → effects_of {T = T} p Pop (overflow_pop_effect words waits c.capacity (pops.TheVariants.MovesRead read) n) None ≡ []
+      go : (t : Bool) → (n == read) ≡ t
+          → cond t (Done true) (GoOn (at_pop c (pops.TheVariants.LoadsCell n))) ≡ GoOn d
+          → effects_of {T = T} p Pop (overflow_pop_effect words waits c.capacity (pops.TheVariants.MovesRead read) n) None ≡ []
       go true d e = absurd (cc)
       go false d e = rw d refl
 
   -- where it takes a value out, it writes that of its own, whether or not a push waits
-  takes : (p : ℕ) (item : Item T) (answer : Answer T) (waits : Option (ℕ × ℕ)) → ((q v : ℕ) → waits ≡ Some (q, v) → p ≢ q) → events_by p (effects_of p Pop (takes_effect item waits) (Some answer)) ≡ HandedOut p item ∷ Acted p (Queues Pop) answer ∷ []
+  takes : (p : ℕ) (item : Item T) (answer : Answer T) (waits : Option (ℕ × ℕ))
+      → ((q v : ℕ) → waits ≡ Some (q, v) → p ≢ q)
+      → events_by p (effects_of p Pop (takes_effect item waits) (Some answer)) ≡ HandedOut p item ∷ Acted p (Queues Pop) answer ∷ []
   takes p item answer None apart = by_mine p (effects_of p Pop (HandsOut item) (Some answer)) (own_of_effect p Pop (HandsOut item) (Some answer) tt)
   takes p item answer (Some push) apart = room_by_own p push.0 item push.1 (Some answer) (apart push.0 push.1 refl)
 
@@ -137,7 +159,10 @@ module _ {T : Type 0} (code : Coding T) where
     pub front : (read : ℕ) → c.stage ≡ pops.TheVariants.MovesRead read → n ≡ read → slice_index t.world.words (cell_word c.capacity read) ≡ m.0
     pub apart : (q v : ℕ) → beside_of t.world.words t.world.kept t.world.latest p ≡ Some (q, v) → p ≢ q
 
-  takes_at : (capacity p : ℕ) (from : Option (Start T × Flight T)) (c : Popping) (m : OneWord) (n : ℕ) (es : List (Event T)) (t : Trace T) → c.capacity ≡ capacity → Met code kinds.Overflow capacity popping.start (popping.flight c m) p from es n t → TakesAt capacity p c m n t
+  takes_at : (capacity p : ℕ) (from : Option (Start T × Flight T)) (c : Popping) (m : OneWord) (n : ℕ)
+      (es : List (Event T)) (t : Trace T)
+      → c.capacity ≡ capacity → Met code kinds.Overflow capacity popping.start (popping.flight c m) p from es n t
+      → TakesAt capacity p c m n t
   takes_at capacity p from c m n es t same met = record { front = front; apart = apart }
     where
       s : Rattle.model.proofs.Frame.Sound (family t.world.coding queues.TheVariants.Overflow t.world.capacity) t
@@ -146,7 +171,9 @@ module _ {T : Type 0} (code : Coding T) where
       knows : KnowsOverflowPop t.world.capacity s.state.core m c.stage
       knows =
           let at = stands t.world p popping.start (popping.flight c m) met.there in
-          let now = stands_there (family t.world.coding queues.TheVariants.Overflow t.world.capacity) t s p at.x at.since (popping.flight c m) at.found at.doing in
+          let now =
+          stands_there (family t.world.coding queues.TheVariants.Overflow t.world.capacity) t s p at.x at.since
+          (popping.flight c m) at.found at.doing in
           (subst (λ st. (family t.world.coding queues.TheVariants.Overflow t.world.capacity).At s.state p st (popping.flight c m)) at.named now.at).2
 
       front : (read : ℕ) → c.stage ≡ pops.TheVariants.MovesRead read → n ≡ read → slice_index t.world.words (cell_word c.capacity read) ≡ m.0
@@ -160,10 +187,12 @@ module _ {T : Type 0} (code : Coding T) where
           let good = s.holds.good in
           let some : 0 < length k.waiting = (let long = ap length first.1 in omega arith) in
           let old = oldest t.world.capacity k good some in
-          let value : get_or k.cells (k.read % (t.world.capacity + 1)) 0 ≡ m.0 = (let both : get_or k.cells (k.read % (t.world.capacity + 1)) 0 ∷ old.0 ≡ m.0 ∷ first.0 = sym old.1 ∙ first.1 in cc) in
+          let value : get_or k.cells (k.read % (t.world.capacity + 1)) 0 ≡ m.0 =
+          (let both : get_or k.cells (k.read % (t.world.capacity + 1)) 0 ∷ old.0 ≡ m.0 ∷ first.0 = sym old.1 ∙ first.1 in cc) in
           let size : c.capacity ≡ t.world.capacity = same ∙ sym met.run.sized in
           ap (λ ws. slice_index ws (cell_word c.capacity read)) words
-          ∙ (word_at k.write k.read (free s.state.roles.producer) (free s.state.roles.consumer) k.cells (cell_word c.capacity read) (read % (c.capacity + 1)) refl
+          ∙ (word_at k.write k.read (free s.state.roles.producer) (free s.state.roles.consumer) k.cells
+          (cell_word c.capacity read) (read % (c.capacity + 1)) refl
           ∙ (ap (λ z. get_or k.cells (read % (z + 1)) 0) size ∙ (ap (λ z. get_or k.cells (z % (t.world.capacity + 1)) 0) here ∙ value)))
 
       apart : (q v : ℕ) → beside_of t.world.words t.world.kept t.world.latest p ≡ Some (q, v) → p ≢ q
@@ -175,27 +204,39 @@ module _ {T : Type 0} (code : Coding T) where
   -- what it writes of its own as it ends
   abbrev Tells : ℕ → ℕ → Popping → OneWord → Trace T → pops.PopStage → Bool → Type 0
   Tells p n c m t stage b =
-      events_by {T = T} p (effects_of p Pop (overflow_pop_effect t.world.words (beside_of t.world.words t.world.kept t.world.latest p) c.capacity stage n) (Some (popped (pop_answer (pop_keeps m stage n).0 b)))) ≡ pop_wrote p (pop_keeps m stage n).0 b
+      events_by {T = T} p
+      (effects_of p Pop (overflow_pop_effect t.world.words (beside_of t.world.words t.world.kept t.world.latest p) c.capacity stage n)
+      (Some (popped (pop_answer (pop_keeps m stage n).0 b))))
+      ≡ pop_wrote p (pop_keeps m stage n).0 b
 
-  loud : (p n : ℕ) (c : Popping) (m : OneWord) (b : Bool) (t : Trace T) (stage : pops.PopStage) → HasPopWord stage → ((read : ℕ) → stage ≡ pops.TheVariants.MovesRead read → n ≡ read → slice_index t.world.words (cell_word c.capacity read) ≡ m.0)
+  loud : (p n : ℕ) (c : Popping) (m : OneWord) (b : Bool) (t : Trace T) (stage : pops.PopStage) → HasPopWord stage
+      → ((read : ℕ) → stage ≡ pops.TheVariants.MovesRead read → n ≡ read → slice_index t.world.words (cell_word c.capacity read) ≡ m.0)
       → ((q v : ℕ) → beside_of t.world.words t.world.kept t.world.latest p ≡ Some (q, v) → p ≢ q) → pop_takes c stage n ≡ Done b → Tells p n c m t stage b
   loud p n c m b t pops.TheVariants.FindsNone h front apart e = absurd h
   loud p n c m b t pops.TheVariants.LoadsRead h front apart e = absurd (cc)
   loud p n c m b t (pops.TheVariants.LoadsWrite read) h front apart e = go (n == read) e
     where
       go : (z : Bool) → cond z (Done false) (GoOn (at_pop c (pops.TheVariants.LoadsCell read))) ≡ Done b → Tells p n c m t (pops.TheVariants.LoadsWrite read) b
-      go true e = (let same : false ≡ b = cc in subst (Tells p n c m t (pops.TheVariants.LoadsWrite read)) same (by_mine p (effects_of p Pop Acts (Some (popped (pop_answer m.0 false)))) (refl, tt)))
+      go true e =
+          (let same : false ≡ b = cc in
+          subst (Tells p n c m t (pops.TheVariants.LoadsWrite read)) same
+          (by_mine p (effects_of p Pop Acts (Some (popped (pop_answer m.0 false)))) (refl, tt)))
       go false e = absurd (cc)
   loud p n c m b t (pops.TheVariants.LoadsCell read) h front apart e = absurd (cc)
   loud p n c m b t (pops.TheVariants.MovesRead read) h front apart e = go (n == read) refl e
     where
-      go : (z : Bool) → (n == read) ≡ z → cond z (Done true) (GoOn (at_pop c (pops.TheVariants.LoadsCell n))) ≡ Done b → Tells p n c m t (pops.TheVariants.MovesRead read) b
+      go : (z : Bool) → (n == read) ≡ z
+          → cond z (Done true) (GoOn (at_pop c (pops.TheVariants.LoadsCell n))) ≡ Done b
+          → Tells p n c m t (pops.TheVariants.MovesRead read) b
       go true d e =
           let same : true ≡ b = cc in
           let is : n ≡ read = grind (arith, nat_tests) in
           let value = front read refl is in
-          let told = takes p (Index (slice_index t.world.words (cell_word c.capacity read))) (PoppedIndex m.0) (beside_of t.world.words t.world.kept t.world.latest p) apart in
-          subst (Tells p n c m t (pops.TheVariants.MovesRead read)) same (rw d (told ∙ ap (λ u. HandedOut p (Index u) ∷ Acted p (Queues Pop) (PoppedIndex m.0) ∷ []) value))
+          let told =
+          takes p (Index (slice_index t.world.words (cell_word c.capacity read))) (PoppedIndex m.0)
+          (beside_of t.world.words t.world.kept t.world.latest p) apart in
+          subst (Tells p n c m t (pops.TheVariants.MovesRead read)) same
+          (rw d (told ∙ ap (λ u. HandedOut p (Index u) ∷ Acted p (Queues Pop) (PoppedIndex m.0) ∷ []) value))
       go false d e = absurd (cc)
 
   pub over_pop_is_call : IsCallIn code kinds.Overflow over_effects (λ capacity. 4 + (capacity + 1)) pop_want pop_after pop_kept popping
@@ -212,7 +253,8 @@ module _ {T : Type 0} (code : Coding T) where
         tells = λ capacity p from c d m n es late t h wrote waits met e.
             ap (λ zs. (zs ++ late) ++ events_by p (over_effects t.world p (popping.flight c m) n)) wrote
             ∙ (ap (λ zs. zs ++ events_by p (over_effects t.world p (popping.flight c m) n)) waits
-            ∙ ap (events_by p) (effects_on t.world p c d m n e ∙ quiet t.world.words (beside_of t.world.words t.world.kept t.world.latest p) p n c d c.stage e));
+            ∙ ap (events_by p) (effects_on t.world p c d m n e
+            ∙ quiet t.world.words (beside_of t.world.words t.world.kept t.world.latest p) p n c d c.stage e));
         tells_all = λ capacity p from c b m n es late t h skip wrote waits met e still. (
             let at = takes_at capacity p from c m n (es ++ late) t h.1 met in
             ap (λ zs. (zs ++ late) ++ events_by p (over_effects t.world p (popping.flight c m) n)) wrote
@@ -220,10 +262,16 @@ module _ {T : Type 0} (code : Coding T) where
             ∙ (ap (events_by p) (effects_end t.world p c b m n e) ∙ loud p n c m b t c.stage h.2 at.front at.apart e)));
       }
 
-  pub over_pop_keeps : KeepsRule (λ (z : View T). z.capacity) (At code kinds.Overflow popping) (Ends code kinds.Overflow popping) (λ key. 4 + (key + 1) + 1) (λ key. key) (λ key. IsMachine code kinds.Overflow key) pop_want pop_after pop_kept
-  over_pop_keeps = keeps_all_in code kinds.Overflow over_effects (λ capacity. 4 + (capacity + 1)) (overflow_owes code) pop_want pop_after pop_kept popping over_pop_is_call (λ c n. refl)
+  pub over_pop_keeps : KeepsRule (λ (z : View T). z.capacity) (At code kinds.Overflow popping)
+      (Ends code kinds.Overflow popping) (λ key. 4 + (key + 1) + 1) (λ key. key)
+      (λ key. IsMachine code kinds.Overflow key) pop_want pop_after pop_kept
+  over_pop_keeps =
+      keeps_all_in code kinds.Overflow over_effects (λ capacity. 4 + (capacity + 1)) (overflow_owes code) pop_want
+      pop_after pop_kept popping over_pop_is_call (λ c n. refl)
 
-  pub over_pop_first : (x : View T) → x.going ≡ None → x.other ≡ [] → 0 < x.share.part → 0 < x.capacity → x.capacity < 2 ^ 32 → HasRole Consumer x.made → At code kinds.Overflow popping x x (first_pop x.capacity) (record { 0 = 0 })
+  pub over_pop_first : (x : View T) → x.going ≡ None → x.other ≡ [] → 0 < x.share.part → 0 < x.capacity
+      → x.capacity < 2 ^ 32 → HasRole Consumer x.made
+      → At code kinds.Overflow popping x x (first_pop x.capacity) (record { 0 = 0 })
   over_pop_first x idle alone any has_cells small has =
       let some : (x.capacity == 0) ≡ false = grind (arith, nat_tests) in
       inl (record {
@@ -233,6 +281,8 @@ module _ {T : Type 0} (code : Coding T) where
         standing = (small, refl, rw some tt);
         some = any;
         first = refl;
-        starts = role_starts code queues.TheVariants.Overflow x popping Pop (first_pop x.capacity) (record { 0 = 0 }) refl (λ kept. refl) Consumer (λ o p. tt) (λ roles p is. holds_it roles.consumer p is) has;
+        starts =
+            role_starts code queues.TheVariants.Overflow x popping Pop (first_pop x.capacity) (record { 0 = 0 }) refl
+            (λ kept. refl) Consumer (λ o p. tt) (λ roles p is. holds_it roles.consumer p is) has;
         wrote = λ p. refl;
       })

@@ -20,7 +20,7 @@ use Rattle.history.proofs.AnyRoles.{wider}
 use Rattle.history.proofs.Drives.{IsCallIn, in_machine, keeps_all_in, keeps_sized}
 use Rattle.history.proofs.Overflows.{over_effects, overflow_owes}
 use Rattle.history.proofs.Passes.{opens}
-use Rattle.history.proofs.QueueCalls.{acquire_is_call, release_is_call, len_is_call}
+use Rattle.history.proofs.QueueRoles.{acquire_is_call, release_is_call, len_is_call}
 use Rattle.history.proofs.Queues.{queue_effects}
 
 module _ {T : Type 0} (code : Coding T) where
@@ -28,7 +28,9 @@ module _ {T : Type 0} (code : Coding T) where
   words_of capacity = 4 + (capacity + 1)
 
   abbrev Keeps : {C M E : Type 0} → Calling T C M E → (C → Want (Unit {0})) → (C → ℕ → After C E) → (C → M → ℕ → M) → Type 0
-  Keeps call = KeepsRule (λ (z : View T). z.capacity) (At code kinds.Overflow call) (Ends code kinds.Overflow call) (λ key. 4 + (key + 1) + 1) (λ key. key) (λ key. IsMachine code kinds.Overflow key)
+  Keeps call =
+      KeepsRule (λ (z : View T). z.capacity) (At code kinds.Overflow call) (Ends code kinds.Overflow call)
+      (λ key. 4 + (key + 1) + 1) (λ key. key) (λ key. IsMachine code kinds.Overflow key)
 
   low : (capacity : ℕ) → 4 + capacity ≤ words_of capacity
   low capacity = omega arith
@@ -36,31 +38,47 @@ module _ {T : Type 0} (code : Coding T) where
   module _ (role : Role) where
     acquires : IsCallIn code kinds.Overflow over_effects words_of acquire_want acquire_after (λ c m n. m) (takes_role role)
     acquires =
-        in_machine code kinds.Overflow over_effects (queue_effects code) words_of acquire_want acquire_after (λ c m n. m) (takes_role role) (λ c m late h. h) (λ capacity p c m n t run there. refl)
-        (wider code (queue_effects code) (λ capacity. 4 + capacity) words_of acquire_want acquire_after (λ c m n. m) (takes_role role) low (acquire_is_call code role))
+        in_machine code kinds.Overflow over_effects (queue_effects code) words_of acquire_want acquire_after
+        (λ c m n. m) (takes_role role) (λ c m late h. h) (λ capacity p c m n t run there. refl)
+        (wider code (queue_effects code) (λ capacity. 4 + capacity) words_of acquire_want acquire_after (λ c m n. m)
+        (takes_role role) low (acquire_is_call code role))
 
     pub over_acquire_keeps : Keeps (takes_role role) acquire_want acquire_after (λ c m n. m)
-    over_acquire_keeps = keeps_all_in code kinds.Overflow over_effects words_of (overflow_owes code) acquire_want acquire_after (λ c m n. m) (takes_role role) acquires (λ c n. refl)
+    over_acquire_keeps =
+        keeps_all_in code kinds.Overflow over_effects words_of (overflow_owes code) acquire_want acquire_after
+        (λ c m n. m) (takes_role role) acquires (λ c n. refl)
 
     releases : IsCallIn code kinds.Overflow over_effects words_of release_want release_after (λ c m n. m) (gives_role role)
     releases =
-        in_machine code kinds.Overflow over_effects (queue_effects code) words_of release_want release_after (λ c m n. m) (gives_role role) (λ c m late h. h) (λ capacity p c m n t run there. refl)
-        (wider code (queue_effects code) (λ capacity. 4 + capacity) words_of release_want release_after (λ c m n. m) (gives_role role) low (release_is_call code role))
+        in_machine code kinds.Overflow over_effects (queue_effects code) words_of release_want release_after
+        (λ c m n. m) (gives_role role) (λ c m late h. h) (λ capacity p c m n t run there. refl)
+        (wider code (queue_effects code) (λ capacity. 4 + capacity) words_of release_want release_after (λ c m n. m)
+        (gives_role role) low (release_is_call code role))
 
     pub over_release_keeps : Keeps (gives_role role) release_want release_after (λ c m n. m)
-    over_release_keeps = keeps_all_in code kinds.Overflow over_effects words_of (overflow_owes code) release_want release_after (λ c m n. m) (gives_role role) releases (λ c n. refl)
+    over_release_keeps =
+        keeps_all_in code kinds.Overflow over_effects words_of (overflow_owes code) release_want release_after
+        (λ c m n. m) (gives_role role) releases (λ c n. refl)
 
   module _ (which : LengthOf) where
     counts : (size : ℕ) → IsCallIn code kinds.Overflow over_effects words_of len_want len_after (λ c m n. m) (counts_waiting which size)
     counts size =
-        in_machine code kinds.Overflow over_effects (queue_effects code) words_of len_want len_after (λ c m n. m) (counts_waiting which size) (λ c m late h. h) (λ capacity p c m n t run there. refl)
-        (wider code (queue_effects code) (λ capacity. 4 + capacity) words_of len_want len_after (λ c m n. m) (counts_waiting which size) low (len_is_call code which size))
+        in_machine code kinds.Overflow over_effects (queue_effects code) words_of len_want len_after (λ c m n. m)
+        (counts_waiting which size) (λ c m late h. h) (λ capacity p c m n t run there. refl)
+        (wider code (queue_effects code) (λ capacity. 4 + capacity) words_of len_want len_after (λ c m n. m)
+        (counts_waiting which size) low (len_is_call code which size))
 
     len_keeps : (size : ℕ) → Keeps (counts_waiting which size) len_want len_after (λ c m n. m)
-    len_keeps size = keeps_all_in code kinds.Overflow over_effects words_of (overflow_owes code) len_want len_after (λ c m n. m) (counts_waiting which size) (counts size) (λ c n. refl)
+    len_keeps size =
+        keeps_all_in code kinds.Overflow over_effects words_of (overflow_owes code) len_want len_after (λ c m n. m)
+        (counts_waiting which size) (counts size) (λ c n. refl)
 
     -- for any capacity
-    pub over_lens_keep : KeepsRule (λ (z : View T). z.capacity) (λ (base : View T). At code kinds.Overflow (counts_waiting which base.capacity) base) (λ (base : View T). Ends code kinds.Overflow (counts_waiting which base.capacity) base) (λ key. 4 + (key + 1) + 1) (λ key. key) (λ key. IsMachine code kinds.Overflow key) len_want len_after (λ c m n. m)
+    pub over_lens_keep : KeepsRule (λ (z : View T). z.capacity)
+        (λ (base : View T). At code kinds.Overflow (counts_waiting which base.capacity) base)
+        (λ (base : View T). Ends code kinds.Overflow (counts_waiting which base.capacity) base)
+        (λ key. 4 + (key + 1) + 1) (λ key. key) (λ key. IsMachine code kinds.Overflow key) len_want len_after
+        (λ c m n. m)
     over_lens_keep = keeps_sized code kinds.Overflow words_of len_want len_after (λ c m n. m) (counts_waiting which) len_keeps
 
 -- ---- how its table opens: empty
@@ -72,5 +90,9 @@ module _ {T : Type 0} (code : Coding T) (law : IsCoding code) (capacity : ℕ) (
   least : nat_lt capacity 0 ≡ false
   least = grind (arith, nat_tests)
 
-  pub overflow_opens : (words : List ℕ) → words ≡ 0 ∷ 0 ∷ 1 ∷ 1 ∷ (replicate (capacity + 1) 0 ++ 0 ∷ []) → IsMachine code kinds.Overflow capacity (opening words [] (first_view capacity))
-  overflow_opens words same = (let many : capacity + 1 ≡ 1 * (capacity + 1) = omega arith in opens code kinds.Overflow capacity words law (rw (most, least) refl) (same ∙ ap (λ n. 0 ∷ 0 ∷ 1 ∷ 1 ∷ (replicate {A = ℕ} n 0 ++ 0 ∷ [])) many))
+  pub overflow_opens : (words : List ℕ) → words ≡ 0 ∷ 0 ∷ 1 ∷ 1 ∷ (replicate (capacity + 1) 0 ++ 0 ∷ [])
+      → IsMachine code kinds.Overflow capacity (opening words [] (first_view capacity))
+  overflow_opens words same =
+      (let many : capacity + 1 ≡ 1 * (capacity + 1) = omega arith in
+      opens code kinds.Overflow capacity words law (rw (most, least) refl)
+      (same ∙ ap (λ n. 0 ∷ 0 ∷ 1 ∷ 1 ∷ (replicate {A = ℕ} n 0 ++ 0 ∷ [])) many))

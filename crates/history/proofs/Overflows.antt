@@ -1,5 +1,6 @@
 -- What the overflowing queue owes, from the laws of the queues: a pop may write, for a push that waits, that it acts.
-use Rattle.std.proofs.Common.{◌≡◌, ◌≢◌, ⊎_elim, ℕ, ◌+◌, ◌==◌, Bool, true, false, cond, Option, Some, None, List, [], ◌∷◌, ◌++◌, length, slice_index, sum_by, refl, sym, ap, subst, ◌∙◌, append-nil, arith}
+use Rattle.std.proofs.Common.{◌≡◌, ◌≢◌, ⊎_elim, ℕ, ◌+◌, ◌==◌, Bool, true, false, cond, Option, Some, None, List, []}
+use Rattle.std.proofs.Common.{◌∷◌, ◌++◌, length, slice_index, sum_by, refl, sym, ap, subst, ◌∙◌, append-nil, arith}
 use Rattle.std.proofs.lemmas.Bool.{cases_eq}
 use Rattle.steps.specs.declared.queues.overflow.PushStage as pushes
 use Rattle.steps.specs.declared.queues.overflow.PopStage as pops
@@ -85,24 +86,31 @@ module _ {T : Type 0} where
   someone_of p start (MakesRoom item q pushed) (Some answer) = refl
 
   -- a pop that makes room writes as one that does not, and for the push its act
-  pub room_by_other : (p q r : ℕ) (item : Item T) (pushed : ℕ) (o : Option (Answer T)) → r ≢ p → events_by r (effects_of p Pop (MakesRoom item q pushed) o) ≡ events_by r (Acted q (Queues (PushIndex pushed)) PoppedNone ∷ [])
+  pub room_by_other : (p q r : ℕ) (item : Item T) (pushed : ℕ) (o : Option (Answer T)) → r ≢ p
+      → events_by r (effects_of p Pop (MakesRoom item q pushed) o) ≡ events_by r (Acted q (Queues (PushIndex pushed)) PoppedNone ∷ [])
   room_by_other p q r item pushed o ne =
       by_more r (effects_of p Pop (HandsOut item) o) (Acted q (Queues (PushIndex pushed)) PoppedNone ∷ [])
-      ∙ ap (λ es. es ++ events_by r (Acted q (Queues (PushIndex pushed)) PoppedNone ∷ [])) (by_other p r (effects_of p Pop (HandsOut item) o) ne (own_of_effect p Pop (HandsOut item) o tt))
+      ∙ ap (λ es. es ++ events_by r (Acted q (Queues (PushIndex pushed)) PoppedNone ∷ []))
+      (by_other p r (effects_of p Pop (HandsOut item) o) ne (own_of_effect p Pop (HandsOut item) o tt))
 
-  pub room_by_own : (p q : ℕ) (item : Item T) (pushed : ℕ) (o : Option (Answer T)) → p ≢ q → events_by p (effects_of p Pop (MakesRoom item q pushed) o) ≡ effects_of p Pop (HandsOut item) o
+  pub room_by_own : (p q : ℕ) (item : Item T) (pushed : ℕ) (o : Option (Answer T)) → p ≢ q
+      → events_by p (effects_of p Pop (MakesRoom item q pushed) o) ≡ effects_of p Pop (HandsOut item) o
   room_by_own p q item pushed o ne =
       by_more p (effects_of p Pop (HandsOut item) o) (Acted q (Queues (PushIndex pushed)) PoppedNone ∷ [])
       ∙ (ap (λ es. events_by p (effects_of p Pop (HandsOut item) o) ++ es) (by_other q p (Acted q (Queues (PushIndex pushed)) PoppedNone ∷ []) ne (refl, tt))
-      ∙ (append-nil (events_by p (effects_of p Pop (HandsOut item) o)) ∙ by_mine p (effects_of p Pop (HandsOut item) o) (own_of_effect p Pop (HandsOut item) o tt)))
+      ∙ (append-nil (events_by p (effects_of p Pop (HandsOut item) o))
+      ∙ by_mine p (effects_of p Pop (HandsOut item) o) (own_of_effect p Pop (HandsOut item) o tt)))
 
   -- ---- what a step of a call writes
 
   abbrev pub over_flight_effects : World T → ℕ → QueueFlight T → ℕ → List (Event T)
   over_flight_effects w p (Overflow (overflows.TheVariants.Push run)) n =
-      effects_of p (PushIndex run.given) (effect_of w.coding w.words (beside_of w.words w.kept w.latest p) (Overflow (overflows.TheVariants.Push run)) n) (answer_in (after w.coding (Overflow (overflows.TheVariants.Push run)) n))
+      effects_of p (PushIndex run.given)
+      (effect_of w.coding w.words (beside_of w.words w.kept w.latest p) (Overflow (overflows.TheVariants.Push run)) n)
+      (answer_in (after w.coding (Overflow (overflows.TheVariants.Push run)) n))
   over_flight_effects w p (Overflow (overflows.TheVariants.Pop run)) n =
-      effects_of p Pop (effect_of w.coding w.words (beside_of w.words w.kept w.latest p) (Overflow (overflows.TheVariants.Pop run)) n) (answer_in (after w.coding (Overflow (overflows.TheVariants.Pop run)) n))
+      effects_of p Pop (effect_of w.coding w.words (beside_of w.words w.kept w.latest p) (Overflow (overflows.TheVariants.Pop run)) n)
+      (answer_in (after w.coding (Overflow (overflows.TheVariants.Pop run)) n))
   over_flight_effects w p flight n = []
 
   abbrev pub over_effects : World T → ℕ → Flight T → ℕ → List (Event T)
@@ -122,7 +130,8 @@ module _ {T : Type 0} where
   someone w p flight n = refl
 
   -- a push writes for itself
-  pub push_effect_own : (words : List ℕ) (capacity : ℕ) (item : Item T) (stage : pushes.PushStage) (n : ℕ) → IsOwn (overflow_push_effect words capacity item stage n)
+  pub push_effect_own : (words : List ℕ) (capacity : ℕ) (item : Item T) (stage : pushes.PushStage) (n : ℕ)
+      → IsOwn (overflow_push_effect words capacity item stage n)
   push_effect_own words capacity item pushes.TheVariants.HandsBack n = tt
   push_effect_own words capacity item pushes.TheVariants.LoadsWrite n = tt
   push_effect_own words capacity item (pushes.TheVariants.LoadsRead write) n = tt
@@ -159,8 +168,14 @@ module _ {T : Type 0} (code : Coding T) (capacity : ℕ) where
 
   module _ (w : World T) (en : Coding T) (c p n : ℕ) (ro : Roles) (k : Core ℕ) where
     writes_it : (start : QueueStart T) (flight : QueueFlight T) → At {T = T} en queues.TheVariants.Overflow c ro k p start flight
-        → (step_of w.coding w.words (beside_of w.words w.kept w.latest p) p (Queues start) (flights.TheVariants.Queues flight) n (kepts.TheVariants.Queues ro)).wrote ≡ over_flight_effects w p flight n
-    writes_it (PushIndex v) (Overflow (overflows.TheVariants.Push run)) at = ap (λ z. effects_of p (PushIndex z) (effect_of w.coding w.words (beside_of w.words w.kept w.latest p) (Overflow (overflows.TheVariants.Push run)) n) (answer_in (after w.coding (Overflow (overflows.TheVariants.Push run)) n))) (sym at.2)
+        → (step_of w.coding w.words (beside_of w.words w.kept w.latest p) p (Queues start)
+        (flights.TheVariants.Queues flight) n (kepts.TheVariants.Queues ro)).wrote
+        ≡ over_flight_effects w p flight n
+    writes_it (PushIndex v) (Overflow (overflows.TheVariants.Push run)) at =
+        ap (λ z. effects_of p (PushIndex z)
+        (effect_of w.coding w.words (beside_of w.words w.kept w.latest p) (Overflow (overflows.TheVariants.Push run)) n)
+        (answer_in (after w.coding (Overflow (overflows.TheVariants.Push run)) n)))
+        (sym at.2)
     writes_it Pop (Overflow (overflows.TheVariants.Pop run)) at = refl
     writes_it start (OnRole call) at = refl
     writes_it start (Length which run) at = refl
@@ -168,8 +183,12 @@ module _ {T : Type 0} (code : Coding T) (capacity : ℕ) where
     writes_it start (Values call) at = absurd at
     writes_it start (Overflow call) at = absurd at
 
-    pub facts : (start : Start T) (flight : Flight T) (kept : Kept T) → kept ≡ kepts.TheVariants.Queues ro → (family en queues.TheVariants.Overflow c).At (record { roles = ro; core = k }) p start flight → Facts w p n start flight kept
-    facts (Queues start) (flights.TheVariants.Queues flight) kept e at = subst (λ z. Facts w p n (Queues start) (flights.TheVariants.Queues flight) z) (sym e) (record { may = refl; writes = writes_it start flight at; goes = refl })
+    pub facts : (start : Start T) (flight : Flight T) (kept : Kept T) → kept ≡ kepts.TheVariants.Queues ro
+        → (family en queues.TheVariants.Overflow c).At (record { roles = ro; core = k }) p start flight
+        → Facts w p n start flight kept
+    facts (Queues start) (flights.TheVariants.Queues flight) kept e at =
+        subst (λ z. Facts w p n (Queues start) (flights.TheVariants.Queues flight) z) (sym e)
+        (record { may = refl; writes = writes_it start flight at; goes = refl })
     facts start flight kept e at = absurd at
 
   -- ---- for whom a pop writes
@@ -180,11 +199,15 @@ module _ {T : Type 0} (code : Coding T) (capacity : ℕ) where
     pub there : call_in t.world q ≡ Some (Queues (PushIndex v), flights.TheVariants.Queues (Overflow (overflows.TheVariants.Push run)))
 
   module _ (t : Trace T) (en : Coding T) (c : ℕ) (s : frame.Sound (family en queues.TheVariants.Overflow c) t) where
-    start_is : (ro : Roles) (k : Core ℕ) (q v : ℕ) (start : Start T) (run : Pushing) → (family en queues.TheVariants.Overflow c).At (record { roles = ro; core = k }) q start (flights.TheVariants.Queues (Overflow (overflows.TheVariants.Push run))) → run.given ≡ v → start ≡ Queues (PushIndex v)
+    start_is : (ro : Roles) (k : Core ℕ) (q v : ℕ) (start : Start T) (run : Pushing)
+        → (family en queues.TheVariants.Overflow c).At (record { roles = ro; core = k }) q start
+        (flights.TheVariants.Queues (Overflow (overflows.TheVariants.Push run)))
+        → run.given ≡ v → start ≡ Queues (PushIndex v)
     start_is ro k q v (Queues (PushIndex w)) run at e = (let same : w ≡ v = sym at.2 ∙ e in ap (λ (n : ℕ). Queues (PushIndex n)) same)
     start_is ro k q v start run at e = absurd at
 
-    waiting_push : (position q v : ℕ) (x : Party T) (run : Pushing) (since : ℕ) → IsPending position t.world.latest q v x run since → s.state.roles.producer ≡ Some q → Waits t q v
+    waiting_push : (position q v : ℕ) (x : Party T) (run : Pushing) (since : ℕ)
+        → IsPending position t.world.latest q v x run since → s.state.roles.producer ≡ Some q → Waits t q v
     waiting_push position q v x run since is holder =
         let flight : Flight T = flights.TheVariants.Queues (Overflow (overflows.TheVariants.Push run)) in
         let there = stands_there (family en queues.TheVariants.Overflow c) t s q x since flight is.found is.doing in
@@ -196,11 +219,14 @@ module _ {T : Type 0} (code : Coding T) (capacity : ℕ) where
         }
 
     -- whom `beside` names waits
-    pub beside_waits : (kept : Kept T) (p q v : ℕ) → beside_of t.world.words kept t.world.latest p ≡ Some (q, v) → kept ≡ kepts.TheVariants.Queues s.state.roles → Waits t q v
+    pub beside_waits : (kept : Kept T) (p q v : ℕ) → beside_of t.world.words kept t.world.latest p ≡ Some (q, v)
+        → kept ≡ kepts.TheVariants.Queues s.state.roles → Waits t q v
     beside_waits kept p q v e is = go (holds s.state.roles.consumer p) (subst (λ z. beside_of t.world.words z t.world.latest p ≡ Some (q, v)) is e)
       where
         go : (b : Bool) → cond b (pending (slice_index t.world.words read_word) s.state.roles.producer t.world.latest) None ≡ Some (q, v) → Waits t q v
-        go true h = (let x = pending_is (slice_index t.world.words read_word) t.world.latest q v s.state.roles.producer h in waiting_push (slice_index t.world.words read_word) q v x.1 x.2 x.3 x.4 x.0)
+        go true h =
+            (let x = pending_is (slice_index t.world.words read_word) t.world.latest q v s.state.roles.producer h in
+            waiting_push (slice_index t.world.words read_word) q v x.1 x.2 x.3 x.4 x.0)
         go false h = absurd (cc)
 
   module _ (t : Trace T) where
@@ -215,33 +241,51 @@ module _ {T : Type 0} (code : Coding T) (capacity : ℕ) where
             (subst (λ o. IsLateFor o (Acted q (Queues (PushIndex v)) PoppedNone ∷ [])) (sym h.there) ((q, refl), tt)))
 
         other : r ≢ q → IsLate kinds.Overflow (call_in t.world r) (events_by r (Acted q (Queues (PushIndex v)) PoppedNone ∷ []))
-        other ne = subst (λ es. IsLate kinds.Overflow (call_in t.world r) es) (sym (by_other q r (Acted q (Queues (PushIndex v)) PoppedNone ∷ []) ne (refl, tt))) (none_late kinds.Overflow (call_in t.world r))
+        other ne =
+            subst (λ es. IsLate kinds.Overflow (call_in t.world r) es)
+            (sym (by_other q r (Acted q (Queues (PushIndex v)) PoppedNone ∷ []) ne (refl, tt)))
+            (none_late kinds.Overflow (call_in t.world r))
 
     own_late : (p r : ℕ) (es : List (Event T)) → r ≢ p → AreOf p es → IsLate kinds.Overflow (call_in t.world r) (events_by r es)
-    own_late p r es ne own = subst (λ zs. IsLate kinds.Overflow (call_in t.world r) zs) (sym (by_other p r es ne own)) (none_late kinds.Overflow (call_in t.world r))
+    own_late p r es ne own =
+        subst (λ zs. IsLate kinds.Overflow (call_in t.world r) zs) (sym (by_other p r es ne own))
+        (none_late kinds.Overflow (call_in t.world r))
 
     module _ (p r n : ℕ) (ne : r ≢ p) (o : Option (Answer T)) where
-      takes_late : (item : Item T) (waits : Option (ℕ × ℕ)) → ((q v : ℕ) → waits ≡ Some (q, v) → Waits t q v) → IsLate kinds.Overflow (call_in t.world r) (events_by r (effects_of p Pop (takes_effect item waits) o))
+      takes_late : (item : Item T) (waits : Option (ℕ × ℕ)) → ((q v : ℕ) → waits ≡ Some (q, v) → Waits t q v)
+          → IsLate kinds.Overflow (call_in t.world r) (events_by r (effects_of p Pop (takes_effect item waits) o))
       takes_late item None known = own_late p r (effects_of p Pop (HandsOut item) o) ne (own_of_effect p Pop (HandsOut item) o tt)
-      takes_late item (Some push) known = subst (λ es. IsLate kinds.Overflow (call_in t.world r) es) (sym (room_by_other p push.0 r item push.1 o ne)) (late_act push.0 push.1 r (known push.0 push.1 refl))
+      takes_late item (Some push) known =
+          subst (λ es. IsLate kinds.Overflow (call_in t.world r) es) (sym (room_by_other p push.0 r item push.1 o ne))
+          (late_act push.0 push.1 r (known push.0 push.1 refl))
 
-      pop_late : (capacity : ℕ) (waits : Option (ℕ × ℕ)) → ((q v : ℕ) → waits ≡ Some (q, v) → Waits t q v) → (stage : pops.PopStage) → IsLate kinds.Overflow (call_in t.world r) (events_by r (effects_of p Pop (overflow_pop_effect t.world.words waits capacity stage n) o))
+      pop_late : (capacity : ℕ) (waits : Option (ℕ × ℕ)) → ((q v : ℕ) → waits ≡ Some (q, v) → Waits t q v)
+          → (stage : pops.PopStage)
+          → IsLate kinds.Overflow (call_in t.world r)
+          (events_by r (effects_of p Pop (overflow_pop_effect t.world.words waits capacity stage n) o))
       pop_late c waits known pops.TheVariants.FindsNone = own_late p r (effects_of p Pop Acts o) ne (own_of_effect p Pop Acts o tt)
       pop_late c waits known pops.TheVariants.LoadsRead = own_late p r [] ne tt
       pop_late c waits known (pops.TheVariants.LoadsWrite read) = own_late p r (effects_of p Pop Acts o) ne (own_of_effect p Pop Acts o tt)
       pop_late c waits known (pops.TheVariants.LoadsCell read) = own_late p r [] ne tt
       pop_late c waits known (pops.TheVariants.MovesRead read) = go (n == read)
         where
-          go : (b : Bool) → IsLate kinds.Overflow (call_in t.world r) (events_by r (effects_of p Pop (cond b (takes_effect (Rattle.model.specs.declared.event.Item.TheVariants.Index (slice_index t.world.words (Rattle.steps.specs.Queues.Overflow.cell_word c read))) waits) Quiet) o))
+          go : (b : Bool) → IsLate kinds.Overflow (call_in t.world r)
+              (events_by r (effects_of p Pop (cond b (takes_effect (Rattle.model.specs.declared.event.Item.TheVariants.Index
+              (slice_index t.world.words (Rattle.steps.specs.Queues.Overflow.cell_word c read)))
+              waits)
+              Quiet)
+              o))
           go true = takes_late _ waits known
           go false = own_late p r [] ne tt
 
-    beside_late : (is_over : IsOver t) (p n r : ℕ) → r ≢ p → (flight : Flight T) → IsLate kinds.Overflow (call_in t.world r) (events_by r (over_effects t.world p flight n))
+    beside_late : (is_over : IsOver t) (p n r : ℕ) → r ≢ p → (flight : Flight T)
+        → IsLate kinds.Overflow (call_in t.world r) (events_by r (over_effects t.world p flight n))
     beside_late is_over p n r ne (flights.TheVariants.Queues (Overflow (overflows.TheVariants.Push run))) = own_late p r _ ne (push_own t.world p run n)
     beside_late is_over p n r ne (flights.TheVariants.Queues (Overflow (overflows.TheVariants.Pop run))) =
         let s = sound_of code capacity queues.TheVariants.Overflow t is_over in
         let kept = (kept_is t.world.kept t.world.words s.state s.fit).0 in
-        pop_late p r n ne _ run.call.capacity (beside_of t.world.words t.world.kept t.world.latest p) (λ q v e. beside_waits t t.world.coding t.world.capacity s t.world.kept p q v e kept) run.call.stage
+        pop_late p r n ne _ run.call.capacity (beside_of t.world.words t.world.kept t.world.latest p)
+        (λ q v e. beside_waits t t.world.coding t.world.capacity s t.world.kept p q v e kept) run.call.stage
     beside_late is_over p n r ne (flights.TheVariants.Queues (OnRole call)) = none_late kinds.Overflow (call_in t.world r)
     beside_late is_over p n r ne (flights.TheVariants.Queues (Indices call)) = none_late kinds.Overflow (call_in t.world r)
     beside_late is_over p n r ne (flights.TheVariants.Queues (Values call)) = none_late kinds.Overflow (call_in t.world r)
@@ -252,7 +296,9 @@ module _ {T : Type 0} (code : Coding T) (capacity : ℕ) where
   stateless t run =
       (let s = sound_of code capacity queues.TheVariants.Overflow t run in subst IsStateless (sym (kept_is t.world.kept t.world.words s.state s.fit).0) tt)
 
-  steps_on : (t : Trace T) → IsOver t → (p : ℕ) (start : Start T) (flight : Flight T) → call_in t.world p ≡ Some (start, flight) → StepsOn code kinds.Overflow capacity (4 + (capacity + 1)) over_effects t p flight
+  steps_on : (t : Trace T) → IsOver t → (p : ℕ) (start : Start T) (flight : Flight T)
+      → call_in t.world p ≡ Some (start, flight)
+      → StepsOn code kinds.Overflow capacity (4 + (capacity + 1)) over_effects t p flight
   steps_on t run p start flight at =
       let s = sound_of code capacity queues.TheVariants.Overflow t run in
       let here = stands t.world p start flight at in
@@ -260,7 +306,8 @@ module _ {T : Type 0} (code : Coding T) (capacity : ℕ) where
       let kept = (kept_is t.world.kept t.world.words s.state s.fit).0 in
       let fact = λ (x : Party T) (n : ℕ) (found : party_of p t.world.latest ≡ Some x).
       (let same : here.x ≡ x = (let both : Some here.x ≡ Some x = sym here.found ∙ found in cc) in
-      subst (λ (st : Start T). Facts t.world p n st flight t.world.kept) (ap (λ (y : Party T). y.start) same) (facts t.world t.world.coding t.world.capacity p n s.state.roles s.state.core here.x.start flight t.world.kept kept there.at))
+      subst (λ (st : Start T). Facts t.world p n st flight t.world.kept) (ap (λ (y : Party T). y.start) same)
+      (facts t.world t.world.coding t.world.capacity p n s.state.roles s.state.core here.x.start flight t.world.kept kept there.at))
       in
       record {
         may = (fact here.x 0 here.found).may;

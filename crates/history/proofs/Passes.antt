@@ -1,13 +1,13 @@
--- How passes are made of one another, and a look at the whole history, under the rule of a machine.
-use Rattle.std.proofs.Common.{◌≡◌, ◌≢◌, ◌⊎◌, inl, inr, ⊎_elim, ℕ, zero, suc, ◌+◌, ◌<◌, ◌≤◌, ◌==◌, true, false, Option, Some, None, IfSome, List, [], ◌∷◌, ◌++◌, length, replicate, get_or, set, slice_index, slice_set, refl, sym, ap, subst, ◌∙◌, append_assoc, append-nil, arith, length-set, sum_by}
+-- How passes are made of one another, and the first, under the rule of a machine.
+use Rattle.std.proofs.Common.{◌≡◌, ◌≢◌, ◌⊎◌, inl, inr, ⊎_elim, ℕ, zero, suc, ◌+◌, ◌<◌, ◌≤◌, ◌==◌, true, false, Option}
+use Rattle.std.proofs.Common.{Some, None, IfSome, List, [], ◌∷◌, ◌++◌, length, replicate, get_or, set, refl, sym, ap}
+use Rattle.std.proofs.Common.{subst, ◌∙◌, append_assoc, append-nil, arith, length-set, sum_by}
 use mathlib.Core.Option.{some, some-injective, some-ne-none}
 use lib.ListN.{get_elem?}
-use Rattle.atomic_table.specs.Table.{State, Allows, Splits, Joins, Enters, opening}
-use Rattle.atomic_table.specs.Table as table
+use Rattle.atomic_table.specs.Table.{State, Splits, Joins, opening}
 use Rattle.atomic_table.proofs.Lists.{at_set}
 use Rattle.model.specs.declared.event.Event.{Event}
 use Rattle.model.specs.declared.turn.Kind.{Kind}
-use Rattle.model.specs.declared.turn.Kind.TheVariants as kinds
 use Rattle.model.specs.Coding.{Coding, IsCoding}
 use Rattle.std.proofs.lemmas.Bool.{cases_eq}
 use Rattle.std.proofs.lemmas.Bool.Decides.{nat_tests}
@@ -16,14 +16,14 @@ use Rattle.model.specs.Families.{opening_of}
 use Rattle.model.specs.World as worlds
 use Rattle.model.specs.World.{Trace, capacity_error}
 use Rattle.history.specs.declared.view.View.{View}
-use Rattle.model.specs.declared.event.Start.{Start}
-use Rattle.model.specs.declared.families.Flight.{Flight}
 use Rattle.history.specs.History.{IsBeginning, IsMachine, Fits, HasSeenOf, IsLate, call_in}
-use Rattle.history.specs.Views.{first_view, left_view, right_view, joined_view, spent_view, Looks, LooksAt, WhenIdle}
-use Rattle.history.specs.Known.{Known, owned, events_by}
+use Rattle.history.specs.Views.{first_view, left_view, right_view, joined_view, spent_view}
+use Rattle.history.specs.Known.{events_by}
 use Rattle.history.proofs.Reached.{reached_as_opening, fresh_as_opening}
-use Rattle.history.proofs.Calls.{get_left, opens_without}
-use Rattle.history.proofs.Known.{by_more, nil_right, within, handed_on, owned_none, owned_both, owned_third, idle_seat, nat_cases, known_alone, known_step, known_whole, owned_whole, known_split, known_join, none_before, late_none, none_late, by_nothing, quiet_late}
+use Rattle.history.proofs.Calls.{opens_without}
+use Rattle.history.proofs.Known.{within, handed_on, owned_none, owned_both, owned_third, idle_seat, nat_cases}
+use Rattle.history.proofs.Known.{none_before, late_none, none_late, quiet_late}
+use Rattle.history.proofs.AllSeen.{known_alone, known_split, known_join}
 
 pub set_same : (xs : List ℕ) (i : ℕ) → set xs i (get_or xs i 0) ≡ xs
 set_same [] i = refl
@@ -48,36 +48,9 @@ length_end : {A : Type 0} → (xs : List A) (x : A) → length (xs ++ x ∷ []) 
 length_end [] x = refl
 length_end (z ∷ zs) x = let h = length_end zs x in omega arith
 
--- what was not seen has nothing of a party of which all was seen
-nothing_left : {A : Type 0} → (xs rest : List A) → xs ≡ xs ++ rest → rest ≡ []
-nothing_left [] rest e = sym e
-nothing_left (x ∷ xs) rest e = let same : xs ≡ xs ++ rest = cc in nothing_left xs rest same
-
-rest_apart : {T : Type 0} (v : View T) (t : Trace T) (late : List (Event T)) (seen : IsBeginning v.seen t.events) (p : ℕ) → v.other ≡ [] → late ≡ [] → HasSeenOf p v late t → events_by p seen.rest ≡ []
-rest_apart v t late seen p alone none (inl e) = nothing_left (events_by p v.seen) (events_by p seen.rest) (sym (append-nil (events_by p v.seen)) ∙ (ap (λ es. events_by p v.seen ++ events_by p es) (sym none) ∙ (e ∙ (ap (events_by p) seen.is ∙ by_more p v.seen seen.rest))))
-rest_apart v t late seen p alone none (inr h) = nil_right (events_by p v.seen) (events_by p seen.rest) (sym (by_more p v.seen seen.rest) ∙ (sym (ap (events_by p) seen.is) ∙ (sym h.1 ∙ ap (events_by p) alone)))
-
-set_again : {A : Type 0} → (xs : List A) (i : ℕ) (x : A) → get_elem? xs i ≡ some x → set xs i x ≡ xs
-set_again [] i x e = refl
-set_again (y ∷ ys) zero x e = ap (λ z. z ∷ ys) (sym (some-injective y x e))
-set_again (y ∷ ys) (suc i) x e = ap (λ zs. y ∷ zs) (set_again ys i x e)
-
--- a look may be told of, or a call is under way for which another may write
-calm_or_not : {T : Type 0} → (k : Kind) (o : Option (Start T × Flight T)) → ((late : List (Event T)) → IsLate k o late → late ≡ []) ⊎ ((k ≡ kinds.Overflow) × (o ≢ None))
-calm_or_not kinds.Overflow None = inl (λ late h. h)
-calm_or_not kinds.Overflow (Some c) = inr (refl, λ e. absurd (cc))
-calm_or_not k o = inl (λ late h. h)
-
-told_when : {T : Type 0} → (k : Kind) (o : Option (Start T × Flight T)) (Told : Type 0) → Told → WhenIdle k o Told
-told_when kinds.Overflow o Told x = λ e. x
-told_when k o Told x = x
-
-told_of : {T : Type 0} → (k : Kind) (o : Option (Start T × Flight T)) (Told Less : Type 0) → (Told → Less) → WhenIdle k o Told → WhenIdle k o Less
-told_of kinds.Overflow o Told Less f x = λ e. f (x e)
-told_of k o Told Less f x = f x
-
-told_never : {T : Type 0} → (k : Kind) (o : Option (Start T × Flight T)) (Told : Type 0) → (k ≡ kinds.Overflow) × (o ≢ None) → WhenIdle k o Told
-told_never k o Told h = subst (λ z. WhenIdle z o Told) (sym h.0) (λ e. absurd (h.1 e))
+module _ {T : Type 0} where
+  pub nothing : (es : List (Event T)) → IsBeginning [] es
+  nothing es = record { rest = es; is = refl }
 
 module _ {T : Type 0} (code : Coding T) (kind : Kind) (capacity : ℕ) where
   abbrev Holds : State (Unit {0}) (View T) → Type 0
@@ -86,28 +59,6 @@ module _ {T : Type 0} (code : Coding T) (kind : Kind) (capacity : ℕ) where
   pub begins_with : (xs ys zs : List (Event T)) → IsBeginning xs ys → IsBeginning ys zs → IsBeginning xs zs
   begins_with xs ys zs a b = record { rest = a.rest ++ b.rest; is = b.is ∙ (ap (λ es. es ++ b.rest) a.is ∙ append_assoc xs a.rest b.rest) }
 
-  nothing : (es : List (Event T)) → IsBeginning [] es
-  nothing es = record { rest = es; is = refl }
-
-  all_of : (es : List (Event T)) → IsBeginning es es
-  all_of es = record { rest = []; is = sym (append-nil es) }
-
-  -- a seat may know otherwise what fits
-  pub reseat : (words : List ℕ) (s : State (Unit {0}) (View T)) (m : Holds s) (id : ℕ) (v w : View T) → words ≡ s.words → get_elem? s.views id ≡ some v → Fits m.owner m.trace id w → Known (set s.views id w) m.trace.events → Holds (record { words = words; homes = s.homes; views = set s.views id w })
-  reseat words s m id v w same at fits known =
-      record {
-        trace = m.trace;
-        run = m.run;
-        words = same ∙ m.words;
-        owner = m.owner;
-        seats = λ j x found. ⊎_elim (λ (e : (j ≡ id) × (w ≡ x)). subst (λ z. Fits m.owner m.trace j z) e.1 (subst (λ n. Fits m.owner m.trace n w) (sym e.0) fits)) (λ (e : (j ≢ id) × (get_elem? s.views j ≡ some x)). m.seats j x e.1) (at_set s.views id j w x found);
-        inside = λ p low. (let long = length-set s.views id w in let h = m.inside p (omega arith) in omega arith);
-        fresh = λ p past. (let long = length-set s.views id w in m.fresh p (omega arith));
-        further = λ j past. (let long = length-set s.views id w in m.further j (omega arith));
-        made_none = λ j past. (let long = length-set s.views id w in m.made_none j (omega arith));
-        known = known;
-      }
-
   pub splits : (id : ℕ) (v : View T) → Splits Holds id v (left_view v) (right_view v)
   splits id v s m at =
       record {
@@ -115,8 +66,15 @@ module _ {T : Type 0} (code : Coding T) (kind : Kind) (capacity : ℕ) where
         run = m.run;
         words = m.words;
         owner = m.owner;
-        seats = λ j x found. ⊎_elim (λ (e : get_elem? (set s.views id (left_view v)) j ≡ some x). old j x e) (λ (e : (j ≡ length (set s.views id (left_view v))) × (right_view v ≡ x)). subst (λ z. Fits m.owner m.trace j z) e.1 (new j (e.0 ∙ same))) (at_end (set s.views id (left_view v)) (right_view v) x j found);
-        inside = λ p low. (let l = long in ⊎_elim (λ (past : length s.views ≤ p). (let f = m.fresh p past in omega arith)) (λ (low' : p < length s.views). (let h = m.inside p low' in omega arith)) (nat_cases (length s.views) p));
+        seats =
+            λ j x found. ⊎_elim (λ (e : get_elem? (set s.views id (left_view v)) j ≡ some x). old j x e)
+            (λ (e : (j ≡ length (set s.views id (left_view v))) × (right_view v ≡ x)). subst
+            (λ z. Fits m.owner m.trace j z) e.1 (new j (e.0 ∙ same)))
+            (at_end (set s.views id (left_view v)) (right_view v) x j found);
+        inside =
+            λ p low. (let l = long in
+            ⊎_elim (λ (past : length s.views ≤ p). (let f = m.fresh p past in omega arith))
+            (λ (low' : p < length s.views). (let h = m.inside p low' in omega arith)) (nat_cases (length s.views) p));
         fresh = λ p past. (let l = long in m.fresh p (omega arith));
         further = λ j past. (let l = long in m.further j (omega arith));
         made_none = λ j past. (let l = long in m.made_none j (omega arith));
@@ -146,25 +104,55 @@ module _ {T : Type 0} (code : Coding T) (kind : Kind) (capacity : ℕ) where
             late = [];
             waits = none_late m.trace.world.kind None;
             of_party = refl;
-            own = λ any p of_j. (let none = m.made_none p (alone p j e of_j) in inl (append-nil (events_by p v.seen) ∙ (none_before p v.seen m.trace.events (m.seats id v at).seen none ∙ sym none)));
+            own =
+                λ any p of_j. (let none = m.made_none p (alone p j e of_j) in
+                inl (append-nil (events_by p v.seen) ∙ (none_before p v.seen m.trace.events (m.seats id v at).seen none ∙ sym none)));
             made = λ f. sym (owned_none m.owner j f m.trace.events (λ p of_j. m.made_none p (alone p j e of_j)));
           }
 
       left : Fits m.owner m.trace id (left_view v)
-      left = (let f = m.seats id v at in record { seen = f.seen; other = f.other; self = f.self; going = f.going; idle = f.idle; stated = f.stated; party = f.party; late = f.late; waits = f.waits; of_party = f.of_party; own = f.own; made = f.made })
+      left =
+          (let f = m.seats id v at in
+          record {
+            seen = f.seen;
+            other = f.other;
+            self = f.self;
+            going = f.going;
+            idle = f.idle;
+            stated = f.stated;
+            party = f.party;
+            late = f.late;
+            waits = f.waits;
+            of_party = f.of_party;
+            own = f.own;
+            made = f.made;
+          })
 
       old : (j : ℕ) (x : View T) → get_elem? (set s.views id (left_view v)) j ≡ some x → Fits m.owner m.trace j x
-      old j x found = ⊎_elim (λ (e : (j ≡ id) × (left_view v ≡ x)). subst (λ z. Fits m.owner m.trace j z) e.1 (subst (λ n. Fits m.owner m.trace n (left_view v)) (sym e.0) left)) (λ (e : (j ≢ id) × (get_elem? s.views j ≡ some x)). m.seats j x e.1) (at_set s.views id j (left_view v) x found)
+      old j x found =
+          ⊎_elim (λ (e : (j ≡ id) × (left_view v ≡ x)). subst (λ z. Fits m.owner m.trace j z) e.1
+          (subst (λ n. Fits m.owner m.trace n (left_view v)) (sym e.0) left))
+          (λ (e : (j ≢ id) × (get_elem? s.views j ≡ some x)). m.seats j x e.1)
+          (at_set s.views id j (left_view v) x found)
 
-  pub joins : (id other : ℕ) (v w : View T) → 0 < v.share.part → 0 < w.share.part → w.going ≡ None → v.other ≡ [] → w.other ≡ [] → Joins Holds id v other w (joined_view v w) spent_view
+  pub joins : (id other : ℕ) (v w : View T) → 0 < v.share.part → 0 < w.share.part → w.going ≡ None → v.other ≡ []
+      → w.other ≡ [] → Joins Holds id v other w (joined_view v w) spent_view
   joins id other v w some_share other_share idle alone alone' s m at apart at' =
       record {
         trace = m.trace;
         run = m.run;
         words = m.words;
         owner = handed_on id other m.owner;
-        seats = λ j x found. ⊎_elim (λ (e : (j ≡ other) × (spent_view ≡ x)). subst (λ z. Fits (handed_on id other m.owner) m.trace j z) e.1 (gone j e.0)) (λ (e : (j ≢ other) × (get_elem? (set s.views id (joined_view v w)) j ≡ some x)). old j x e.0 e.1) (at_set (set s.views id (joined_view v w)) other j spent_view x found);
-        inside = λ p low. (let l = long in ⊎_elim (λ (e : m.owner p ≡ other). (let to = moves p e in let h = within s.views id v at in omega arith)) (λ (ne : m.owner p ≢ other). (let to = stays p ne in let h = m.inside p (omega arith) in omega arith)) (cases_eq (m.owner p) other));
+        seats =
+            λ j x found. ⊎_elim
+            (λ (e : (j ≡ other) × (spent_view ≡ x)). subst (λ z. Fits (handed_on id other m.owner) m.trace j z) e.1 (gone j e.0))
+            (λ (e : (j ≢ other) × (get_elem? (set s.views id (joined_view v w)) j ≡ some x)). old j x e.0 e.1)
+            (at_set (set s.views id (joined_view v w)) other j spent_view x found);
+        inside =
+            λ p low. (let l = long in
+            ⊎_elim (λ (e : m.owner p ≡ other). (let to = moves p e in let h = within s.views id v at in omega arith))
+            (λ (ne : m.owner p ≢ other). (let to = stays p ne in let h = m.inside p (omega arith) in omega arith))
+            (cases_eq (m.owner p) other));
         fresh = λ p past. (
             let l = long in
             let is = m.fresh p (omega arith) in
@@ -179,7 +167,10 @@ module _ {T : Type 0} (code : Coding T) (kind : Kind) (capacity : ℕ) where
       long = length-set (set s.views id (joined_view v w)) other spent_view ∙ length-set s.views id (joined_view v w)
 
       theirs : get_elem? s.views other ≡ some w
-      theirs = ⊎_elim (λ (e : (other ≡ id) × (joined_view v w ≡ w)). absurd (apart e.0)) (λ (e : (other ≢ id) × (get_elem? s.views other ≡ some w)). e.1) (at_set s.views id other (joined_view v w) w at')
+      theirs =
+          ⊎_elim (λ (e : (other ≡ id) × (joined_view v w ≡ w)). absurd (apart e.0))
+          (λ (e : (other ≢ id) × (get_elem? s.views other ≡ some w)). e.1)
+          (at_set s.views id other (joined_view v w) w at')
 
       moves : (p : ℕ) → m.owner p ≡ other → handed_on id other m.owner p ≡ id
       moves p e = let t : (m.owner p == other) ≡ true = grind (arith, nat_tests) in rw t refl
@@ -212,14 +203,24 @@ module _ {T : Type 0} (code : Coding T) (kind : Kind) (capacity : ℕ) where
             seen = mine.seen;
             other = its.seen;
             self = λ any. stays id (λ e. apart (sym (sym (mine.self some_share) ∙ e))) ∙ mine.self some_share;
-            going = λ p now is. ⊎_elim (λ (h : m.owner p ≡ id). mine.going p h is) (λ (h : m.owner p ≡ other). absurd (apart (sym h ∙ party_is v.party p is mine.party))) (of_id p now);
-            stated = λ p now is. ⊎_elim (λ (h : m.owner p ≡ id). mine.stated p h is) (λ (h : m.owner p ≡ other). absurd (apart (sym h ∙ party_is v.party p is mine.party))) (of_id p now);
+            going =
+                λ p now is. ⊎_elim (λ (h : m.owner p ≡ id). mine.going p h is)
+                (λ (h : m.owner p ≡ other). absurd (apart (sym h ∙ party_is v.party p is mine.party))) (of_id p now);
+            stated =
+                λ p now is. ⊎_elim (λ (h : m.owner p ≡ id). mine.stated p h is)
+                (λ (h : m.owner p ≡ other). absurd (apart (sym h ∙ party_is v.party p is mine.party))) (of_id p now);
             idle = λ p now ne. ⊎_elim (λ (h : m.owner p ≡ id). mine.idle p h ne) (λ (h : m.owner p ≡ other). its_idle p h) (of_id p now);
             party = go v.party mine.party;
             late = mine.late;
             waits = mine.waits;
             of_party = mine.of_party;
-            own = λ any p now. ⊎_elim (λ (h : m.owner p ≡ id). inl (only v mine alone p h (mine.own some_share p h))) (λ (h : m.owner p ≡ other). inr (its_idle p h, sym (append-nil (events_by p w.seen)) ∙ (ap (λ es. events_by p w.seen ++ events_by p es) (sym its_none) ∙ only w its alone' p h (its.own other_share p h)))) (of_id p now);
+            own =
+                λ any p now. ⊎_elim (λ (h : m.owner p ≡ id). inl (only v mine alone p h (mine.own some_share p h)))
+                (λ (h : m.owner p ≡ other). inr (
+                  its_idle p h,
+                  sym (append-nil (events_by p w.seen))
+                      ∙ (ap (λ es. events_by p w.seen ++ events_by p es) (sym its_none) ∙ only w its alone' p h (its.own other_share p h)),
+                )) (of_id p now);
             made = λ f. (
                 let a = mine.made f in
                 let b = its.made f in
@@ -236,14 +237,20 @@ module _ {T : Type 0} (code : Coding T) (kind : Kind) (capacity : ℕ) where
           go None h = tt
           go (Some q) h = stays q (λ e. apart (sym e ∙ h)) ∙ h
 
-          only : {j : ℕ} (x : View T) (f : Fits m.owner m.trace j x) → x.other ≡ [] → (p : ℕ) → m.owner p ≡ j → HasSeenOf p x f.late m.trace → events_by p x.seen ++ events_by p f.late ≡ events_by p m.trace.events
+          only : {j : ℕ} (x : View T) (f : Fits m.owner m.trace j x) → x.other ≡ [] → (p : ℕ) → m.owner p ≡ j
+              → HasSeenOf p x f.late m.trace → events_by p x.seen ++ events_by p f.late ≡ events_by p m.trace.events
           only x f none p of_j (inl h) = h
           only {j} x f none p of_j (inr h) =
               let nothing_by : events_by p m.trace.events ≡ [] = sym h.1 ∙ ap (events_by p) none in
-              ap (λ es. es ++ events_by p f.late) (none_before p x.seen m.trace.events f.seen nothing_by) ∙ (quiet_late m.owner m.trace j x f p of_j h.0 ∙ sym nothing_by)
+              ap (λ es. es ++ events_by p f.late) (none_before p x.seen m.trace.events f.seen nothing_by)
+              ∙ (quiet_late m.owner m.trace j x f p of_j h.0 ∙ sym nothing_by)
 
       old : (j : ℕ) (x : View T) → j ≢ other → get_elem? (set s.views id (joined_view v w)) j ≡ some x → Fits (handed_on id other m.owner) m.trace j x
-      old j x apart_too found = ⊎_elim (λ (e : (j ≡ id) × (joined_view v w ≡ x)). subst (λ z. Fits (handed_on id other m.owner) m.trace j z) e.1 (subst (λ n. Fits (handed_on id other m.owner) m.trace n (joined_view v w)) (sym e.0) both)) (λ (e : (j ≢ id) × (get_elem? s.views j ≡ some x)). third j x e.0 apart_too (m.seats j x e.1)) (at_set s.views id j (joined_view v w) x found)
+      old j x apart_too found =
+          ⊎_elim (λ (e : (j ≡ id) × (joined_view v w ≡ x)). subst (λ z. Fits (handed_on id other m.owner) m.trace j z) e.1
+          (subst (λ n. Fits (handed_on id other m.owner) m.trace n (joined_view v w)) (sym e.0) both))
+          (λ (e : (j ≢ id) × (get_elem? s.views j ≡ some x)). third j x e.0 apart_too (m.seats j x e.1))
+          (at_set s.views id j (joined_view v w) x found)
         where
           third : (j : ℕ) (x : View T) → j ≢ id → j ≢ other → Fits m.owner m.trace j x → Fits (handed_on id other m.owner) m.trace j x
           third j x ne apart_too f =
@@ -268,7 +275,9 @@ module _ {T : Type 0} (code : Coding T) (kind : Kind) (capacity : ℕ) where
 
       -- apart_too party is left to it
       never : (p j : ℕ) → j ≡ other → handed_on id other m.owner p ≡ j → ⊥
-      never p j e now = ⊎_elim (λ (h : m.owner p ≡ other). apart (sym e ∙ (sym now ∙ moves p h))) (λ (ne : m.owner p ≢ other). ne (sym (stays p ne) ∙ (now ∙ e))) (cases_eq (m.owner p) other)
+      never p j e now =
+          ⊎_elim (λ (h : m.owner p ≡ other). apart (sym e ∙ (sym now ∙ moves p h)))
+          (λ (ne : m.owner p ≢ other). ne (sym (stays p ne) ∙ (now ∙ e))) (cases_eq (m.owner p) other)
 
       gone : (j : ℕ) → j ≡ other → Fits (handed_on id other m.owner) m.trace j spent_view
       gone j e =
@@ -287,97 +296,8 @@ module _ {T : Type 0} (code : Coding T) (kind : Kind) (capacity : ℕ) where
             made = λ f. sym (owned_none (handed_on id other m.owner) j f m.trace.events (λ p now. absurd (never p j e now)));
           }
 
-  -- a look at this table, where nothing is late for the seat
-  pub looks_at : (slots id word : ℕ) (v : View T) → 0 < v.share.part → ((late : List (Event T)) → IsLate kind v.going late → late ≡ []) → (s : State (Unit {0}) (View T)) → (m : Holds s) → length s.homes ≡ slots → get_elem? s.views id ≡ some v → slice_index s.words word < 18446744073709551616
-      → (w : View T) × (a : table.Act (Unit {0})) × table.Valid s.homes [] a × Holds (table.stepped s word (slice_index s.words word) id [] w a) × (Looks code kind capacity v w × (table.carried_after [] a ≡ [])) × (w.seen ≡ m.trace.events)
-  looks_at slots id word v some_share calm s m long at small =
-      let t = m.trace in
-      let f = m.seats id v at in
-      let none : f.late ≡ [] = calm f.late (subst (λ k. IsLate k v.going f.late) m.run.of_kind f.waits) in
-      let made : (g : Event T → ℕ) → sum_by g v.made ≡ sum_by (owned m.owner id g) t.events = λ g. (let is = f.made g in let no : sum_by g f.late ≡ 0 = ap (sum_by g) none in omega arith) in
-      let w : View T = record { capacity = v.capacity; party = v.party; share = v.share; seen = t.events; other = []; made = v.made; going = v.going; state = v.state } in (
-        w,
-        table.keeps,
-        tt,
-        reseat (slice_set s.words word (slice_index s.words word)) s m id v w (set_same s.words word) at
-            (record {
-              seen = all_of t.events;
-              other = nothing t.events;
-              self = f.self;
-              going = f.going;
-              idle = f.idle;
-              stated = f.stated;
-              party = f.party;
-              late = [];
-              waits = none_late t.world.kind v.going;
-              of_party = by_nothing v.party;
-              own = λ any p of_id. inl (append-nil (events_by p t.events));
-              made = λ g. (let is = made g in omega arith);
-            })
-            (known_step s.views t.events id v w (within s.views id v at) at refl some_share refl m.known.someone m.known.spent m.known.shares),
-        (
-          record {
-            capacity = refl;
-            party = refl;
-            going = refl;
-            state = refl;
-            share = refl;
-            other = refl;
-            made = refl;
-            mine = f.seen;
-            theirs = f.other;
-            whole = λ all. ⊎_elim (λ (e : v.seen ≡ t.events). inl (sym e)) (λ (e : v.other ≡ t.events). inr (sym e)) (known_whole s.views t.events id v at all m.known);
-            all = λ all g. owned_whole m.owner t s.views id v at all m.known.shares m.known.spent (λ j u ne there. m.seats j u there) m.inside (λ q ne past. m.made_none q past) m.known.someone g ∙ sym (made g);
-            history = record { trace = t; run = m.run; is = refl };
-            parties = record { owner = m.owner; seat = id; sums = made };
-            apart = λ alone any p of_id. rest_apart v t f.late f.seen p alone none (f.own any p of_id);
-          },
-          refl,
-        ),
-        refl,
-      )
-
-  -- where something may be late the seat stays as it is, and nothing is told of the look
-  looks_when : (slots id word : ℕ) (v : View T) → 0 < v.share.part → (s : State (Unit {0}) (View T)) → (m : Holds s) → length s.homes ≡ slots → get_elem? s.views id ≡ some v → slice_index s.words word < 18446744073709551616
-      → (w : View T) × (a : table.Act (Unit {0})) × table.Valid s.homes [] a × Holds (table.stepped s word (slice_index s.words word) id [] w a) × (table.carried_after [] a ≡ []) × WhenIdle kind v.going (Looks code kind capacity v w × (w.seen ≡ m.trace.events))
-  looks_when slots id word v some_share s m long at small = ⊎_elim told untold (calm_or_not kind v.going)
-    where
-      told : ((late : List (Event T)) → IsLate kind v.going late → late ≡ []) → (w : View T) × (a : table.Act (Unit {0})) × table.Valid s.homes [] a × Holds (table.stepped s word (slice_index s.words word) id [] w a) × (table.carried_after [] a ≡ []) × WhenIdle kind v.going (Looks code kind capacity v w × (w.seen ≡ m.trace.events))
-      told calm = (let x = looks_at slots id word v some_share calm s m long at small in (x.0, x.1, x.2, x.3, x.4.1, told_when kind v.going (Looks code kind capacity v x.0 × (x.0.seen ≡ m.trace.events)) (x.4.0, x.5)))
-
-      untold : (kind ≡ kinds.Overflow) × (v.going ≢ None) → (w : View T) × (a : table.Act (Unit {0})) × table.Valid s.homes [] a × Holds (table.stepped s word (slice_index s.words word) id [] w a) × (table.carried_after [] a ≡ []) × WhenIdle kind v.going (Looks code kind capacity v w × (w.seen ≡ m.trace.events))
-      untold h = (
-        v,
-        table.keeps,
-        tt,
-        reseat (slice_set s.words word (slice_index s.words word)) s m id v v (set_same s.words word) at (m.seats id v at) (subst (λ views. Known views m.trace.events) (sym (set_again s.views id v at)) m.known),
-        refl,
-        told_never kind v.going (Looks code kind capacity v v × (v.seen ≡ m.trace.events)) h,
-      )
-
-  pub looks : (slots id word : ℕ) (v : View T) → 0 < v.share.part → Allows Holds slots id (v, []) word (λ n. n) (λ found me. WhenIdle kind v.going (Looks code kind capacity v me.0) × (me.1 ≡ []))
-  looks slots id word v some_share s m long at small = (let x = looks_when slots id word v some_share s m long at small in (x.0, x.1, x.2, x.3, (told_of kind v.going (Looks code kind capacity v x.0 × (x.0.seen ≡ m.trace.events)) (Looks code kind capacity v x.0) (λ h. h.0) x.5, x.4)))
-
-  pub looks_word : (slots id word : ℕ) (v : View T) → 0 < v.share.part → Allows Holds slots id (v, []) word (λ n. n) (λ found me. WhenIdle kind v.going (LooksAt code kind capacity word v found me.0) × (me.1 ≡ []))
-  looks_word slots id word v some_share s m long at small =
-      let x = looks_when slots id word v some_share s m long at small in (
-        x.0,
-        x.1,
-        x.2,
-        x.3,
-        (
-          told_of kind v.going (Looks code kind capacity v x.0 × (x.0.seen ≡ m.trace.events)) (LooksAt code kind capacity word v (slice_index s.words word) x.0) (λ h. record {
-            looks = h.0;
-            trace = m.trace;
-            run = m.run;
-            seen = h.1;
-            word_is = λ below. ap (λ ws. slice_index ws word) m.words ∙ get_left m.trace.world.words (0 ∷ []) word below;
-          }) x.5,
-          x.4,
-        ),
-      )
-
-  pub opens : (words : List ℕ) → IsCoding code → capacity_error kind capacity ≡ None → words ≡ (opening_of kind).words code.size capacity ++ 0 ∷ [] → Holds (opening words [] (first_view capacity))
+  pub opens : (words : List ℕ) → IsCoding code → capacity_error kind capacity ≡ None
+      → words ≡ (opening_of kind).words code.size capacity ++ 0 ∷ [] → Holds (opening words [] (first_view capacity))
   opens words coded admitted same =
       let t : Trace T = worlds.opening code kind capacity 0 in
       record {
@@ -401,5 +321,20 @@ module _ {T : Type 0} (code : Coding T) (kind : Kind) (capacity : ℕ) where
       }
     where
       seats : (j : ℕ) (v : View T) → get_elem? (first_view capacity ∷ []) j ≡ some v → Fits (λ p. p) (worlds.opening code kind capacity 0) j v
-      seats zero v e = subst (λ z. Fits (λ p. p) (worlds.opening code kind capacity 0) zero z) (some-injective (first_view capacity) v e) (record { seen = nothing []; other = nothing []; self = λ any. refl; going = λ p of_j is. refl; idle = λ p of_j ne. refl; stated = λ p of_j is. opens_without kind capacity p; party = refl; late = []; waits = none_late kind None; of_party = refl; own = λ any p of_j. inl refl; made = λ f. refl })
+      seats zero v e =
+          subst (λ z. Fits (λ p. p) (worlds.opening code kind capacity 0) zero z)
+          (some-injective (first_view capacity) v e) (record {
+            seen = nothing [];
+            other = nothing [];
+            self = λ any. refl;
+            going = λ p of_j is. refl;
+            idle = λ p of_j ne. refl;
+            stated = λ p of_j is. opens_without kind capacity p;
+            party = refl;
+            late = [];
+            waits = none_late kind None;
+            of_party = refl;
+            own = λ any p of_j. inl refl;
+            made = λ f. refl;
+          })
       seats (suc j) v e = absurd (some-ne-none v (sym e))

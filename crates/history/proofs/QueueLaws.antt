@@ -19,7 +19,8 @@ module _ {T : Type 0} (code : Coding T) (capacity : ℕ) where
   as_its_list Overflow t h = h
   as_its_list Queue t h = h
 
-  pub queue_linearizable : (kd : QueueKind) (events : List (Event T)) → IsHistory code (machine_kind kd) capacity events → IsLinearizable (as_list kd capacity) events
+  pub queue_linearizable : (kd : QueueKind) (events : List (Event T))
+      → IsHistory code (machine_kind kd) capacity events → IsLinearizable (as_list kd capacity) events
   queue_linearizable kd events h =
       let t = h.trace in
       let r = h.run in

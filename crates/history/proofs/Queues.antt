@@ -57,17 +57,25 @@ use Rattle.history.proofs.Calls.{stands, IsStateless}
 use Rattle.history.proofs.Reached.{queue_run}
 use Rattle.history.proofs.Turns.{CallGoesOn, KindLaws}
 
-held_there : {T : Type 0} (role : Role) (roles : Roles) (events : List (Event T)) → KeepsHolders (kepts.TheVariants.Queues roles) events → holder role roles ≡ fold (role_after role) None events
+held_there : {T : Type 0} (role : Role) (roles : Roles) (events : List (Event T))
+    → KeepsHolders (kepts.TheVariants.Queues roles) events → holder role roles ≡ fold (role_after role) None events
 held_there Producer roles events keeps = keeps.0
 held_there Consumer roles events keeps = keeps.1
 
 module _ {T : Type 0} (code : Coding T) where
   -- what a step of a call on a bounded queue writes
   abbrev pub ring_effects : ℕ → QueueFlight T → ℕ → List (Event T)
-  ring_effects p (Indices (rings.TheVariants.Push run)) old = effects_of p (PushIndex run.given) (push_effect (Index run.given) run.call.stage) (answer_in (after code (Indices (rings.TheVariants.Push run)) old))
-  ring_effects p (Indices (rings.TheVariants.Pop run)) old = effects_of p Pop (pop_effect (Index run.room.0) run.call.stage) (answer_in (after code (Indices (rings.TheVariants.Pop run)) old))
-  ring_effects p (Values (rings.TheVariants.Push run)) old = effects_of p (Push run.given) (push_effect (Value run.given) run.call.stage) (answer_in (after code (Values (rings.TheVariants.Push run)) old))
-  ring_effects p (Values (rings.TheVariants.Pop run)) old = effects_of p Pop (pop_effect (Value (read_in code run.room)) run.call.stage) (answer_in (after code (Values (rings.TheVariants.Pop run)) old))
+  ring_effects p (Indices (rings.TheVariants.Push run)) old =
+      effects_of p (PushIndex run.given) (push_effect (Index run.given) run.call.stage)
+      (answer_in (after code (Indices (rings.TheVariants.Push run)) old))
+  ring_effects p (Indices (rings.TheVariants.Pop run)) old =
+      effects_of p Pop (pop_effect (Index run.room.0) run.call.stage) (answer_in (after code (Indices (rings.TheVariants.Pop run)) old))
+  ring_effects p (Values (rings.TheVariants.Push run)) old =
+      effects_of p (Push run.given) (push_effect (Value run.given) run.call.stage)
+      (answer_in (after code (Values (rings.TheVariants.Push run)) old))
+  ring_effects p (Values (rings.TheVariants.Pop run)) old =
+      effects_of p Pop (pop_effect (Value (read_in code run.room)) run.call.stage)
+      (answer_in (after code (Values (rings.TheVariants.Pop run)) old))
   ring_effects p flight old = []
 
   abbrev pub queue_effects : ℕ → Flight T → ℕ → List (Event T)
@@ -80,7 +88,8 @@ module _ {T : Type 0} (code : Coding T) where
   acts_own p start None = tt
   acts_own p start (Some answer) = (refl, tt)
 
-  push_own : (p : ℕ) (start : QueueStart T) (item : Item T) (stage : pushes.PushStage) (o : Option (Answer T)) → AreOf p (effects_of p start (push_effect item stage) o)
+  push_own : (p : ℕ) (start : QueueStart T) (item : Item T) (stage : pushes.PushStage) (o : Option (Answer T))
+      → AreOf p (effects_of p start (push_effect item stage) o)
   push_own p start item pushes.TheVariants.LoadsWrite o = tt
   push_own p start item (pushes.TheVariants.LoadsRead write) o = acts_own p start o
   push_own p start item (pushes.TheVariants.StoresCell write cell at) o = tt
@@ -108,13 +117,20 @@ module _ {T : Type 0} (code : Coding T) where
     abbrev step_now : QueueStart T → QueueFlight T → Step (Flight T) (Kept T) T
     step_now start flight = step_of code words waits p (Queues start) (flights.TheVariants.Queues flight) n (kepts.TheVariants.Queues ro)
 
-    writes_it : (r : Ring) (k : Core (Val T (kind_of r))) (start : QueueStart T) (flight : QueueFlight T) → At {T = T} code (kind_of r) c ro k p start flight → (step_now start flight).wrote ≡ ring_effects p flight n
-    writes_it of_indices k (PushIndex v) (Indices (rings.TheVariants.Push run)) at = ap (λ w. effects_of p (PushIndex w) (push_effect (Index run.given) run.call.stage) (answer_in (after code (Indices (rings.TheVariants.Push run)) n))) (sym at.2)
+    writes_it : (r : Ring) (k : Core (Val T (kind_of r))) (start : QueueStart T) (flight : QueueFlight T)
+        → At {T = T} code (kind_of r) c ro k p start flight → (step_now start flight).wrote ≡ ring_effects p flight n
+    writes_it of_indices k (PushIndex v) (Indices (rings.TheVariants.Push run)) at =
+        ap (λ w. effects_of p (PushIndex w) (push_effect (Index run.given) run.call.stage)
+        (answer_in (after code (Indices (rings.TheVariants.Push run)) n)))
+        (sym at.2)
     writes_it of_indices k Pop (Indices (rings.TheVariants.Pop run)) at = refl
     writes_it of_indices k start (Indices call) at = absurd at
     writes_it of_indices k start (Values call) at = absurd at
     writes_it of_indices k start (Overflow call) at = absurd at
-    writes_it of_values k (Push v) (Values (rings.TheVariants.Push run)) at = ap (λ w. effects_of p (Push w) (push_effect (Value run.given) run.call.stage) (answer_in (after code (Values (rings.TheVariants.Push run)) n))) (sym at.2)
+    writes_it of_values k (Push v) (Values (rings.TheVariants.Push run)) at =
+        ap (λ w. effects_of p (Push w) (push_effect (Value run.given) run.call.stage)
+        (answer_in (after code (Values (rings.TheVariants.Push run)) n)))
+        (sym at.2)
     writes_it of_values k Pop (Values (rings.TheVariants.Pop run)) at = refl
     writes_it of_values k start (Indices call) at = absurd at
     writes_it of_values k start (Values call) at = absurd at
@@ -141,7 +157,8 @@ module _ {T : Type 0} (code : Coding T) (capacity : ℕ) (kd : QueueKind) where
   sized_so t run =
       let s = sound_of t run in
       let cells : length s.state.core.cells ≡ words_of_cell code.size kd * cells_of kd capacity =
-      s.holds.good.cells ∙ (ap (λ (n : ℕ). (encoded t.world.coding kd).size * cells_of kd n) run.sized ∙ (cell_sizes kd t.world.coding ∙ ap (λ (z : Coding T). words_of_cell z.size kd * cells_of kd capacity) run.coded))
+      s.holds.good.cells ∙ (ap (λ (n : ℕ). (encoded t.world.coding kd).size * cells_of kd n) run.sized
+      ∙ (cell_sizes kd t.world.coding ∙ ap (λ (z : Coding T). words_of_cell z.size kd * cells_of kd capacity) run.coded))
       in
       ap length (kept_is t.world.kept t.world.words s.state s.fit).1 ∙ omega arith
 
@@ -168,7 +185,9 @@ module _ {T : Type 0} (code : Coding T) (capacity : ℕ) (r : Ring) where
     pub writes : (step_of z words waits p start flight n kept).wrote ≡ queue_effects z p flight n
     pub goes : (step_of z words waits p start flight n kept).after ≡ after_of z flight n
 
-  facts : (z : Coding T) (words : List ℕ) (waits : Option (ℕ × ℕ)) (c p n : ℕ) (q : Queue (Val T (kind_of r))) (start : Start T) (flight : Flight T) (kept : Kept T) → kept ≡ kepts.TheVariants.Queues q.roles → (family z (kind_of r) c).At q p start flight
+  facts : (z : Coding T) (words : List ℕ) (waits : Option (ℕ × ℕ)) (c p n : ℕ) (q : Queue (Val T (kind_of r)))
+      (start : Start T) (flight : Flight T) (kept : Kept T)
+      → kept ≡ kepts.TheVariants.Queues q.roles → (family z (kind_of r) c).At q p start flight
       → Facts z words waits p n start flight kept
   facts z words waits c p n q (Queues start) (flights.TheVariants.Queues flight) kept e at =
       subst (λ k. Facts z words waits p n (Queues start) (flights.TheVariants.Queues flight) k) (sym e)
@@ -179,7 +198,9 @@ module _ {T : Type 0} (code : Coding T) (capacity : ℕ) (r : Ring) where
       })
   facts z words waits c p n q start flight kept e at = absurd at
 
-  goes_on : (t : Trace T) → IsBounded t → (p : ℕ) (start : Start T) (flight : Flight T) → call_in t.world p ≡ Some (start, flight) → CallGoesOn code (machine_kind (kind_of r)) capacity ring_words (queue_effects code) t p flight
+  goes_on : (t : Trace T) → IsBounded t → (p : ℕ) (start : Start T) (flight : Flight T)
+      → call_in t.world p ≡ Some (start, flight)
+      → CallGoesOn code (machine_kind (kind_of r)) capacity ring_words (queue_effects code) t p flight
   goes_on t run p start flight at =
       let s = sound_of code capacity (kind_of r) t run in
       let here = stands t.world p start flight at in
@@ -212,7 +233,8 @@ module _ {T : Type 0} (code : Coding T) (capacity : ℕ) (r : Ring) where
 
 module _ {T : Type 0} (code : Coding T) (capacity : ℕ) where
   pub index_owes : KindLaws code kinds.TheVariants.IndexQueue capacity (4 + capacity) (queue_effects code)
-  index_owes = let one : 4 + 1 * capacity ≡ 4 + capacity = omega arith in subst (λ n. KindLaws code kinds.TheVariants.IndexQueue capacity n (queue_effects code)) one (ring_owes code capacity of_indices)
+  index_owes = let one : 4 + 1 * capacity ≡ 4 + capacity = omega arith in
+      subst (λ n. KindLaws code kinds.TheVariants.IndexQueue capacity n (queue_effects code)) one (ring_owes code capacity of_indices)
 
   pub values_owe : KindLaws code kinds.TheVariants.Queue capacity (4 + code.size * capacity) (queue_effects code)
   values_owe = ring_owes code capacity of_values
@@ -235,7 +257,10 @@ module _ {T : Type 0} (code : Coding T) (kd : QueueKind) (base : View T) where
 
   -- a party that lacks no role for it may begin
   module _ {C M E : Type 0} (call : Calling T C M E) (start : QueueStart T) (c : C) (m : M) (named : call.start ≡ Queues start)
-      (first_is : (kept : Kept T) → first_of (machine_kind kd) base.capacity (Queues start) kept ≡ Some (call.flight c m)) (t : Trace T) (owner : ℕ → ℕ) (j p : ℕ) (run : IsOn t) (mine : owner p ≡ j) (by : call.by base.party p) (roles : Roles) (is : t.world.kept ≡ kepts.TheVariants.Queues roles) (lacks : lacks_role roles p start ≡ false) where
+      (first_is : (kept : Kept T) → first_of (machine_kind kd) base.capacity (Queues start) kept ≡ Some (call.flight c m))
+      (t : Trace T) (owner : ℕ → ℕ) (j p : ℕ) (run : IsOn t) (mine : owner p ≡ j) (by : call.by base.party p)
+      (roles : Roles) (is : t.world.kept ≡ kepts.TheVariants.Queues roles)
+      (lacks : lacks_role roles p start ≡ false) where
     as_party : Starts code (machine_kind kd) call base c m t owner j
     as_party =
         record {
@@ -249,7 +274,8 @@ module _ {T : Type 0} (code : Coding T) (kd : QueueKind) (base : View T) where
         kept_free : first_row (kept_rows start t.world.kept p) ≡ None
         kept_free = subst (λ k. first_row (kept_rows start k p) ≡ None) (sym is) (rw lacks refl)
 
-        rows : (k : QueueKind) → first_of (machine_kind k) base.capacity (Queues start) t.world.kept ≡ Some (call.flight c m) → first_row (rows_as (machine_kind k) base.capacity t.world.kept p (Queues start)) ≡ None
+        rows : (k : QueueKind) → first_of (machine_kind k) base.capacity (Queues start) t.world.kept ≡ Some (call.flight c m)
+            → first_row (rows_as (machine_kind k) base.capacity t.world.kept p (Queues start)) ≡ None
         rows IndexQueue e = rw e kept_free
         rows queues.TheVariants.Overflow e = rw e kept_free
         rows queues.TheVariants.Queue e = rw e kept_free
@@ -258,22 +284,33 @@ module _ {T : Type 0} (code : Coding T) (kd : QueueKind) (base : View T) where
       (first_is : (kept : Kept T) → first_of (machine_kind kd) base.capacity (Queues start) kept ≡ Some (call.flight c m)) where
     -- a call that needs no role, as the party that the pass was last
     pub plain_starts : ((o : Option ℕ) (p : ℕ) → IfSome o (λ q. q ≡ p) → call.by o p) → ((roles : Roles) (p : ℕ) → lacks_role roles p start ≡ false)
-        → (t : Trace T) (owner : ℕ → ℕ) (j : ℕ) → IsOn t → owner j ≡ j → IfSome base.party (λ p. owner p ≡ j) → AllOf t owner j → Starts code (machine_kind kd) call base c m t owner j
+        → (t : Trace T) (owner : ℕ → ℕ) (j : ℕ) → IsOn t → owner j ≡ j → IfSome base.party (λ p. owner p ≡ j)
+        → AllOf t owner j → Starts code (machine_kind kd) call base c m t owner j
     plain_starts by_last free t owner j run self party sums = go base.party refl party
       where
         kept : (roles : Roles) × (t.world.kept ≡ kepts.TheVariants.Queues roles)
         kept = kept_there t run
 
         go : (o : Option ℕ) → base.party ≡ o → IfSome o (λ p. owner p ≡ j) → Starts code (machine_kind kd) call base c m t owner j
-        go None e h = as_party call start c m named first_is t owner j j run self (by_last base.party j (subst (λ (z : Option ℕ). IfSome z (λ q. q ≡ j)) (sym e) tt)) kept.0 kept.1 (free kept.0 j)
-        go (Some p) e h = as_party call start c m named first_is t owner j p run h (by_last base.party p (subst (λ (z : Option ℕ). IfSome z (λ q. q ≡ p)) (sym e) refl)) kept.0 kept.1 (free kept.0 p)
+        go None e h =
+            as_party call start c m named first_is t owner j j run self
+            (by_last base.party j (subst (λ (z : Option ℕ). IfSome z (λ q. q ≡ j)) (sym e) tt)) kept.0 kept.1
+            (free kept.0 j)
+        go (Some p) e h =
+            as_party call start c m named first_is t owner j p run h
+            (by_last base.party p (subst (λ (z : Option ℕ). IfSome z (λ q. q ≡ p)) (sym e) refl)) kept.0 kept.1
+            (free kept.0 p)
 
     -- a call of a role, as that of the pass's parties which holds it
-    pub role_starts : (role : Role) → ((o : Option ℕ) (p : ℕ) → call.by o p) → ((roles : Roles) (p : ℕ) → holder role roles ≡ Some p → lacks_role roles p start ≡ false) → HasRole role base.made
-        → (t : Trace T) (owner : ℕ → ℕ) (j : ℕ) → IsOn t → owner j ≡ j → IfSome base.party (λ p. owner p ≡ j) → AllOf t owner j → Starts code (machine_kind kd) call base c m t owner j
+    pub role_starts : (role : Role) → ((o : Option ℕ) (p : ℕ) → call.by o p)
+        → ((roles : Roles) (p : ℕ) → holder role roles ≡ Some p → lacks_role roles p start ≡ false)
+        → HasRole role base.made
+        → (t : Trace T) (owner : ℕ → ℕ) (j : ℕ) → IsOn t → owner j ≡ j → IfSome base.party (λ p. owner p ≡ j)
+        → AllOf t owner j → Starts code (machine_kind kd) call base c m t owner j
     role_starts role by_any free has t owner j run self party sums =
         let queue = queue_goes_on t run in
         let kept = kept_there t run in
         let by = role_by owner j role t.events base.made queue.roles sums has in
         let keeps : KeepsHolders (kepts.TheVariants.Queues kept.0) t.events = subst (λ k. KeepsHolders k t.events) kept.1 queue.holders in
-        as_party call start c m named first_is t owner j by.0 run by.1 (by_any base.party by.0) kept.0 kept.1 (free kept.0 by.0 (held_there role kept.0 t.events keeps ∙ by.2))
+        as_party call start c m named first_is t owner j by.0 run by.1 (by_any base.party by.0) kept.0 kept.1
+        (free kept.0 by.0 (held_there role kept.0 t.events keeps ∙ by.2))

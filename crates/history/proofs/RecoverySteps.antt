@@ -1,5 +1,6 @@
 -- The stages of a container's recovery: what each asks for, where it goes on, and what it has written then.
-use Rattle.std.proofs.Common.{◌≡◌, ℕ, ◌+◌, ◌<◌, ◌≤◌, ◌==◌, nat_lt, Bool, true, false, Option, Some, None, List, [], ◌∷◌, ◌++◌, if◌then◌else◌, append_assoc, append-nil, refl, sym, ap, subst, ◌∙◌, arith}
+use Rattle.std.proofs.Common.{◌≡◌, ℕ, ◌+◌, ◌<◌, ◌≤◌, ◌==◌, nat_lt, Bool, true, false, Option, Some, None, List, []}
+use Rattle.std.proofs.Common.{◌∷◌, ◌++◌, if◌then◌else◌, append_assoc, append-nil, refl, sym, ap, subst, ◌∙◌, arith}
 use Rattle.std.proofs.lemmas.Bool.Decides.{nat_tests}
 use Rattle.steps.specs.Container.Layout.{is_even, total_words}
 use Rattle.steps.specs.Container.Recover.{goes_to, recover_asks, recover_want, recover_comes_to, recover_sees, recover_raised, recover_locked, recover_takes}
@@ -30,7 +31,9 @@ use Rattle.robust_laws.proofs.Sound.{raise_asks_none, lock_asks_none}
 use Rattle.container_laws.proofs.Core.{data_within}
 use Rattle.lock_free_sp.specs.Driver.{answered}
 use Rattle.history.specs.Container.{when}
-use Rattle.history.specs.ContainerRecovery.{RecoverIn, Came, HasAsked, HasFound, HasFreed, wrote_found, wrote_of, wrote_visits, with_last, told, freed, hides, came_locked, seen_under, visits_after, IsToFree, IsFreed, VisitsAt, told_yet, recovers_values}
+use Rattle.history.specs.ContainerRecovery.{RecoverIn, Came, HasAsked, HasFound, HasFreed, wrote_found, wrote_of}
+use Rattle.history.specs.ContainerRecovery.{wrote_visits, with_last, told, freed, hides, came_locked, seen_under}
+use Rattle.history.specs.ContainerRecovery.{visits_after, IsToFree, IsFreed, VisitsAt, told_yet, recovers_values}
 use Rattle.history.proofs.CallsIn.{by_bool, AsksFor}
 use Rattle.history.proofs.ContainerCalls.{set_words, change_low, count_low}
 use Rattle.history.proofs.Containers.{fewer}
@@ -176,7 +179,8 @@ module _ {T R : Type 0} (code : Coding T) (some : 0 < code.size) (words_in : R �
   told_then index count (HasFound (Some value)) never = absurd never
   told_then index count (HasFreed found hid lock) never = absurd never
 
-  freed_then : (index count : ℕ) (came : Came T) → IsToFree count came → of_one index (told came) ++ FreedOf p index given.owner ∷ [] ≡ of_one index (freed came)
+  freed_then : (index count : ℕ) (came : Came T) → IsToFree count came
+      → of_one index (told came) ++ FreedOf p index given.owner ∷ [] ≡ of_one index (freed came)
   freed_then index count (HasAsked value) odd = refl
   freed_then index count (HasFound None) even = refl
   freed_then index count (HasFound (Some value)) never = absurd never
@@ -194,7 +198,8 @@ module _ {T R : Type 0} (code : Coding T) (some : 0 < code.size) (words_in : R �
   sees now index count low visits es w =
       by_bool (is_even count)
       (λ e. so_then now (recover_sees c index count) (goes_to c (recovers.EmptiesCell index count)) (seen_under index count visits)
-      ((index, HasFound None) ∷ visits) (es ++ (if is_even count then Shown p index ∷ [] else [])) (es ++ Shown p index ∷ []) (rw e refl) (rw e refl) (rw e refl) (
+      ((index, HasFound None) ∷ visits) (es ++ (if is_even count then Shown p index ∷ [] else []))
+      (es ++ Shown p index ∷ []) (rw e refl) (rw e refl) (rw e refl) (
         (same, low),
         (
           (HasFound None, visits, refl, e),
@@ -231,7 +236,8 @@ module _ {T R : Type 0} (code : Coding T) (some : 0 < code.size) (words_in : R �
   -- the index is freed: where its number was odd, a value stood there
   freed_here : (now : T) (index count : ℕ) → index < capacity → (came : Came T) (before : Visits) (es : List (Event T)) → IsToFree count came
       → es ≡ written ((index, freed came) ∷ before)
-      → RecoverGoes now ((index, freed came) ∷ before) es (if is_even count then goes_to c (recovers.Raises index raises.LoadsCounter) else goes_to c (recovers.Hides index count))
+      → RecoverGoes now ((index, freed came) ∷ before) es
+      (if is_even count then goes_to c (recovers.Raises index raises.LoadsCounter) else goes_to c (recovers.Hides index count))
   freed_here now index count low (HasAsked value) before es odd w =
       let visits : Visits = (index, HasFreed (Some value) false false) ∷ before in
       so_then now (if is_even count then goes_to c (recovers.Raises index raises.LoadsCounter) else goes_to c (recovers.Hides index count))
@@ -344,7 +350,8 @@ module _ {T R : Type 0} (code : Coding T) (some : 0 < code.size) (words_in : R �
       (es ++ wrote value (recovers.Locks index (locks.ExchangesCounter counter)) k) (es ++ Locked p ∷ [])
       (rw e refl) (rw e (ap (with_last came_locked) at.3)) (rw e refl)
       (next_to now index h.1 visits_then (es ++ Locked p ∷ [])
-      (further index (HasFreed found hid false) (HasFreed found hid true) before es (Locked p ∷ []) (bare es visits w ∙ ap written at.3) (locked_then index found hid))))
+      (further index (HasFreed found hid false) (HasFreed found hid true) before es (Locked p ∷ [])
+      (bare es visits w ∙ ap written at.3) (locked_then index found hid))))
       (λ e. so_then now (recover_takes code.size c (recovers.Locks index (locks.ExchangesCounter counter)) given k) (recover_locked c index (GoOn first_lock))
       (visits_after given.owner (recovers.Locks index (locks.ExchangesCounter counter)) k value visits) visits
       (es ++ wrote value (recovers.Locks index (locks.ExchangesCounter counter)) k) es
@@ -362,7 +369,8 @@ module _ {T R : Type 0} (code : Coding T) (some : 0 < code.size) (words_in : R �
   some_visits (recovers.ChecksCount index count) value = ([], tt)
   some_visits (recovers.Asks index count) value = ((index, HasAsked value) ∷ [], ([], refl))
   some_visits (recovers.EmptiesCell index count) value =
-      by_bool (is_even count) (λ t. ((index, HasFound None) ∷ [], (HasFound None, [], refl, t))) (λ t. ((index, HasAsked value) ∷ [], (HasAsked value, [], refl, t)))
+      by_bool (is_even count) (λ t. ((index, HasFound None) ∷ [], (HasFound None, [], refl, t)))
+      (λ t. ((index, HasAsked value) ∷ [], (HasAsked value, [], refl, t)))
   some_visits (recovers.Hides index count) value = ((index, HasFreed (Some value) false false) ∷ [], (value, [], refl))
   some_visits (recovers.Raises index raise) value = ((index, HasFreed None false false) ∷ [], (None, false, [], refl, λ e. refl))
   some_visits (recovers.Locks index lock) value = ((index, HasFreed None false false) ∷ [], (None, false, [], refl, λ e. refl))

@@ -11,7 +11,8 @@ use Rattle.model.specs.declared.event.Event.TheVariants.{FreedOf, Asked, Told, L
 use Rattle.model.specs.declared.event.Start.{Start}
 use Rattle.model.specs.Reading.{own_after, Open}
 use Rattle.history.specs.Container.{when}
-use Rattle.history.specs.ContainerRecovery.{Came, HasAsked, HasFound, HasFreed, wrote_found, wrote_of, wrote_visits, with_last, told, freed, hides, came_locked, told_yet}
+use Rattle.history.specs.ContainerRecovery.{Came, HasAsked, HasFound, HasFreed, wrote_found, wrote_of, wrote_visits}
+use Rattle.history.specs.ContainerRecovery.{with_last, told, freed, hides, came_locked, told_yet}
 
 -- ---- its visits are told by what it wrote
 

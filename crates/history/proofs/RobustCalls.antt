@@ -1,10 +1,13 @@
 -- That an acquire and a release of the robust index set, and its looks, are calls of the model.
 use Rattle.std.proofs.Common.{◌≡◌, inl, inr, ℕ, ◌+◌, ◌<◌, ◌==◌, nat_lt, nat_le, Bool, true, false, None, List, [], ◌∷◌, ◌++◌, refl, sym, ap, subst, ◌∙◌, arith}
 use Rattle.std.proofs.lemmas.Bool.Decides.{nat_tests}
-use Rattle.steps.specs.Indices.Robust.Acquire.{Acquired, first_acquire, at_acquire, acquire_asks, acquire_want, acquire_tries, acquire_sees, acquire_raised, acquire_takes, acquire_after}
+use Rattle.steps.specs.Indices.Robust.Acquire.{Acquired, first_acquire, at_acquire, acquire_asks, acquire_want}
+use Rattle.steps.specs.Indices.Robust.Acquire.{acquire_tries, acquire_sees, acquire_raised, acquire_takes}
+use Rattle.steps.specs.Indices.Robust.Acquire.{acquire_after}
 use Rattle.steps.specs.Indices.Robust.Looks.{first_borrowed, borrowed_want, borrowed_counted, borrowed_after, locked_after}
 use Rattle.steps.specs.Indices.Robust.Parts.{empty, locked, greatest, raise_after, count_after, lock_after}
-use Rattle.steps.specs.Indices.Robust.Release.{Released, first_release, release_asks, release_want, release_raised, release_locked, release_takes, release_after}
+use Rattle.steps.specs.Indices.Robust.Release.{Released, first_release, release_asks, release_want, release_raised}
+use Rattle.steps.specs.Indices.Robust.Release.{release_locked, release_takes, release_after}
 use Rattle.steps.specs.Picks.{by_test}
 use Rattle.steps.specs.Queues.Ring.{load}
 use Rattle.steps.specs.Routine.{went_on}
@@ -128,7 +131,8 @@ module _ {T : Type 0} (code : Coding T) (owner : ℕ) where
         tells = λ capacity p from c d m n es h wrote e new.
             ap (λ zs. zs ++ acquire_effects p owner c.stage n) (wrote new) ∙ (takes_on capacity p c n (GoOn d) h e).1;
         tells_all = λ capacity p from c end m n es h skip wrote e still new.
-            subst (λ zs. AcquireWrote capacity p owner end (zs ++ acquire_effects p owner c.stage n)) (sym (wrote new)) (takes_on capacity p c n (Done end) h e);
+            subst (λ zs. AcquireWrote capacity p owner end (zs ++ acquire_effects p owner c.stage n))
+            (sym (wrote new)) (takes_on capacity p c n (Done end) h e);
       }
 
   pub acquire_keeps : KeepsRule (λ (z : View T). z.capacity) (At code kinds.Robust (takes_owned owner)) (Ends code kinds.Robust (takes_owned owner))
@@ -262,7 +266,8 @@ abbrev pub CountGoes : ℕ → After Counting ℕ → Type 0
 CountGoes capacity (GoOn d) = (counts_owned {T = ℕ}).stands capacity d
 CountGoes capacity (Done n) = Unit {0}
 
-pub counts_so : (capacity : ℕ) (c : Counting) → c.capacity ≡ capacity → (r : After Count Counted) → CountOn capacity r → CountGoes capacity (borrowed_counted c r)
+pub counts_so : (capacity : ℕ) (c : Counting) → c.capacity ≡ capacity → (r : After Count Counted)
+    → CountOn capacity r → CountGoes capacity (borrowed_counted c r)
 counts_so capacity c same (GoOn count) on = (same, on)
 counts_so capacity c same (Done ends.Locked) on = tt
 counts_so capacity c same (Done (ends.Filled filled counter)) on = tt

@@ -1,8 +1,10 @@
 -- That a recovery of the robust index set is a call of the model, which puts questions.
-use Rattle.std.proofs.Common.{◌≡◌, inl, inr, ℕ, ◌+◌, ◌<◌, ◌≤◌, ◌==◌, nat_lt, Bool, true, false, Option, Some, None, List, [], ◌∷◌, ◌++◌, append_assoc, append-nil, refl, sym, ap, subst, ◌∙◌, arith}
+use Rattle.std.proofs.Common.{◌≡◌, inl, inr, ℕ, ◌+◌, ◌<◌, ◌≤◌, ◌==◌, nat_lt, Bool, true, false, Option, Some, None}
+use Rattle.std.proofs.Common.{List, [], ◌∷◌, ◌++◌, append_assoc, append-nil, refl, sym, ap, subst, ◌∙◌, arith}
 use Rattle.std.proofs.lemmas.Bool.Decides.{nat_tests}
 use Rattle.steps.specs.Indices.Robust.Parts.{empty, locked, raise_want, raise_after, lock_want, lock_after}
-use Rattle.steps.specs.Indices.Robust.Recover.{first_recover, at_recover, recover_asks, recover_want, recover_comes_to, recover_raised, recover_locked, recover_takes, recover_after}
+use Rattle.steps.specs.Indices.Robust.Recover.{first_recover, at_recover, recover_asks, recover_want, recover_comes_to}
+use Rattle.steps.specs.Indices.Robust.Recover.{recover_raised, recover_locked, recover_takes, recover_after}
 use Rattle.steps.specs.Picks.{by_test}
 use Rattle.steps.specs.Routine.{went_on}
 use Rattle.steps.specs.declared.ask.Ask.{Ask}
@@ -41,7 +43,9 @@ use Rattle.robust_laws.proofs.Sound.{raise_asks_none, lock_asks_none}
 use Rattle.lock_free_sp.specs.Driver.{answered, Owes, Next as NextKnown, Told as ToldOf, KeepsRule}
 use Rattle.history.specs.declared.view.View.{View}
 use Rattle.history.specs.History.{IsMachine}
-use Rattle.history.specs.Robust.{RecoverIn, Came, HasAsked, WasTold, HasFreed, HasLocked, Visit, visit, AreVisits, came_to, HasCome, VisitsAt, visits_locked, visits_taken, visits_after, wrote_by, wrote_now, recovers_owned}
+use Rattle.history.specs.Robust.{RecoverIn, Came, HasAsked, WasTold, HasFreed, HasLocked, Visit, visit, AreVisits}
+use Rattle.history.specs.Robust.{came_to, HasCome, VisitsAt, visits_locked, visits_taken, visits_after, wrote_by}
+use Rattle.history.specs.Robust.{wrote_now, recovers_owned}
 use Rattle.history.specs.Stages.{opened, IsFirst, IsUnderWay, Ends, AtAsked}
 use Rattle.history.proofs.CallsIn.{AsksFor}
 use Rattle.history.proofs.Decisions.{IsAskingOf, keeps_asked, hears_answer}

@@ -10,7 +10,8 @@ use Rattle.steps.specs.declared.indices.robust.recover.RecoverStage.TheVariants 
 use Rattle.model.specs.declared.event.Event.{Event}
 use Rattle.model.specs.declared.event.Event.TheVariants.{Begun, FreedOf, Asked, Told, Locked}
 use Rattle.model.specs.declared.event.Start.{Start}
-use Rattle.history.specs.Robust.{Came, HasAsked, WasTold, HasFreed, HasLocked, MayCome, Visit, visit, AreVisits, came_to, HasCome, VisitsAt, wrote_to, wrote_of, wrote_by, wrote_now}
+use Rattle.history.specs.Robust.{Came, HasAsked, WasTold, HasFreed, HasLocked, MayCome, Visit, visit, AreVisits}
+use Rattle.history.specs.Robust.{came_to, HasCome, VisitsAt, wrote_to, wrote_of, wrote_by, wrote_now}
 
 -- ---- the last of a list
 

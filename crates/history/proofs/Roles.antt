@@ -29,19 +29,30 @@ module _ {T : Type 0} (owner : ℕ → ℕ) (j : ℕ) where
   MovesIt role = Moves (takes role) (gives role) (role_after role) owner j
 
   moves : (role : Role) (before : List (Event T)) (e : Event T) → GrantsRight before e → MovesIt role before e
-  moves Producer before (Finished p (Queues AcquireProducer) (Truth true)) h = taken (takes Producer) (gives Producer) (role_after Producer) owner j before (Finished p (Queues AcquireProducer) (Truth true)) p refl refl refl (granted (producer_of before) h) refl
-  moves Producer before (Finished p (Queues ReleaseProducer) answer) h = given (takes Producer) (gives Producer) (role_after Producer) owner j before (Finished p (Queues ReleaseProducer) answer) p refl refl refl h.1 refl
-  moves Consumer before (Finished p (Queues AcquireConsumer) (Truth true)) h = taken (takes Consumer) (gives Consumer) (role_after Consumer) owner j before (Finished p (Queues AcquireConsumer) (Truth true)) p refl refl refl (granted (consumer_of before) h) refl
-  moves Consumer before (Finished p (Queues ReleaseConsumer) answer) h = given (takes Consumer) (gives Consumer) (role_after Consumer) owner j before (Finished p (Queues ReleaseConsumer) answer) p refl refl refl h.1 refl
+  moves Producer before (Finished p (Queues AcquireProducer) (Truth true)) h =
+      taken (takes Producer) (gives Producer) (role_after Producer) owner j before
+      (Finished p (Queues AcquireProducer) (Truth true)) p refl refl refl (granted (producer_of before) h) refl
+  moves Producer before (Finished p (Queues ReleaseProducer) answer) h =
+      given (takes Producer) (gives Producer) (role_after Producer) owner j before
+      (Finished p (Queues ReleaseProducer) answer) p refl refl refl h.1 refl
+  moves Consumer before (Finished p (Queues AcquireConsumer) (Truth true)) h =
+      taken (takes Consumer) (gives Consumer) (role_after Consumer) owner j before
+      (Finished p (Queues AcquireConsumer) (Truth true)) p refl refl refl (granted (consumer_of before) h) refl
+  moves Consumer before (Finished p (Queues ReleaseConsumer) answer) h =
+      given (takes Consumer) (gives Consumer) (role_after Consumer) owner j before
+      (Finished p (Queues ReleaseConsumer) answer) p refl refl refl h.1 refl
   moves Producer before e h = still (takes Producer) (gives Producer) (role_after Producer) owner j before e refl refl refl
   moves Consumer before e h = still (takes Consumer) (gives Consumer) (role_after Consumer) owner j before e refl refl refl
 
   all_move : (role : Role) (all : List (Event T)) → Each GrantsRight all → Each (MovesIt role) all
   all_move role all each before after e is = moves role before e (each before after e is)
 
-  pub role_by : (role : Role) (all made : List (Event T)) → Each GrantsRight all → ((f : Event T → ℕ) → sum_by f made ≡ sum_by (owned owner j f) all) → HasRole role made → (p : ℕ) × (owner p ≡ j) × (fold (role_after role) None all ≡ Some p)
+  pub role_by : (role : Role) (all made : List (Event T)) → Each GrantsRight all
+      → ((f : Event T → ℕ) → sum_by f made ≡ sum_by (owned owner j f) all) → HasRole role made
+      → (p : ℕ) × (owner p ≡ j) × (fold (role_after role) None all ≡ Some p)
   role_by role all made each sums has = held_by_one (takes role) (gives role) (role_after role) owner j all made (all_move role all each) sums has
 
 -- a pass gave back what it had acquired, or has it once
-pub role_once : {T : Type 0} (role : Role) (v : View T) → Each GrantsRight v.seen → IsOfParties v → (sum_by (gives role) v.made ≤ sum_by (takes role) v.made) × (sum_by (takes role) v.made ≤ sum_by (gives role) v.made + 1)
+pub role_once : {T : Type 0} (role : Role) (v : View T) → Each GrantsRight v.seen → IsOfParties v
+    → (sum_by (gives role) v.made ≤ sum_by (takes role) v.made) × (sum_by (takes role) v.made ≤ sum_by (gives role) v.made + 1)
 role_once role v each h = at_most (takes role) (gives role) (role_after role) h.owner h.seat v.seen v.made (all_move h.owner h.seat role v.seen each) h.sums

@@ -1,5 +1,6 @@
 -- A room of fewer words than the model's goes on as one of the model.
-use Rattle.std.proofs.Common.{◌≡◌, ℕ, zero, suc, ◌+◌, ◌-◌, ◌<◌, ◌≤◌, nat_lt, Bool, true, false, List, ◌∷◌, ◌++◌, length, set, replicate, refl, sym, ap, ◌∙◌, arith, length-set, length-append}
+use Rattle.std.proofs.Common.{◌≡◌, ℕ, zero, suc, ◌+◌, ◌-◌, ◌<◌, ◌≤◌, nat_lt, Bool, true, false, List, ◌∷◌, ◌++◌}
+use Rattle.std.proofs.Common.{length, set, replicate, refl, sym, ap, ◌∙◌, arith, length-set, length-append}
 use Rattle.std.proofs.lemmas.Bool.Decides.{nat_tests}
 use Rattle.std.proofs.lemmas.List.{length-replicate, take-append-le}
 use Rattle.steps.specs.declared.copied.Kept as rooms
@@ -25,8 +26,12 @@ room_set size at word words below = go (nat_lt (length words) size) refl
     go false t =
         let now : nat_lt (length (set words at word)) size ≡ false = same ∙ t in
         let long : at < length words = grind (arith, nat_tests) in
-        let is : ◌≡◌ {A = rooms.Kept 128} (record { words = set (words ++ replicate (128 - length words) 0) at word }) (record { words = set words at word ++ replicate (128 - length (set words at word)) 0 }) =
-        ap (λ zs. record { words = zs }) (set_left words (replicate (128 - length words) 0) at word long ∙ ap (λ n. set words at word ++ replicate (128 - n) 0) (sym (length-set words at word)))
+        let is : ◌≡◌ {A = rooms.Kept 128}
+        (record { words = set (words ++ replicate (128 - length words) 0) at word })
+        (record { words = set words at word ++ replicate (128 - length (set words at word)) 0 }) =
+        ap (λ zs. record { words = zs })
+        (set_left words (replicate (128 - length words) 0) at word long
+        ∙ ap (λ n. set words at word ++ replicate (128 - n) 0) (sym (length-set words at word)))
         in
         rw (t, now) is
 
@@ -41,7 +46,9 @@ room_read {T} code words = go (nat_lt (length words) code.size) refl
         let long : code.size ≤ length words = grind (arith, nat_tests) in
         let now : nat_lt (length (words ++ replicate (128 - length words) 0)) code.size ≡ false = grind (arith, nat_tests) in
         let room : room_of code.size words ≡ record { words = words ++ replicate (128 - length words) 0 } = rw t refl in
-        let same : value_in code.value_of code.size (words ++ replicate (128 - length words) 0) ≡ value_in code.value_of code.size words = rw (now, t) (ap code.value_of (take-append-le code.size words (replicate (128 - length words) 0) long)) in
+        let same : value_in code.value_of code.size (words ++ replicate (128 - length words) 0)
+        ≡ value_in code.value_of code.size words =
+        rw (now, t) (ap code.value_of (take-append-le code.size words (replicate (128 - length words) 0) long)) in
         ap (read_in code) room ∙ same
 
 -- a room of zeros
@@ -50,7 +57,9 @@ room_fresh size n low few =
     let long : length {A = ℕ} (replicate n 0) ≡ n = length-replicate n 0 in
     let t : nat_lt (length {A = ℕ} (replicate n 0)) size ≡ false = grind (arith, nat_tests) in
     let all : n + (128 - length {A = ℕ} (replicate n 0)) ≡ 128 = omega arith in
-    let is : ◌≡◌ {A = rooms.Kept 128} (record { words = replicate n 0 ++ replicate (128 - length {A = ℕ} (replicate n 0)) 0 }) (record { words = replicate 128 0 }) =
+    let is : ◌≡◌ {A = rooms.Kept 128}
+    (record { words = replicate n 0 ++ replicate (128 - length {A = ℕ} (replicate n 0)) 0 })
+    (record { words = replicate 128 0 }) =
     ap (λ zs. record { words = zs }) (replicate_both n (128 - length {A = ℕ} (replicate n 0)) 0 ∙ ap (λ k. replicate k 0) all)
     in
     rw t is

@@ -1,5 +1,6 @@
 -- What bit sets and counting bit sets owe, from their laws.
-use Rattle.std.proofs.Common.{◌≡◌, ℕ, ◌+◌, ◌-◌, ◌^◌, ◌<◌, nat_lt, false, Option, Some, None, IfSome, List, [], ◌∷◌, length, replicate, refl, sym, ap, subst, ◌∙◌, arith, sum_by}
+use Rattle.std.proofs.Common.{◌≡◌, ℕ, ◌+◌, ◌-◌, ◌^◌, ◌<◌, nat_lt, false, Option, Some, None, IfSome, List, [], ◌∷◌}
+use Rattle.std.proofs.Common.{length, replicate, refl, sym, ap, subst, ◌∙◌, arith, sum_by}
 use Rattle.std.specs.List.{AllByRecursion}
 use Rattle.std.proofs.lemmas.Bool.Decides.{nat_tests}
 use Rattle.atomic_table.specs.Table.{opening}
@@ -99,26 +100,32 @@ module _ {T : Type 0} (K : SetKind T) (laws : (code : Coding T) (c : ℕ) → Se
   size : (t : Trace T) → IsSet t → length t.world.words ≡ words
   size t r = let s = sound t r in ap length s.fit.1 ∙ sized t.world.capacity s.state.words t.events t.world.turns r.sized s.holds.0
 
-  no_rows : (t : Trace T) (At : BitsStart → BitsFlight → Type 0) (start : Start T) (flight : Flight T) → FlightAt At start flight → first_row (going_rows t.world.coding t.world.kept (Some flight) None) ≡ None
+  no_rows : (t : Trace T) (At : BitsStart → BitsFlight → Type 0) (start : Start T) (flight : Flight T)
+      → FlightAt At start flight → first_row (going_rows t.world.coding t.world.kept (Some flight) None) ≡ None
   no_rows t At (Bits start) (flights.TheVariants.Bits flight) at = refl
   no_rows t At start flight at = absurd at
 
   -- a call of the set goes on alike whatever is kept
-  as_told : (code : Coding T) (p n : ℕ) (At : BitsStart → BitsFlight → Type 0) (kept : Kept T) (start : Start T) (flight : Flight T) → FlightAt At start flight → goes_of code p flight n kept ≡ after_of code flight n
+  as_told : (code : Coding T) (p n : ℕ) (At : BitsStart → BitsFlight → Type 0) (kept : Kept T) (start : Start T) (flight : Flight T)
+      → FlightAt At start flight → goes_of code p flight n kept ≡ after_of code flight n
   as_told code p n At kept (Bits start) (flights.TheVariants.Bits flight) at = refl
   as_told code p n At kept start flight at = absurd at
 
-  writes_there : (t : Trace T) (p old : ℕ) (At : BitsStart → BitsFlight → Type 0) (kept : Kept T) (start : Start T) (flight : Flight T) → kept ≡ kepts.TheVariants.Nothing → FlightAt At start flight
+  writes_there : (t : Trace T) (p old : ℕ) (At : BitsStart → BitsFlight → Type 0) (kept : Kept T) (start : Start T) (flight : Flight T)
+      → kept ≡ kepts.TheVariants.Nothing → FlightAt At start flight
       → (step_of t.world.coding t.world.words (beside_of t.world.words t.world.kept t.world.latest p) p start flight old kept).wrote ≡ set_effects p flight old
   writes_there t p old At kepts.TheVariants.Nothing (Bits start) (flights.TheVariants.Bits flight) none at = refl
   writes_there t p old At kept (Bits start) (flights.TheVariants.Bits flight) none at = absurd (cc)
   writes_there t p old At kept start flight none at = absurd at
 
-  own_there : (c p old : ℕ) (wrote : List (Event T)) (start : Start T) (flight : Flight T) → FlightAt (K.At c wrote) start flight → AreOf p (set_effects p flight old)
-  own_there c p old wrote (Bits start) (flights.TheVariants.Bits flight) at = effects_own p (effects_of p flight old) ((laws code c).effects p old wrote start flight at)
+  own_there : (c p old : ℕ) (wrote : List (Event T)) (start : Start T) (flight : Flight T)
+      → FlightAt (K.At c wrote) start flight → AreOf p (set_effects p flight old)
+  own_there c p old wrote (Bits start) (flights.TheVariants.Bits flight) at =
+      effects_own p (effects_of p flight old) ((laws code c).effects p old wrote start flight at)
   own_there c p old wrote start flight at = absurd at
 
-  goes_on : (t : Trace T) → IsSet t → (p : ℕ) (start : Start T) (flight : Flight T) → call_in t.world p ≡ Some (start, flight) → CallGoesOn code K.kind capacity words set_effects t p flight
+  goes_on : (t : Trace T) → IsSet t → (p : ℕ) (start : Start T) (flight : Flight T)
+      → call_in t.world p ≡ Some (start, flight) → CallGoesOn code K.kind capacity words set_effects t p flight
   goes_on t r p start flight at =
       let s = sound t r in
       let here = stands t.world p start flight at in
@@ -130,7 +137,8 @@ module _ {T : Type 0} (K : SetKind T) (laws : (code : Coding T) (c : ℕ) → Se
         own = λ n. own_there t.world.capacity p n wrote here.x.start flight mine;
         writes = λ x n found. (
             let same : here.x ≡ x = (let both : Some here.x ≡ Some x = sym here.found ∙ found in cc) in
-            subst (λ (z : Party T). (step_in t.world p z flight n).wrote ≡ set_effects p flight n) same (writes_there t p n (K.At t.world.capacity wrote) t.world.kept here.x.start flight (s.fit.0) mine));
+            subst (λ (z : Party T). (step_in t.world p z flight n).wrote ≡ set_effects p flight n) same
+            (writes_there t p n (K.At t.world.capacity wrote) t.world.kept here.x.start flight (s.fit.0) mine));
         goes = λ x n found. (
             let same : here.x ≡ x = (let both : Some here.x ≡ Some x = sym here.found ∙ found in cc) in
             let orders = sets.orders K t.world.coding t.world.capacity (laws t.world.coding t.world.capacity) in
@@ -139,13 +147,19 @@ module _ {T : Type 0} (K : SetKind T) (laws : (code : Coding T) (c : ℕ) → Se
             ∙ as_told t.world.coding p n (K.At t.world.capacity wrote) t.world.kept here.x.start flight mine));
       }
 
-  pub sets_owe : ((going : Option (Start T × Flight T)) (late : List (Event T)) → IsLate K.kind going late → late ≡ []) → KindLaws code K.kind capacity words set_effects
+  pub sets_owe : ((going : Option (Start T × Flight T)) (late : List (Event T)) → IsLate K.kind going late → late ≡ [])
+      → KindLaws code K.kind capacity words set_effects
   sets_owe alone = record { size = size; goes_on = goes_on; alone = alone; stateless = λ t r. subst IsStateless (sym (sound t r).fit.0) tt }
 
   -- a call that may begin on a new set may begin at any time, as the party that the pass was last
-  pub set_starts : {C M E : Type 0} → (call : Calling T C M E) (base : View T) (c : C) (m : M) → base.capacity ≡ capacity → ((o : Option ℕ) (p : ℕ) → IfSome o (λ q. q ≡ p) → call.by o p)
-      → first_of K.kind capacity call.start ((opening_of K.kind).kept capacity) ≡ Some (call.flight c m) → ((p : ℕ) → first_row (begin_rows K.kind capacity ((opening_of K.kind).kept capacity) p call.start) ≡ None)
-      → (t : Trace T) (owner : ℕ → ℕ) (j : ℕ) → IsRun code K.kind base.capacity t → owner j ≡ j → IfSome base.party (λ p. owner p ≡ j) → ((f : Event T → ℕ) → sum_by f base.made ≡ sum_by (owned owner j f) t.events) → Starts code K.kind call base c m t owner j
+  pub set_starts : {C M E : Type 0} → (call : Calling T C M E) (base : View T) (c : C) (m : M)
+      → base.capacity ≡ capacity → ((o : Option ℕ) (p : ℕ) → IfSome o (λ q. q ≡ p) → call.by o p)
+      → first_of K.kind capacity call.start ((opening_of K.kind).kept capacity) ≡ Some (call.flight c m)
+      → ((p : ℕ) → first_row (begin_rows K.kind capacity ((opening_of K.kind).kept capacity) p call.start) ≡ None)
+      → (t : Trace T) (owner : ℕ → ℕ) (j : ℕ) → IsRun code K.kind base.capacity t → owner j ≡ j
+      → IfSome base.party (λ p. owner p ≡ j)
+      → ((f : Event T → ℕ) → sum_by f base.made ≡ sum_by (owned owner j f) t.events)
+      → Starts code K.kind call base c m t owner j
   set_starts {C} {M} {E} call base c m size by first may t owner j run self party sums =
       starts_by_last code K.kind call base c m t owner j by self party first_here may_here
     where
@@ -153,10 +167,15 @@ module _ {T : Type 0} (K : SetKind T) (laws : (code : Coding T) (c : ℕ) → Se
       kept = bare t (subst (λ n. IsRun code K.kind n t) size run)
 
       first_here : first_of K.kind base.capacity call.start t.world.kept ≡ Some (call.flight c m)
-      first_here = subst (λ n. first_of K.kind n call.start t.world.kept ≡ Some (call.flight c m)) (sym size) (subst (λ k. first_of K.kind capacity call.start k ≡ Some (call.flight c m)) (sym kept) first)
+      first_here =
+          subst (λ n. first_of K.kind n call.start t.world.kept ≡ Some (call.flight c m)) (sym size)
+          (subst (λ k. first_of K.kind capacity call.start k ≡ Some (call.flight c m)) (sym kept) first)
 
       may_here : (p : ℕ) → first_row (rows_as K.kind base.capacity t.world.kept p call.start) ≡ None
-      may_here p = rows_free K.kind base.capacity t.world.kept p call.start (subst (λ n. first_row (begin_rows K.kind n t.world.kept p call.start) ≡ None) (sym size) (subst (λ k. first_row (begin_rows K.kind capacity k p call.start) ≡ None) (sym kept) (may p)))
+      may_here p =
+          rows_free K.kind base.capacity t.world.kept p call.start
+          (subst (λ n. first_row (begin_rows K.kind n t.world.kept p call.start) ≡ None) (sym size)
+          (subst (λ k. first_row (begin_rows K.kind capacity k p call.start) ≡ None) (sym kept) (may p)))
 
 module _ {T : Type 0} (code : Coding T) (capacity : ℕ) where
   pub counts_owe : KindLaws code kinds.TheVariants.Counts capacity capacity set_effects
@@ -166,16 +185,31 @@ module _ {T : Type 0} (code : Coding T) (capacity : ℕ) where
   bits_owe = sets_owe bit_set bits_laws code capacity (1 + elements capacity) (λ c ws es turns same holds. holds.sized ∙ ap (λ n. 1 + elements n) same)
       (λ t h. h) (λ going late h. h)
 
-module _ {T C M E : Type 0} (code : Coding T) (call : Calling T C M E) (base : View T) (c : C) (m : M) (by : (o : Option ℕ) (p : ℕ) → IfSome o (λ q. q ≡ p) → call.by o p) where
+module _ {T C M E : Type 0} (code : Coding T) (call : Calling T C M E) (base : View T) (c : C) (m : M)
+    (by : (o : Option ℕ) (p : ℕ) → IfSome o (λ q. q ≡ p) → call.by o p) where
   abbrev StartsOn : Rattle.model.specs.declared.turn.Kind.Kind → Type 0
   StartsOn kind =
-      (t : Trace T) (owner : ℕ → ℕ) (j : ℕ) → IsRun code kind base.capacity t → owner j ≡ j → IfSome base.party (λ p. owner p ≡ j) → ((f : Event T → ℕ) → sum_by f base.made ≡ sum_by (owned owner j f) t.events) → Starts code kind call base c m t owner j
+      (t : Trace T) (owner : ℕ → ℕ) (j : ℕ) → IsRun code kind base.capacity t → owner j ≡ j
+      → IfSome base.party (λ p. owner p ≡ j)
+      → ((f : Event T → ℕ) → sum_by f base.made ≡ sum_by (owned owner j f) t.events)
+      → Starts code kind call base c m t owner j
 
-  pub counts_starts : first_of kinds.TheVariants.Counts base.capacity call.start ((opening_of kinds.TheVariants.Counts).kept base.capacity) ≡ Some (call.flight c m) → ((p : ℕ) → first_row (begin_rows kinds.TheVariants.Counts base.capacity ((opening_of kinds.TheVariants.Counts).kept base.capacity) p call.start) ≡ None) → StartsOn kinds.TheVariants.Counts
+  pub counts_starts : first_of kinds.TheVariants.Counts base.capacity call.start
+      ((opening_of kinds.TheVariants.Counts).kept base.capacity)
+      ≡ Some (call.flight c m)
+      → ((p : ℕ) → first_row
+      (begin_rows kinds.TheVariants.Counts base.capacity ((opening_of kinds.TheVariants.Counts).kept base.capacity) p call.start)
+      ≡ None)
+      → StartsOn kinds.TheVariants.Counts
   counts_starts first may = set_starts counting_set counts_laws code base.capacity base.capacity (λ c ws es turns same holds. holds.sized ∙ same)
       (λ t h. h) call base c m refl by first may
 
-  pub bits_starts : first_of kinds.TheVariants.Bits base.capacity call.start ((opening_of kinds.TheVariants.Bits).kept base.capacity) ≡ Some (call.flight c m) → ((p : ℕ) → first_row (begin_rows kinds.TheVariants.Bits base.capacity ((opening_of kinds.TheVariants.Bits).kept base.capacity) p call.start) ≡ None) → StartsOn kinds.TheVariants.Bits
+  pub bits_starts : first_of kinds.TheVariants.Bits base.capacity call.start ((opening_of kinds.TheVariants.Bits).kept base.capacity)
+      ≡ Some (call.flight c m)
+      → ((p : ℕ)
+      → first_row (begin_rows kinds.TheVariants.Bits base.capacity ((opening_of kinds.TheVariants.Bits).kept base.capacity) p call.start)
+      ≡ None)
+      → StartsOn kinds.TheVariants.Bits
   bits_starts first may = set_starts bit_set bits_laws code base.capacity (1 + elements base.capacity)
       (λ c ws es turns same holds. holds.sized ∙ ap (λ n. 1 + elements n) same) (λ t h. h) call base c m refl by first may
 
@@ -188,8 +222,16 @@ module _ (capacity : ℕ) (small : capacity < 2 ^ 32) where
   least : nat_lt capacity 0 ≡ false
   least = grind (arith, nat_tests)
 
-  pub counts_open : (words : List ℕ) → words ≡ replicate (capacity + 1) 0 → IsMachine one_word kinds.TheVariants.Counts capacity (opening words [] (first_view capacity))
-  counts_open words same = opens one_word kinds.TheVariants.Counts capacity words (record { some = omega arith; few = omega arith; sized = λ x. refl; given_back = λ x. refl }) (rw (most, least) refl) (same ∙ one_more capacity)
+  pub counts_open : (words : List ℕ) → words ≡ replicate (capacity + 1) 0
+      → IsMachine one_word kinds.TheVariants.Counts capacity (opening words [] (first_view capacity))
+  counts_open words same =
+      opens one_word kinds.TheVariants.Counts capacity words
+      (record { some = omega arith; few = omega arith; sized = λ x. refl; given_back = λ x. refl })
+      (rw (most, least) refl) (same ∙ one_more capacity)
 
-  pub bits_open : (words : List ℕ) → words ≡ replicate (1 + elements capacity + 1) 0 → IsMachine one_word kinds.TheVariants.Bits capacity (opening words [] (first_view capacity))
-  bits_open words same = opens one_word kinds.TheVariants.Bits capacity words (record { some = omega arith; few = omega arith; sized = λ x. refl; given_back = λ x. refl }) (rw (most, least) refl) (same ∙ one_more (1 + elements capacity))
+  pub bits_open : (words : List ℕ) → words ≡ replicate (1 + elements capacity + 1) 0
+      → IsMachine one_word kinds.TheVariants.Bits capacity (opening words [] (first_view capacity))
+  bits_open words same =
+      opens one_word kinds.TheVariants.Bits capacity words
+      (record { some = omega arith; few = omega arith; sized = λ x. refl; given_back = λ x. refl })
+      (rw (most, least) refl) (same ∙ one_more (1 + elements capacity))

@@ -1,5 +1,6 @@
 -- A pass whose last call rests at a question takes a step: the machine is handed the answer first.
-use Rattle.std.proofs.Common.{true, false, ◌≡◌, inl, inr, ⊎_elim, ℕ, ◌+◌, ◌<◌, Option, Some, None, IfSome, List, [], ◌∷◌, ◌++◌, slice_index, slice_set, set-set, refl, sym, ap, subst, ◌∙◌, arith, sum_by}
+use Rattle.std.proofs.Common.{true, false, ◌≡◌, inl, inr, ⊎_elim, ℕ, ◌+◌, ◌<◌, Option, Some, None, IfSome, List, []}
+use Rattle.std.proofs.Common.{◌∷◌, ◌++◌, slice_index, slice_set, set-set, refl, sym, ap, subst, ◌∙◌, arith, sum_by}
 use Rattle.std.proofs.lemmas.List.Sums.{sum_by-append}
 use mathlib.Core.Option.{some, some-injective}
 use lib.ListN.{get_elem?}
@@ -29,7 +30,8 @@ use Rattle.history.specs.declared.view.View.{View}
 use Rattle.history.specs.Known.{events_by}
 use Rattle.history.specs.History.{IsRun, IsMachine, Fits, IsLate, call_in}
 use Rattle.history.specs.Settled.{IsResting, Settles, SettledFrom, Waits, AtWaiting, AtRested, EndsSettled, EndsRested}
-use Rattle.history.proofs.Known.{by_more, within, known_whole}
+use Rattle.history.proofs.Known.{by_more, within}
+use Rattle.history.proofs.AllSeen.{known_whole}
 use Rattle.history.proofs.Reached.{MayDecide, refusal_as, decide_as}
 use Rattle.history.proofs.Calls.{stands, flight_is}
 use Rattle.history.proofs.Turns.{KeptLaws, Between, at_first, heard, own_heard, decided, decided_at, made_between}
@@ -97,7 +99,9 @@ module _ {T : Type 0} (code : Coding T) (kind : Kind) (decides : MayDecide kind)
     table_settled = record { words = s.words; homes = s.homes; views = slice_set s.views id view_settled }
 
     between_then : Between code kind key r.owner s id h.party gained_then u_then
-    between_then = decided code kind key (size_of key) effects (laws key) r.owner s id h.party [] r.trace between h.start h.flight (Done h.answer) false there free comes
+    between_then =
+        decided code kind key (size_of key) effects (laws key) r.owner s id h.party [] r.trace between h.start h.flight
+        (Done h.answer) false there free comes
 
     pub machine_settled : IsMachine code kind key table_settled
     machine_settled = settle code kind key id h.party r.owner s.words s v gained_then u_then at h.some between_then
@@ -130,9 +134,11 @@ module _ {T : Type 0} (code : Coding T) (kind : Kind) (decides : MayDecide kind)
         of_seen : events_by h.party v.seen ++ events_by h.party here.late ≡ events_by h.party r.trace.events → events_by h.party here.seen.rest ≡ []
         of_seen e =
             same_rest (events_by h.party v.seen) (events_by h.party here.seen.rest) []
-            (sym (by_more h.party v.seen here.seen.rest) ∙ (sym (ap (events_by h.party) here.seen.is) ∙ (sym e ∙ ap (λ zs. events_by h.party v.seen ++ events_by h.party zs) none)))
+            (sym (by_more h.party v.seen here.seen.rest)
+            ∙ (sym (ap (events_by h.party) here.seen.is) ∙ (sym e ∙ ap (λ zs. events_by h.party v.seen ++ events_by h.party zs) none)))
 
-        of_other : (call_in r.trace.world h.party ≡ None) × (events_by h.party v.other ≡ events_by h.party r.trace.events) → events_by h.party here.seen.rest ≡ []
+        of_other : (call_in r.trace.world h.party ≡ None) × (events_by h.party v.other ≡ events_by h.party r.trace.events)
+            → events_by h.party here.seen.rest ≡ []
         of_other x = (let no : ◌≡◌ {A = Option (Start T × Flight T)} None (Some (h.start, h.flight)) = sym x.0 ∙ there in absurd (cc))
 
     -- who has the whole has seen all
@@ -153,7 +159,9 @@ module _ {T : Type 0} (code : Coding T) (kind : Kind) (decides : MayDecide kind)
           party = sym h.mine;
           share = refl;
           state = state_stays;
-          idle = decided_at code kind key (size_of key) effects (laws key) r.owner s id h.party [] r.trace between h.start h.flight (Done h.answer) false there free comes;
+          idle =
+              decided_at code kind key (size_of key) effects (laws key) r.owner s id h.party [] r.trace between h.start
+              h.flight (Done h.answer) false there free comes;
           fresh = refl;
           others = here.seen.rest;
           seen = ap (λ zs. r.trace.events ++ zs) told_end ∙ ap (λ zs. zs ++ end) here.seen.is;
@@ -285,7 +293,8 @@ module _ {T : Type 0} (code : Coding T) (kind : Kind) (decides : MayDecide kind)
       )
 
     -- each step of a call that comes after one that rests keeps the rule
-    pub keeps_waiting : KeepsRule (λ (z : View T). z.capacity) Rested RestedOver (λ key. size_of key + 1) (λ key. key) (λ key. IsMachine code kind key) want after kept
+    pub keeps_waiting : KeepsRule (λ (z : View T). z.capacity) Rested RestedOver (λ key. size_of key + 1)
+        (λ key. key) (λ key. IsMachine code kind key) want after kept
     keeps_waiting base₀ v c m key words slots id wide known (inl x) =
         begun_keeps x.from v c m key words slots id x.stage (want c) (keeps x.from v c m key words slots id wide known x.stage)
     keeps_waiting base₀ v c m key words slots id wide known (inr waits) =
@@ -309,7 +318,8 @@ module _ {T : Type 0} (code : Coding T) (kind : Kind) (decides : MayDecide kind)
       (Begins : ℕ → C → M → Type 0) (asks : (capacity : ℕ) (c : C) (m : M) → Begins capacity c m → AsksFor (size_of capacity) (want c))
       (first : (v : View T) (c : C) (m : M) → Begins v.capacity c m → v.going ≡ None → v.other ≡ [] → 0 < v.share.part → Stage v v c m)
       (apart : (base v : View T) (c : C) (m : M) → IsResting code v → Begins v.capacity c m → Stage base v c m → ⊥) where
-    pub keeps_rested : KeepsRule (λ (z : View T). z.capacity) (AtRested code kind Begins Stage Over) (EndsRested code kind Begins Stage Over) (λ key. size_of key + 1)
+    pub keeps_rested : KeepsRule (λ (z : View T). z.capacity) (AtRested code kind Begins Stage Over)
+        (EndsRested code kind Begins Stage Over) (λ key. size_of key + 1)
         (λ key. key) (λ key. IsMachine code kind key) want after kept
     keeps_rested =
         keeps_waiting want after kept Stage Over keeps (λ v. Begins v.capacity) (λ v. asks v.capacity)

@@ -11,7 +11,8 @@ use Rattle.history.specs.declared.view.View.{View}
 use Rattle.history.specs.History.{IsMachine}
 use Rattle.history.specs.Stages.{Calling, At, Ends}
 
-module _ {T C M E : Type 0} (code : Coding T) (kind : Kind) (size_of : ℕ → ℕ) (want : C → Want (Unit {0})) (after : C → ℕ → After C E) (kept : C → M → ℕ → M) (call : ℕ → Calling T C M E) where
+module _ {T C M E : Type 0} (code : Coding T) (kind : Kind) (size_of : ℕ → ℕ) (want : C → Want (Unit {0}))
+    (after : C → ℕ → After C E) (kept : C → M → ℕ → M) (call : ℕ → Calling T C M E) where
   abbrev pub AtSized : View T → View T → C → M → Type 0
   AtSized base v c m = At code kind (call base.capacity) base v c m
 
@@ -22,11 +23,15 @@ module _ {T C M E : Type 0} (code : Coding T) (kind : Kind) (size_of : ℕ → �
   one_size n base v c m (inl first) = ap (λ (z : View T). z.capacity) first.is
   one_size n base v c m (inr under) = under.capacity
 
-  sized_next : (n : ℕ) (base w : View T) (r : After C E) (m : M) → base.capacity ≡ n → NextKnown (λ (z : View T). z.capacity) (At code kind (call n)) (Ends code kind (call n)) base r m w → NextKnown (λ (z : View T). z.capacity) AtSized EndsSized base r m w
+  sized_next : (n : ℕ) (base w : View T) (r : After C E) (m : M) → base.capacity ≡ n
+      → NextKnown (λ (z : View T). z.capacity) (At code kind (call n)) (Ends code kind (call n)) base r m w
+      → NextKnown (λ (z : View T). z.capacity) AtSized EndsSized base r m w
   sized_next n base w (GoOn d) m same h = subst (λ k. At code kind (call k) base w d m) (sym same) h
   sized_next n base w (Done e) m same h = subst (λ k. Ends code kind (call k) base e m w) (sym same) h
 
-  told_sized : (base : View T) (c : C) (m : M) (x : View T) (n : ℕ) (w : View T) → x.capacity ≡ base.capacity → Told (λ (z : View T). z.capacity) (At code kind (call base.capacity)) (Ends code kind (call base.capacity)) after kept c m x n w → Told (λ (z : View T). z.capacity) AtSized EndsSized after kept c m x n w
+  told_sized : (base : View T) (c : C) (m : M) (x : View T) (n : ℕ) (w : View T) → x.capacity ≡ base.capacity
+      → Told (λ (z : View T). z.capacity) (At code kind (call base.capacity)) (Ends code kind (call base.capacity)) after kept c m x n w
+      → Told (λ (z : View T). z.capacity) AtSized EndsSized after kept c m x n w
   told_sized base c m x n w same h = (
     h.0,
     λ other stage. (
@@ -34,13 +39,21 @@ module _ {T C M E : Type 0} (code : Coding T) (kind : Kind) (size_of : ℕ → �
         sized_next base.capacity other w (after c n) (kept c m n) size (h.1 other (subst (λ k. At code kind (call k) other x c m) size stage))),
   )
 
-  pub keeps_sized : ((n : ℕ) → KeepsRule (λ (z : View T). z.capacity) (At code kind (call n)) (Ends code kind (call n)) (λ key. size_of key + 1) (λ key. key) (λ key. IsMachine code kind key) want after kept) → KeepsRule (λ (z : View T). z.capacity) AtSized EndsSized (λ key. size_of key + 1) (λ key. key) (λ key. IsMachine code kind key) want after kept
+  pub keeps_sized : ((n : ℕ)
+      → KeepsRule (λ (z : View T). z.capacity) (At code kind (call n)) (Ends code kind (call n))
+      (λ key. size_of key + 1) (λ key. key) (λ key. IsMachine code kind key) want after kept)
+      → KeepsRule (λ (z : View T). z.capacity) AtSized EndsSized (λ key. size_of key + 1) (λ key. key)
+      (λ key. IsMachine code kind key) want after kept
   keeps_sized keeps_for base v c m key words slots id wide known at₀ = go (want c) (keeps_for base.capacity base v c m key words slots id wide known at₀)
     where
       same : v.capacity ≡ base.capacity
       same = one_size base.capacity base v c m at₀
 
-      go : (w : Want (Unit {0})) → Owes (IsMachine code kind key) words slots id (Told (λ (z : View T). z.capacity) (At code kind (call base.capacity)) (Ends code kind (call base.capacity)) after kept c m) w (v, []) → Owes (IsMachine code kind key) words slots id (Told (λ (z : View T). z.capacity) AtSized EndsSized after kept c m) w (v, [])
+      go : (w : Want (Unit {0}))
+          → Owes (IsMachine code kind key) words slots id
+          (Told (λ (z : View T). z.capacity) (At code kind (call base.capacity)) (Ends code kind (call base.capacity)) after kept c m)
+          w (v, [])
+          → Owes (IsMachine code kind key) words slots id (Told (λ (z : View T). z.capacity) AtSized EndsSized after kept c m) w (v, [])
       go (wants.Ask a) h = (h.0, λ s r long at small. (let x = h.1 s r long at small in (x.0, x.1, x.2, x.3, (told_sized base c m v _ x.0 same x.4.0, x.4.1))))
       go (wants.Question q) h = told_sized base c m v 0 v same h
       go wants.Nothing h = told_sized base c m v 0 v same h

@@ -1,5 +1,6 @@
 -- That a look of a state is a call of the model: a get_state, and an update_state of the state that the pass's party has.
-use Rattle.std.proofs.Common.{◌≡◌, inl, inr, ℕ, zero, suc, ◌+◌, ◌<◌, Bool, true, false, Option, Some, None, IfSome, List, [], ◌++◌, slice_index, slice_set, append-nil, refl, sym, ap, subst, ◌∙◌, arith}
+use Rattle.std.proofs.Common.{◌≡◌, inl, inr, ℕ, zero, suc, ◌+◌, ◌<◌, Bool, true, false, Option, Some, None, IfSome}
+use Rattle.std.proofs.Common.{List, [], ◌++◌, slice_index, slice_set, append-nil, refl, sym, ap, subst, ◌∙◌, arith}
 use mathlib.Core.Option.{some}
 use lib.ListN.{get_elem?}
 use Rattle.atomic_table.specs.Table.{State}
@@ -46,9 +47,12 @@ use Rattle.history.specs.Known.{events_by}
 use Rattle.history.specs.Stages.{Calling, At}
 use Rattle.history.proofs.Calls.{stands, no_flight}
 use Rattle.history.proofs.CallsIn.{AsksFor, goes}
-use Rattle.history.proofs.CallTurns.{same_capacity, some_share, still_stands, Ready, ready, then_trace, then_gained, next_between, comes_now, kept_now, view_then, goes_then, ends_then}
+use Rattle.history.proofs.CallTurns.{then_trace, then_gained}
+use Rattle.history.proofs.CallReady.{same_capacity, some_share, still_stands, Ready, ready}
+use Rattle.history.proofs.CallTurns.{next_between, comes_now, kept_now, view_then, goes_then, ends_then}
 use Rattle.history.proofs.ContainerLooks.{look_words, look_found, LookGoes, looks_so, look_goes_so, look_keeps_so, look_writes_so}
-use Rattle.history.proofs.Containers.{container_effects, effects_of_party, container_words, containers_owe, kept_there, container_first, container_starts, is_open_container}
+use Rattle.history.proofs.Containers.{container_effects, effects_of_party, container_words, containers_owe, kept_there}
+use Rattle.history.proofs.Containers.{container_first, container_starts, is_open_container}
 use Rattle.history.proofs.Known.{by_mine}
 use Rattle.history.proofs.Steps.{settle}
 
@@ -137,7 +141,8 @@ module _ {T : Type 0} (code : Coding T) (law : IsCoding code) (which : LookOf) (
     view_now = view_then code kinds.Container container_effects (container_words code) (containers_owe code) call s v key id c m at known y (Some ask) low
         wants_it tt
 
-    comes : comes_now code kinds.Container container_effects (container_words code) (containers_owe code) call s v key id c m at known y (Some ask) low wants_it tt
+    comes : comes_now code kinds.Container container_effects (container_words code) (containers_owe code) call s v
+        key id c m at known y (Some ask) low wants_it tt
         ≡ goes call (after c n) now
     comes = look_goes_so code which cells seen y.p c m n y.u.world.kept has
 
@@ -168,11 +173,13 @@ module _ {T : Type 0} (code : Coding T) (law : IsCoding code) (which : LookOf) (
         then_trace code kinds.Container container_effects (container_words code) (containers_owe code) call s v key id c m at known y (Some ask) low wants_it tt
         in
         let run =
-        (next_between code kinds.Container container_effects (container_words code) (containers_owe code) call s v key id c m at known y (Some ask) low wants_it tt).run
+        (next_between code kinds.Container container_effects (container_words code) (containers_owe code) call s v
+        key id c m at known y (Some ask) low wants_it tt).run
         in
         let still : is_looking (flight_in u.world y.p) ≡ false = ap is_looking (no_flight u.world y.p idle) in
         let copied : WasCopied y.p i value u.events =
-        (is_open_container code key u run).states y.p i left value still state_then (ap (λ (z : Showing T). shown_at z.elements i) (left_shows (after c n)) ∙ shown)
+        (is_open_container code key u run).states y.p i left value still state_then
+        (ap (λ (z : Showing T). shown_at z.elements i) (left_shows (after c n)) ∙ shown)
         in
         let same : y.p ≡ p = cc in
         subst (λ q. WasCopied q i value u.events) same copied
@@ -195,7 +202,8 @@ module _ {T : Type 0} (code : Coding T) (law : IsCoding code) (which : LookOf) (
         let standing = still_stands code kinds.Container container_effects (container_words code) (containers_owe code) call base v c m there in (
           stage.0,
           inr (
-            goes_then code kinds.Container container_effects (container_words code) (containers_owe code) call s v key id c m at known y (Some ask) low wants_it tt
+            goes_then code kinds.Container container_effects (container_words code) (containers_owe code) call s v
+                key id c m at known y (Some ask) low wants_it tt
                 base there d now (comes ∙ ap (λ a. goes call a now) e) (goes_so base.capacity y.p c m n [] (GoOn d) standing (none_looked y.p c.stage) e).0
                 (λ k. refl)
                 (λ es late h waits met new. subst (λ zs. LookedAt y.p d.stage zs) (sym (its_own es late waits))
@@ -235,7 +243,9 @@ module _ {T : Type 0} (code : Coding T) (law : IsCoding code) (which : LookOf) (
       let ask = asked.0 in
       let low = asked.1 in
       let below : ask.word < words = omega arith in
-      subst (λ w. Owes (IsMachine code kinds.Container key) words slots id (Told (λ (z : View T). z.capacity) Stage Over after kept c m) w (v, [])) (sym asked.2) (
+      subst (λ w. Owes (IsMachine code kinds.Container key) words slots id
+      (Told (λ (z : View T). z.capacity) Stage Over after kept c m) w (v, []))
+      (sym asked.2) (
         below,
         λ s r long at small. (
             let y = ready code kinds.Container container_effects (container_words code) (containers_owe code) call s v key id c m r at known base₀ there₀ in
@@ -248,7 +258,8 @@ module _ {T : Type 0} (code : Coding T) (law : IsCoding code) (which : LookOf) (
                   asked.2 tt)
                   (after_turn y.u (Next y.p)) at
                   (some_share code kinds.Container container_effects (container_words code) (containers_owe code) call base₀ v c m there₀)
-                  (next_between code kinds.Container container_effects (container_words code) (containers_owe code) call s v key id c m at known y (Some ask) low
+                  (next_between code kinds.Container container_effects (container_words code) (containers_owe code)
+                  call s v key id c m at known y (Some ask) low
                   asked.2 tt),
               (told s v key id c m at known y ask low asked.2 has, refl),
             )),
@@ -267,7 +278,8 @@ module _ {T : Type 0} (code : Coding T) (law : IsCoding code) (which : LookOf) (
           let b = y.began idle in
           let k = kept_there code key b.t b.run in
           let cells_are : cells ≡ key = sym size ∙ same in
-          subst (λ z. HasState z y.p (state_of_look cells seen m)) (sym (b.kept ∙ ap (λ z. kept_after_begin code z call.start y.p b.t.world.kept) (sym cells_are)))
+          subst (λ z. HasState z y.p (state_of_look cells seen m))
+          (sym (b.kept ∙ ap (λ z. kept_after_begin code z call.start y.p b.t.world.kept) (sym cells_are)))
           (begins_with which y.p base₀ m b.t.world.kept k.0 k.1 k.2
           (subst (λ (z : View T). z.party ≡ Some y.p → state_in b.t.world.kept y.p ≡ z.state) h.0.is b.stated)
           (y.by base₀ (inl h.0)) h.1)
@@ -280,7 +292,8 @@ module _ {T : Type 0} (code : Coding T) (law : IsCoding code) (which : LookOf) (
     look_named which_looks.GetState = refl
     look_named which_looks.UpdateState = refl
 
-    look_flies : (w : LookOf) (capacity : ℕ) → flights.Container (first_call capacity (look_start w)) ≡ (looking code w cells seen).flight (first_look capacity) m
+    look_flies : (w : LookOf) (capacity : ℕ)
+        → flights.Container (first_call capacity (look_start w)) ≡ (looking code w cells seen).flight (first_look capacity) m
     look_flies which_looks.GetState capacity = refl
     look_flies which_looks.UpdateState capacity = refl
 

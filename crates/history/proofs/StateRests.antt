@@ -82,8 +82,10 @@ module _ {T : Type 0} (code : Coding T) (law : IsCoding code) (which : LookOf) (
 
   pub state_rests_keep : Keeps code (RestedLooks code which cells seen) (RestedLooked code which cells seen) want after kept
   state_rests_keep =
-      keeps_waiting code kinds.Container tt container_effects (container_words code) (containers_owe code) (never_late code) (ends_quiet code) want after kept Stage Over
-      (state_looks_keep code law which cells seen) Begins asks stays first (λ base v c m h begins stage. apart_at base v c m h (plain code law which cells seen base v c m stage))
+      keeps_waiting code kinds.Container tt container_effects (container_words code) (containers_owe code)
+      (never_late code) (ends_quiet code) want after kept Stage Over
+      (state_looks_keep code law which cells seen) Begins asks stays first
+      (λ base v c m h begins stage. apart_at base v c m h (plain code law which cells seen base v c m stage))
 
   -- it may begin on a pass with no call under way, or with one that rests
   pub state_rests_idle : (v : View T) (c : Looking T) (m : Showing T) → Begins v c m → v.going ≡ None → v.other ≡ [] → 0 < v.share.part

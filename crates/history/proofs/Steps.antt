@@ -1,5 +1,6 @@
 -- A step of a seat's call, its begin with the first one, is allowed by the rule of a table that is a machine.
-use Rattle.std.proofs.Common.{◌≡◌, ◌≢◌, inl, ⊎_elim, ℕ, ◌<◌, ◌≤◌, List, [], ◌++◌, length, slice_set, refl, sym, ap, subst, append-nil, arith, length-set, Some, ◌∙◌}
+use Rattle.std.proofs.Common.{◌≡◌, ◌≢◌, inl, ⊎_elim, ℕ, ◌<◌, ◌≤◌, List, [], ◌++◌, length, slice_set, refl, sym, ap}
+use Rattle.std.proofs.Common.{subst, append-nil, arith, length-set, Some, ◌∙◌}
 use Rattle.std.proofs.lemmas.List.Sums.{sum_by-append}
 use mathlib.Core.Option.{some}
 use lib.ListN.{get_elem?}
@@ -13,14 +14,24 @@ use Rattle.model.specs.World.{Trace}
 use Rattle.history.specs.declared.view.View.{View}
 use Rattle.history.specs.History.{IsBeginning, IsMachine, Fits, call_in}
 use Rattle.history.specs.Known.{events_by}
-use Rattle.history.proofs.Known.{within, known_step, none_late}
+use Rattle.history.proofs.Known.{within, none_late}
+use Rattle.history.proofs.AllSeen.{known_step}
 use Rattle.history.proofs.Turns.{Between}
 
 module _ {T : Type 0} (code : Coding T) (kind : Kind) (capacity id p : ℕ) where
   -- what the seat knows afterwards, as this party
   abbrev pub view_after : View T → List (Event T) → Trace T → View T
   view_after v gained u =
-      record { capacity = v.capacity; party = Some p; share = v.share; seen = u.events; other = []; made = v.made ++ gained; going = call_in u.world p; state = state_in u.world.kept p }
+      record {
+        capacity = v.capacity;
+        party = Some p;
+        share = v.share;
+        seen = u.events;
+        other = [];
+        made = v.made ++ gained;
+        going = call_in u.world p;
+        state = state_in u.world.kept p;
+      }
 
   pub whole : (u : Trace T) → IsBeginning u.events u.events
   whole u = record { rest = []; is = sym (append-nil u.events) }
@@ -29,7 +40,9 @@ module _ {T : Type 0} (code : Coding T) (kind : Kind) (capacity id p : ℕ) wher
   none_seen events = record { rest = events; is = refl }
 
   -- the rule, where the seat stands so in it
-  pub settle : (owner : ℕ → ℕ) (words : List ℕ) (s : State (Unit {0}) (View T)) (v : View T) (gained : List (Event T)) (u : Trace T) → get_elem? s.views id ≡ some v → 0 < v.share.part → Between code kind capacity owner (record { words = words; homes = s.homes; views = s.views }) id p gained u
+  pub settle : (owner : ℕ → ℕ) (words : List ℕ) (s : State (Unit {0}) (View T)) (v : View T) (gained : List (Event T)) (u : Trace T)
+      → get_elem? s.views id ≡ some v → 0 < v.share.part
+      → Between code kind capacity owner (record { words = words; homes = s.homes; views = s.views }) id p gained u
       → IsMachine code kind capacity (record { words = words; homes = s.homes; views = slice_set s.views id (view_after v gained u) })
   settle owner words s v gained u at some_share b =
       record {
@@ -37,7 +50,10 @@ module _ {T : Type 0} (code : Coding T) (kind : Kind) (capacity id p : ℕ) wher
         run = b.run;
         words = b.words;
         owner = owner;
-        seats = λ j x found. ⊎_elim (λ (e : (j ≡ id) × (view_after v gained u ≡ x)). mine j x e.0 e.1) (λ (e : (j ≢ id) × (get_elem? s.views j ≡ some x)). b.others j x e.0 e.1) (at_set s.views id j (view_after v gained u) x found);
+        seats =
+            λ j x found. ⊎_elim (λ (e : (j ≡ id) × (view_after v gained u ≡ x)). mine j x e.0 e.1)
+            (λ (e : (j ≢ id) × (get_elem? s.views j ≡ some x)). b.others j x e.0 e.1)
+            (at_set s.views id j (view_after v gained u) x found);
         inside = λ q low. (let long = length-set s.views id (view_after v gained u) in let h = b.inside q (omega arith) in omega arith);
         fresh = λ q past. (let long = length-set s.views id (view_after v gained u) in b.fresh q (omega arith));
         further = λ j past. b.further j (λ e. absurd (none j past e)) (beyond j past);

@@ -1,5 +1,6 @@
 -- What a seat knows stays where another party takes a turn.
-use Rattle.std.proofs.Common.{◌≡◌, ◌≢◌, inl, inr, ℕ, ⊎_elim, Option, Some, None, IfSome, List, [], ◌++◌, refl, sym, ap, subst, ◌∙◌, append_assoc, append-nil, arith, sum_by}
+use Rattle.std.proofs.Common.{◌≡◌, ◌≢◌, inl, inr, ℕ, ⊎_elim, Option, Some, None, IfSome, List, [], ◌++◌, refl, sym, ap}
+use Rattle.std.proofs.Common.{subst, ◌∙◌, append_assoc, append-nil, arith, sum_by}
 use Rattle.std.proofs.lemmas.Bool.{cases_eq}
 use Rattle.std.proofs.lemmas.List.Sums.{sum_by-append}
 use Rattle.model.specs.declared.event.Event.{Event}
@@ -18,8 +19,11 @@ module _ {T : Type 0} where
   -- ---- what another writes for a seat's call
 
   -- a turn of another party keeps what a seat knows: where it writes for the seat's call, the seat has still to see it
-  module _ (kind : Kind) (owner : ℕ → ℕ) (u w : Trace T) (es : List (Event T)) (j : ℕ) (v : View T) (f : Fits owner u j v) (same : u.world.kind ≡ kind) (same' : w.world.kind ≡ kind) (more : w.events ≡ u.events ++ es)
-      (beside : (q : ℕ) → owner q ≡ j → IsLate kind (call_in u.world q) (events_by q es)) (apart : (q : ℕ) → owner q ≡ j → call_in w.world q ≡ call_in u.world q)
+  module _ (kind : Kind) (owner : ℕ → ℕ) (u w : Trace T) (es : List (Event T)) (j : ℕ) (v : View T)
+      (f : Fits owner u j v) (same : u.world.kind ≡ kind) (same' : w.world.kind ≡ kind)
+      (more : w.events ≡ u.events ++ es)
+      (beside : (q : ℕ) → owner q ≡ j → IsLate kind (call_in u.world q) (events_by q es))
+      (apart : (q : ℕ) → owner q ≡ j → call_in w.world q ≡ call_in u.world q)
       (held : (q : ℕ) → owner q ≡ j → state_in w.world.kept q ≡ state_in u.world.kept q) where
     -- a party with no call under way has nothing written for it
     quiet : (q : ℕ) → owner q ≡ j → call_in u.world q ≡ None → events_by q es ≡ []
@@ -32,7 +36,8 @@ module _ {T : Type 0} where
     waits_on None is = subst (λ zs. IsLate kind v.going zs) (sym (append-nil f.late)) (subst (λ k. IsLate k v.going f.late) same f.waits)
     waits_on (Some q) is =
         let of_j : owner q ≡ j = subst (λ (o : Option ℕ). IfSome o (λ p. owner p ≡ j)) is f.party in
-        late_more kind v.going f.late (events_by q es) (subst (λ k. IsLate k v.going f.late) same f.waits) (subst (λ o. IsLate kind o (events_by q es)) (f.going q of_j is) (beside q of_j))
+        late_more kind v.going f.late (events_by q es) (subst (λ k. IsLate k v.going f.late) same f.waits)
+        (subst (λ o. IsLate kind o (events_by q es)) (f.going q of_j is) (beside q of_j))
 
     of_party_on : (o : Option ℕ) → v.party ≡ o → by_party o (f.late ++ by_party o es) ≡ f.late ++ by_party o es
     of_party_on None is = (let none : [] ≡ f.late = subst (λ (o : Option ℕ). by_party o f.late ≡ f.late) is f.of_party in none ∙ sym (append-nil f.late))
@@ -43,12 +48,16 @@ module _ {T : Type 0} where
     -- of one of its parties it is late by just what the turn wrote for it
     late_is : (o : Option ℕ) → v.party ≡ o → (q : ℕ) → owner q ≡ j → events_by q (by_party o es) ≡ events_by q es
     late_is None is q of_j = sym (quiet_else None is q of_j (λ e. absurd (cc)))
-    late_is (Some r) is q of_j = ⊎_elim (λ (e : q ≡ r). subst (λ z. events_by z (events_by r es) ≡ events_by z es) (sym e) (by_twice r es)) (λ (ne : q ≢ r). by_apart r q es ne ∙ sym (quiet_else (Some r) is q of_j (λ e. (let is_q : r ≡ q = cc in ne (sym is_q))))) (cases_eq q r)
+    late_is (Some r) is q of_j =
+        ⊎_elim (λ (e : q ≡ r). subst (λ z. events_by z (events_by r es) ≡ events_by z es) (sym e) (by_twice r es))
+        (λ (ne : q ≢ r). by_apart r q es ne ∙ sym (quiet_else (Some r) is q of_j (λ e. (let is_q : r ≡ q = cc in ne (sym is_q)))))
+        (cases_eq q r)
 
     own_on : (o : Option ℕ) → v.party ≡ o → (q : ℕ) → owner q ≡ j → HasSeenOf q v f.late u → HasSeenOf q v (f.late ++ by_party o es) w
     own_on o is q of_j (inl e) =
         inl (ap (λ zs. events_by q v.seen ++ zs) (by_more q f.late (by_party o es) ∙ ap (λ zs. events_by q f.late ++ zs) (late_is o is q of_j))
-        ∙ (sym (append_assoc (events_by q v.seen) (events_by q f.late) (events_by q es)) ∙ (ap (λ zs. zs ++ events_by q es) e ∙ (sym (by_more q u.events es) ∙ ap (events_by q) (sym more)))))
+        ∙ (sym (append_assoc (events_by q v.seen) (events_by q f.late) (events_by q es))
+        ∙ (ap (λ zs. zs ++ events_by q es) e ∙ (sym (by_more q u.events es) ∙ ap (events_by q) (sym more)))))
     own_on o is q of_j (inr h) = inr (apart q of_j ∙ h.0, h.1 ∙ (sym (by_same q u.events es (quiet q of_j h.0)) ∙ ap (events_by q) (sym more)))
 
     sums_on : (o : Option ℕ) → v.party ≡ o → (g : Event T → ℕ) → sum_by g (by_party o es) ≡ sum_by (owned owner j g) es

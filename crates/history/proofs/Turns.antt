@@ -1,5 +1,6 @@
 -- What a begin and a step of a reached machine leave, where a table stands at its words.
-use Rattle.std.proofs.Common.{Bool, false, ◌≡◌, ◌≢◌, ℕ, ◌+◌, ◌<◌, ◌≤◌, Option, Some, None, IfSome, List, [], ◌∷◌, ◌++◌, length, slice_index, slice_set, refl, sym, ap, subst, ◌∙◌, arith, sum_by}
+use Rattle.std.proofs.Common.{Bool, false, ◌≡◌, ◌≢◌, ℕ, ◌+◌, ◌<◌, ◌≤◌, Option, Some, None, IfSome, List, [], ◌∷◌, ◌++◌}
+use Rattle.std.proofs.Common.{length, slice_index, slice_set, refl, sym, ap, subst, ◌∙◌, arith, sum_by}
 use Rattle.std.proofs.lemmas.List.Sums.{sum_by-append}
 use mathlib.Core.Option.{some}
 use lib.ListN.{get_elem?}
@@ -39,10 +40,13 @@ use Rattle.history.specs.declared.view.View.{View}
 use Rattle.history.specs.Known.{events_by, owned, of_none}
 use Rattle.history.specs.History.{IsRun, IsMachine, Fits, call_in, IsLate}
 use Rattle.history.specs.Stages.{rows_as}
-use Rattle.history.proofs.Known.{by_more, by_same, by_other, by_mine, owned_one, owned_whole, late_none, none_late, AreOf, sum_first}
+use Rattle.history.proofs.Known.{by_more, by_same, by_other, by_mine, owned_one, late_none, none_late, AreOf, sum_first}
+use Rattle.history.proofs.AllSeen.{owned_whole}
 use Rattle.history.proofs.Reached.{refusal_as, begin_as, next_as, reached_as_more, fresh_as_more}
 use Rattle.history.proofs.StillFits.{still_fits}
-use Rattle.history.proofs.Calls.{IsStateless, goes_alike, stateless_none, look_begin, look_next, stands, flight_is, no_flight, next_other, begin_other, decision_other, begin_own, begin_kept, next_kept, call_then, moved, heard_going, heard_events, get_left, set_left, Moved}
+use Rattle.history.proofs.Calls.{IsStateless, goes_alike, stateless_none, look_begin, look_next, stands, flight_is}
+use Rattle.history.proofs.Calls.{no_flight, next_other, begin_other, decision_other, begin_own, begin_kept, next_kept}
+use Rattle.history.proofs.Calls.{call_then, moved, heard_going, heard_events, get_left, set_left, Moved}
 
 -- what is wanted, where it is a word or nothing
 abbrev pub want_for : Option Ask → Want (Unit {0})
@@ -80,12 +84,14 @@ module _ {T : Type 0} where
       pub writes : (x : Party T) (n : ℕ) → party_of p t.world.latest ≡ Some x → (step_in t.world p x flight n).wrote ≡ effects t.world p flight n
       pub someone : (n : ℕ) → sum_by (λ e. of_none (whose e)) (effects t.world p flight n) ≡ 0
       pub beside : (n q : ℕ) → q ≢ p → IsLate kind (call_in t.world q) (events_by q (effects t.world p flight n))
-      pub goes : (x : Party T) (n : ℕ) → party_of p t.world.latest ≡ Some x → (step_in t.world p x flight n).after ≡ goes_of t.world.coding p flight n t.world.kept
+      pub goes : (x : Party T) (n : ℕ) → party_of p t.world.latest ≡ Some x
+          → (step_in t.world p x flight n).after ≡ goes_of t.world.coding p flight n t.world.kept
 
     -- of a kind whose calls may go on by what is kept
     pub record KeptLaws : Type 0 where
       pub size : (t : Trace T) → IsRun code kind capacity t → length t.world.words ≡ words
-      pub steps_on : (t : Trace T) → IsRun code kind capacity t → (p : ℕ) (start : Start T) (flight : Flight T) → call_in t.world p ≡ Some (start, flight) → StepsOn t p flight
+      pub steps_on : (t : Trace T) → IsRun code kind capacity t → (p : ℕ) (start : Start T) (flight : Flight T)
+          → call_in t.world p ≡ Some (start, flight) → StepsOn t p flight
       -- a turn that is no look of a party leaves its state
       pub states : (t : Trace T) (turn : Turn T) → IsRun code kind capacity t → IsRun code kind capacity (after_turn t turn)
           → refusal_as kind t.world turn ≡ None → (q : ℕ) → is_look_of t.world q turn ≡ false
@@ -94,7 +100,8 @@ module _ {T : Type 0} where
     -- of one whose calls do not
     pub record MachineLaws : Type 0 where
       pub size : (t : Trace T) → IsRun code kind capacity t → length t.world.words ≡ words
-      pub steps_on : (t : Trace T) → IsRun code kind capacity t → (p : ℕ) (start : Start T) (flight : Flight T) → call_in t.world p ≡ Some (start, flight) → StepsOn t p flight
+      pub steps_on : (t : Trace T) → IsRun code kind capacity t → (p : ℕ) (start : Start T) (flight : Flight T)
+          → call_in t.world p ≡ Some (start, flight) → StepsOn t p flight
       pub stateless : (t : Trace T) → IsRun code kind capacity t → IsStateless t.world.kept
 
     pub kept_laws : MachineLaws → KeptLaws
@@ -121,7 +128,8 @@ module _ {T : Type 0} where
 
     pub record KindLaws : Type 0 where
       pub size : (t : Trace T) → IsRun code kind capacity t → length t.world.words ≡ words
-      pub goes_on : (t : Trace T) → IsRun code kind capacity t → (p : ℕ) (start : Start T) (flight : Flight T) → call_in t.world p ≡ Some (start, flight) → CallGoesOn t p flight
+      pub goes_on : (t : Trace T) → IsRun code kind capacity t → (p : ℕ) (start : Start T) (flight : Flight T)
+          → call_in t.world p ≡ Some (start, flight) → CallGoesOn t p flight
       pub alone : (going : Option (Start T × Flight T)) (late : List (Event T)) → IsLate kind going late → late ≡ []
       pub stateless : (t : Trace T) → IsRun code kind capacity t → IsStateless t.world.kept
 
@@ -164,8 +172,11 @@ module _ {T : Type 0} where
       pub spent : (j : ℕ) (v : View T) → get_elem? s.views j ≡ some v → v.share.part ≡ 0 → (v.made ≡ []) × (v.going ≡ None)
 
     -- what the seat had still to see is gained
-    pub at_first : (s : State (Unit {0}) (View T)) (id p : ℕ) (m : IsMachine code kind capacity s) (gained : List (Event T)) → m.owner p ≡ id → m.owner id ≡ id → ((q : ℕ) → m.owner q ≡ id → q ≢ p → call_in m.trace.world q ≡ None)
-        → ((v : View T) → get_elem? s.views id ≡ some v → (f : Event T → ℕ) → sum_by f v.made + sum_by f gained ≡ sum_by (owned m.owner id f) m.trace.events) → Between m.owner s id p gained m.trace
+    pub at_first : (s : State (Unit {0}) (View T)) (id p : ℕ) (m : IsMachine code kind capacity s) (gained : List (Event T))
+        → m.owner p ≡ id → m.owner id ≡ id → ((q : ℕ) → m.owner q ≡ id → q ≢ p → call_in m.trace.world q ≡ None)
+        → ((v : View T) → get_elem? s.views id ≡ some v → (f : Event T → ℕ)
+        → sum_by f v.made + sum_by f gained ≡ sum_by (owned m.owner id f) m.trace.events)
+        → Between m.owner s id p gained m.trace
     at_first s id p m gained mine self idle made_own =
         record {
           run = m.run;
@@ -185,9 +196,13 @@ module _ {T : Type 0} where
         }
 
     -- who has the whole has made all
-    pub made_between : (owner : ℕ → ℕ) (id p : ℕ) (gained : List (Event T)) (u : Trace T) (s : State (Unit {0}) (View T)) → Between owner s id p gained u → (v : View T) → get_elem? s.views id ≡ some v → IsAll v.share → (f : Event T → ℕ) → sum_by f u.events ≡ sum_by f (v.made ++ gained)
+    pub made_between : (owner : ℕ → ℕ) (id p : ℕ) (gained : List (Event T)) (u : Trace T) (s : State (Unit {0}) (View T))
+        → Between owner s id p gained u → (v : View T) → get_elem? s.views id ≡ some v → IsAll v.share
+        → (f : Event T → ℕ) → sum_by f u.events ≡ sum_by f (v.made ++ gained)
     made_between owner id p gained u s b v at all f =
-        let whole = owned_whole owner u s.views id v at all b.shares b.spent b.others b.inside (λ q ne past. b.made_none q (λ e. ne (ap owner e ∙ b.mine)) past) b.someone f in
+        let whole =
+        owned_whole owner u s.views id v at all b.shares b.spent b.others b.inside
+        (λ q ne past. b.made_none q (λ e. ne (ap owner e ∙ b.mine)) past) b.someone f in
         let two = sum_by-append f v.made gained in
         let was = b.made_own v at f in
         omega arith
@@ -204,7 +219,9 @@ module _ {T : Type 0} where
           fresh = fresh_as_more kind t turn e fresh r.fresh;
         }
 
-    module _ (words : ℕ) (effects : World T → ℕ → Flight T → ℕ → List (Event T)) (laws : KeptLaws code kind capacity words effects) (owner : ℕ → ℕ) (s : State (Unit {0}) (View T)) (id p : ℕ) (gained : List (Event T)) (u : Trace T) (b : Between owner s id p gained u) where
+    module _ (words : ℕ) (effects : World T → ℕ → Flight T → ℕ → List (Event T))
+        (laws : KeptLaws code kind capacity words effects) (owner : ℕ → ℕ) (s : State (Unit {0}) (View T)) (id p : ℕ)
+        (gained : List (Event T)) (u : Trace T) (b : Between owner s id p gained u) where
       -- a party of another seat is another
       not_mine : (j q : ℕ) → j ≢ id → owner q ≡ j → q ≢ p
       not_mine j q ne own e = ne (sym own ∙ (ap owner e ∙ b.mine))
@@ -214,14 +231,18 @@ module _ {T : Type 0} where
           → words' ≡ (after_turn u turn).world.words ++ 0 ∷ [] → sum_by (λ e. of_none (whose e)) (events_of u.world turn) ≡ 0
           → ((q : ℕ) → q ≢ p → IsLate kind (call_in u.world q) (events_by q (events_of u.world turn)))
           → ((j : ℕ) → j ≢ p → call_in (after_turn u turn).world j ≡ call_in u.world j)
-          → ((q : ℕ) → q ≢ p → is_look_of u.world q turn ≡ false) → Between owner (record { words = words'; homes = s.homes; views = s.views }) id p (gained ++ events_by p (events_of u.world turn)) (after_turn u turn)
+          → ((q : ℕ) → q ≢ p → is_look_of u.world q turn ≡ false)
+          → Between owner (record { words = words'; homes = s.homes; views = s.views }) id p
+          (gained ++ events_by p (events_of u.world turn)) (after_turn u turn)
       turned words' turn free fresh_turn same someone beside apart no_look =
           let es = events_of u.world turn in
           let run = run_more u turn free fresh_turn b.run in
           record {
             run = run;
             words = same;
-            others = λ j v ne at. still_fits kind owner u (after_turn u turn) es j v (b.others j v ne at) b.run.of_kind run.of_kind refl (λ q of_j. beside q (not_mine j q ne of_j)) (λ q of_j. apart q (not_mine j q ne of_j))
+            others =
+                λ j v ne at. still_fits kind owner u (after_turn u turn) es j v (b.others j v ne at) b.run.of_kind
+                run.of_kind refl (λ q of_j. beside q (not_mine j q ne of_j)) (λ q of_j. apart q (not_mine j q ne of_j))
                 (λ q of_j. laws.states u turn b.run run free q (no_look q (not_mine j q ne of_j)));
             mine = b.mine;
             self = b.self;
@@ -244,12 +265,15 @@ module _ {T : Type 0} where
             spent = b.spent;
           }
         where
-          none_of : (es : List (Event T)) → ((q : ℕ) → q ≢ p → IsLate kind (call_in u.world q) (events_by q es)) → (q : ℕ) → q ≢ p → call_in u.world q ≡ None → events_by q es ≡ []
+          none_of : (es : List (Event T)) → ((q : ℕ) → q ≢ p → IsLate kind (call_in u.world q) (events_by q es))
+              → (q : ℕ) → q ≢ p → call_in u.world q ≡ None → events_by q es ≡ []
           none_of es beside q ne idle = late_none kind (events_by q es) (subst (λ o. IsLate kind o (events_by q es)) idle (beside q ne))
 
       -- ---- a call begins
 
-      module _ (start : Start T) (flight : Flight T) (idle : call_in u.world p ≡ None) (first : first_of kind capacity start u.world.kept ≡ Some flight) (may : first_row (rows_as kind capacity u.world.kept p start) ≡ None) where
+      module _ (start : Start T) (flight : Flight T) (idle : call_in u.world p ≡ None)
+          (first : first_of kind capacity start u.world.kept ≡ Some flight)
+          (may : first_row (rows_as kind capacity u.world.kept p start) ≡ None) where
         first_here : first_of u.world.kind u.world.capacity start u.world.kept ≡ Some flight
         first_here =
             ap (λ k. first_of k u.world.capacity start u.world.kept) b.run.of_kind
@@ -276,11 +300,14 @@ module _ {T : Type 0} where
         pub begun_kept : (after_turn u (Begin p start)).world.kept ≡ kept_after_begin code capacity start p u.world.kept
         begun_kept =
             begin_kept u.world p start flight (first_of u.world.kind u.world.capacity start u.world.kept) first_here
-            ∙ (ap (λ z. kept_after_begin z u.world.capacity start p u.world.kept) b.run.coded ∙ ap (λ n. kept_after_begin code n start p u.world.kept) b.run.sized)
+            ∙ (ap (λ z. kept_after_begin z u.world.capacity start p u.world.kept) b.run.coded
+            ∙ ap (λ n. kept_after_begin code n start p u.world.kept) b.run.sized)
 
       -- ---- it goes on, at a word or at none
 
-      module _ (start : Start T) (flight : Flight T) (ask : Option Ask) (low : IfSome ask (λ a. a.word < words)) (at : call_in u.world p ≡ Some (start, flight)) (asks : want_of code flight ≡ want_for ask) (finds : IsFreshCall (at_ask s.words ask) flight) where
+      module _ (start : Start T) (flight : Flight T) (ask : Option Ask) (low : IfSome ask (λ a. a.word < words))
+          (at : call_in u.world p ≡ Some (start, flight)) (asks : want_of code flight ≡ want_for ask)
+          (finds : IsFreshCall (at_ask s.words ask) flight) where
         mine : StepsOn code kind capacity words effects u p flight
         mine = laws.steps_on u b.run p start flight at
 
@@ -316,12 +343,15 @@ module _ {T : Type 0} where
           where
             go : (o : Option Ask) → IfSome o (λ a. a.word < words) → old_of u.world.words o ≡ at_ask s.words o
             go None below = refl
-            go (Some a) below = sym (ap (λ ws. slice_index ws a.word) b.words ∙ get_left u.world.words (0 ∷ []) a.word (let all = laws.size u b.run in omega arith))
+            go (Some a) below =
+                sym (ap (λ ws. slice_index ws a.word) b.words
+                ∙ get_left u.world.words (0 ∷ []) a.word (let all = laws.size u b.run in omega arith))
 
         abbrev found : ℕ
         found = at_ask s.words ask
 
-        its_step : Moved u.world p start flight (old_of u.world.words (ask_of (want_of u.world.coding flight))) (effects u.world p flight (old_of u.world.words (ask_of (want_of u.world.coding flight))))
+        its_step : Moved u.world p start flight (old_of u.world.words (ask_of (want_of u.world.coding flight)))
+            (effects u.world p flight (old_of u.world.words (ask_of (want_of u.world.coding flight))))
         its_step = moved u.world p start flight (effects u.world p flight) (stands u.world p start flight at) mine.goes mine.writes
 
         -- what it comes to, from the word that the table had
@@ -329,7 +359,10 @@ module _ {T : Type 0} where
         goes_then n = goes_of code p flight n u.world.kept
 
         pub goes_to : call_in (after_turn u (Next p)).world p ≡ call_then start (goes_then found)
-        goes_to = its_step.going ∙ ap (call_then start) (ap (λ z. goes_of z p flight (old_of u.world.words (ask_of (want_of u.world.coding flight))) u.world.kept) b.run.coded ∙ ap goes_then found_old)
+        goes_to =
+            its_step.going ∙ ap (call_then start)
+            (ap (λ z. goes_of z p flight (old_of u.world.words (ask_of (want_of u.world.coding flight))) u.world.kept) b.run.coded
+            ∙ ap goes_then found_old)
 
         abbrev pub tells : List (Event T)
         tells = effects u.world p flight found ++ ending_of p start (answer_in (goes_then found))
@@ -337,7 +370,10 @@ module _ {T : Type 0} where
         pub told : events_of u.world (Next p) ≡ tells
         told =
             its_step.events
-            ∙ (ap (λ z. effects u.world p flight (old_of u.world.words (ask_of (want_of u.world.coding flight))) ++ ending_of p start (answer_in (goes_of z p flight (old_of u.world.words (ask_of (want_of u.world.coding flight))) u.world.kept))) b.run.coded
+            ∙ (ap (λ z. effects u.world p flight (old_of u.world.words (ask_of (want_of u.world.coding flight)))
+            ++ ending_of p start
+            (answer_in (goes_of z p flight (old_of u.world.words (ask_of (want_of u.world.coding flight))) u.world.kept)))
+            b.run.coded
             ∙ ap (λ n. effects u.world p flight n ++ ending_of p start (answer_in (goes_then n))) found_old)
 
         -- and what is kept then
@@ -351,28 +387,41 @@ module _ {T : Type 0} where
 
         someone : sum_by (λ e. of_none (whose e)) (events_of u.world (Next p)) ≡ 0
         someone =
-            let all : sum_by (λ e. of_none (whose e)) (events_of u.world (Next p)) ≡ sum_by (λ e. of_none (whose e)) tells = ap (sum_by (λ e. of_none (whose e))) told in
+            let all : sum_by (λ e. of_none (whose e)) (events_of u.world (Next p)) ≡ sum_by (λ e. of_none (whose e)) tells =
+            ap (sum_by (λ e. of_none (whose e))) told in
             let one = sum_by-append (λ e. of_none (whose e)) (effects u.world p flight found) (ending_of p start (answer_in (goes_then found))) in
             let wrote = mine.someone found in
             let ends = all_someone p (ending_of p start (answer_in (goes_then found))) ends_own in
             omega arith
 
         beside : (q : ℕ) → q ≢ p → IsLate kind (call_in u.world q) (events_by q (events_of u.world (Next p)))
-        beside q ne = subst (λ zs. IsLate kind (call_in u.world q) zs) (sym (ap (events_by q) told ∙ by_same q (effects u.world p flight found) (ending_of p start (answer_in (goes_then found))) (by_other p q (ending_of p start (answer_in (goes_then found))) ne ends_own))) (mine.beside found q ne)
+        beside q ne =
+            subst (λ zs. IsLate kind (call_in u.world q) zs)
+            (sym (ap (events_by q) told ∙ by_same q (effects u.world p flight found) (ending_of p start (answer_in (goes_then found)))
+            (by_other p q (ending_of p start (answer_in (goes_then found))) ne ends_own)))
+            (mine.beside found q ne)
 
         -- what it writes of its own
-        pub own_told : events_by p (events_of u.world (Next p)) ≡ events_by p (effects u.world p flight found) ++ ending_of p start (answer_in (goes_then found))
-        own_told = ap (events_by p) told ∙ (by_more p (effects u.world p flight found) (ending_of p start (answer_in (goes_then found))) ∙ ap (λ zs. events_by p (effects u.world p flight found) ++ zs) (by_mine p (ending_of p start (answer_in (goes_then found))) ends_own))
+        pub own_told : events_by p (events_of u.world (Next p))
+            ≡ events_by p (effects u.world p flight found) ++ ending_of p start (answer_in (goes_then found))
+        own_told =
+            ap (events_by p) told ∙ (by_more p (effects u.world p flight found) (ending_of p start (answer_in (goes_then found)))
+            ∙ ap (λ zs. events_by p (effects u.world p flight found) ++ zs)
+            (by_mine p (ending_of p start (answer_in (goes_then found))) ends_own))
 
         words_then : words_after s.words ask ≡ (after_turn u (Next p)).world.words ++ 0 ∷ []
         words_then = go ask low asked
           where
-            go : (o : Option Ask) → IfSome o (λ a. a.word < words) → ask_in u.world (Next p) ≡ o → words_after s.words o ≡ (after_turn u (Next p)).world.words ++ 0 ∷ []
+            go : (o : Option Ask) → IfSome o (λ a. a.word < words) → ask_in u.world (Next p) ≡ o
+                → words_after s.words o ≡ (after_turn u (Next p)).world.words ++ 0 ∷ []
             go None below e = b.words ∙ ap (λ ws. ws ++ 0 ∷ []) (sym (writes_one_word u.world (Next p) ∙ ap (words_after u.world.words) e))
             go (Some a) below e =
                 let within : a.word < length u.world.words = (let all = laws.size u b.run in omega arith) in
-                let old : slice_index s.words a.word ≡ slice_index u.world.words a.word = ap (λ ws. slice_index ws a.word) b.words ∙ get_left u.world.words (0 ∷ []) a.word within in
-                let new : (after_turn u (Next p)).world.words ≡ slice_set u.world.words a.word (written a.op (slice_index u.world.words a.word)) = writes_one_word u.world (Next p) ∙ ap (words_after u.world.words) e in
+                let old : slice_index s.words a.word ≡ slice_index u.world.words a.word =
+                ap (λ ws. slice_index ws a.word) b.words ∙ get_left u.world.words (0 ∷ []) a.word within in
+                let new : (after_turn u (Next p)).world.words
+                ≡ slice_set u.world.words a.word (written a.op (slice_index u.world.words a.word)) =
+                writes_one_word u.world (Next p) ∙ ap (words_after u.world.words) e in
                 ap (λ ws. slice_set ws a.word (written a.op (slice_index s.words a.word))) b.words
                 ∙ (ap (λ n. slice_set (u.world.words ++ 0 ∷ []) a.word (written a.op n)) old
                 ∙ (set_left u.world.words (0 ∷ []) a.word (written a.op (slice_index u.world.words a.word)) within
@@ -383,7 +432,8 @@ module _ {T : Type 0} where
             let same : flight ≡ f = (let both : Some flight ≡ Some f = sym here ∙ found in cc) in
             subst (λ g. IsFreshCall (old_of u.world.words (ask_of (want_of u.world.coding g))) g) same (subst (λ n. IsFreshCall n flight) (sym found_old) finds)
 
-        pub gone : Between owner (record { words = words_after s.words ask; homes = s.homes; views = s.views }) id p (gained ++ events_by p (events_of u.world (Next p))) (after_turn u (Next p))
+        pub gone : Between owner (record { words = words_after s.words ask; homes = s.homes; views = s.views }) id p
+            (gained ++ events_by p (events_of u.world (Next p))) (after_turn u (Next p))
         gone = turned (words_after s.words ask) (Next p) (next_as kind u.world p goes_free) fresh_now words_then someone beside
             (λ j ne. next_other u.world p j ne (party_of p u.world.latest)) (λ q ne. look_next u.world p q ne)
 

@@ -1,5 +1,6 @@
 -- The calls on the single value as calls of the model.
-use Rattle.std.proofs.Common.{inl, ◌≡◌, ◌≢◌, nat_lt, ℕ, ◌+◌, ◌-◌, ◌^◌, ◌*◌, ◌<◌, ◌==◌, cond, Bool, true, false, Option, Some, None, List, [], ◌∷◌, ◌++◌, slice_set, slice_index, refl, sym, ap, subst, ◌∙◌, arith}
+use Rattle.std.proofs.Common.{inl, ◌≡◌, ◌≢◌, nat_lt, ℕ, ◌+◌, ◌-◌, ◌^◌, ◌*◌, ◌<◌, ◌==◌, cond, Bool, true, false, Option}
+use Rattle.std.proofs.Common.{Some, None, List, [], ◌∷◌, ◌++◌, slice_set, slice_index, refl, sym, ap, subst, ◌∙◌, arith}
 use Rattle.std.proofs.lemmas.Bool.Decides.{nat_tests}
 use Rattle.steps.specs.Ask.{written}
 use Rattle.steps.specs.declared.ask.Ask.{Ask}
@@ -12,7 +13,9 @@ use Rattle.steps.specs.declared.atomic.LoadStage as loads
 use Rattle.steps.specs.declared.atomic.Store.{Store as Storing}
 use Rattle.steps.specs.declared.atomic.StoreStage as stores
 use Rattle.steps.specs.declared.copied.Kept as rooms
-use Rattle.steps.specs.Atomic.{cell_word, before_version, first_store, at_store, store_asks, store_want, store_takes, store_after, first_load, at_load, load_asks, load_begins, load_want, load_takes, load_after, load_keeps, load_kept}
+use Rattle.steps.specs.Atomic.{cell_word, before_version, first_store, at_store, store_asks, store_want, store_takes}
+use Rattle.steps.specs.Atomic.{store_after, first_load, at_load, load_asks, load_begins, load_want, load_takes}
+use Rattle.steps.specs.Atomic.{load_after, load_keeps, load_kept}
 use Rattle.steps.specs.Queues.Ring.{word_at}
 use Rattle.steps.specs.Queues.Roles.{acquire_want, acquire_after, release_want, release_after}
 use Rattle.model.specs.declared.event.Answer.TheVariants as answers
@@ -35,7 +38,8 @@ use Rattle.history.specs.declared.view.View.{View}
 use Rattle.history.specs.History.{IsMachine}
 use Rattle.history.specs.Rooms.{room_of}
 use Rattle.history.specs.Stages.{Calling, At, Ends, Over}
-use Rattle.history.specs.Value.{HasProducer, acquires_producer, releases_producer, store_skips, StoreStands, stores_value, LoadStands, value_of_room, loads_value}
+use Rattle.history.specs.Value.{HasProducer, acquires_producer, releases_producer, store_skips, StoreStands}
+use Rattle.history.specs.Value.{stores_value, LoadStands, value_of_room, loads_value}
 use Rattle.history.proofs.Drives.{IsCallOf, goes, keeps, keeps_all}
 use Rattle.history.proofs.QueueCalls.{holds_it}
 use Rattle.history.proofs.Rooms.{room_set, room_read}
@@ -45,8 +49,11 @@ module _ {T : Type 0} (code : Coding T) where
   abbrev size_of : ℕ → ℕ
   size_of capacity = 2 + code.size * 2
 
-  abbrev Keeps : {C M E : Type 0} → Calling T C M E → (C → Rattle.steps.specs.declared.ask.Want.Want (Unit {0})) → (C → ℕ → After C E) → (C → M → ℕ → M) → Type 0
-  Keeps call = KeepsRule (λ (z : View T). z.capacity) (At code kinds.Atomic call) (Ends code kinds.Atomic call) (λ key. 2 + code.size * 2 + 1) (λ key. key) (λ key. IsMachine code kinds.Atomic key)
+  abbrev Keeps : {C M E : Type 0} → Calling T C M E → (C → Rattle.steps.specs.declared.ask.Want.Want (Unit {0}))
+      → (C → ℕ → After C E) → (C → M → ℕ → M) → Type 0
+  Keeps call =
+      KeepsRule (λ (z : View T). z.capacity) (At code kinds.Atomic call) (Ends code kinds.Atomic call)
+      (λ key. 2 + code.size * 2 + 1) (λ key. key) (λ key. IsMachine code kinds.Atomic key)
 
   -- a word of a cell is one of the value's words
   cell_low : (version cell at : ℕ) → cell ≡ cell_word code.size version → at < code.size → word_at cell at < 2 + code.size * 2
@@ -59,7 +66,9 @@ module _ {T : Type 0} (code : Coding T) where
       record {
         same_want = λ c m. refl;
         same_after = λ capacity c m n h. refl;
-        hears = λ c m a n e. (let is : record { word = c.word; op = ops.Exchange 1 0 } ≡ a = cc in (ap (λ (z : Ask). acquire_after c (answered z.op n)) (sym is), refl));
+        hears =
+            λ c m a n e. (let is : record { word = c.word; op = ops.Exchange 1 0 } ≡ a = cc in
+            (ap (λ (z : Ask). acquire_after c (answered z.op n)) (sym is), refl));
         stays = λ capacity c d n h e. absurd (cc);
         asks = λ capacity c h. (record { word = c.word; op = ops.Exchange 1 0 }, subst (λ w. w < 2 + code.size * 2) (sym h) (omega arith), refl);
         past = λ capacity c d n k h e. refl;
@@ -70,9 +79,12 @@ module _ {T : Type 0} (code : Coding T) where
       }
 
   pub acquire_keeps : Keeps acquires_producer acquire_want acquire_after (λ c m n. m)
-  acquire_keeps = keeps_all code kinds.Atomic (value_effects code) size_of (value_owes code) acquire_want acquire_after (λ c m n. m) acquires_producer acquire_is_call (λ c n. refl)
+  acquire_keeps =
+      keeps_all code kinds.Atomic (value_effects code) size_of (value_owes code) acquire_want acquire_after (λ c m n. m)
+      acquires_producer acquire_is_call (λ c n. refl)
 
-  pub acquire_first : (x : View T) (m : Unit {0}) → x.going ≡ None → x.other ≡ [] → 0 < x.share.part → At code kinds.Atomic acquires_producer x x (record { word = producer_word }) m
+  pub acquire_first : (x : View T) (m : Unit {0}) → x.going ≡ None → x.other ≡ [] → 0 < x.share.part
+      → At code kinds.Atomic acquires_producer x x (record { word = producer_word }) m
   acquire_first x m idle alone any =
       inl (record {
         is = refl;
@@ -101,9 +113,12 @@ module _ {T : Type 0} (code : Coding T) where
       }
 
   pub release_keeps : Keeps releases_producer release_want release_after (λ c m n. m)
-  release_keeps = keeps_all code kinds.Atomic (value_effects code) size_of (value_owes code) release_want release_after (λ c m n. m) releases_producer release_is_call (λ c n. refl)
+  release_keeps =
+      keeps_all code kinds.Atomic (value_effects code) size_of (value_owes code) release_want release_after (λ c m n. m)
+      releases_producer release_is_call (λ c n. refl)
 
-  pub release_first : (x : View T) (m : Unit {0}) → x.going ≡ None → x.other ≡ [] → 0 < x.share.part → HasProducer x.made → At code kinds.Atomic releases_producer x x (record { word = producer_word }) m
+  pub release_first : (x : View T) (m : Unit {0}) → x.going ≡ None → x.other ≡ [] → 0 < x.share.part
+      → HasProducer x.made → At code kinds.Atomic releases_producer x x (record { word = producer_word }) m
   release_first x m idle alone any has =
       inl (record {
         is = refl;
@@ -112,7 +127,9 @@ module _ {T : Type 0} (code : Coding T) where
         standing = refl;
         some = any;
         first = refl;
-        starts = producer_starts code x releases_producer ReleaseProducer (record { word = producer_word }) m refl (λ kept. refl) (λ o p. tt) (λ holder p is. holds_it holder p is) has;
+        starts =
+            producer_starts code x releases_producer ReleaseProducer (record { word = producer_word }) m refl
+            (λ kept. refl) (λ o p. tt) (λ holder p is. holds_it holder p is) has;
         wrote = λ p. refl;
       })
 
@@ -133,15 +150,21 @@ module _ {T : Type 0} (code : Coding T) (law : IsCoding code) (value : T) where
   store_quiet : (p : ℕ) (c d : Storing T) (m : Unit {0}) (n : ℕ) → store_after code.size c n ≡ GoOn d → value_effects code p (storing.flight c m) n ≡ []
   store_quiet p c d m n e = rw e refl
 
-  store_acts : (p : ℕ) (c : Storing T) (m : Unit {0}) (n : ℕ) → store_after code.size c n ≡ Done true → value_effects code p (storing.flight c m) n ≡ Acted p (Atomic (Store value)) (Truth true) ∷ []
+  store_acts : (p : ℕ) (c : Storing T) (m : Unit {0}) (n : ℕ) → store_after code.size c n ≡ Done true
+      → value_effects code p (storing.flight c m) n ≡ Acted p (Atomic (Store value)) (Truth true) ∷ []
   store_acts p c m n e = rw e refl
 
   -- a store that is no look answers true
-  store_true : (c : Storing T) (n : ℕ) (b : Bool) (stage : stores.StoreStage) → store_skips stage n ≡ false → store_takes code.size c stage n ≡ Done b → b ≡ true
-  store_true c n b stores.TheVariants.LoadsVersion skip e = (let no : GoOn (at_store c (stores.TheVariants.StoresCell (cell_word code.size n) 0)) ≡ Done b = rw skip at e in absurd (cc))
+  store_true : (c : Storing T) (n : ℕ) (b : Bool) (stage : stores.StoreStage) → store_skips stage n ≡ false
+      → store_takes code.size c stage n ≡ Done b → b ≡ true
+  store_true c n b stores.TheVariants.LoadsVersion skip e =
+      (let no : GoOn (at_store c (stores.TheVariants.StoresCell (cell_word code.size n) 0)) ≡ Done b = rw skip at e in absurd (cc))
   store_true c n b (stores.TheVariants.StoresCell cell at) skip e = go (nat_lt (at + 1) code.size) e
     where
-      go : (t : Bool) → cond {A = After (Storing T) Bool} t (GoOn (at_store c (stores.TheVariants.StoresCell cell (at + 1)))) (GoOn (at_store c stores.TheVariants.AddsVersion)) ≡ Done b → b ≡ true
+      go : (t : Bool) → cond {A = After (Storing T) Bool} t (GoOn (at_store c (stores.TheVariants.StoresCell cell (at + 1))))
+          (GoOn (at_store c stores.TheVariants.AddsVersion))
+          ≡ Done b
+          → b ≡ true
       go true e = absurd (cc)
       go false e = absurd (cc)
   store_true c n b stores.TheVariants.AddsVersion skip e = (let same : true ≡ b = cc in sym same)
@@ -152,7 +175,10 @@ module _ {T : Type 0} (code : Coding T) (law : IsCoding code) (value : T) where
   store_stays : (c d : Storing T) (n : ℕ) (stage : stores.StoreStage) → StoreStands code.size stage → store_takes code.size c stage n ≡ GoOn d → StandsNext d
   store_stays c d n stores.TheVariants.LoadsVersion h e = go (n == 2 ^ 64 - 1) e
     where
-      go : (t : Bool) → cond {A = After (Storing T) Bool} t (Done false) (GoOn (at_store c (stores.TheVariants.StoresCell (cell_word code.size n) 0))) ≡ GoOn d → StandsNext d
+      go : (t : Bool)
+          → cond {A = After (Storing T) Bool} t (Done false) (GoOn (at_store c (stores.TheVariants.StoresCell (cell_word code.size n) 0)))
+          ≡ GoOn d
+          → StandsNext d
       go true e = absurd (cc)
       go false e =
           let is : at_store c (stores.TheVariants.StoresCell (cell_word code.size n) 0) ≡ d = cc in
@@ -160,7 +186,11 @@ module _ {T : Type 0} (code : Coding T) (law : IsCoding code) (value : T) where
           subst StandsNext is (((n, refl), omega arith), λ k. refl)
   store_stays c d n (stores.TheVariants.StoresCell cell at) h e = go (nat_lt (at + 1) code.size) refl e
     where
-      go : (t : Bool) → nat_lt (at + 1) code.size ≡ t → cond {A = After (Storing T) Bool} t (GoOn (at_store c (stores.TheVariants.StoresCell cell (at + 1)))) (GoOn (at_store c stores.TheVariants.AddsVersion)) ≡ GoOn d → StandsNext d
+      go : (t : Bool) → nat_lt (at + 1) code.size ≡ t
+          → cond {A = After (Storing T) Bool} t (GoOn (at_store c (stores.TheVariants.StoresCell cell (at + 1))))
+          (GoOn (at_store c stores.TheVariants.AddsVersion))
+          ≡ GoOn d
+          → StandsNext d
       go true t e =
           let is : at_store c (stores.TheVariants.StoresCell cell (at + 1)) ≡ d = cc in
           let next : at + 1 < code.size = grind (arith, nat_tests) in
@@ -168,13 +198,22 @@ module _ {T : Type 0} (code : Coding T) (law : IsCoding code) (value : T) where
       go false t e = (let is : at_store c stores.TheVariants.AddsVersion ≡ d = cc in subst StandsNext is (tt, λ k. refl))
   store_stays c d n stores.TheVariants.AddsVersion h e = absurd (cc)
 
-  store_finds_word : (stage : stores.StoreStage) → StoreStands code.size stage → (a : Ask) × (a.word < 2 + code.size * 2) × (store_asks code.words_of stage value ≡ wants.Ask a)
+  store_finds_word : (stage : stores.StoreStage) → StoreStands code.size stage
+      → (a : Ask) × (a.word < 2 + code.size * 2) × (store_asks code.words_of stage value ≡ wants.Ask a)
   store_finds_word stores.TheVariants.LoadsVersion h = (record { word = 0; op = ops.Load }, omega arith, refl)
-  store_finds_word (stores.TheVariants.StoresCell cell at) h = (record { word = word_at cell at; op = ops.Store (slice_index (code.words_of value) at) }, cell_low code h.0.0 cell at h.0.1 h.1, refl)
+  store_finds_word (stores.TheVariants.StoresCell cell at) h = (
+    record { word = word_at cell at; op = ops.Store (slice_index (code.words_of value) at) },
+    cell_low code h.0.0 cell at h.0.1 h.1,
+    refl,
+  )
   store_finds_word stores.TheVariants.AddsVersion h = (record { word = 0; op = ops.Add 1 }, omega arith, refl)
 
-  store_hears : (c : Storing T) (a : Ask) (n : ℕ) (stage : stores.StoreStage) → store_asks code.words_of stage value ≡ wants.Ask a → store_takes code.size c stage (answered a.op n) ≡ store_takes code.size c stage n
-  store_hears c a n stores.TheVariants.LoadsVersion e = (let is : record { word = 0; op = ops.Load } ≡ a = cc in ap (λ (z : Ask). store_takes code.size c stores.TheVariants.LoadsVersion (answered z.op n)) (sym is))
+  store_hears : (c : Storing T) (a : Ask) (n : ℕ) (stage : stores.StoreStage)
+      → store_asks code.words_of stage value ≡ wants.Ask a
+      → store_takes code.size c stage (answered a.op n) ≡ store_takes code.size c stage n
+  store_hears c a n stores.TheVariants.LoadsVersion e =
+      (let is : record { word = 0; op = ops.Load } ≡ a = cc in
+      ap (λ (z : Ask). store_takes code.size c stores.TheVariants.LoadsVersion (answered z.op n)) (sym is))
   store_hears c a n (stores.TheVariants.StoresCell cell at) e = refl
   store_hears c a n stores.TheVariants.AddsVersion e = refl
 
@@ -183,12 +222,16 @@ module _ {T : Type 0} (code : Coding T) (law : IsCoding code) (value : T) where
   store_finds n (stores.TheVariants.StoresCell cell at) small t = tt
   store_finds n stores.TheVariants.AddsVersion small t = tt
 
-  store_leaves : (c : Storing T) (a : Ask) (n : ℕ) (stage : stores.StoreStage) → store_skips stage n ≡ true → store_asks code.words_of stage value ≡ wants.Ask a → (written a.op n ≡ n) × (e : Bool) × (e ≡ false) × (store_takes code.size c stage n ≡ Done e)
-  store_leaves c a n stores.TheVariants.LoadsVersion t e = (let is : record { word = 0; op = ops.Load } ≡ a = cc in (ap (λ (z : Ask). written z.op n) (sym is), false, refl, rw t refl))
+  store_leaves : (c : Storing T) (a : Ask) (n : ℕ) (stage : stores.StoreStage) → store_skips stage n ≡ true
+      → store_asks code.words_of stage value ≡ wants.Ask a
+      → (written a.op n ≡ n) × (e : Bool) × (e ≡ false) × (store_takes code.size c stage n ≡ Done e)
+  store_leaves c a n stores.TheVariants.LoadsVersion t e =
+      (let is : record { word = 0; op = ops.Load } ≡ a = cc in (ap (λ (z : Ask). written z.op n) (sym is), false, refl, rw t refl))
   store_leaves c a n (stores.TheVariants.StoresCell cell at) t e = absurd (cc)
   store_leaves c a n stores.TheVariants.AddsVersion t e = absurd (cc)
 
-  store_is_call : IsCallOf code (value_effects code) (size_of code) (λ c. store_want code.words_of c value) (λ c n. store_after code.size c n) (λ c m n. m) storing
+  store_is_call : IsCallOf code (value_effects code) (size_of code) (λ c. store_want code.words_of c value)
+      (λ c n. store_after code.size c n) (λ c m n. m) storing
   store_is_call =
       record {
         same_want = λ c m. refl;
@@ -201,14 +244,23 @@ module _ {T : Type 0} (code : Coding T) (law : IsCoding code) (value : T) where
         leaves = λ c a n t e. store_leaves c a n c.stage t e;
         tells = λ capacity p from c d m n es h wrote e. ap (λ zs. zs ++ value_effects code p (storing.flight c m) n) wrote ∙ store_quiet p c d m n e;
         tells_all = λ capacity p from c b m n es h skip wrote e still. (
-            let yes : b ≡ true = store_true c n b c.stage skip e in
-            (yes, ap (λ zs. zs ++ value_effects code p (storing.flight c m) n) wrote ∙ store_acts p c m n (subst (λ t. store_after code.size c n ≡ Done t) yes e)));
+            let yes : b ≡ true = store_true c n b c.stage skip e in (
+              yes,
+              ap (λ zs. zs ++ value_effects code p (storing.flight c m) n) wrote
+                  ∙ store_acts p c m n (subst (λ t. store_after code.size c n ≡ Done t) yes e),
+            ));
       }
 
-  pub store_keeps : KeepsRule (λ (z : View T). z.capacity) (At code kinds.Atomic storing) (Over code kinds.Atomic storing) (λ key. 2 + code.size * 2 + 1) (λ key. key) (λ key. IsMachine code kinds.Atomic key) (λ c. store_want code.words_of c value) (λ c n. store_after code.size c n) (λ c m n. m)
-  store_keeps = keeps code kinds.Atomic (value_effects code) (size_of code) (value_owes code) (λ c. store_want code.words_of c value) (λ c n. store_after code.size c n) (λ c m n. m) storing store_is_call
+  pub store_keeps : KeepsRule (λ (z : View T). z.capacity) (At code kinds.Atomic storing)
+      (Over code kinds.Atomic storing) (λ key. 2 + code.size * 2 + 1) (λ key. key)
+      (λ key. IsMachine code kinds.Atomic key) (λ c. store_want code.words_of c value)
+      (λ c n. store_after code.size c n) (λ c m n. m)
+  store_keeps =
+      keeps code kinds.Atomic (value_effects code) (size_of code) (value_owes code)
+      (λ c. store_want code.words_of c value) (λ c n. store_after code.size c n) (λ c m n. m) storing store_is_call
 
-  pub store_first : (x : View T) (m : Unit {0}) → x.going ≡ None → x.other ≡ [] → 0 < x.share.part → HasProducer x.made → At code kinds.Atomic storing x x first_store m
+  pub store_first : (x : View T) (m : Unit {0}) → x.going ≡ None → x.other ≡ [] → 0 < x.share.part
+      → HasProducer x.made → At code kinds.Atomic storing x x first_store m
   store_first x m idle alone any has =
       inl (record {
         is = refl;
@@ -223,7 +275,8 @@ module _ {T : Type 0} (code : Coding T) (law : IsCoding code) (value : T) where
 
 -- ---- loads
 
-module _ {T R : Type 0} (code : Coding T) (law : IsCoding code) (words_in : R → List ℕ) (with_word : R → ℕ → ℕ → R) (put_in : (x : R) (at word : ℕ) → words_in (with_word x at word) ≡ slice_set (words_in x) at word) where
+module _ {T R : Type 0} (code : Coding T) (law : IsCoding code) (words_in : R → List ℕ) (with_word : R → ℕ → ℕ → R)
+    (put_in : (x : R) (at word : ℕ) → words_in (with_word x at word) ≡ slice_set (words_in x) at word) where
   abbrev loading : Calling T (Loading T R) R (Unit {0})
   loading = loads_value code words_in
 
@@ -232,62 +285,88 @@ module _ {T R : Type 0} (code : Coding T) (law : IsCoding code) (words_in : R �
 
   -- a load at this stage, with this room
   abbrev flight_at : loads.LoadStage → rooms.Kept 128 → Flight T
-  flight_at stage room = flights.TheVariants.Atomic (calls.TheVariants.Load (record { call = record { stage = stage; of = record {} }; given = tt; room = room }))
+  flight_at stage room =
+      flights.TheVariants.Atomic
+      (calls.TheVariants.Load (record { call = record { stage = stage; of = record {} }; given = tt; room = room }))
 
   put_there : (m : R) (at n : ℕ) → at < code.size → kept_at (room_of code.size (words_in m)) at n ≡ room_of code.size (words_in (with_word m at n))
   put_there m at n below = room_set code.size at n (words_in m) below ∙ ap (room_of code.size) (sym (put_in m at n))
 
-  load_same_after : (c : Loading T R) (m : R) (n : ℕ) (stage : loads.LoadStage) → LoadStands code.size stage → after_of code (flight_at stage (room_of code.size (words_in m))) n ≡ goes loading (load_takes code.size c stage n) (load_keeps with_word m stage n)
+  load_same_after : (c : Loading T R) (m : R) (n : ℕ) (stage : loads.LoadStage) → LoadStands code.size stage
+      → after_of code (flight_at stage (room_of code.size (words_in m))) n
+      ≡ goes loading (load_takes code.size c stage n) (load_keeps with_word m stage n)
   load_same_after c m n loads.TheVariants.LoadsVersion h = refl
   load_same_after c m n (loads.TheVariants.LoadsCell version cell at) h = go (nat_lt (at + 1) code.size) refl
     where
-      go : (b : Bool) → nat_lt (at + 1) code.size ≡ b → after_of code (flight_at (loads.TheVariants.LoadsCell version cell at) (room_of code.size (words_in m))) n ≡ goes loading (load_takes code.size c (loads.TheVariants.LoadsCell version cell at) n) (with_word m at n)
+      go : (b : Bool) → nat_lt (at + 1) code.size ≡ b
+          → after_of code (flight_at (loads.TheVariants.LoadsCell version cell at) (room_of code.size (words_in m))) n
+          ≡ goes loading (load_takes code.size c (loads.TheVariants.LoadsCell version cell at) n) (with_word m at n)
       go true t = rw t (ap (λ r. GoOn (flight_at (loads.TheVariants.LoadsCell version cell (at + 1)) r)) (put_there m at n h.1))
       go false t = rw t (ap (λ r. GoOn (flight_at (loads.TheVariants.ChecksVersion version) r)) (put_there m at n h.1))
   load_same_after c m n (loads.TheVariants.ChecksVersion version) h = go (n == version) refl
     where
-      go : (b : Bool) → (n == version) ≡ b → after_of code (flight_at (loads.TheVariants.ChecksVersion version) (room_of code.size (words_in m))) n ≡ goes loading (load_takes code.size c (loads.TheVariants.ChecksVersion version) n) m
+      go : (b : Bool) → (n == version) ≡ b
+          → after_of code (flight_at (loads.TheVariants.ChecksVersion version) (room_of code.size (words_in m))) n
+          ≡ goes loading (load_takes code.size c (loads.TheVariants.ChecksVersion version) n) m
       go true t = rw t (ap (λ x. Done (answers.Loaded x)) (room_read code (words_in m)))
       go false t = rw t refl
 
-  load_quiet : (p : ℕ) (c d : Loading T R) (m : R) (n : ℕ) → load_after code.size c n ≡ GoOn d → LoadStands code.size c.stage → value_effects code p (loading.flight c m) n ≡ []
+  load_quiet : (p : ℕ) (c d : Loading T R) (m : R) (n : ℕ) → load_after code.size c n ≡ GoOn d
+      → LoadStands code.size c.stage → value_effects code p (loading.flight c m) n ≡ []
   load_quiet p c d m n e h = go c.stage h e
     where
-      go : (stage : loads.LoadStage) → LoadStands code.size stage → load_takes code.size c stage n ≡ GoOn d → value_effects code p (flight_at stage (room_of code.size (words_in m))) n ≡ []
+      go : (stage : loads.LoadStage) → LoadStands code.size stage → load_takes code.size c stage n ≡ GoOn d
+          → value_effects code p (flight_at stage (room_of code.size (words_in m))) n ≡ []
       go loads.TheVariants.LoadsVersion h e = refl
       go (loads.TheVariants.LoadsCell version cell at) h e = cell_quiet (nat_lt (at + 1) code.size) refl
         where
-          cell_quiet : (b : Bool) → nat_lt (at + 1) code.size ≡ b → value_effects code p (flight_at (loads.TheVariants.LoadsCell version cell at) (room_of code.size (words_in m))) n ≡ []
+          cell_quiet : (b : Bool) → nat_lt (at + 1) code.size ≡ b
+              → value_effects code p (flight_at (loads.TheVariants.LoadsCell version cell at) (room_of code.size (words_in m))) n ≡ []
           cell_quiet true t = rw t refl
           cell_quiet false t = rw t refl
       go (loads.TheVariants.ChecksVersion version) h e = check_quiet (n == version) refl
         where
-          check_quiet : (b : Bool) → (n == version) ≡ b → value_effects code p (flight_at (loads.TheVariants.ChecksVersion version) (room_of code.size (words_in m))) n ≡ []
+          check_quiet : (b : Bool) → (n == version) ≡ b
+              → value_effects code p (flight_at (loads.TheVariants.ChecksVersion version) (room_of code.size (words_in m))) n ≡ []
           check_quiet true t = (let no : Done tt ≡ GoOn d = rw t at e in absurd (cc))
           check_quiet false t = rw t refl
 
   load_acts : (p : ℕ) (c : Loading T R) (m : R) (n : ℕ) (stage : loads.LoadStage) → load_takes code.size c stage n ≡ Done tt
-      → value_effects code p (flight_at stage (room_of code.size (words_in m))) n ≡ Acted p (Atomic Load) (answers.Loaded (value_of_room code words_in (load_keeps with_word m stage n))) ∷ []
+      → value_effects code p (flight_at stage (room_of code.size (words_in m))) n
+      ≡ Acted p (Atomic Load) (answers.Loaded (value_of_room code words_in (load_keeps with_word m stage n))) ∷ []
   load_acts p c m n loads.TheVariants.LoadsVersion e = absurd (cc)
   load_acts p c m n (loads.TheVariants.LoadsCell version cell at) e = go (nat_lt (at + 1) code.size) e
     where
-      go : {A : Type 0} → (t : Bool) → cond {A = After (Loading T R) (Unit {0})} t (GoOn (at_load c (loads.TheVariants.LoadsCell version cell (at + 1)))) (GoOn (at_load c (loads.TheVariants.ChecksVersion version))) ≡ Done tt → A
+      go : {A : Type 0} → (t : Bool)
+          → cond {A = After (Loading T R) (Unit {0})} t
+          (GoOn (at_load c (loads.TheVariants.LoadsCell version cell (at + 1))))
+          (GoOn (at_load c (loads.TheVariants.ChecksVersion version)))
+          ≡ Done tt
+          → A
       go true e = absurd (cc)
       go false e = absurd (cc)
   load_acts p c m n (loads.TheVariants.ChecksVersion version) e = go (n == version) refl
     where
-      go : (b : Bool) → (n == version) ≡ b → value_effects code p (flight_at (loads.TheVariants.ChecksVersion version) (room_of code.size (words_in m))) n ≡ Acted p (Atomic Load) (answers.Loaded (value_of_room code words_in m)) ∷ []
+      go : (b : Bool) → (n == version) ≡ b
+          → value_effects code p (flight_at (loads.TheVariants.ChecksVersion version) (room_of code.size (words_in m))) n
+          ≡ Acted p (Atomic Load) (answers.Loaded (value_of_room code words_in m)) ∷ []
       go true t = rw t (ap (λ x. Acted p (Atomic Load) (answers.Loaded x) ∷ []) (room_read code (words_in m)))
       go false t = (let no : GoOn (at_load c (load_begins code.size n)) ≡ Done tt = rw t at e in absurd (cc))
 
-  load_stays : (c d : Loading T R) (n : ℕ) (stage : loads.LoadStage) → LoadStands code.size stage → load_takes code.size c stage n ≡ GoOn d → LoadStands code.size d.stage
+  load_stays : (c d : Loading T R) (n : ℕ) (stage : loads.LoadStage) → LoadStands code.size stage
+      → load_takes code.size c stage n ≡ GoOn d → LoadStands code.size d.stage
   load_stays c d n loads.TheVariants.LoadsVersion h e =
       let is : at_load c (load_begins code.size n) ≡ d = cc in
       let some = law.some in
       subst (λ (x : Loading T R). LoadStands code.size x.stage) is (refl, omega arith)
   load_stays c d n (loads.TheVariants.LoadsCell version cell at) h e = go (nat_lt (at + 1) code.size) refl e
     where
-      go : (t : Bool) → nat_lt (at + 1) code.size ≡ t → cond {A = After (Loading T R) (Unit {0})} t (GoOn (at_load c (loads.TheVariants.LoadsCell version cell (at + 1)))) (GoOn (at_load c (loads.TheVariants.ChecksVersion version))) ≡ GoOn d → LoadStands code.size d.stage
+      go : (t : Bool) → nat_lt (at + 1) code.size ≡ t
+          → cond {A = After (Loading T R) (Unit {0})} t
+          (GoOn (at_load c (loads.TheVariants.LoadsCell version cell (at + 1))))
+          (GoOn (at_load c (loads.TheVariants.ChecksVersion version)))
+          ≡ GoOn d
+          → LoadStands code.size d.stage
       go true t e =
           let is : at_load c (loads.TheVariants.LoadsCell version cell (at + 1)) ≡ d = cc in
           let next : at + 1 < code.size = grind (arith, nat_tests) in
@@ -295,7 +374,8 @@ module _ {T R : Type 0} (code : Coding T) (law : IsCoding code) (words_in : R �
       go false t e = (let is : at_load c (loads.TheVariants.ChecksVersion version) ≡ d = cc in subst (λ (x : Loading T R). LoadStands code.size x.stage) is tt)
   load_stays c d n (loads.TheVariants.ChecksVersion version) h e = go (n == version) e
     where
-      go : (t : Bool) → cond {A = After (Loading T R) (Unit {0})} t (Done tt) (GoOn (at_load c (load_begins code.size n))) ≡ GoOn d → LoadStands code.size d.stage
+      go : (t : Bool) → cond {A = After (Loading T R) (Unit {0})} t (Done tt) (GoOn (at_load c (load_begins code.size n))) ≡ GoOn d
+          → LoadStands code.size d.stage
       go true e = absurd (cc)
       go false e =
           let is : at_load c (load_begins code.size n) ≡ d = cc in
@@ -304,13 +384,22 @@ module _ {T R : Type 0} (code : Coding T) (law : IsCoding code) (words_in : R �
 
   load_finds_word : (stage : loads.LoadStage) → LoadStands code.size stage → (a : Ask) × (a.word < 2 + code.size * 2) × (load_asks stage ≡ wants.Ask a)
   load_finds_word loads.TheVariants.LoadsVersion h = (record { word = 0; op = ops.Load }, omega arith, refl)
-  load_finds_word (loads.TheVariants.LoadsCell version cell at) h = (record { word = word_at cell at; op = ops.Load }, cell_low code (before_version version) cell at h.0 h.1, refl)
+  load_finds_word (loads.TheVariants.LoadsCell version cell at) h =
+      (record { word = word_at cell at; op = ops.Load }, cell_low code (before_version version) cell at h.0 h.1, refl)
   load_finds_word (loads.TheVariants.ChecksVersion version) h = (record { word = 0; op = ops.Exchange version version }, omega arith, refl)
 
-  load_hears : (c : Loading T R) (m : R) (a : Ask) (n : ℕ) (stage : loads.LoadStage) → load_asks stage ≡ wants.Ask a → (load_takes code.size c stage (answered a.op n) ≡ load_takes code.size c stage n) × (load_keeps with_word m stage (answered a.op n) ≡ load_keeps with_word m stage n)
-  load_hears c m a n loads.TheVariants.LoadsVersion e = (let is : record { word = 0; op = ops.Load } ≡ a = cc in (ap (λ (z : Ask). load_takes code.size c loads.TheVariants.LoadsVersion (answered z.op n)) (sym is), refl))
-  load_hears c m a n (loads.TheVariants.LoadsCell version cell at) e = (let is : record { word = word_at cell at; op = ops.Load } ≡ a = cc in (refl, ap (λ (z : Ask). with_word m at (answered z.op n)) (sym is)))
-  load_hears c m a n (loads.TheVariants.ChecksVersion version) e = (let is : record { word = 0; op = ops.Exchange version version } ≡ a = cc in (ap (λ (z : Ask). load_takes code.size c (loads.TheVariants.ChecksVersion version) (answered z.op n)) (sym is), refl))
+  load_hears : (c : Loading T R) (m : R) (a : Ask) (n : ℕ) (stage : loads.LoadStage) → load_asks stage ≡ wants.Ask a
+      → (load_takes code.size c stage (answered a.op n) ≡ load_takes code.size c stage n)
+      × (load_keeps with_word m stage (answered a.op n) ≡ load_keeps with_word m stage n)
+  load_hears c m a n loads.TheVariants.LoadsVersion e =
+      (let is : record { word = 0; op = ops.Load } ≡ a = cc in
+      (ap (λ (z : Ask). load_takes code.size c loads.TheVariants.LoadsVersion (answered z.op n)) (sym is), refl))
+  load_hears c m a n (loads.TheVariants.LoadsCell version cell at) e =
+      (let is : record { word = word_at cell at; op = ops.Load } ≡ a = cc in
+      (refl, ap (λ (z : Ask). with_word m at (answered z.op n)) (sym is)))
+  load_hears c m a n (loads.TheVariants.ChecksVersion version) e =
+      (let is : record { word = 0; op = ops.Exchange version version } ≡ a = cc in
+      (ap (λ (z : Ask). load_takes code.size c (loads.TheVariants.ChecksVersion version) (answered z.op n)) (sym is), refl))
 
   load_is_call : IsCallOf code (value_effects code) (size_of code) (λ (c : Loading T R). load_want c) (λ c n. load_after code.size c n) keeps_word loading
   load_is_call =
@@ -324,14 +413,22 @@ module _ {T R : Type 0} (code : Coding T) (law : IsCoding code) (words_in : R �
         finds = λ c m n small t. tt;
         leaves = λ c a n t e. absurd (cc);
         tells = λ capacity p from c d m n es h wrote e. ap (λ zs. zs ++ value_effects code p (loading.flight c m) n) wrote ∙ load_quiet p c d m n e h;
-        tells_all = λ capacity p from c b m n es h skip wrote e still. ap (λ zs. zs ++ value_effects code p (loading.flight c m) n) wrote ∙ load_acts p c m n c.stage e;
+        tells_all =
+            λ capacity p from c b m n es h skip wrote e still. ap (λ zs. zs ++ value_effects code p (loading.flight c m) n) wrote
+            ∙ load_acts p c m n c.stage e;
       }
 
-  pub load_keeps_rule : KeepsRule (λ (z : View T). z.capacity) (At code kinds.Atomic loading) (Ends code kinds.Atomic loading) (λ key. 2 + code.size * 2 + 1) (λ key. key) (λ key. IsMachine code kinds.Atomic key) (λ (c : Loading T R). load_want c) (λ c n. load_after code.size c n) keeps_word
-  load_keeps_rule = keeps_all code kinds.Atomic (value_effects code) (size_of code) (value_owes code) (λ (c : Loading T R). load_want c) (λ c n. load_after code.size c n) keeps_word loading load_is_call (λ c n. refl)
+  pub load_keeps_rule : KeepsRule (λ (z : View T). z.capacity) (At code kinds.Atomic loading)
+      (Ends code kinds.Atomic loading) (λ key. 2 + code.size * 2 + 1) (λ key. key)
+      (λ key. IsMachine code kinds.Atomic key) (λ (c : Loading T R). load_want c) (λ c n. load_after code.size c n)
+      keeps_word
+  load_keeps_rule =
+      keeps_all code kinds.Atomic (value_effects code) (size_of code) (value_owes code)
+      (λ (c : Loading T R). load_want c) (λ c n. load_after code.size c n) keeps_word loading load_is_call (λ c n. refl)
 
   -- in a room of zeros in which a value fits
-  pub load_first : (x : View T) (m : R) → room_of code.size (words_in m) ≡ fresh → x.going ≡ None → x.other ≡ [] → 0 < x.share.part → At code kinds.Atomic loading x x first_load m
+  pub load_first : (x : View T) (m : R) → room_of code.size (words_in m) ≡ fresh → x.going ≡ None → x.other ≡ []
+      → 0 < x.share.part → At code kinds.Atomic loading x x first_load m
   load_first x m zeros idle alone any =
       inl (record {
         is = refl;

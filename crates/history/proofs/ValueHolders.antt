@@ -1,5 +1,6 @@
 -- Only the holder of the producer's role stores, so while a pass has it the stores are its own.
-use Rattle.std.proofs.Common.{◌≡◌, ℕ, Bool, true, false, Option, Some, None, is_none, List, [], ◌∷◌, ◌++◌, ◌==◌, refl, sym, ap, subst, ◌∙◌, append-nil, append_assoc, arith}
+use Rattle.std.proofs.Common.{◌≡◌, ℕ, Bool, true, false, Option, Some, None, is_none, List, [], ◌∷◌, ◌++◌, ◌==◌, refl}
+use Rattle.std.proofs.Common.{sym, ap, subst, ◌∙◌, append-nil, append_assoc, arith}
 use Rattle.std.proofs.lemmas.Bool.Decides.{nat_tests}
 use Rattle.std.proofs.lemmas.List.Sums.{fold-append}
 use Rattle.std.specs.List.{flat_map}
@@ -56,7 +57,9 @@ module _ {T : Type 0} where
   load_right p None before = tt
   load_right p (Some answer) before = (tt, tt)
 
-  flight_right : (z en : Coding T) (words : List ℕ) (waits : Option (ℕ × ℕ)) (p n : ℕ) (holder : Option ℕ) (k : Core) (before : List (Event T)) → holder_of before ≡ holder → (start : AtomicStart T) (flight : AtomicFlight T) → At en holder k p start flight
+  flight_right : (z en : Coding T) (words : List ℕ) (waits : Option (ℕ × ℕ)) (p n : ℕ) (holder : Option ℕ)
+      (k : Core) (before : List (Event T))
+      → holder_of before ≡ holder → (start : AtomicStart T) (flight : AtomicFlight T) → At en holder k p start flight
       → Right before (step_of z words waits p (Atomic start) (flights.TheVariants.Atomic flight) n (kepts.TheVariants.Atomic holder)).wrote
   flight_right z en words waits p n holder k before holds AcquireProducer (calls.TheVariants.Acquire run) at = tt
   flight_right z en words waits p n holder k before holds ReleaseProducer (calls.TheVariants.Release run) at = tt
@@ -65,13 +68,16 @@ module _ {T : Type 0} where
   flight_right z en words waits p n holder k before holds start flight at = absurd at
 
   module _ (en : Coding T) (c : ℕ) (t : Trace T) (s : frame.Sound (family en c) t) where
-    any_right : (p n : ℕ) (waits : Option (ℕ × ℕ)) (start : Start T) (flight : Flight T) (kept : Kept T) → kept ≡ kepts.TheVariants.Atomic s.state.holder → (family en c).At s.state p start flight → Right t.events (step_of t.world.coding t.world.words waits p start flight n kept).wrote
+    any_right : (p n : ℕ) (waits : Option (ℕ × ℕ)) (start : Start T) (flight : Flight T) (kept : Kept T)
+        → kept ≡ kepts.TheVariants.Atomic s.state.holder → (family en c).At s.state p start flight
+        → Right t.events (step_of t.world.coding t.world.words waits p start flight n kept).wrote
     any_right p n waits (Atomic start) (flights.TheVariants.Atomic flight) kept e at =
         subst (λ k. Right t.events (step_of t.world.coding t.world.words waits p (Atomic start) (flights.TheVariants.Atomic flight) n k).wrote) (sym e)
         (flight_right t.world.coding en t.world.words waits p n s.state.holder s.state.core t.events s.holds.holders start flight at)
     any_right p n waits start flight kept e at = absurd at
 
-    step_right : (p n : ℕ) (x : Party T) (flight : Flight T) (since : ℕ) → party_of p t.world.latest ≡ Some x → x.doing ≡ Going flight since → Right t.events (step_in t.world p x flight n).wrote
+    step_right : (p n : ℕ) (x : Party T) (flight : Flight T) (since : ℕ) → party_of p t.world.latest ≡ Some x
+        → x.doing ≡ Going flight since → Right t.events (step_in t.world p x flight n).wrote
     step_right p n x flight since found doing =
         let there = stands_there (family en c) t s p x since flight found doing in
         any_right p n _ x.start flight t.world.kept (kept_is t.world.kept t.world.words s.state s.fit).0 there.at
@@ -81,9 +87,14 @@ module _ {T : Type 0} (code : Coding T) (capacity : ℕ) where
   by_producers t r =
       let w = t.world in
       let first : Trace T = opening w.coding w.kind w.capacity w.parties in
-      let sound : frame.Sound (family w.coding w.capacity) first = subst (λ kind. frame.Sound (family w.coding w.capacity) (opening w.coding kind w.capacity w.parties)) (sym r.of_kind) (opening_sound w.coding w.capacity w.parties r.reached.coded) in
+      let sound : frame.Sound (family w.coding w.capacity) first =
+      subst (λ kind. frame.Sound (family w.coding w.capacity) (opening w.coding kind w.capacity w.parties))
+      (sym r.of_kind) (opening_sound w.coding w.capacity w.parties r.reached.coded) in
       subst (λ z. Each ByProducer z.events) (sym r.fresh.is)
-      (each_event (family w.coding w.capacity) IsFreshTurn (fresh_laws w.coding w.capacity) ByProducer (λ before p start. tt) (λ before p start answer. tt) (λ before owner. tt) (λ t s p n x flight since found doing handed. step_right w.coding w.capacity t s p n x flight since found doing) r.fresh.turns first r.fresh.fresh sound (Each-nil ByProducer))
+      (each_event (family w.coding w.capacity) IsFreshTurn (fresh_laws w.coding w.capacity) ByProducer
+      (λ before p start. tt) (λ before p start answer. tt) (λ before owner. tt)
+      (λ t s p n x flight since found doing handed. step_right w.coding w.capacity t s p n x flight since found doing)
+      r.fresh.turns first r.fresh.fresh sound (Each-nil ByProducer))
 
   pub history_by_producers : (events : List (Event T)) → IsHistory code kinds.Atomic capacity events → Each ByProducer events
   history_by_producers events h = subst (Each ByProducer) (sym h.is) (by_producers h.trace h.run)
@@ -98,20 +109,27 @@ module _ {T : Type 0} (p : ℕ) where
   abbrev Backs : List (Event T) → Event T → Type 0
   Backs before e = (holder_of before ≡ Some p) × (stores e ≡ [])
 
-  back_from : (before : List (Event T)) (e : Event T) → ByProducer before e → is_party p (whose e) ≡ false → holder_after (holder_of before) e ≡ Some p → Backs before e
-  back_from before (Acted q (Atomic (Store value)) answer) holds ne now = is_other p q (Backs before (Acted q (Atomic (Store value)) answer)) ne (sym holds ∙ now)
-  back_from before (Finished q (Atomic AcquireProducer) (Truth true)) holds ne now = is_other p q (Backs before (Finished q (Atomic AcquireProducer) (Truth true))) ne now
+  back_from : (before : List (Event T)) (e : Event T) → ByProducer before e → is_party p (whose e) ≡ false
+      → holder_after (holder_of before) e ≡ Some p → Backs before e
+  back_from before (Acted q (Atomic (Store value)) answer) holds ne now =
+      is_other p q (Backs before (Acted q (Atomic (Store value)) answer)) ne (sym holds ∙ now)
+  back_from before (Finished q (Atomic AcquireProducer) (Truth true)) holds ne now =
+      is_other p q (Backs before (Finished q (Atomic AcquireProducer) (Truth true))) ne now
   back_from before (Finished q (Atomic ReleaseProducer) answer) holds ne now = absurd (cc)
   back_from before e holds ne now = (now, refl)
 
-  pub back_over : (before es : List (Event T)) → Each ByProducer (before ++ es) → events_by p es ≡ [] → holder_of (before ++ es) ≡ Some p → (holder_of before ≡ Some p) × (flat_map stores es ≡ [])
+  pub back_over : (before es : List (Event T)) → Each ByProducer (before ++ es) → events_by p es ≡ []
+      → holder_of (before ++ es) ≡ Some p → (holder_of before ≡ Some p) × (flat_map stores es ≡ [])
   back_over before [] each none now = (ap holder_of (sym (append-nil before)) ∙ now, refl)
-  back_over before (e ∷ es) each none now = go (λ rest. back_over (before ++ e ∷ []) es (subst (Each ByProducer) (sym longer) each) rest (ap holder_of longer ∙ now)) (is_party p (whose e)) refl
+  back_over before (e ∷ es) each none now =
+      go (λ rest. back_over (before ++ e ∷ []) es (subst (Each ByProducer) (sym longer) each) rest (ap holder_of longer ∙ now))
+      (is_party p (whose e)) refl
     where
       longer : (before ++ e ∷ []) ++ es ≡ before ++ e ∷ es
       longer = append_assoc before (e ∷ []) es
 
-      go : (events_by p es ≡ [] → (holder_of (before ++ e ∷ []) ≡ Some p) × (flat_map stores es ≡ [])) → (b : Bool) → is_party p (whose e) ≡ b → (holder_of before ≡ Some p) × (flat_map stores (e ∷ es) ≡ [])
+      go : (events_by p es ≡ [] → (holder_of (before ++ e ∷ []) ≡ Some p) × (flat_map stores es ≡ [])) → (b : Bool)
+          → is_party p (whose e) ≡ b → (holder_of before ≡ Some p) × (flat_map stores (e ∷ es) ≡ [])
       go later true t = (let mine : e ∷ events_by p es ≡ [] = rw t at none in absurd (cc))
       go later false t =
           let rest : events_by p es ≡ [] = rw t at none in
@@ -130,21 +148,30 @@ module _ {T : Type 0} (p : ℕ) where
   ArePlain [] = Unit {0}
   ArePlain (e ∷ es) = IsPlain e × ArePlain es
 
-  forth_from : (before : List (Event T)) (e : Event T) → ByProducer before e → GrantsRight before e → is_party p (whose e) ≡ false → holder_of before ≡ Some p → IsPlain e
-  forth_from before (Acted q (Atomic (Store value)) answer) holds grants ne now = is_other p q (IsPlain (Acted q (Atomic (Store value)) answer)) ne (sym holds ∙ now)
-  forth_from before (Finished q (Atomic AcquireProducer) (Truth true)) holds grants ne now = (let no : ◌≡◌ {A = Bool} true false = (let same : true ≡ is_none (holder_of before) = cc in same ∙ ap is_none now) in absurd (cc))
-  forth_from before (Finished q (Atomic ReleaseProducer) answer) holds grants ne now = is_other p q (IsPlain (Finished q (Atomic ReleaseProducer) answer)) ne (sym grants.1 ∙ now)
+  forth_from : (before : List (Event T)) (e : Event T) → ByProducer before e → GrantsRight before e
+      → is_party p (whose e) ≡ false → holder_of before ≡ Some p → IsPlain e
+  forth_from before (Acted q (Atomic (Store value)) answer) holds grants ne now =
+      is_other p q (IsPlain (Acted q (Atomic (Store value)) answer)) ne (sym holds ∙ now)
+  forth_from before (Finished q (Atomic AcquireProducer) (Truth true)) holds grants ne now =
+      (let no : ◌≡◌ {A = Bool} true false = (let same : true ≡ is_none (holder_of before) = cc in same ∙ ap is_none now) in absurd (cc))
+  forth_from before (Finished q (Atomic ReleaseProducer) answer) holds grants ne now =
+      is_other p q (IsPlain (Finished q (Atomic ReleaseProducer) answer)) ne (sym grants.1 ∙ now)
   forth_from before e holds grants ne now = (refl, refl)
 
-  pub forth_over : (before es : List (Event T)) → Each ByProducer (before ++ es) → Each GrantsRight (before ++ es) → ArePlain (events_by p es) → holder_of before ≡ Some p → flat_map stores es ≡ []
+  pub forth_over : (before es : List (Event T)) → Each ByProducer (before ++ es) → Each GrantsRight (before ++ es)
+      → ArePlain (events_by p es) → holder_of before ≡ Some p → flat_map stores es ≡ []
   forth_over before [] each grants plain now = refl
   forth_over before (e ∷ es) each grants plain now =
-      go (λ rest still. forth_over (before ++ e ∷ []) es (subst (Each ByProducer) (sym longer) each) (subst (Each GrantsRight) (sym longer) grants) rest (fold-append holder_after None before (e ∷ []) ∙ (ap (λ o. holder_after o e) now ∙ still))) (is_party p (whose e)) refl
+      go (λ rest still. forth_over (before ++ e ∷ []) es (subst (Each ByProducer) (sym longer) each)
+      (subst (Each GrantsRight) (sym longer) grants) rest
+      (fold-append holder_after None before (e ∷ []) ∙ (ap (λ o. holder_after o e) now ∙ still)))
+      (is_party p (whose e)) refl
     where
       longer : (before ++ e ∷ []) ++ es ≡ before ++ e ∷ es
       longer = append_assoc before (e ∷ []) es
 
-      go : (ArePlain (events_by p es) → holder_after (Some p) e ≡ Some p → flat_map stores es ≡ []) → (b : Bool) → is_party p (whose e) ≡ b → flat_map stores (e ∷ es) ≡ []
+      go : (ArePlain (events_by p es) → holder_after (Some p) e ≡ Some p → flat_map stores es ≡ []) → (b : Bool)
+          → is_party p (whose e) ≡ b → flat_map stores (e ∷ es) ≡ []
       go later true t =
           let own : IsPlain e × ArePlain (events_by p es) = rw t at plain in
           ap (λ xs. xs ++ flat_map stores es) own.0.0 ∙ later own.1 own.0.1

@@ -34,7 +34,9 @@ module _ {T : Type 0} (code : Coding T) (capacity : ℕ) (events : List (Event T
 
   -- each answer is that of the value that stood at its moment
   pub answers_right : Each (AnswersRight code) events
-  answers_right = subst (λ es. Each (AnswersRight code) es) (sym h.is) (subst (λ z. Each (AnswersRight z) h.trace.events) h.run.coded (value_goes_on code capacity h.trace h.run).answers)
+  answers_right =
+      subst (λ es. Each (AnswersRight code) es) (sym h.is)
+      (subst (λ z. Each (AnswersRight z) h.trace.events) h.run.coded (value_goes_on code capacity h.trace h.run).answers)
 
 -- ---- the value that stands is the last that was stored
 
@@ -50,14 +52,17 @@ stands_after value (e ∷ es) = stands_after value es
 
 module _ {T : Type 0} (code : Coding T) (capacity : ℕ) (events : List (Event T)) (h : IsHistory code kinds.Atomic capacity events) where
   -- a load tells the last value that was stored before its moment, or that of zeros
-  pub load_tells : (p : ℕ) (x : T) (before after : List (Event T)) → events ≡ before ++ Acted p (Atomic Load) (Loaded x) ∷ after → x ≡ last_or (code.value_of (replicate code.size 0)) (stored before)
+  pub load_tells : (p : ℕ) (x : T) (before after : List (Event T))
+      → events ≡ before ++ Acted p (Atomic Load) (Loaded x) ∷ after
+      → x ≡ last_or (code.value_of (replicate code.size 0)) (stored before)
   load_tells p x before after is =
       let right : Loaded x ≡ Loaded (value_in code before) = answers_right code capacity events h before after (Acted p (Atomic Load) (Loaded x)) is in
       let same : x ≡ value_in code before = cc in
       same ∙ stands_after (code.value_of (replicate code.size 0)) before
 
 -- the version of a reached machine counts the stores
-pub version_is_count : {T : Type 0} (code : Coding T) (capacity : ℕ) (t : Trace T) → IsRun code kinds.Atomic capacity t → slice_index t.world.words 0 ≡ length (stored t.events) + 1
+pub version_is_count : {T : Type 0} (code : Coding T) (capacity : ℕ) (t : Trace T)
+    → IsRun code kinds.Atomic capacity t → slice_index t.world.words 0 ≡ length (stored t.events) + 1
 version_is_count code capacity t run = version_counts t.world.coding t.world.capacity t (value_sound code capacity t run)
 
 module _ {T : Type 0} (code : Coding T) (capacity : ℕ) (events : List (Event T)) (h : IsHistory code kinds.Queue capacity events) where
@@ -65,5 +70,7 @@ module _ {T : Type 0} (code : Coding T) (capacity : ℕ) (events : List (Event T
   values_linearizable =
       let t = h.trace in
       let r = h.run in
-      let all : IsLinearized kinds.Queue t = subst (λ k. IsLinearized k t) r.of_kind (run_linearizable t (queue_kept_on Queue t r.of_kind r.reached.coded r.reached.admitted r.fresh)) in
+      let all : IsLinearized kinds.Queue t =
+      subst (λ k. IsLinearized k t) r.of_kind
+      (run_linearizable t (queue_kept_on Queue t r.of_kind r.reached.coded r.reached.admitted r.fresh)) in
       subst (λ es. IsLinearizable (as_list Queue capacity) es) (sym h.is) (subst (λ n. IsLinearizable (as_list Queue n) t.events) r.sized all)

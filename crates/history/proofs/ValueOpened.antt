@@ -1,5 +1,7 @@
 -- How the table of a single value opens: one party has stored it so many times.
-use Rattle.std.proofs.Common.{◌≡◌, ℕ, zero, suc, ◌+◌, ◌-◌, ◌*◌, ◌%◌, ◌^◌, ◌<◌, ◌≤◌, ◌==◌, nat_lt, true, false, Option, Some, None, List, [], ◌∷◌, ◌++◌, length, take, drop, set, get_or, replicate, slice_set, refl, sym, ap, subst, ◌∙◌, append_assoc, length-append, arith, sum_by}
+use Rattle.std.proofs.Common.{◌≡◌, ℕ, zero, suc, ◌+◌, ◌-◌, ◌*◌, ◌%◌, ◌^◌, ◌<◌, ◌≤◌, ◌==◌, nat_lt, true, false, Option}
+use Rattle.std.proofs.Common.{Some, None, List, [], ◌∷◌, ◌++◌, length, take, drop, set, get_or, replicate, slice_set}
+use Rattle.std.proofs.Common.{refl, sym, ap, subst, ◌∙◌, append_assoc, length-append, arith, sum_by}
 use Rattle.std.proofs.lemmas.Bool.Decides.{nat_tests}
 use Rattle.std.proofs.lemmas.List.{length-replicate}
 use Rattle.std.proofs.lemmas.List.Sums.{sum_by-append}
@@ -40,7 +42,8 @@ use Rattle.history.proofs.Values.{value_effects, value_owes, plain_starts, produ
 
 pub set_right : (xs ys : List ℕ) (i n : ℕ) → set (xs ++ ys) (length xs + i) n ≡ xs ++ set ys i n
 set_right [] ys i n = let same : 0 + i ≡ i = omega arith in ap (λ k. set ys k n) same
-set_right (x ∷ xs) ys i n = let same : suc (length xs) + i ≡ suc (length xs + i) = omega arith in ap (λ k. set (x ∷ (xs ++ ys)) k n) same ∙ ap (λ zs. x ∷ zs) (set_right xs ys i n)
+set_right (x ∷ xs) ys i n = let same : suc (length xs) + i ≡ suc (length xs + i) = omega arith in
+    ap (λ k. set (x ∷ (xs ++ ys)) k n) same ∙ ap (λ zs. x ∷ zs) (set_right xs ys i n)
 
 -- the first words of the one list, and the rest of the other
 abbrev pub mix : ℕ → List ℕ → List ℕ → List ℕ
@@ -79,9 +82,12 @@ two_length : (p size : ℕ) (xs ys : List ℕ) → length xs ≡ size → length
 two_length zero size xs ys a b = length-append xs ys ∙ (omega arith)
 two_length (suc p) size xs ys a b = length-append ys xs ∙ (omega arith)
 
-two_set : (p size : ℕ) (xs ys : List ℕ) (at n : ℕ) → p < 2 → length xs ≡ size → length ys ≡ size → at < size → set (two p xs ys) (size * p + at) n ≡ two p (set xs at n) ys
-two_set zero size xs ys at n low a b below = let same : size * 0 + at ≡ at = omega arith in ap (λ k. set (xs ++ ys) k n) same ∙ set_left xs ys at n (omega arith)
-two_set (suc zero) size xs ys at n low a b below = let same : size * 1 + at ≡ length ys + at = omega arith in ap (λ k. set (ys ++ xs) k n) same ∙ set_right ys xs at n
+two_set : (p size : ℕ) (xs ys : List ℕ) (at n : ℕ) → p < 2 → length xs ≡ size → length ys ≡ size → at < size
+    → set (two p xs ys) (size * p + at) n ≡ two p (set xs at n) ys
+two_set zero size xs ys at n low a b below = let same : size * 0 + at ≡ at = omega arith in
+    ap (λ k. set (xs ++ ys) k n) same ∙ set_left xs ys at n (omega arith)
+two_set (suc zero) size xs ys at n low a b below = let same : size * 1 + at ≡ length ys + at = omega arith in
+    ap (λ k. set (ys ++ xs) k n) same ∙ set_right ys xs at n
 two_set (suc (suc p)) size xs ys at n low a b below = absurd (omega arith)
 
 -- ---- the calls of the one party
@@ -149,34 +155,53 @@ module _ {T : Type 0} (code : Coding T) (law : IsCoding code) (value : T) where
     word_low : (at : ℕ) → at < code.size → word_at cell at < 2 + code.size * 2
     word_low at below = (let is = asked_place code.size v at law.few below in let within = cell_within code.size v at below in omega arith)
 
-    next : (es : List (Event T)) (at : ℕ) → at + 1 < code.size → Here (now at) es (Some (name, storing at)) → Here (now (suc at)) es (Some (name, storing (at + 1)))
+    next : (es : List (Event T)) (at : ℕ) → at + 1 < code.size → Here (now at) es (Some (name, storing at))
+        → Here (now (suc at)) es (Some (name, storing (at + 1)))
     next es at more h =
         let t : nat_lt (at + 1) code.size ≡ true = grind (arith, nat_tests) in
-        alone.goes_on code kinds.Atomic 1 (2 + code.size * 2) effects laws (now at) es name (storing at) h (record { word = word_at cell at; op = ops.Store (get_or ws at 0) }) (word_low at (omega arith)) refl tt (now (suc at)) (storing (at + 1)) (put at (omega arith)) (rw t refl) (rw t refl)
+        alone.goes_on code kinds.Atomic 1 (2 + code.size * 2) effects laws (now at) es name (storing at) h
+        (record { word = word_at cell at; op = ops.Store (get_or ws at 0) }) (word_low at (omega arith)) refl tt
+        (now (suc at)) (storing (at + 1)) (put at (omega arith)) (rw t refl) (rw t refl)
 
-    last : (es : List (Event T)) (at : ℕ) → at + 1 ≡ code.size → Here (now at) es (Some (name, storing at)) → Here (now (suc at)) es (Some (name, flight_at stores.TheVariants.AddsVersion))
+    last : (es : List (Event T)) (at : ℕ) → at + 1 ≡ code.size → Here (now at) es (Some (name, storing at))
+        → Here (now (suc at)) es (Some (name, flight_at stores.TheVariants.AddsVersion))
     last es at all h =
         let t : nat_lt (at + 1) code.size ≡ false = grind (arith, nat_tests) in
-        alone.goes_on code kinds.Atomic 1 (2 + code.size * 2) effects laws (now at) es name (storing at) h (record { word = word_at cell at; op = ops.Store (get_or ws at 0) }) (word_low at (omega arith)) refl tt (now (suc at)) (flight_at stores.TheVariants.AddsVersion) (put at (omega arith)) (rw t refl) (rw t refl)
+        alone.goes_on code kinds.Atomic 1 (2 + code.size * 2) effects laws (now at) es name (storing at) h
+        (record { word = word_at cell at; op = ops.Store (get_or ws at 0) }) (word_low at (omega arith)) refl tt
+        (now (suc at)) (flight_at stores.TheVariants.AddsVersion) (put at (omega arith)) (rw t refl) (rw t refl)
 
-    fills : (es : List (Event T)) (rest at : ℕ) → at + suc rest ≡ code.size → Here (now at) es (Some (name, storing at)) → Here (now code.size) es (Some (name, flight_at stores.TheVariants.AddsVersion))
-    fills es zero at sum h = let same : suc at ≡ code.size = omega arith in subst (λ n. Here (now n) es (Some (name, flight_at stores.TheVariants.AddsVersion))) same (last es at (omega arith) h)
+    fills : (es : List (Event T)) (rest at : ℕ) → at + suc rest ≡ code.size
+        → Here (now at) es (Some (name, storing at))
+        → Here (now code.size) es (Some (name, flight_at stores.TheVariants.AddsVersion))
+    fills es zero at sum h = let same : suc at ≡ code.size = omega arith in
+        subst (λ n. Here (now n) es (Some (name, flight_at stores.TheVariants.AddsVersion))) same (last es at (omega arith) h)
     fills es (suc rest) at sum h =
         let same : at + 1 ≡ suc at = omega arith in
         fills es rest (suc at) (omega arith) (subst (λ n. Here (now (suc at)) es (Some (name, storing n))) same (next es at (omega arith) h))
 
     -- the value is stored once more
-    stores_it : (es : List (Event T)) → HasProducer es → Here (words_at v 0 (two (v % 2) x y)) es None → Here (words_at (v + 1) 0 (two (v % 2) ws y)) (es ++ stored_once value) None
+    stores_it : (es : List (Event T)) → HasProducer es → Here (words_at v 0 (two (v % 2) x y)) es None
+        → Here (words_at (v + 1) 0 (two (v % 2) ws y)) (es ++ stored_once value) None
     stores_it es has h =
         let not_last : (v == 2 ^ 64 - 1) ≡ false = grind (arith, nat_tests) in
         let xs = es ++ Begun 0 name ∷ [] in
         let ended : List (Event T) = Acted 0 name (Truth true) ∷ Finished 0 name (Truth true) ∷ [] in
         let a = alone.begins code kinds.Atomic 1 (2 + code.size * 2) effects laws (stores_value code value) first_store tt (now 0) es h
-        (producer_starts code (maker es) (stores_value code value) (Store value) first_store tt refl (λ kept. refl) (λ o p. tt) (λ holder p is. holds_it holder p is) has h.u same_seat 0 h.between.run refl refl (sums (now 0) es h)) in
-        let b = alone.goes_on code kinds.Atomic 1 (2 + code.size * 2) effects laws (now 0) xs name (flight_at stores.TheVariants.LoadsVersion) a (record { word = 0; op = ops.Load }) (omega arith) refl small (now 0) (storing 0) refl (rw not_last refl) (rw not_last refl) in
+        (producer_starts code (maker es) (stores_value code value) (Store value) first_store tt refl (λ kept. refl)
+        (λ o p. tt) (λ holder p is. holds_it holder p is) has h.u same_seat 0 h.between.run refl refl
+        (sums (now 0) es h)) in
+        let b =
+        alone.goes_on code kinds.Atomic 1 (2 + code.size * 2) effects laws (now 0) xs name
+        (flight_at stores.TheVariants.LoadsVersion) a (record { word = 0; op = ops.Load }) (omega arith) refl small
+        (now 0) (storing 0) refl (rw not_last refl) (rw not_last refl) in
         let c = fills xs (code.size - 1) 0 (let some = law.some in omega arith) b in
         let one : (v + 1) % 2 ^ 64 ≡ v + 1 = omega arith in
-        let d = alone.ends code kinds.Atomic 1 (2 + code.size * 2) effects laws (now code.size) xs name (flight_at stores.TheVariants.AddsVersion) c (record { word = 0; op = ops.Add 1 }) (omega arith) refl tt (words_at (v + 1) 0 (cells code.size)) (Truth true) (Acted 0 name (Truth true) ∷ []) (ap (λ n. words_at n 0 (cells code.size)) one) refl refl (refl, tt) in
+        let d =
+        alone.ends code kinds.Atomic 1 (2 + code.size * 2) effects laws (now code.size) xs name
+        (flight_at stores.TheVariants.AddsVersion) c (record { word = 0; op = ops.Add 1 }) (omega arith) refl tt
+        (words_at (v + 1) 0 (cells code.size)) (Truth true) (Acted 0 name (Truth true) ∷ [])
+        (ap (λ n. words_at n 0 (cells code.size)) one) refl refl (refl, tt) in
         let whole : mix code.size ws x ≡ ws = mix_all code.size ws x (law.sized value) x_long in
         subst (λ zs. Here (words_at (v + 1) 0 (two (v % 2) zs y)) (es ++ stored_once value) None) whole
         (subst (λ zs. Here (words_at (v + 1) 0 (cells code.size)) zs None) (append_assoc es (Begun 0 name ∷ []) ended) d)
@@ -203,10 +228,19 @@ module _ {T : Type 0} (code : Coding T) (law : IsCoding code) (value : T) where
       let all : code.size + code.size ≡ code.size * 2 = omega arith in
       let cells : replicate (code.size * 2) 0 ≡ zeros ++ zeros = sym (replicate_both code.size code.size 0 ∙ ap (λ n. replicate n 0) all) in
       let start = Atomic AcquireProducer in
-      let h : Here (words_at 1 1 (zeros ++ zeros)) [] None = subst (λ zs. Here (words_at 1 1 zs) [] None) cells (alone.opens_here code kinds.Atomic 1 (2 + code.size * 2) effects laws law refl) in
-      let a = alone.begins code kinds.Atomic 1 (2 + code.size * 2) effects laws acquires_producer (record { word = producer_word }) tt (words_at 1 1 (zeros ++ zeros)) [] h
-      (plain_starts code (maker []) acquires_producer AcquireProducer (record { word = producer_word }) tt refl (λ kept. refl) (λ o p is. is) (λ holder p. refl) h.u same_seat 0 h.between.run refl refl (sums (words_at 1 1 (zeros ++ zeros)) [] h)) in
-      alone.ends code kinds.Atomic 1 (2 + code.size * 2) effects laws (words_at 1 1 (zeros ++ zeros)) (Begun 0 start ∷ []) start (acquires_producer.flight (record { word = producer_word }) tt) a (record { word = producer_word; op = ops.Exchange 1 0 }) (omega arith) refl tt (words_at 1 0 (zeros ++ zeros)) (Truth true) [] refl refl refl tt
+      let h : Here (words_at 1 1 (zeros ++ zeros)) [] None =
+      subst (λ zs. Here (words_at 1 1 zs) [] None) cells
+      (alone.opens_here code kinds.Atomic 1 (2 + code.size * 2) effects laws law refl) in
+      let a =
+      alone.begins code kinds.Atomic 1 (2 + code.size * 2) effects laws acquires_producer
+      (record { word = producer_word }) tt (words_at 1 1 (zeros ++ zeros)) [] h
+      (plain_starts code (maker []) acquires_producer AcquireProducer (record { word = producer_word }) tt refl
+      (λ kept. refl) (λ o p is. is) (λ holder p. refl) h.u same_seat 0 h.between.run refl refl
+      (sums (words_at 1 1 (zeros ++ zeros)) [] h)) in
+      alone.ends code kinds.Atomic 1 (2 + code.size * 2) effects laws (words_at 1 1 (zeros ++ zeros))
+      (Begun 0 start ∷ []) start (acquires_producer.flight (record { word = producer_word }) tt) a
+      (record { word = producer_word; op = ops.Exchange 1 0 }) (omega arith) refl tt (words_at 1 0 (zeros ++ zeros))
+      (Truth true) [] refl refl refl tt
 
   once : Here (words_at 2 0 (opened_cells code value 1)) (stored_times value 1) None
   once = stores_it 1 (omega arith) zeros zeros zeros_long zeros_long (stored_times value 0) (has_it 0) taken
@@ -218,10 +252,14 @@ module _ {T : Type 0} (code : Coding T) (law : IsCoding code) (value : T) where
   stored (suc (suc (suc n))) low =
       let v = suc (suc n) + 1 in
       let long = law.sized value in
-      let before : Here (words_at v 0 (two (v % 2) ws ws)) (stored_times value (suc (suc n))) None = subst (λ zs. Here (words_at v 0 zs) (stored_times value (suc (suc n))) None) (sym (two_same (v % 2) ws)) (stored (suc (suc n)) (omega arith)) in
+      let before : Here (words_at v 0 (two (v % 2) ws ws)) (stored_times value (suc (suc n))) None =
+      subst (λ zs. Here (words_at v 0 zs) (stored_times value (suc (suc n))) None) (sym (two_same (v % 2) ws))
+      (stored (suc (suc n)) (omega arith)) in
       let next_one : v + 1 ≡ suc (suc (suc n)) + 1 = omega arith in
       subst (λ k. Here (words_at k 0 (ws ++ ws)) (stored_times value (suc (suc (suc n)))) None) next_one
-      (subst (λ zs. Here (words_at (v + 1) 0 zs) (stored_times value (suc (suc (suc n)))) None) (two_same (v % 2) ws) (stores_it v (omega arith) ws ws long long (stored_times value (suc (suc n))) (has_it (suc (suc n))) before))
+      (subst (λ zs. Here (words_at (v + 1) 0 zs) (stored_times value (suc (suc (suc n)))) None)
+      (two_same (v % 2) ws)
+      (stores_it v (omega arith) ws ws long long (stored_times value (suc (suc n))) (has_it (suc (suc n))) before))
 
   -- the role is given back
   given : (n : ℕ) → n < 2 ^ 64 - 1 → Here (words_at (n + 1) 1 (opened_cells code value n)) (opened value n) None
@@ -231,8 +269,14 @@ module _ {T : Type 0} (code : Coding T) (law : IsCoding code) (value : T) where
       let es = stored_times value n in
       let h = stored n low in
       let a = alone.begins code kinds.Atomic 1 (2 + code.size * 2) effects laws releases_producer (record { word = producer_word }) tt ws' es h
-      (producer_starts code (maker es) releases_producer ReleaseProducer (record { word = producer_word }) tt refl (λ kept. refl) (λ o p. tt) (λ holder p is. holds_it holder p is) (has_it n) h.u same_seat 0 h.between.run refl refl (sums ws' es h)) in
-      let b = alone.ends code kinds.Atomic 1 (2 + code.size * 2) effects laws ws' (es ++ Begun 0 start ∷ []) start (releases_producer.flight (record { word = producer_word }) tt) a (record { word = producer_word; op = ops.Store 1 }) (omega arith) refl tt (words_at (n + 1) 1 (opened_cells code value n)) answers.Done [] refl refl refl tt in
+      (producer_starts code (maker es) releases_producer ReleaseProducer (record { word = producer_word }) tt refl
+      (λ kept. refl) (λ o p. tt) (λ holder p is. holds_it holder p is) (has_it n) h.u same_seat 0 h.between.run refl
+      refl (sums ws' es h)) in
+      let b =
+      alone.ends code kinds.Atomic 1 (2 + code.size * 2) effects laws ws' (es ++ Begun 0 start ∷ []) start
+      (releases_producer.flight (record { word = producer_word }) tt) a
+      (record { word = producer_word; op = ops.Store 1 }) (omega arith) refl tt
+      (words_at (n + 1) 1 (opened_cells code value n)) answers.Done [] refl refl refl tt in
       subst (λ zs. Here (words_at (n + 1) 1 (opened_cells code value n)) zs None) (append_assoc es (Begun 0 start ∷ []) (Finished 0 start answers.Done ∷ [])) b
 
   few : (version : ℕ) → version < 2 ^ 64 → first_stores version < 2 ^ 64 - 1
@@ -241,9 +285,11 @@ module _ {T : Type 0} (code : Coding T) (law : IsCoding code) (value : T) where
   few (suc (suc more)) low = omega arith
 
   -- a table opens so, at any version
-  pub value_opens : (version : ℕ) → version < 2 ^ 64 → (words : List ℕ) → words ≡ (first_stores version + 1) ∷ 1 ∷ (opened_cells code value (first_stores version) ++ 0 ∷ [])
+  pub value_opens : (version : ℕ) → version < 2 ^ 64 → (words : List ℕ)
+      → words ≡ (first_stores version + 1) ∷ 1 ∷ (opened_cells code value (first_stores version) ++ 0 ∷ [])
       → IsMachine code kinds.Atomic 1 (opening words [] (opened_view value version))
   value_opens version low words same =
       let n = first_stores version in
       subst (λ zs. IsMachine code kinds.Atomic 1 (opening zs [] (opened_view value version))) (sym same)
-      (alone.opens_so code kinds.Atomic 1 (2 + code.size * 2) effects laws (words_at (n + 1) 1 (opened_cells code value n)) (opened value n) (given n (few version low)))
+      (alone.opens_so code kinds.Atomic 1 (2 + code.size * 2) effects laws
+      (words_at (n + 1) 1 (opened_cells code value n)) (opened value n) (given n (few version low)))

@@ -1,5 +1,7 @@
 -- The calls on a queue of values as calls of the model.
-use Rattle.std.proofs.Common.{inl, ◌≡◌, ◌≢◌, nat_lt, ℕ, ◌+◌, ◌-◌, ◌^◌, ◌%◌, ◌*◌, ◌<◌, ◌≤◌, ◌==◌, ◌||◌, cond, Bool, true, false, Option, Some, None, List, [], ◌∷◌, ◌++◌, slice_set, slice_index, refl, sym, ap, subst, ◌∙◌, arith}
+use Rattle.std.proofs.Common.{inl, ◌≡◌, ◌≢◌, nat_lt, ℕ, ◌+◌, ◌-◌, ◌^◌, ◌%◌, ◌*◌, ◌<◌, ◌≤◌, ◌==◌, ◌||◌, cond, Bool}
+use Rattle.std.proofs.Common.{true, false, Option, Some, None, List, [], ◌∷◌, ◌++◌, slice_set, slice_index, refl, sym}
+use Rattle.std.proofs.Common.{ap, subst, ◌∙◌, arith}
 use Rattle.std.proofs.lemmas.Bool.Decides.{nat_tests}
 use Rattle.std.proofs.Math.Nat.{mul-le-mul_left}
 use Rattle.steps.specs.Ask.{written}
@@ -13,7 +15,9 @@ use Rattle.steps.specs.declared.queues.ring.Pop.{Pop as Popping}
 use Rattle.steps.specs.declared.queues.ring.PopStage as pops
 use Rattle.steps.specs.declared.queues.ring.Push.{Push as Pushing}
 use Rattle.steps.specs.declared.queues.ring.PushStage as pushes
-use Rattle.steps.specs.Queues.Ring.{first_push, first_pop, cell_word, word_at, at_push, push_asks, push_want, push_takes, push_after, after_position, distance, at_pop, pop_asks, pop_want, pop_takes, pop_after, pop_kept, pop_keeps}
+use Rattle.steps.specs.Queues.Ring.{first_push, first_pop, cell_word, word_at, at_push, push_asks, push_want}
+use Rattle.steps.specs.Queues.Ring.{push_takes, push_after, after_position, distance, at_pop, pop_asks, pop_want}
+use Rattle.steps.specs.Queues.Ring.{pop_takes, pop_after, pop_kept, pop_keeps}
 use Rattle.model.specs.declared.event.Answer.TheVariants.{Truth, PoppedNone}
 use Rattle.model.specs.declared.event.Answer.TheVariants as answers
 use Rattle.model.specs.declared.event.Event.{Event}
@@ -72,38 +76,54 @@ module _ {T : Type 0} (code : Coding T) (law : IsCoding code) (v : T) where
       go (Done b) e = rw e refl
 
   -- the events of a step that goes on, and of one that ends
-  effects_on : (p : ℕ) (c d : Pushing T) (m : Unit {0}) (n : ℕ) → push_after code.size c n ≡ GoOn d → queue_effects code p (pushing.flight c m) n ≡ effects_of p (Push v) (push_effect (Value v) c.stage) None
+  effects_on : (p : ℕ) (c d : Pushing T) (m : Unit {0}) (n : ℕ) → push_after code.size c n ≡ GoOn d
+      → queue_effects code p (pushing.flight c m) n ≡ effects_of p (Push v) (push_effect (Value v) c.stage) None
   effects_on p c d m n e = rw e refl
 
-  effects_end : (p : ℕ) (c : Pushing T) (b : Bool) (m : Unit {0}) (n : ℕ) → push_after code.size c n ≡ Done b → queue_effects code p (pushing.flight c m) n ≡ effects_of p (Push v) (push_effect (Value v) c.stage) (Some (Truth b))
+  effects_end : (p : ℕ) (c : Pushing T) (b : Bool) (m : Unit {0}) (n : ℕ) → push_after code.size c n ≡ Done b
+      → queue_effects code p (pushing.flight c m) n ≡ effects_of p (Push v) (push_effect (Value v) c.stage) (Some (Truth b))
   effects_end p c b m n e = rw e refl
 
-  quiet : (p n : ℕ) (c d : Pushing T) (stage : pushes.PushStage) → push_takes code.size c stage n ≡ GoOn d → effects_of {T = T} p (Push v) (push_effect (Value v) stage) None ≡ []
+  quiet : (p n : ℕ) (c d : Pushing T) (stage : pushes.PushStage) → push_takes code.size c stage n ≡ GoOn d
+      → effects_of {T = T} p (Push v) (push_effect (Value v) stage) None ≡ []
   quiet p n c d pushes.TheVariants.LoadsWrite e = refl
   quiet p n c d (pushes.TheVariants.LoadsRead write) e = refl
   quiet p n c d (pushes.TheVariants.StoresCell write cell at) e = refl
   quiet p n c d (pushes.TheVariants.StoresWrite write) e = absurd (cc)
 
-  loud : (p n : ℕ) (c : Pushing T) (b : Bool) (stage : pushes.PushStage) → push_skips stage n ≡ false → push_takes code.size c stage n ≡ Done b → effects_of {T = T} p (Push v) (push_effect (Value v) stage) (Some (Truth b)) ≡ value_push_wrote p v b
+  loud : (p n : ℕ) (c : Pushing T) (b : Bool) (stage : pushes.PushStage) → push_skips stage n ≡ false
+      → push_takes code.size c stage n ≡ Done b
+      → effects_of {T = T} p (Push v) (push_effect (Value v) stage) (Some (Truth b)) ≡ value_push_wrote p v b
   loud p n c b pushes.TheVariants.LoadsWrite skip e = (let no : GoOn (at_push c (pushes.TheVariants.LoadsRead n)) ≡ Done b = rw skip at e in absurd (cc))
   loud p n c b (pushes.TheVariants.LoadsRead write) skip e = go (c.capacity == 0 || distance write n == c.capacity) e
     where
-      go : (t : Bool) → cond t (Done false) (GoOn (at_push c (pushes.TheVariants.StoresCell write (cell_word c.capacity code.size write) 0))) ≡ Done b → ◌≡◌ {A = List (Event T)} (Acted p (Queues (Push v)) (Truth b) ∷ []) (value_push_wrote p v b)
-      go true e = (let same : false ≡ b = cc in subst (λ x. ◌≡◌ {A = List (Event T)} (Acted p (Queues (Push v)) (Truth x) ∷ []) (value_push_wrote p v x)) same refl)
+      go : (t : Bool)
+          → cond t (Done false) (GoOn (at_push c (pushes.TheVariants.StoresCell write (cell_word c.capacity code.size write) 0))) ≡ Done b
+          → ◌≡◌ {A = List (Event T)} (Acted p (Queues (Push v)) (Truth b) ∷ []) (value_push_wrote p v b)
+      go true e =
+          (let same : false ≡ b = cc in
+          subst (λ x. ◌≡◌ {A = List (Event T)} (Acted p (Queues (Push v)) (Truth x) ∷ []) (value_push_wrote p v x)) same refl)
       go false e = absurd (cc)
   loud p n c b (pushes.TheVariants.StoresCell write cell at) skip e = go (nat_lt (at + 1) code.size) e
     where
-      go : (t : Bool) → cond {A = After (Pushing T) Bool} t (GoOn (at_push c (pushes.TheVariants.StoresCell write cell (at + 1)))) (GoOn (at_push c (pushes.TheVariants.StoresWrite write))) ≡ Done b → [] ≡ value_push_wrote {T = T} p v b
+      go : (t : Bool) → cond {A = After (Pushing T) Bool} t (GoOn (at_push c (pushes.TheVariants.StoresCell write cell (at + 1))))
+          (GoOn (at_push c (pushes.TheVariants.StoresWrite write)))
+          ≡ Done b
+          → [] ≡ value_push_wrote {T = T} p v b
       go true e = absurd (cc)
       go false e = absurd (cc)
-  loud p n c b (pushes.TheVariants.StoresWrite write) skip e = (let same : true ≡ b = cc in subst (λ x. ◌≡◌ {A = List (Event T)} (Published p (Value v) ∷ Acted p (Queues (Push v)) (Truth x) ∷ []) (value_push_wrote p v x)) same refl)
+  loud p n c b (pushes.TheVariants.StoresWrite write) skip e =
+      (let same : true ≡ b = cc in
+      subst (λ x. ◌≡◌ {A = List (Event T)} (Published p (Value v) ∷ Acted p (Queues (Push v)) (Truth x) ∷ []) (value_push_wrote p v x))
+      same refl)
 
   -- where it stands next
   module _ (capacity : ℕ) where
     abbrev PushesNext : Pushing T → Type 0
     PushesNext d = (d.capacity ≡ capacity) × PushPlace code.size capacity d.stage × ((k : ℕ) → push_skips d.stage k ≡ false)
 
-    push_stays : (c d : Pushing T) (n : ℕ) (stage : pushes.PushStage) → c.capacity ≡ capacity → PushPlace code.size capacity stage → push_takes code.size c stage n ≡ GoOn d → PushesNext d
+    push_stays : (c d : Pushing T) (n : ℕ) (stage : pushes.PushStage) → c.capacity ≡ capacity
+        → PushPlace code.size capacity stage → push_takes code.size c stage n ≡ GoOn d → PushesNext d
     push_stays c d n pushes.TheVariants.LoadsWrite same h e = go (n == 2 ^ 64 - 1) e
       where
         go : (t : Bool) → cond t (Done false) (GoOn (at_push c (pushes.TheVariants.LoadsRead n))) ≡ GoOn d → PushesNext d
@@ -111,7 +131,10 @@ module _ {T : Type 0} (code : Coding T) (law : IsCoding code) (v : T) where
         go false e = (let is : at_push c (pushes.TheVariants.LoadsRead n) ≡ d = cc in subst PushesNext is (same, tt, λ k. refl))
     push_stays c d n (pushes.TheVariants.LoadsRead write) same h e = go (c.capacity == 0) (distance write n == c.capacity) refl e
       where
-        go : (z t : Bool) → (c.capacity == 0) ≡ z → cond (z || t) (Done false) (GoOn (at_push c (pushes.TheVariants.StoresCell write (cell_word c.capacity code.size write) 0))) ≡ GoOn d → PushesNext d
+        go : (z t : Bool) → (c.capacity == 0) ≡ z
+            → cond (z || t) (Done false) (GoOn (at_push c (pushes.TheVariants.StoresCell write (cell_word c.capacity code.size write) 0)))
+            ≡ GoOn d
+            → PushesNext d
         go true t is_z e = absurd (cc)
         go false true is_z e = absurd (cc)
         go false false is_z e =
@@ -121,7 +144,11 @@ module _ {T : Type 0} (code : Coding T) (law : IsCoding code) (v : T) where
             subst PushesNext is (same, (omega (arith, same, some), ap (λ z. cell_word z code.size write) same, omega (arith, one)), λ k. refl)
     push_stays c d n (pushes.TheVariants.StoresCell write cell at) same h e = go (nat_lt (at + 1) code.size) refl e
       where
-        go : (t : Bool) → nat_lt (at + 1) code.size ≡ t → cond {A = After (Pushing T) Bool} t (GoOn (at_push c (pushes.TheVariants.StoresCell write cell (at + 1)))) (GoOn (at_push c (pushes.TheVariants.StoresWrite write))) ≡ GoOn d → PushesNext d
+        go : (t : Bool) → nat_lt (at + 1) code.size ≡ t
+            → cond {A = After (Pushing T) Bool} t (GoOn (at_push c (pushes.TheVariants.StoresCell write cell (at + 1))))
+            (GoOn (at_push c (pushes.TheVariants.StoresWrite write)))
+            ≡ GoOn d
+            → PushesNext d
         go true t e =
             let is : at_push c (pushes.TheVariants.StoresCell write cell (at + 1)) ≡ d = cc in
             let next : at + 1 < code.size = grind (arith, nat_tests) in
@@ -129,15 +156,23 @@ module _ {T : Type 0} (code : Coding T) (law : IsCoding code) (v : T) where
         go false t e = (let is : at_push c (pushes.TheVariants.StoresWrite write) ≡ d = cc in subst PushesNext is (same, tt, λ k. refl))
     push_stays c d n (pushes.TheVariants.StoresWrite write) same h e = absurd (cc)
 
-  push_finds_word : (capacity : ℕ) (stage : pushes.PushStage) → PushPlace code.size capacity stage → (a : Ask) × (a.word < 4 + code.size * capacity) × (push_asks code.words_of stage v ≡ wants.Ask a)
+  push_finds_word : (capacity : ℕ) (stage : pushes.PushStage) → PushPlace code.size capacity stage
+      → (a : Ask) × (a.word < 4 + code.size * capacity) × (push_asks code.words_of stage v ≡ wants.Ask a)
   push_finds_word capacity pushes.TheVariants.LoadsWrite h = (record { word = 0; op = Load }, omega arith, refl)
   push_finds_word capacity (pushes.TheVariants.LoadsRead write) h = (record { word = 1; op = Load }, omega arith, refl)
-  push_finds_word capacity (pushes.TheVariants.StoresCell write cell at) h = (record { word = word_at cell at; op = Store (slice_index (code.words_of v) at) }, cell_low code.size capacity write cell at h, refl)
+  push_finds_word capacity (pushes.TheVariants.StoresCell write cell at) h =
+      (record { word = word_at cell at; op = Store (slice_index (code.words_of v) at) }, cell_low code.size capacity write cell at h, refl)
   push_finds_word capacity (pushes.TheVariants.StoresWrite write) h = (record { word = 0; op = Store (after_position write) }, omega arith, refl)
 
-  push_hears : (c : Pushing T) (a : Ask) (n : ℕ) (stage : pushes.PushStage) → push_asks code.words_of stage v ≡ wants.Ask a → push_takes code.size c stage (answered a.op n) ≡ push_takes code.size c stage n
-  push_hears c a n pushes.TheVariants.LoadsWrite e = (let is : record { word = 0; op = Load } ≡ a = cc in ap (λ (z : Ask). push_takes code.size c pushes.TheVariants.LoadsWrite (answered z.op n)) (sym is))
-  push_hears c a n (pushes.TheVariants.LoadsRead write) e = (let is : record { word = 1; op = Load } ≡ a = cc in ap (λ (z : Ask). push_takes code.size c (pushes.TheVariants.LoadsRead write) (answered z.op n)) (sym is))
+  push_hears : (c : Pushing T) (a : Ask) (n : ℕ) (stage : pushes.PushStage)
+      → push_asks code.words_of stage v ≡ wants.Ask a
+      → push_takes code.size c stage (answered a.op n) ≡ push_takes code.size c stage n
+  push_hears c a n pushes.TheVariants.LoadsWrite e =
+      (let is : record { word = 0; op = Load } ≡ a = cc in
+      ap (λ (z : Ask). push_takes code.size c pushes.TheVariants.LoadsWrite (answered z.op n)) (sym is))
+  push_hears c a n (pushes.TheVariants.LoadsRead write) e =
+      (let is : record { word = 1; op = Load } ≡ a = cc in
+      ap (λ (z : Ask). push_takes code.size c (pushes.TheVariants.LoadsRead write) (answered z.op n)) (sym is))
   push_hears c a n (pushes.TheVariants.StoresCell write cell at) e = refl
   push_hears c a n (pushes.TheVariants.StoresWrite write) e = refl
 
@@ -147,13 +182,17 @@ module _ {T : Type 0} (code : Coding T) (law : IsCoding code) (v : T) where
   push_finds n (pushes.TheVariants.StoresCell write cell at) small t = tt
   push_finds n (pushes.TheVariants.StoresWrite write) small t = tt
 
-  push_leaves : (c : Pushing T) (a : Ask) (n : ℕ) (stage : pushes.PushStage) → push_skips stage n ≡ true → push_asks code.words_of stage v ≡ wants.Ask a → (written a.op n ≡ n) × (e : Bool) × (e ≡ false) × (push_takes code.size c stage n ≡ Done e)
-  push_leaves c a n pushes.TheVariants.LoadsWrite t e = (let is : record { word = 0; op = Load } ≡ a = cc in (ap (λ (z : Ask). written z.op n) (sym is), false, refl, rw t refl))
+  push_leaves : (c : Pushing T) (a : Ask) (n : ℕ) (stage : pushes.PushStage) → push_skips stage n ≡ true
+      → push_asks code.words_of stage v ≡ wants.Ask a
+      → (written a.op n ≡ n) × (e : Bool) × (e ≡ false) × (push_takes code.size c stage n ≡ Done e)
+  push_leaves c a n pushes.TheVariants.LoadsWrite t e =
+      (let is : record { word = 0; op = Load } ≡ a = cc in (ap (λ (z : Ask). written z.op n) (sym is), false, refl, rw t refl))
   push_leaves c a n (pushes.TheVariants.LoadsRead write) t e = absurd (cc)
   push_leaves c a n (pushes.TheVariants.StoresCell write cell at) t e = absurd (cc)
   push_leaves c a n (pushes.TheVariants.StoresWrite write) t e = absurd (cc)
 
-  push_is_call : IsCallOf code (queue_effects code) (λ capacity. 4 + code.size * capacity) (λ c. push_want code.words_of c v) (λ c n. push_after code.size c n) (λ c m n. m) pushing
+  push_is_call : IsCallOf code (queue_effects code) (λ capacity. 4 + code.size * capacity)
+      (λ c. push_want code.words_of c v) (λ c n. push_after code.size c n) (λ c m n. m) pushing
   push_is_call =
       record {
         same_want = λ c m. refl;
@@ -164,14 +203,24 @@ module _ {T : Type 0} (code : Coding T) (law : IsCoding code) (v : T) where
         past = λ capacity c d n k h e. (push_stays capacity c d n c.stage h.1 h.2 e).2 k;
         finds = λ c m n small t. push_finds n c.stage small t;
         leaves = λ c a n t e. push_leaves c a n c.stage t e;
-        tells = λ capacity p from c d m n es h wrote e. ap (λ zs. zs ++ queue_effects code p (pushing.flight c m) n) wrote ∙ (effects_on p c d m n e ∙ quiet p n c d c.stage e);
-        tells_all = λ capacity p from c b m n es h skip wrote e still. ap (λ zs. zs ++ queue_effects code p (pushing.flight c m) n) wrote ∙ (effects_end p c b m n e ∙ loud p n c b c.stage skip e);
+        tells =
+            λ capacity p from c d m n es h wrote e. ap (λ zs. zs ++ queue_effects code p (pushing.flight c m) n) wrote
+            ∙ (effects_on p c d m n e ∙ quiet p n c d c.stage e);
+        tells_all =
+            λ capacity p from c b m n es h skip wrote e still. ap (λ zs. zs ++ queue_effects code p (pushing.flight c m) n) wrote
+            ∙ (effects_end p c b m n e ∙ loud p n c b c.stage skip e);
       }
 
-  pub value_push_keeps : KeepsRule (λ (z : View T). z.capacity) (At code kinds.Queue pushing) (Over code kinds.Queue pushing) (λ key. 4 + code.size * key + 1) (λ key. key) (λ key. IsMachine code kinds.Queue key) (λ c. push_want code.words_of c v) (λ c n. push_after code.size c n) (λ c m n. m)
-  value_push_keeps = keeps code kinds.Queue (queue_effects code) (λ capacity. 4 + code.size * capacity) (values_owe code) (λ c. push_want code.words_of c v) (λ c n. push_after code.size c n) (λ c m n. m) pushing push_is_call
+  pub value_push_keeps : KeepsRule (λ (z : View T). z.capacity) (At code kinds.Queue pushing)
+      (Over code kinds.Queue pushing) (λ key. 4 + code.size * key + 1) (λ key. key)
+      (λ key. IsMachine code kinds.Queue key) (λ c. push_want code.words_of c v) (λ c n. push_after code.size c n)
+      (λ c m n. m)
+  value_push_keeps =
+      keeps code kinds.Queue (queue_effects code) (λ capacity. 4 + code.size * capacity) (values_owe code)
+      (λ c. push_want code.words_of c v) (λ c n. push_after code.size c n) (λ c m n. m) pushing push_is_call
 
-  pub value_push_first : (x : View T) (m : Unit {0}) → x.going ≡ None → x.other ≡ [] → 0 < x.share.part → x.capacity < 2 ^ 32 → HasRole Producer x.made → At code kinds.Queue pushing x x (first_push x.capacity) m
+  pub value_push_first : (x : View T) (m : Unit {0}) → x.going ≡ None → x.other ≡ [] → 0 < x.share.part
+      → x.capacity < 2 ^ 32 → HasRole Producer x.made → At code kinds.Queue pushing x x (first_push x.capacity) m
   value_push_first x m idle alone any small has =
       inl (record {
         is = refl;
@@ -180,13 +229,16 @@ module _ {T : Type 0} (code : Coding T) (law : IsCoding code) (v : T) where
         standing = (small, refl, tt);
         some = any;
         first = refl;
-        starts = role_starts code queues.TheVariants.Queue x pushing (Push v) (first_push x.capacity) m refl (λ kept. refl) Producer (λ o p. tt) (λ roles p is. holds_it roles.producer p is) has;
+        starts =
+            role_starts code queues.TheVariants.Queue x pushing (Push v) (first_push x.capacity) m refl (λ kept. refl)
+            Producer (λ o p. tt) (λ roles p is. holds_it roles.producer p is) has;
         wrote = λ p. refl;
       })
 
 -- ---- pops
 
-module _ {T R : Type 0} (code : Coding T) (law : IsCoding code) (words_in : R → List ℕ) (with_word : R → ℕ → ℕ → R) (put_in : (x : R) (at word : ℕ) → words_in (with_word x at word) ≡ slice_set (words_in x) at word) where
+module _ {T R : Type 0} (code : Coding T) (law : IsCoding code) (words_in : R → List ℕ) (with_word : R → ℕ → ℕ → R)
+    (put_in : (x : R) (at word : ℕ) → words_in (with_word x at word) ≡ slice_set (words_in x) at word) where
   abbrev popping : Calling T (Popping T R) R Bool
   popping = pops_value code words_in
 
@@ -195,7 +247,10 @@ module _ {T R : Type 0} (code : Coding T) (law : IsCoding code) (words_in : R �
 
   -- a pop at this stage, with this room
   abbrev flight_at : ℕ → pops.PopStage → rooms.Kept 128 → Flight T
-  flight_at capacity stage room = flights.TheVariants.Queues (Values (rings.TheVariants.Pop (record { call = record { capacity = capacity; stage = stage; of = record {} }; given = tt; room = room })))
+  flight_at capacity stage room =
+      flights.TheVariants.Queues
+      (Values
+      (rings.TheVariants.Pop (record { call = record { capacity = capacity; stage = stage; of = record {} }; given = tt; room = room })))
 
   abbrev room_in : R → rooms.Kept 128
   room_in m = room_of code.size (words_in m)
@@ -203,21 +258,29 @@ module _ {T R : Type 0} (code : Coding T) (law : IsCoding code) (words_in : R �
   put_there : (m : R) (at n : ℕ) → at < code.size → kept_at (room_in m) at n ≡ room_in (with_word m at n)
   put_there m at n below = room_set code.size at n (words_in m) below ∙ ap (room_of code.size) (sym (put_in m at n))
 
-  pop_same_after : (capacity : ℕ) (c : Popping T R) (m : R) (n : ℕ) (stage : pops.PopStage) → PopPlace code.size capacity stage → after_of code (flight_at c.capacity stage (room_in m)) n ≡ goes popping (pop_takes code.size c stage n) (pop_keeps with_word m stage n)
+  pop_same_after : (capacity : ℕ) (c : Popping T R) (m : R) (n : ℕ) (stage : pops.PopStage)
+      → PopPlace code.size capacity stage
+      → after_of code (flight_at c.capacity stage (room_in m)) n
+      ≡ goes popping (pop_takes code.size c stage n) (pop_keeps with_word m stage n)
   pop_same_after capacity c m n pops.TheVariants.LoadsRead h = refl
   pop_same_after capacity c m n (pops.TheVariants.LoadsWrite read) h = go (c.capacity == 0 || n == read) refl
     where
-      go : (b : Bool) → (c.capacity == 0 || n == read) ≡ b → after_of code (flight_at c.capacity (pops.TheVariants.LoadsWrite read) (room_in m)) n ≡ goes popping (pop_takes code.size c (pops.TheVariants.LoadsWrite read) n) m
+      go : (b : Bool) → (c.capacity == 0 || n == read) ≡ b
+          → after_of code (flight_at c.capacity (pops.TheVariants.LoadsWrite read) (room_in m)) n
+          ≡ goes popping (pop_takes code.size c (pops.TheVariants.LoadsWrite read) n) m
       go true t = rw t refl
       go false t = rw t refl
   pop_same_after capacity c m n (pops.TheVariants.LoadsCell read cell at) h = go (nat_lt (at + 1) code.size) refl
     where
-      go : (b : Bool) → nat_lt (at + 1) code.size ≡ b → after_of code (flight_at c.capacity (pops.TheVariants.LoadsCell read cell at) (room_in m)) n ≡ goes popping (pop_takes code.size c (pops.TheVariants.LoadsCell read cell at) n) (with_word m at n)
+      go : (b : Bool) → nat_lt (at + 1) code.size ≡ b
+          → after_of code (flight_at c.capacity (pops.TheVariants.LoadsCell read cell at) (room_in m)) n
+          ≡ goes popping (pop_takes code.size c (pops.TheVariants.LoadsCell read cell at) n) (with_word m at n)
       go true t = rw t (ap (λ r. GoOn (flight_at c.capacity (pops.TheVariants.LoadsCell read cell (at + 1)) r)) (put_there m at n h.2))
       go false t = rw t (ap (λ r. GoOn (flight_at c.capacity (pops.TheVariants.StoresRead read) r)) (put_there m at n h.2))
   pop_same_after capacity c m n (pops.TheVariants.StoresRead read) h = ap (λ x. Done (answers.Popped x)) (room_read code (words_in m))
 
-  pop_quiet : (p n : ℕ) (c d : Popping T R) (m : R) (stage : pops.PopStage) → pop_takes code.size c stage n ≡ GoOn d → queue_effects code p (flight_at c.capacity stage (room_in m)) n ≡ []
+  pop_quiet : (p n : ℕ) (c d : Popping T R) (m : R) (stage : pops.PopStage) → pop_takes code.size c stage n ≡ GoOn d
+      → queue_effects code p (flight_at c.capacity stage (room_in m)) n ≡ []
   pop_quiet p n c d m pops.TheVariants.LoadsRead e = refl
   pop_quiet p n c d m (pops.TheVariants.LoadsWrite read) e = go (c.capacity == 0 || n == read) refl
     where
@@ -227,11 +290,16 @@ module _ {T R : Type 0} (code : Coding T) (law : IsCoding code) (words_in : R �
   pop_quiet p n c d m (pops.TheVariants.LoadsCell read cell at) e = refl
   pop_quiet p n c d m (pops.TheVariants.StoresRead read) e = absurd (cc)
 
-  pop_loud : (p n : ℕ) (c : Popping T R) (m : R) (b : Bool) (stage : pops.PopStage) → pop_takes code.size c stage n ≡ Done b → queue_effects code p (flight_at c.capacity stage (room_in m)) n ≡ value_pop_wrote p (value_there code words_in (pop_keeps with_word m stage n)) b
+  pop_loud : (p n : ℕ) (c : Popping T R) (m : R) (b : Bool) (stage : pops.PopStage)
+      → pop_takes code.size c stage n ≡ Done b
+      → queue_effects code p (flight_at c.capacity stage (room_in m)) n
+      ≡ value_pop_wrote p (value_there code words_in (pop_keeps with_word m stage n)) b
   pop_loud p n c m b pops.TheVariants.LoadsRead e = absurd (cc)
   pop_loud p n c m b (pops.TheVariants.LoadsWrite read) e = go (c.capacity == 0 || n == read) refl
     where
-      go : (t : Bool) → (c.capacity == 0 || n == read) ≡ t → queue_effects code p (flight_at c.capacity (pops.TheVariants.LoadsWrite read) (room_in m)) n ≡ value_pop_wrote p (value_there code words_in m) b
+      go : (t : Bool) → (c.capacity == 0 || n == read) ≡ t
+          → queue_effects code p (flight_at c.capacity (pops.TheVariants.LoadsWrite read) (room_in m)) n
+          ≡ value_pop_wrote p (value_there code words_in m) b
       go true t =
           let no : ◌≡◌ {A = After (Popping T R) Bool} (Done false) (Done b) = rw t at e in
           let same : false ≡ b = cc in
@@ -239,22 +307,30 @@ module _ {T R : Type 0} (code : Coding T) (law : IsCoding code) (words_in : R �
       go false t = (let no : GoOn (at_pop c (pops.TheVariants.LoadsCell read (cell_word c.capacity code.size read) 0)) ≡ Done b = rw t at e in absurd (cc))
   pop_loud p n c m b (pops.TheVariants.LoadsCell read cell at) e = go (nat_lt (at + 1) code.size) e
     where
-      go : (t : Bool) → cond {A = After (Popping T R) Bool} t (GoOn (at_pop c (pops.TheVariants.LoadsCell read cell (at + 1)))) (GoOn (at_pop c (pops.TheVariants.StoresRead read))) ≡ Done b → [] ≡ value_pop_wrote {T = T} p (value_there code words_in (with_word m at n)) b
+      go : (t : Bool) → cond {A = After (Popping T R) Bool} t (GoOn (at_pop c (pops.TheVariants.LoadsCell read cell (at + 1))))
+          (GoOn (at_pop c (pops.TheVariants.StoresRead read)))
+          ≡ Done b
+          → [] ≡ value_pop_wrote {T = T} p (value_there code words_in (with_word m at n)) b
       go true e = absurd (cc)
       go false e = absurd (cc)
   pop_loud p n c m b (pops.TheVariants.StoresRead read) e =
       let same : true ≡ b = cc in
-      ap (λ x. HandedOut p (Value x) ∷ Acted p (Queues Pop) (answers.Popped x) ∷ []) (room_read code (words_in m)) ∙ ap (value_pop_wrote p (value_there code words_in m)) same
+      ap (λ x. HandedOut p (Value x) ∷ Acted p (Queues Pop) (answers.Popped x) ∷ []) (room_read code (words_in m))
+      ∙ ap (value_pop_wrote p (value_there code words_in m)) same
 
   module _ (capacity : ℕ) where
     abbrev PopsNext : Popping T R → Type 0
     PopsNext d = (d.capacity ≡ capacity) × PopPlace code.size capacity d.stage
 
-    pop_stays : (c d : Popping T R) (n : ℕ) (stage : pops.PopStage) → c.capacity ≡ capacity → PopPlace code.size capacity stage → pop_takes code.size c stage n ≡ GoOn d → PopsNext d
+    pop_stays : (c d : Popping T R) (n : ℕ) (stage : pops.PopStage) → c.capacity ≡ capacity
+        → PopPlace code.size capacity stage → pop_takes code.size c stage n ≡ GoOn d → PopsNext d
     pop_stays c d n pops.TheVariants.LoadsRead same h e = (let is : at_pop c (pops.TheVariants.LoadsWrite n) ≡ d = cc in subst PopsNext is (same, tt))
     pop_stays c d n (pops.TheVariants.LoadsWrite read) same h e = go (c.capacity == 0) (n == read) refl e
       where
-        go : (z t : Bool) → (c.capacity == 0) ≡ z → cond (z || t) (Done false) (GoOn (at_pop c (pops.TheVariants.LoadsCell read (cell_word c.capacity code.size read) 0))) ≡ GoOn d → PopsNext d
+        go : (z t : Bool) → (c.capacity == 0) ≡ z
+            → cond (z || t) (Done false) (GoOn (at_pop c (pops.TheVariants.LoadsCell read (cell_word c.capacity code.size read) 0)))
+            ≡ GoOn d
+            → PopsNext d
         go true t is_z e = absurd (cc)
         go false true is_z e = absurd (cc)
         go false false is_z e =
@@ -264,7 +340,11 @@ module _ {T R : Type 0} (code : Coding T) (law : IsCoding code) (words_in : R �
             subst PopsNext is (same, (omega (arith, same, some), ap (λ z. cell_word z code.size read) same, omega (arith, one)))
     pop_stays c d n (pops.TheVariants.LoadsCell read cell at) same h e = go (nat_lt (at + 1) code.size) refl e
       where
-        go : (t : Bool) → nat_lt (at + 1) code.size ≡ t → cond {A = After (Popping T R) Bool} t (GoOn (at_pop c (pops.TheVariants.LoadsCell read cell (at + 1)))) (GoOn (at_pop c (pops.TheVariants.StoresRead read))) ≡ GoOn d → PopsNext d
+        go : (t : Bool) → nat_lt (at + 1) code.size ≡ t
+            → cond {A = After (Popping T R) Bool} t (GoOn (at_pop c (pops.TheVariants.LoadsCell read cell (at + 1))))
+            (GoOn (at_pop c (pops.TheVariants.StoresRead read)))
+            ≡ GoOn d
+            → PopsNext d
         go true t e =
             let is : at_pop c (pops.TheVariants.LoadsCell read cell (at + 1)) ≡ d = cc in
             let next : at + 1 < code.size = grind (arith, nat_tests) in
@@ -272,19 +352,30 @@ module _ {T R : Type 0} (code : Coding T) (law : IsCoding code) (words_in : R �
         go false t e = (let is : at_pop c (pops.TheVariants.StoresRead read) ≡ d = cc in subst PopsNext is (same, tt))
     pop_stays c d n (pops.TheVariants.StoresRead read) same h e = absurd (cc)
 
-  pop_finds_word : (capacity : ℕ) (stage : pops.PopStage) → PopPlace code.size capacity stage → (a : Ask) × (a.word < 4 + code.size * capacity) × (pop_asks stage ≡ wants.Ask a)
+  pop_finds_word : (capacity : ℕ) (stage : pops.PopStage) → PopPlace code.size capacity stage
+      → (a : Ask) × (a.word < 4 + code.size * capacity) × (pop_asks stage ≡ wants.Ask a)
   pop_finds_word capacity pops.TheVariants.LoadsRead h = (record { word = 1; op = Load }, omega arith, refl)
   pop_finds_word capacity (pops.TheVariants.LoadsWrite read) h = (record { word = 0; op = Load }, omega arith, refl)
-  pop_finds_word capacity (pops.TheVariants.LoadsCell read cell at) h = (record { word = word_at cell at; op = Load }, cell_low code.size capacity read cell at h, refl)
+  pop_finds_word capacity (pops.TheVariants.LoadsCell read cell at) h =
+      (record { word = word_at cell at; op = Load }, cell_low code.size capacity read cell at h, refl)
   pop_finds_word capacity (pops.TheVariants.StoresRead read) h = (record { word = 1; op = Store (after_position read) }, omega arith, refl)
 
-  pop_hears : (c : Popping T R) (m : R) (a : Ask) (n : ℕ) (stage : pops.PopStage) → pop_asks stage ≡ wants.Ask a → (pop_takes code.size c stage (answered a.op n) ≡ pop_takes code.size c stage n) × (pop_keeps with_word m stage (answered a.op n) ≡ pop_keeps with_word m stage n)
-  pop_hears c m a n pops.TheVariants.LoadsRead e = (let is : record { word = 1; op = Load } ≡ a = cc in (ap (λ (z : Ask). pop_takes code.size c pops.TheVariants.LoadsRead (answered z.op n)) (sym is), refl))
-  pop_hears c m a n (pops.TheVariants.LoadsWrite read) e = (let is : record { word = 0; op = Load } ≡ a = cc in (ap (λ (z : Ask). pop_takes code.size c (pops.TheVariants.LoadsWrite read) (answered z.op n)) (sym is), refl))
-  pop_hears c m a n (pops.TheVariants.LoadsCell read cell at) e = (let is : record { word = word_at cell at; op = Load } ≡ a = cc in (refl, ap (λ (z : Ask). with_word m at (answered z.op n)) (sym is)))
+  pop_hears : (c : Popping T R) (m : R) (a : Ask) (n : ℕ) (stage : pops.PopStage) → pop_asks stage ≡ wants.Ask a
+      → (pop_takes code.size c stage (answered a.op n) ≡ pop_takes code.size c stage n)
+      × (pop_keeps with_word m stage (answered a.op n) ≡ pop_keeps with_word m stage n)
+  pop_hears c m a n pops.TheVariants.LoadsRead e =
+      (let is : record { word = 1; op = Load } ≡ a = cc in
+      (ap (λ (z : Ask). pop_takes code.size c pops.TheVariants.LoadsRead (answered z.op n)) (sym is), refl))
+  pop_hears c m a n (pops.TheVariants.LoadsWrite read) e =
+      (let is : record { word = 0; op = Load } ≡ a = cc in
+      (ap (λ (z : Ask). pop_takes code.size c (pops.TheVariants.LoadsWrite read) (answered z.op n)) (sym is), refl))
+  pop_hears c m a n (pops.TheVariants.LoadsCell read cell at) e =
+      (let is : record { word = word_at cell at; op = Load } ≡ a = cc in
+      (refl, ap (λ (z : Ask). with_word m at (answered z.op n)) (sym is)))
   pop_hears c m a n (pops.TheVariants.StoresRead read) e = (refl, refl)
 
-  pop_is_call : IsCallOf code (queue_effects code) (λ capacity. 4 + code.size * capacity) (λ (c : Popping T R). pop_want c) (λ c n. pop_after code.size c n) keeps_word popping
+  pop_is_call : IsCallOf code (queue_effects code) (λ capacity. 4 + code.size * capacity)
+      (λ (c : Popping T R). pop_want c) (λ c n. pop_after code.size c n) keeps_word popping
   pop_is_call =
       record {
         same_want = λ c m. refl;
@@ -296,14 +387,23 @@ module _ {T R : Type 0} (code : Coding T) (law : IsCoding code) (words_in : R �
         finds = λ c m n small t. tt;
         leaves = λ c a n t e. absurd (cc);
         tells = λ capacity p from c d m n es h wrote e. ap (λ zs. zs ++ queue_effects code p (popping.flight c m) n) wrote ∙ pop_quiet p n c d m c.stage e;
-        tells_all = λ capacity p from c b m n es h skip wrote e still. ap (λ zs. zs ++ queue_effects code p (popping.flight c m) n) wrote ∙ pop_loud p n c m b c.stage e;
+        tells_all =
+            λ capacity p from c b m n es h skip wrote e still. ap (λ zs. zs ++ queue_effects code p (popping.flight c m) n) wrote
+            ∙ pop_loud p n c m b c.stage e;
       }
 
-  pub value_pop_keeps : KeepsRule (λ (z : View T). z.capacity) (At code kinds.Queue popping) (Ends code kinds.Queue popping) (λ key. 4 + code.size * key + 1) (λ key. key) (λ key. IsMachine code kinds.Queue key) (λ (c : Popping T R). pop_want c) (λ c n. pop_after code.size c n) keeps_word
-  value_pop_keeps = keeps_all code kinds.Queue (queue_effects code) (λ capacity. 4 + code.size * capacity) (values_owe code) (λ (c : Popping T R). pop_want c) (λ c n. pop_after code.size c n) keeps_word popping pop_is_call (λ c n. refl)
+  pub value_pop_keeps : KeepsRule (λ (z : View T). z.capacity) (At code kinds.Queue popping)
+      (Ends code kinds.Queue popping) (λ key. 4 + code.size * key + 1) (λ key. key)
+      (λ key. IsMachine code kinds.Queue key) (λ (c : Popping T R). pop_want c) (λ c n. pop_after code.size c n)
+      keeps_word
+  value_pop_keeps =
+      keeps_all code kinds.Queue (queue_effects code) (λ capacity. 4 + code.size * capacity) (values_owe code)
+      (λ (c : Popping T R). pop_want c) (λ c n. pop_after code.size c n) keeps_word popping pop_is_call (λ c n. refl)
 
   -- in a room of zeros in which a value fits
-  pub value_pop_first : (x : View T) (m : R) → room_in m ≡ fresh_cell → x.going ≡ None → x.other ≡ [] → 0 < x.share.part → x.capacity < 2 ^ 32 → HasRole Consumer x.made → At code kinds.Queue popping x x (first_pop x.capacity) m
+  pub value_pop_first : (x : View T) (m : R) → room_in m ≡ fresh_cell → x.going ≡ None → x.other ≡ []
+      → 0 < x.share.part → x.capacity < 2 ^ 32 → HasRole Consumer x.made
+      → At code kinds.Queue popping x x (first_pop x.capacity) m
   value_pop_first x m zeros idle alone any small has =
       inl (record {
         is = refl;
@@ -312,7 +412,9 @@ module _ {T R : Type 0} (code : Coding T) (law : IsCoding code) (words_in : R �
         standing = (small, refl, tt);
         some = any;
         first = named;
-        starts = role_starts code queues.TheVariants.Queue x popping Pop (first_pop x.capacity) m refl (λ kept. named) Consumer (λ o p. tt) (λ roles p is. holds_it roles.consumer p is) has;
+        starts =
+            role_starts code queues.TheVariants.Queue x popping Pop (first_pop x.capacity) m refl (λ kept. named)
+            Consumer (λ o p. tt) (λ roles p is. holds_it roles.consumer p is) has;
         wrote = λ p. refl;
       })
     where

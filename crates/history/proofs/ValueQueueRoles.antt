@@ -22,7 +22,7 @@ use Rattle.history.proofs.AnyRoles.{wider, acquire_first_on, release_first_on, l
 use Rattle.history.proofs.Drives.{keeps_all, keeps_sized}
 use Rattle.history.specs.Views.{first_view}
 use Rattle.history.proofs.Passes.{opens}
-use Rattle.history.proofs.QueueCalls.{acquire_is_call, release_is_call, len_is_call}
+use Rattle.history.proofs.QueueRoles.{acquire_is_call, release_is_call, len_is_call}
 use Rattle.history.proofs.Queues.{queue_effects, values_owe}
 
 module _ {T : Type 0} (code : Coding T) (law : IsCoding code) where
@@ -33,36 +33,51 @@ module _ {T : Type 0} (code : Coding T) (law : IsCoding code) where
   low capacity = (let some = law.some in let more : capacity * 1 ≤ capacity * code.size = mul-le-mul_left capacity some in omega arith)
 
   abbrev Keeps : {C M E : Type 0} → Calling T C M E → (C → Want (Unit {0})) → (C → ℕ → After C E) → (C → M → ℕ → M) → Type 0
-  Keeps call = KeepsRule (λ (z : View T). z.capacity) (At code kinds.Queue call) (Ends code kinds.Queue call) (λ key. 4 + code.size * key + 1) (λ key. key) (λ key. IsMachine code kinds.Queue key)
+  Keeps call =
+      KeepsRule (λ (z : View T). z.capacity) (At code kinds.Queue call) (Ends code kinds.Queue call)
+      (λ key. 4 + code.size * key + 1) (λ key. key) (λ key. IsMachine code kinds.Queue key)
 
   module _ (role : Role) where
     pub value_acquire_keeps : Keeps (takes_role role) acquire_want acquire_after (λ c m n. m)
     value_acquire_keeps =
         keeps_all code kinds.Queue (queue_effects code) words_of (values_owe code) acquire_want acquire_after (λ c m n. m) (takes_role role)
-        (wider code (queue_effects code) (λ capacity. 4 + capacity) words_of acquire_want acquire_after (λ c m n. m) (takes_role role) low (acquire_is_call code role)) (λ c n. refl)
+        (wider code (queue_effects code) (λ capacity. 4 + capacity) words_of acquire_want acquire_after (λ c m n. m)
+        (takes_role role) low (acquire_is_call code role))
+        (λ c n. refl)
 
-    pub value_acquire_first : (x : View T) (m : Unit {0}) → x.going ≡ None → x.other ≡ [] → 0 < x.share.part → At code kinds.Queue (takes_role role) x x (record { word = role_word role }) m
+    pub value_acquire_first : (x : View T) (m : Unit {0}) → x.going ≡ None → x.other ≡ [] → 0 < x.share.part
+        → At code kinds.Queue (takes_role role) x x (record { word = role_word role }) m
     value_acquire_first x m idle alone any = acquire_first_on code queues.TheVariants.Queue x m idle alone any role
 
     pub value_release_keeps : Keeps (gives_role role) release_want release_after (λ c m n. m)
     value_release_keeps =
         keeps_all code kinds.Queue (queue_effects code) words_of (values_owe code) release_want release_after (λ c m n. m) (gives_role role)
-        (wider code (queue_effects code) (λ capacity. 4 + capacity) words_of release_want release_after (λ c m n. m) (gives_role role) low (release_is_call code role)) (λ c n. refl)
+        (wider code (queue_effects code) (λ capacity. 4 + capacity) words_of release_want release_after (λ c m n. m)
+        (gives_role role) low (release_is_call code role))
+        (λ c n. refl)
 
-    pub value_release_first : (x : View T) (m : Unit {0}) → x.going ≡ None → x.other ≡ [] → 0 < x.share.part → HasRole role x.made → At code kinds.Queue (gives_role role) x x (record { word = role_word role }) m
+    pub value_release_first : (x : View T) (m : Unit {0}) → x.going ≡ None → x.other ≡ [] → 0 < x.share.part
+        → HasRole role x.made → At code kinds.Queue (gives_role role) x x (record { word = role_word role }) m
     value_release_first x m idle alone any has = release_first_on code queues.TheVariants.Queue x m idle alone any role has
 
   module _ (which : LengthOf) where
     len_keeps : (size : ℕ) → Keeps (counts_waiting which size) len_want len_after (λ c m n. m)
     len_keeps size =
         keeps_all code kinds.Queue (queue_effects code) words_of (values_owe code) len_want len_after (λ c m n. m) (counts_waiting which size)
-        (wider code (queue_effects code) (λ capacity. 4 + capacity) words_of len_want len_after (λ c m n. m) (counts_waiting which size) low (len_is_call code which size)) (λ c n. refl)
+        (wider code (queue_effects code) (λ capacity. 4 + capacity) words_of len_want len_after (λ c m n. m)
+        (counts_waiting which size) low (len_is_call code which size))
+        (λ c n. refl)
 
     -- for any capacity
-    pub value_lens_keep : KeepsRule (λ (z : View T). z.capacity) (λ (base : View T). At code kinds.Queue (counts_waiting which base.capacity) base) (λ (base : View T). Ends code kinds.Queue (counts_waiting which base.capacity) base) (λ key. 4 + code.size * key + 1) (λ key. key) (λ key. IsMachine code kinds.Queue key) len_want len_after (λ c m n. m)
+    pub value_lens_keep : KeepsRule (λ (z : View T). z.capacity)
+        (λ (base : View T). At code kinds.Queue (counts_waiting which base.capacity) base)
+        (λ (base : View T). Ends code kinds.Queue (counts_waiting which base.capacity) base)
+        (λ key. 4 + code.size * key + 1) (λ key. key) (λ key. IsMachine code kinds.Queue key) len_want len_after
+        (λ c m n. m)
     value_lens_keep = keeps_sized code kinds.Queue words_of len_want len_after (λ c m n. m) (counts_waiting which) len_keeps
 
-    pub value_len_first : (size : ℕ) (x : View T) (m : Unit {0}) → x.capacity ≡ size → x.going ≡ None → x.other ≡ [] → 0 < x.share.part → At code kinds.Queue (counts_waiting which size) x x (first_len size) m
+    pub value_len_first : (size : ℕ) (x : View T) (m : Unit {0}) → x.capacity ≡ size → x.going ≡ None → x.other ≡ []
+        → 0 < x.share.part → At code kinds.Queue (counts_waiting which size) x x (first_len size) m
     value_len_first size x m same idle alone any = len_first_on code queues.TheVariants.Queue x m idle alone any which size same
 
 -- ---- how its table opens: empty
@@ -74,5 +89,6 @@ module _ {T : Type 0} (code : Coding T) (law : IsCoding code) (capacity : ℕ) (
   least : nat_lt capacity 0 ≡ false
   least = grind (arith, nat_tests)
 
-  pub values_open : (words : List ℕ) → words ≡ 0 ∷ 0 ∷ 1 ∷ 1 ∷ (replicate (code.size * capacity) 0 ++ 0 ∷ []) → IsMachine code kinds.Queue capacity (opening words [] (first_view capacity))
+  pub values_open : (words : List ℕ) → words ≡ 0 ∷ 0 ∷ 1 ∷ 1 ∷ (replicate (code.size * capacity) 0 ++ 0 ∷ [])
+      → IsMachine code kinds.Queue capacity (opening words [] (first_view capacity))
   values_open words same = opens code kinds.Queue capacity words law (rw (most, least) refl) same

@@ -79,7 +79,8 @@ module _ {T : Type 0} where
   effects_own code p flight n = tt
 
   -- the name is that of the call that stands so
-  named : (code : Coding T) (s : Value) (p : ℕ) (start : AtomicStart T) (flight : AtomicFlight T) → At code s.holder s.core p start flight → start ≡ start_of flight
+  named : (code : Coding T) (s : Value) (p : ℕ) (start : AtomicStart T) (flight : AtomicFlight T)
+      → At code s.holder s.core p start flight → start ≡ start_of flight
   named code s p AcquireProducer (calls.TheVariants.Acquire run) at = refl
   named code s p ReleaseProducer (calls.TheVariants.Release run) at = refl
   named code s p (Store value) (calls.TheVariants.Store run) at = ap Store (sym at.1)
@@ -92,7 +93,10 @@ module _ {T : Type 0} where
     pub writes : (step_of z words waits p start flight n kept).wrote ≡ value_effects z p flight n
     pub goes : (step_of z words waits p start flight n kept).after ≡ after_of z flight n
 
-  facts : (z : Coding T) (words : List ℕ) (waits : Option (ℕ × ℕ)) (c p n : ℕ) (s : Value) (start : Start T) (flight : Flight T) (kept : Kept T) → kept ≡ kepts.TheVariants.Atomic s.holder → (family z c).At s p start flight → Facts z words waits p n start flight kept
+  facts : (z : Coding T) (words : List ℕ) (waits : Option (ℕ × ℕ)) (c p n : ℕ) (s : Value) (start : Start T)
+      (flight : Flight T) (kept : Kept T)
+      → kept ≡ kepts.TheVariants.Atomic s.holder → (family z c).At s p start flight
+      → Facts z words waits p n start flight kept
   facts z words waits c p n s (Atomic start) (flights.TheVariants.Atomic flight) kept e at =
       subst (λ k. Facts z words waits p n (Atomic start) (flights.TheVariants.Atomic flight) k) (sym e)
       (record {
@@ -117,7 +121,9 @@ module _ {T : Type 0} (code : Coding T) (capacity : ℕ) where
       let cells : length s.state.core.cells ≡ code.size * 2 = s.holds.good.cells ∙ ap (λ (z : Coding T). z.size * 2) r.coded in
       ap length (kept_is t.world.kept t.world.words s.state s.fit).1 ∙ omega arith
 
-  goes_on : (t : Trace T) → IsOn t → (p : ℕ) (start : Start T) (flight : Flight T) → call_in t.world p ≡ Some (start, flight) → CallGoesOn code kinds.Atomic capacity (2 + code.size * 2) (value_effects code) t p flight
+  goes_on : (t : Trace T) → IsOn t → (p : ℕ) (start : Start T) (flight : Flight T)
+      → call_in t.world p ≡ Some (start, flight)
+      → CallGoesOn code kinds.Atomic capacity (2 + code.size * 2) (value_effects code) t p flight
   goes_on t r p start flight at =
       let s = value_sound t r in
       let here = stands t.world p start flight at in
@@ -155,23 +161,30 @@ module _ {T : Type 0} (owner : ℕ → ℕ) (j : ℕ) where
   MovesIt = Moves takes_producer gives_producer holder_after owner j
 
   moves : (before : List (Event T)) (e : Event T) → GrantsRight before e → MovesIt before e
-  moves before (Finished p (Atomic AcquireProducer) (Truth true)) h = taken takes_producer gives_producer holder_after owner j before (Finished p (Atomic AcquireProducer) (Truth true)) p refl refl refl (granted (holder_of before) h) refl
-  moves before (Finished p (Atomic ReleaseProducer) answer) h = given takes_producer gives_producer holder_after owner j before (Finished p (Atomic ReleaseProducer) answer) p refl refl refl h.1 refl
+  moves before (Finished p (Atomic AcquireProducer) (Truth true)) h =
+      taken takes_producer gives_producer holder_after owner j before (Finished p (Atomic AcquireProducer) (Truth true))
+      p refl refl refl (granted (holder_of before) h) refl
+  moves before (Finished p (Atomic ReleaseProducer) answer) h =
+      given takes_producer gives_producer holder_after owner j before (Finished p (Atomic ReleaseProducer) answer) p refl refl refl h.1 refl
   moves before e h = still takes_producer gives_producer holder_after owner j before e refl refl refl
 
   all_move : (all : List (Event T)) → Each GrantsRight all → Each MovesIt all
   all_move all each before after e is = moves before e (each before after e is)
 
-  pub producer_by : (all made : List (Event T)) → Each GrantsRight all → ((f : Event T → ℕ) → sum_by f made ≡ sum_by (owned owner j f) all) → HasProducer made → (p : ℕ) × (owner p ≡ j) × (holder_of all ≡ Some p)
+  pub producer_by : (all made : List (Event T)) → Each GrantsRight all
+      → ((f : Event T → ℕ) → sum_by f made ≡ sum_by (owned owner j f) all) → HasProducer made
+      → (p : ℕ) × (owner p ≡ j) × (holder_of all ≡ Some p)
   producer_by all made each sums has = held_by_one takes_producer gives_producer holder_after owner j all made (all_move all each) sums has
 
 -- a pass gave back what it had acquired, or has it once
-pub producer_once : {T : Type 0} (v : View T) → Each GrantsRight v.seen → IsOfParties v → (sum_by gives_producer v.made ≤ sum_by takes_producer v.made) × (sum_by takes_producer v.made ≤ sum_by gives_producer v.made + 1)
+pub producer_once : {T : Type 0} (v : View T) → Each GrantsRight v.seen → IsOfParties v
+    → (sum_by gives_producer v.made ≤ sum_by takes_producer v.made) × (sum_by takes_producer v.made ≤ sum_by gives_producer v.made + 1)
 producer_once v each h = at_most takes_producer gives_producer holder_after h.owner h.seat v.seen v.made (all_move h.owner h.seat v.seen each) h.sums
 
 -- ---- which party may begin a call
 
-module _ {T C M E : Type 0} (code : Coding T) (base : View T) (call : Calling T C M E) (start : AtomicStart T) (c : C) (m : M) (is_named : call.start ≡ Atomic start)
+module _ {T C M E : Type 0} (code : Coding T) (base : View T) (call : Calling T C M E) (start : AtomicStart T)
+    (c : C) (m : M) (is_named : call.start ≡ Atomic start)
     (first_is : (kept : Kept T) → first_of kinds.Atomic base.capacity (Atomic start) kept ≡ Some (call.flight c m)) where
   abbrev IsAt : Trace T → Type 0
   IsAt t = IsRun code kinds.Atomic base.capacity t
@@ -183,7 +196,9 @@ module _ {T C M E : Type 0} (code : Coding T) (base : View T) (call : Calling T 
   kept_there t r = let s = value_sound code base.capacity t r in (s.state.holder, (kept_is t.world.kept t.world.words s.state s.fit).0)
 
   -- a party that lacks no role for it may begin
-  as_party : (t : Trace T) (owner : ℕ → ℕ) (j p : ℕ) → IsAt t → owner p ≡ j → call.by base.party p → (holder : Option ℕ) → t.world.kept ≡ kepts.TheVariants.Atomic holder → lacks_role holder p start ≡ false → Starts code kinds.Atomic call base c m t owner j
+  as_party : (t : Trace T) (owner : ℕ → ℕ) (j p : ℕ) → IsAt t → owner p ≡ j → call.by base.party p
+      → (holder : Option ℕ) → t.world.kept ≡ kepts.TheVariants.Atomic holder → lacks_role holder p start ≡ false
+      → Starts code kinds.Atomic call base c m t owner j
   as_party t owner j p run mine by holder is lacks =
       let free : first_row (kept_rows start t.world.kept p) ≡ None = subst (λ k. first_row (kept_rows start k p) ≡ None) (sym is) (rw lacks refl) in
       record {
@@ -196,19 +211,28 @@ module _ {T C M E : Type 0} (code : Coding T) (base : View T) (call : Calling T 
 
   -- a call that needs no role, as the party that the pass was last
   pub plain_starts : ((o : Option ℕ) (p : ℕ) → IfSome o (λ q. q ≡ p) → call.by o p) → ((holder : Option ℕ) (p : ℕ) → lacks_role holder p start ≡ false)
-      → (t : Trace T) (owner : ℕ → ℕ) (j : ℕ) → IsAt t → owner j ≡ j → IfSome base.party (λ p. owner p ≡ j) → AllOf t owner j → Starts code kinds.Atomic call base c m t owner j
+      → (t : Trace T) (owner : ℕ → ℕ) (j : ℕ) → IsAt t → owner j ≡ j → IfSome base.party (λ p. owner p ≡ j)
+      → AllOf t owner j → Starts code kinds.Atomic call base c m t owner j
   plain_starts by_last free t owner j run self party sums = go base.party refl party
     where
       kept : (holder : Option ℕ) × (t.world.kept ≡ kepts.TheVariants.Atomic holder)
       kept = kept_there t run
 
       go : (o : Option ℕ) → base.party ≡ o → IfSome o (λ p. owner p ≡ j) → Starts code kinds.Atomic call base c m t owner j
-      go None e h = as_party t owner j j run self (by_last base.party j (subst (λ (z : Option ℕ). IfSome z (λ q. q ≡ j)) (sym e) tt)) kept.0 kept.1 (free kept.0 j)
-      go (Some p) e h = as_party t owner j p run h (by_last base.party p (subst (λ (z : Option ℕ). IfSome z (λ q. q ≡ p)) (sym e) refl)) kept.0 kept.1 (free kept.0 p)
+      go None e h =
+          as_party t owner j j run self
+          (by_last base.party j (subst (λ (z : Option ℕ). IfSome z (λ q. q ≡ j)) (sym e) tt)) kept.0 kept.1
+          (free kept.0 j)
+      go (Some p) e h =
+          as_party t owner j p run h
+          (by_last base.party p (subst (λ (z : Option ℕ). IfSome z (λ q. q ≡ p)) (sym e) refl)) kept.0 kept.1
+          (free kept.0 p)
 
   -- a call of the producer, as that of the pass's parties which holds the role
-  pub producer_starts : ((o : Option ℕ) (p : ℕ) → call.by o p) → ((holder : Option ℕ) (p : ℕ) → holder ≡ Some p → lacks_role holder p start ≡ false) → HasProducer base.made
-      → (t : Trace T) (owner : ℕ → ℕ) (j : ℕ) → IsAt t → owner j ≡ j → IfSome base.party (λ p. owner p ≡ j) → AllOf t owner j → Starts code kinds.Atomic call base c m t owner j
+  pub producer_starts : ((o : Option ℕ) (p : ℕ) → call.by o p)
+      → ((holder : Option ℕ) (p : ℕ) → holder ≡ Some p → lacks_role holder p start ≡ false) → HasProducer base.made
+      → (t : Trace T) (owner : ℕ → ℕ) (j : ℕ) → IsAt t → owner j ≡ j → IfSome base.party (λ p. owner p ≡ j)
+      → AllOf t owner j → Starts code kinds.Atomic call base c m t owner j
   producer_starts by_any free has t owner j run self party sums =
       let value = value_goes_on code base.capacity t run in
       let kept = kept_there t run in

@@ -8,7 +8,9 @@ use Rattle.model.specs.declared.event.Event.TheVariants.{Published, HandedOut, A
 use Rattle.model.specs.declared.event.Item.{Item}
 use Rattle.model.specs.declared.event.Start.TheVariants.{Queues}
 use Rattle.model.specs.declared.families.queues.QueueStart.{QueueStart}
-use Rattle.model.specs.declared.families.queues.QueueStart.TheVariants.{AcquireProducer, ReleaseProducer, AcquireConsumer, ReleaseConsumer, PushIndex, Push, Pop}
+use Rattle.model.specs.declared.families.queues.QueueStart.TheVariants.{AcquireProducer, ReleaseProducer}
+use Rattle.model.specs.declared.families.queues.QueueStart.TheVariants.{AcquireConsumer, ReleaseConsumer, PushIndex}
+use Rattle.model.specs.declared.families.queues.QueueStart.TheVariants.{Push, Pop}
 use Rattle.model.specs.declared.families.queues.Roles.{Roles}
 use Rattle.model.specs.Families.Queues.Reading.{publishes, hands_out, producer_after, consumer_after, producer_of, consumer_of}
 

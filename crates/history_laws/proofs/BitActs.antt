@@ -1,5 +1,6 @@
 -- The calls of a bit set act place by place.
-use Rattle.std.proofs.Common.{◌≡◌, ◌≢◌, ⊎_elim, ℕ, zero, suc, ◌-◌, ◌^◌, ◌<◌, ◌≤◌, ◌==◌, ◌&&◌, true, false, cond, Some, None, List, [], ◌∷◌, ◌++◌, refl, sym, ap, subst, ◌∙◌, append_assoc, append-nil, arith}
+use Rattle.std.proofs.Common.{◌≡◌, ◌≢◌, ⊎_elim, ℕ, zero, suc, ◌-◌, ◌^◌, ◌<◌, ◌≤◌, ◌==◌, ◌&&◌, true, false, cond, Some}
+use Rattle.std.proofs.Common.{None, List, [], ◌∷◌, ◌++◌, refl, sym, ap, subst, ◌∙◌, append_assoc, append-nil, arith}
 use Rattle.std.proofs.lemmas.Bool.{cases_eq, cases_lt}
 use Rattle.model.specs.declared.event.Answer.{Answer}
 use Rattle.model.specs.declared.event.Answer.TheVariants.{Done, Truth, ResetNone, Reset}
@@ -37,7 +38,9 @@ module _ {T : Type 0} where
 
 -- ---- the whole history
 
-module _ {T : Type 0} (c : ℕ) (events : List (Event T)) (spans : Each (StandsRight bits_promise c) events) (finds : Each BitFinds events) (answers : Each (BitsAnswerRight c) events) (within : (b : ℕ) → c ≤ b → sets b events ≡ 0) where
+module _ {T : Type 0} (c : ℕ) (events : List (Event T)) (spans : Each (StandsRight bits_promise c) events)
+    (finds : Each BitFinds events) (answers : Each (BitsAnswerRight c) events)
+    (within : (b : ℕ) → c ≤ b → sets b events ≡ 0) where
   abbrev Sure : ℕ → Type 0
   Sure b = counts b events < 2 ^ 64
 
@@ -53,7 +56,8 @@ module _ {T : Type 0} (c : ℕ) (events : List (Event T)) (spans : Each (StandsR
       more : (h after : List (Event T)) (e : Event T) → events ≡ h ++ e ∷ after → Ways Fit h → Ways Fit (h ++ e ∷ [])
       more h after e is was p b =
           ways_more Fit h e p b
-          (one_fits c p b (number_in b 0 h) (λ q. span_of q h) (way_in p b 0 None h) e (spans h after e is) (at_place h e (finds h after e is) (numbers h (e ∷ after) is) b) (was p b))
+          (one_fits c p b (number_in b 0 h) (λ q. span_of q h) (way_in p b 0 None h) e (spans h after e is)
+          (at_place h e (finds h after e is) (numbers h (e ∷ after) is) b) (was p b))
 
   abbrev M : List (Event T) → Type 0
   M h = Marked kinds.TheVariants.Bits c Sure h
@@ -74,19 +78,22 @@ module _ {T : Type 0} (c : ℕ) (events : List (Event T)) (spans : Each (StandsR
         let both = both_true (q == p) (k == b) t in
         subst (λ z. RightAct e z b) (is_number q p both.0) (subst (λ z. RightAct e q z) (is_number k b both.1) right)
 
-    set_acts : (k : ℕ) (q : ℕ) (span : Span T) (w : Way') → Stands bits_promise c (event.TheVariants.Set q k) span → WayFits Fit k span w → Acts kinds.TheVariants.Bits k (number k) 1 w
+    set_acts : (k : ℕ) (q : ℕ) (span : Span T) (w : Way') → Stands bits_promise c (event.TheVariants.Set q k) span
+        → WayFits Fit k span w → Acts kinds.TheVariants.Bits k (number k) 1 w
     set_acts k q (Open (Bits (Set place)) wrote) w stands fits =
         let none : fits.found ≡ None = fits.fit.0 (rw stands.1 refl) in
         subst (λ z. Acts kinds.TheVariants.Bits k (number k) 1 z) (sym (fits.is ∙ ap (λ d. Some (Bits (Set place), d)) none)) (stands.0, refl)
     set_acts k q (Open start wrote) w stands fits = absurd stands
     set_acts k q span w stands fits = absurd stands
 
-    may_clear : (start : Start T) (k : ℕ) (wrote : List (Event T)) → MayClear k start wrote → MayAct k start × (0 ≡ left_by kinds.TheVariants.Bits start (number k))
+    may_clear : (start : Start T) (k : ℕ) (wrote : List (Event T)) → MayClear k start wrote
+        → MayAct k start × (0 ≡ left_by kinds.TheVariants.Bits start (number k))
     may_clear (Bits ResetNext) k wrote may = (tt, refl)
     may_clear (Bits ResetAll) k wrote may = (tt, refl)
     may_clear start k wrote may = absurd may
 
-    clear_acts : (k : ℕ) (q : ℕ) (span : Span T) (w : Way') → Stands bits_promise c (Cleared q k) span → WayFits Fit k span w → Acts kinds.TheVariants.Bits k (number k) 0 w
+    clear_acts : (k : ℕ) (q : ℕ) (span : Span T) (w : Way') → Stands bits_promise c (Cleared q k) span
+        → WayFits Fit k span w → Acts kinds.TheVariants.Bits k (number k) 0 w
     clear_acts k q Never w stands fits = absurd stands
     clear_acts k q (Ended start a wrote) w stands fits = absurd stands
     clear_acts k q (Open start wrote) w stands fits =
@@ -125,7 +132,9 @@ module _ {T : Type 0} (c : ℕ) (events : List (Event T)) (spans : Each (StandsR
 
         -- what was so of a beginning
         numbers_in : (part rest : List (Event T)) → h ≡ part ++ rest → Numbers part
-        numbers_in part rest cut = numbers part (rest ++ Finished q s a ∷ after) (is ∙ (ap (λ xs. xs ++ Finished q s a ∷ after) cut ∙ append_assoc part rest (Finished q s a ∷ after)))
+        numbers_in part rest cut =
+            numbers part (rest ++ Finished q s a ∷ after)
+            (is ∙ (ap (λ xs. xs ++ Finished q s a ∷ after) cut ∙ append_assoc part rest (Finished q s a ∷ after)))
 
         sets_within : (part rest : List (Event T)) → h ≡ part ++ rest → (b : ℕ) → sets b part ≤ sets b events
         sets_within part rest cut b =
@@ -136,7 +145,9 @@ module _ {T : Type 0} (c : ℕ) (events : List (Event T)) (spans : Each (StandsR
             omega arith
 
         -- a place that the call left silently, where it was clear
-        clear_there : (b : ℕ) (part rest : List (Event T)) → h ≡ part ++ rest → BeginsNone q rest → way q b ≡ Some (s, None) → MayAct b s → 0 ≡ left_by kinds.TheVariants.Bits s (number_in b 0 part) → number_in b 0 part ≡ 0 → Done' b (Some (s, Some 0)) → Known b
+        clear_there : (b : ℕ) (part rest : List (Event T)) → h ≡ part ++ rest → BeginsNone q rest
+            → way q b ≡ Some (s, None) → MayAct b s → 0 ≡ left_by kinds.TheVariants.Bits s (number_in b 0 part)
+            → number_in b 0 part ≡ 0 → Done' b (Some (s, Some 0)) → Known b
         clear_there b part rest cut none under may left nought ends =
             Silent part rest cut none under may (nought ∙ left) (subst (λ n. Done' b (Some (s, Some n))) (sym nought) ends)
 
@@ -188,7 +199,9 @@ module _ {T : Type 0} (c : ℕ) (events : List (Event T)) (spans : Each (StandsR
           elsewhere b ne = subst (λ w. Ends c (Sure b) b (set_call k) (Truth false) w) (sym (under b)) (refl, λ same. absurd (ne same))
 
           facts : (b : ℕ) → b < c → Fact kinds.TheVariants.Bits c Sure h q (set_call k) (Truth false) b
-          facts b lt = ⊎_elim (λ same. subst (Fact kinds.TheVariants.Bits c Sure h q (set_call k) (Truth false)) same mine) (λ ne. Stays (elsewhere b ne)) (cases_eq k b)
+          facts b lt =
+              ⊎_elim (λ same. subst (Fact kinds.TheVariants.Bits c Sure h q (set_call k) (Truth false)) same mine)
+              (λ ne. Stays (elsewhere b ne)) (cases_eq k b)
             where
               mine : Fact kinds.TheVariants.Bits c Sure h q (set_call k) (Truth false) k
               mine = Silent once.part once.rest once.is once.within (under k) refl one (refl, λ same. rw one refl)
@@ -250,7 +263,8 @@ module _ {T : Type 0} (c : ℕ) (events : List (Event T)) (spans : Each (StandsR
       end_all : (q : ℕ) → events ≡ h ++ Finished q (Bits ResetAll) Done ∷ after → M (h ++ Finished q (Bits ResetAll) Done ∷ [])
       end_all q is =
           finishes kinds.TheVariants.Bits c Sure h q all_call Done m facts
-          (λ b le. let fits = here q all_call Done is b opened.wrote opened.is in subst (λ w. Ends c (Sure b) b all_call Done w) (sym fits.is) (refl, λ sure lt. absurd (omega arith)))
+          (λ b le. let fits = here q all_call Done is b opened.wrote opened.is in
+          subst (λ w. Ends c (Sure b) b all_call Done w) (sym fits.is) (refl, λ sure lt. absurd (omega arith)))
         where
           opened : OpenFor all_call (BitsWrote c all_call Done) (span_of q h)
           opened = open_for all_call (BitsWrote c all_call Done) (span_of q h) (spans h after (Finished q all_call Done) is)

@@ -1,5 +1,6 @@
 -- What stands at the places of a bit set, and where its calls stand, after the events of a history.
-use Rattle.std.proofs.Common.{◌≡◌, ◌≢◌, ℕ, ◌+◌, ◌≤◌, ◌==◌, Bool, true, false, cond, Option, Some, None, IfSome, List, [], ◌∷◌, ◌++◌, length, refl, sym, ap, subst, ◌∙◌, arith}
+use Rattle.std.proofs.Common.{◌≡◌, ◌≢◌, ℕ, ◌+◌, ◌≤◌, ◌==◌, Bool, true, false, cond, Option, Some, None, IfSome, List}
+use Rattle.std.proofs.Common.{[], ◌∷◌, ◌++◌, length, refl, sym, ap, subst, ◌∙◌, arith}
 use Rattle.model.specs.declared.event.Event.{Event}
 use Rattle.model.specs.declared.event.Event as event
 use Rattle.model.specs.declared.event.Event.TheVariants.{Begun, Cleared, Counted, TakenOut, Acted, Finished}
@@ -69,7 +70,9 @@ module _ {T : Type 0} where
   abbrev pub Numbers : List (Event T) → Type 0
   Numbers h = (b : ℕ) → (sets b h ≡ clears b h + number_in b 0 h) × (number_in b 0 h ≤ 1)
 
-  numbers_stay : (h : List (Event T)) (e : Event T) (b : ℕ) → sets {T = T} b (e ∷ []) ≡ 0 → clears {T = T} b (e ∷ []) ≡ 0 → number_after b (number_in b 0 h) e ≡ number_in b 0 h → (sets b h ≡ clears b h + number_in b 0 h) × (number_in b 0 h ≤ 1)
+  numbers_stay : (h : List (Event T)) (e : Event T) (b : ℕ) → sets {T = T} b (e ∷ []) ≡ 0
+      → clears {T = T} b (e ∷ []) ≡ 0 → number_after b (number_in b 0 h) e ≡ number_in b 0 h
+      → (sets b h ≡ clears b h + number_in b 0 h) × (number_in b 0 h ≤ 1)
       → (sets b (h ++ e ∷ []) ≡ clears b (h ++ e ∷ []) + number_in b 0 (h ++ e ∷ [])) × (number_in b 0 (h ++ e ∷ []) ≤ 1)
   numbers_stay h e b none nor still was =
       let s = sets_more b h (e ∷ []) in
@@ -82,19 +85,25 @@ module _ {T : Type 0} where
   pub numbers_more : (c : ℕ) (h : List (Event T)) (e : Event T) → StandsRight bits_promise c h e → BitFinds h e → Numbers h → Numbers (h ++ e ∷ [])
   numbers_more c h (event.TheVariants.Set p k) stands finds was b = go (k == b) refl
     where
-      go : (t : Bool) → (k == b) ≡ t → (sets b (h ++ event.TheVariants.Set p k ∷ []) ≡ clears b (h ++ event.TheVariants.Set p k ∷ []) + number_in b 0 (h ++ event.TheVariants.Set p k ∷ [])) × (number_in b 0 (h ++ event.TheVariants.Set p k ∷ []) ≤ 1)
+      go : (t : Bool) → (k == b) ≡ t
+          → (sets b (h ++ event.TheVariants.Set p k ∷ [])
+          ≡ clears b (h ++ event.TheVariants.Set p k ∷ []) + number_in b 0 (h ++ event.TheVariants.Set p k ∷ []))
+          × (number_in b 0 (h ++ event.TheVariants.Set p k ∷ []) ≤ 1)
       go true t =
           let one : sets {T = T} b (event.TheVariants.Set p k ∷ []) ≡ 1 = rw t refl in
           let none : clears {T = T} b (event.TheVariants.Set p k ∷ []) ≡ 0 = refl in
           let s = sets_more b h (event.TheVariants.Set p k ∷ []) in
           let c = clears_more b h (event.TheVariants.Set p k ∷ []) in
-          let n : number_in b 0 (h ++ event.TheVariants.Set p k ∷ []) ≡ 1 = number_more b 0 h (event.TheVariants.Set p k ∷ []) ∙ ap (λ z. cond z 1 (number_in b 0 h)) t in
+          let n : number_in b 0 (h ++ event.TheVariants.Set p k ∷ []) ≡ 1 =
+          number_more b 0 h (event.TheVariants.Set p k ∷ []) ∙ ap (λ z. cond z 1 (number_in b 0 h)) t in
           let found : sets b h ≡ clears b h = subst (λ z. sets z h ≡ clears z h) (is_number k b t) finds in
           (omega arith, omega arith)
       go false t = numbers_stay h (event.TheVariants.Set p k) b (rw t refl) refl (ap (λ z. cond z 1 (number_in b 0 h)) t) (was b)
   numbers_more c h (Cleared p k) stands finds was b = go (k == b) refl
     where
-      go : (t : Bool) → (k == b) ≡ t → (sets b (h ++ Cleared p k ∷ []) ≡ clears b (h ++ Cleared p k ∷ []) + number_in b 0 (h ++ Cleared p k ∷ [])) × (number_in b 0 (h ++ Cleared p k ∷ []) ≤ 1)
+      go : (t : Bool) → (k == b) ≡ t
+          → (sets b (h ++ Cleared p k ∷ []) ≡ clears b (h ++ Cleared p k ∷ []) + number_in b 0 (h ++ Cleared p k ∷ []))
+          × (number_in b 0 (h ++ Cleared p k ∷ []) ≤ 1)
       go true t =
           let one : clears {T = T} b (Cleared p k ∷ []) ≡ 1 = rw t refl in
           let none : sets {T = T} b (Cleared p k ∷ []) ≡ 0 = refl in
@@ -118,7 +127,9 @@ module _ {T : Type 0} where
   fit_nil (Bits (Set place)) b = ((λ e. refl), (λ some. absurd (omega arith)))
   fit_nil start b = ((λ e. refl), (λ some. absurd (omega arith)))
 
-  fit_more : (start : Start T) (b : ℕ) (wrote : List (Event T)) (d : Option ℕ) (e : Event T) → sets {T = T} b (e ∷ []) ≡ 0 → clears {T = T} b (e ∷ []) ≡ 0 → Fit start b wrote d → Fit start b (wrote ++ e ∷ []) d
+  fit_more : (start : Start T) (b : ℕ) (wrote : List (Event T)) (d : Option ℕ) (e : Event T)
+      → sets {T = T} b (e ∷ []) ≡ 0 → clears {T = T} b (e ∷ []) ≡ 0 → Fit start b wrote d
+      → Fit start b (wrote ++ e ∷ []) d
   fit_more (Bits (Set place)) b wrote d e none nor fit =
       let s = sets_more b wrote (e ∷ []) in
       ((λ z. fit.0 (omega arith)), (λ some. fit.1 (omega arith)))
@@ -133,7 +144,9 @@ module _ {T : Type 0} where
   AtPlace b n e = Unit {0}
 
   -- an own act
-  set_fits : (q k b n : ℕ) (span : Span T) (way : Way T) → Stands bits_promise 0 (event.TheVariants.Set q k) span → (k ≡ b → n ≡ 0) → WayFits Fit b span way → WayFits Fit b (own_after span (event.TheVariants.Set q k)) (cond (k == b) (found_now n way) way)
+  set_fits : (q k b n : ℕ) (span : Span T) (way : Way T) → Stands bits_promise 0 (event.TheVariants.Set q k) span
+      → (k ≡ b → n ≡ 0) → WayFits Fit b span way
+      → WayFits Fit b (own_after span (event.TheVariants.Set q k)) (cond (k == b) (found_now n way) way)
   set_fits q k b n (Open (Bits (Set place)) wrote) way stands at fits = go (k == b) refl
     where
       empty : wrote ≡ []
@@ -158,7 +171,9 @@ module _ {T : Type 0} where
           record {
             found = None;
             is = ap (λ z. cond z (found_now n way) way) t ∙ here;
-            fit = fit_more (Bits (Set place)) b wrote None (event.TheVariants.Set q k) (rw t refl) refl (subst (λ d. Fit (Bits (Set place)) b wrote d) was fits.fit);
+            fit =
+                fit_more (Bits (Set place)) b wrote None (event.TheVariants.Set q k) (rw t refl) refl
+                (subst (λ d. Fit (Bits (Set place)) b wrote d) was fits.fit);
           }
   set_fits q k b n (Open start wrote) way stands at fits = absurd stands
   set_fits q k b n span way stands at fits = absurd stands
@@ -174,7 +189,8 @@ module _ {T : Type 0} where
   clears_none (Bits ResetAll) k wrote d may fit = fit.0 (not_yet (Bits ResetAll) k wrote may)
   clears_none start k wrote d may fit = absurd may
 
-  fit_cleared : (start : Start T) (q k b : ℕ) (wrote : List (Event T)) → MayClear k start wrote → (k == b) ≡ true → Fit start b (wrote ++ Cleared q k ∷ []) (Some 1)
+  fit_cleared : (start : Start T) (q k b : ℕ) (wrote : List (Event T)) → MayClear k start wrote → (k == b) ≡ true
+      → Fit start b (wrote ++ Cleared q k ∷ []) (Some 1)
   fit_cleared (Bits ResetNext) q k b wrote may t =
       let one : clears {T = T} b (Cleared q k ∷ []) ≡ 1 = rw t refl in
       let more = clears_more b wrote (Cleared q k ∷ []) in
@@ -185,7 +201,9 @@ module _ {T : Type 0} where
       ((λ none. absurd (omega arith)), (λ some. refl))
   fit_cleared start q k b wrote may t = absurd may
 
-  cleared_fits : (q k b n : ℕ) (span : Span T) (way : Way T) → Stands bits_promise 0 (Cleared q k) span → (k ≡ b → n ≡ 1) → WayFits Fit b span way → WayFits Fit b (own_after span (Cleared q k)) (cond (k == b) (found_now n way) way)
+  cleared_fits : (q k b n : ℕ) (span : Span T) (way : Way T) → Stands bits_promise 0 (Cleared q k) span
+      → (k ≡ b → n ≡ 1) → WayFits Fit b span way
+      → WayFits Fit b (own_after span (Cleared q k)) (cond (k == b) (found_now n way) way)
   cleared_fits q k b n Never way stands at fits = absurd stands
   cleared_fits q k b n (Ended start a wrote) way stands at fits = absurd stands
   cleared_fits q k b n (Open start wrote) way stands at fits = go (k == b) refl
@@ -204,13 +222,17 @@ module _ {T : Type 0} where
             fit = fit_more start b wrote fits.found (Cleared q k) refl (rw t refl) fits.fit;
           }
 
-  pub one_fits : (c p b n : ℕ) (spans : ℕ → Span T) (way : Way T) (e : Event T) → IfSome (whose e) (λ q. Stands bits_promise c e (spans q)) → AtPlace b n e → WayFits Fit b (spans p) way → WayFits Fit b (span_after p (spans p) e) (way_after p b n way e)
+  pub one_fits : (c p b n : ℕ) (spans : ℕ → Span T) (way : Way T) (e : Event T)
+      → IfSome (whose e) (λ q. Stands bits_promise c e (spans q)) → AtPlace b n e → WayFits Fit b (spans p) way
+      → WayFits Fit b (span_after p (spans p) e) (way_after p b n way e)
   one_fits c p b n spans way (Begun q s) stands at fits = begun_fits Fit p q b n (spans p) way s (fit_nil s b) fits
   one_fits c p b n spans way (Finished q s a) stands at fits = finished_fits Fit p q b n (spans p) way s a fits
   one_fits c p b n spans way (event.TheVariants.Set q k) stands at fits = go (q == p) refl
     where
       go : (t : Bool) → (q == p) ≡ t → WayFits Fit b (span_after p (spans p) (event.TheVariants.Set q k)) (way_after p b n way (event.TheVariants.Set q k))
-      go true t = rw t (set_fits q k b n (spans p) way (subst (λ z. Stands bits_promise 0 (event.TheVariants.Set q k) (spans z)) (is_number q p t) stands) at fits)
+      go true t =
+          rw t (set_fits q k b n (spans p) way
+          (subst (λ z. Stands bits_promise 0 (event.TheVariants.Set q k) (spans z)) (is_number q p t) stands) at fits)
       go false t = rw t fits
   one_fits c p b n spans way (Cleared q k) stands at fits = go (q == p) refl
     where
@@ -219,9 +241,13 @@ module _ {T : Type 0} where
       go false t = rw t fits
   one_fits c p b n spans way (Counted q k) stands at fits = absurd stands
   one_fits c p b n spans way (TakenOut q k m) stands at fits = absurd stands
-  one_fits c p b n spans way e stands at fits = quiet_fits Fit p b (spans p) way e (λ span. refl) (λ start wrote d fit. fit_more start b wrote d e refl refl fit) fits
+  one_fits c p b n spans way e stands at fits =
+      quiet_fits Fit p b (spans p) way e (λ span. refl) (λ start wrote d fit. fit_more start b wrote d e refl refl fit) fits
 
   pub at_place : (h : List (Event T)) (e : Event T) → BitFinds h e → Numbers h → (b : ℕ) → AtPlace b (number_in b 0 h) e
-  at_place h (event.TheVariants.Set q k) finds numbers b = λ same. (let is = (numbers b).0 in let found : sets b h ≡ clears b h = subst (λ z. sets z h ≡ clears z h) same finds in omega arith)
-  at_place h (Cleared q k) finds numbers b = λ same. (let is = (numbers b).0 in let found : sets b h ≡ clears b h + 1 = subst (λ z. sets z h ≡ clears z h + 1) same finds in omega arith)
+  at_place h (event.TheVariants.Set q k) finds numbers b =
+      λ same. (let is = (numbers b).0 in let found : sets b h ≡ clears b h = subst (λ z. sets z h ≡ clears z h) same finds in omega arith)
+  at_place h (Cleared q k) finds numbers b =
+      λ same.
+      (let is = (numbers b).0 in let found : sets b h ≡ clears b h + 1 = subst (λ z. sets z h ≡ clears z h + 1) same finds in omega arith)
   at_place h e finds numbers b = tt

@@ -1,5 +1,7 @@
 -- The calls of a counting bit set act place by place.
-use Rattle.std.proofs.Common.{◌≡◌, ◌⊎◌, ⊎_elim, inl, inr, ℕ, zero, suc, ◌+◌, ◌-◌, ◌*◌, ◌^◌, ◌%◌, ◌<◌, ◌≤◌, ◌==◌, ◌&&◌, Bool, true, false, cond, Option, Some, None, IfSome, List, [], ◌∷◌, ◌++◌, refl, sym, ap, subst, ◌∙◌, append_assoc, append-nil, arith}
+use Rattle.std.proofs.Common.{◌≡◌, ◌⊎◌, ⊎_elim, inl, inr, ℕ, zero, suc, ◌+◌, ◌-◌, ◌*◌, ◌^◌, ◌%◌, ◌<◌, ◌≤◌, ◌==◌, ◌&&◌}
+use Rattle.std.proofs.Common.{Bool, true, false, cond, Option, Some, None, IfSome, List, [], ◌∷◌, ◌++◌, refl, sym, ap}
+use Rattle.std.proofs.Common.{subst, ◌∙◌, append_assoc, append-nil, arith}
 use Rattle.std.proofs.lemmas.Bool.{cases_eq, cases_lt}
 use Rattle.model.specs.declared.event.Answer.{Answer}
 use Rattle.model.specs.declared.event.Answer.TheVariants.{Done, Number}
@@ -20,16 +22,23 @@ use Rattle.history_laws.specs.Acts.{Way, Acts, Found, Tells, Ends, number_after,
 use Rattle.history_laws.proofs.Filling.{Marked, nothing_marked, goes_on, Fact, Stays, Silent, finishes}
 use Rattle.history_laws.proofs.Finds.{CountFinds}
 use Rattle.history_laws.proofs.Marks.{same_number, is_number, both_true, number_in, way_in, number_more, way_more}
-use Rattle.history_laws.proofs.Ways.{along, begins_none_later, OpenFor, open_for, Fits, WayFits, shut_way, fits_open, begun_fits, finished_fits, quiet_fits, Ways, ways_more}
+use Rattle.history_laws.proofs.Ways.{along, begins_none_later, OpenFor, open_for, Fits, WayFits, shut_way, fits_open}
+use Rattle.history_laws.proofs.Ways.{begun_fits, finished_fits, quiet_fits, Ways, ways_more}
 
 next_number : (n : ℕ) → n < 2 ^ 64 → (((n + 1) % 2 ^ 64 ≡ n + 1) × (n + 1 < 2 ^ 64)) ⊎ (((n + 1) % 2 ^ 64 ≡ 0) × (n + 1 ≡ 2 ^ 64))
-next_number n low = ⊎_elim (λ (lt : n + 1 < 2 ^ 64). inl (omega arith, lt)) (λ (le : 2 ^ 64 ≤ n + 1). inr (omega arith, omega arith)) (cases_lt (n + 1) (2 ^ 64))
+next_number n low =
+    ⊎_elim (λ (lt : n + 1 < 2 ^ 64). inl (omega arith, lt)) (λ (le : 2 ^ 64 ≤ n + 1). inr (omega arith, omega arith))
+    (cases_lt (n + 1) (2 ^ 64))
 
 -- what is taken out is what stands
 same_rest : (m n v w t c : ℕ) → m < 2 ^ 64 → n < 2 ^ 64 → c ≡ t + m + 2 ^ 64 * v → c ≡ t + n + 2 ^ 64 * w → m ≡ n
 same_rest m n v w t c lm ln e f =
     ⊎_elim (λ (lt : v < w). absurd (omega arith))
-    (λ (le : w ≤ v). ⊎_elim (λ (lt : w < v). absurd (omega arith)) (λ (ge : v ≤ w). (let same : w ≡ v = omega arith in let more : t + m + 2 ^ 64 * v ≡ t + n + 2 ^ 64 * v = sym e ∙ (f ∙ ap (λ z. t + n + 2 ^ 64 * z) same) in omega arith)) (cases_lt w v))
+    (λ (le : w ≤ v). ⊎_elim (λ (lt : w < v). absurd (omega arith))
+    (λ (ge : v ≤ w). (let same : w ≡ v = omega arith in
+    let more : t + m + 2 ^ 64 * v ≡ t + n + 2 ^ 64 * v = sym e ∙ (f ∙ ap (λ z. t + n + 2 ^ 64 * z) same) in
+    omega arith))
+    (cases_lt w v))
     (cases_lt v w)
 
 one_taken : (U : Type 0) (p k m b : ℕ) → (k == b) ≡ true → takes {T = U} b (TakenOut p k m ∷ []) ≡ m
@@ -73,7 +82,9 @@ module _ {T : Type 0} where
   abbrev Numbers : List (Event T) → Type 0
   Numbers h = (b : ℕ) → NumberIs h b
 
-  numbers_stay : (h : List (Event T)) (e : Event T) (b : ℕ) → counts {T = T} b (e ∷ []) ≡ 0 → takes {T = T} b (e ∷ []) ≡ 0 → number_after b (number_in b 0 h) e ≡ number_in b 0 h → NumberIs h b → NumberIs (h ++ e ∷ []) b
+  numbers_stay : (h : List (Event T)) (e : Event T) (b : ℕ) → counts {T = T} b (e ∷ []) ≡ 0
+      → takes {T = T} b (e ∷ []) ≡ 0 → number_after b (number_in b 0 h) e ≡ number_in b 0 h → NumberIs h b
+      → NumberIs (h ++ e ∷ []) b
   numbers_stay h e b none nor still was =
       let c = counts_more b h (e ∷ []) in
       let t = takes_more b h (e ∷ []) in
@@ -91,12 +102,15 @@ module _ {T : Type 0} where
           let none : takes {T = T} b (Counted p k ∷ []) ≡ 0 = refl in
           let c = counts_more b h (Counted p k ∷ []) in
           let k' = takes_more b h (Counted p k ∷ []) in
-          let n : number_in b 0 (h ++ Counted p k ∷ []) ≡ (number_in b 0 h + 1) % 2 ^ 64 = number_more b 0 h (Counted p k ∷ []) ∙ ap (λ z. cond z ((number_in b 0 h + 1) % 2 ^ 64) (number_in b 0 h)) t in
+          let n : number_in b 0 (h ++ Counted p k ∷ []) ≡ (number_in b 0 h + 1) % 2 ^ 64 =
+          number_more b 0 h (Counted p k ∷ []) ∙ ap (λ z. cond z ((number_in b 0 h + 1) % 2 ^ 64) (number_in b 0 h)) t in
           let whole = (was b).whole in
           let low = (was b).low in
           ⊎_elim
-          (λ (up : ((number_in b 0 h + 1) % 2 ^ 64 ≡ number_in b 0 h + 1) × (number_in b 0 h + 1 < 2 ^ 64)). (let is = up.0 in let lt = up.1 in record { wraps = (was b).wraps; whole = omega arith; low = omega arith }))
-          (λ (round : ((number_in b 0 h + 1) % 2 ^ 64 ≡ 0) × (number_in b 0 h + 1 ≡ 2 ^ 64)). (let is = round.0 in let at = round.1 in record { wraps = (was b).wraps + 1; whole = omega arith; low = omega arith }))
+          (λ (up : ((number_in b 0 h + 1) % 2 ^ 64 ≡ number_in b 0 h + 1) × (number_in b 0 h + 1 < 2 ^ 64)).
+          (let is = up.0 in let lt = up.1 in record { wraps = (was b).wraps; whole = omega arith; low = omega arith }))
+          (λ (round : ((number_in b 0 h + 1) % 2 ^ 64 ≡ 0) × (number_in b 0 h + 1 ≡ 2 ^ 64)).
+          (let is = round.0 in let at = round.1 in record { wraps = (was b).wraps + 1; whole = omega arith; low = omega arith }))
           (next_number (number_in b 0 h) low)
       go false t = numbers_stay h (Counted p k) b (rw t refl) refl (ap (λ z. cond z ((number_in b 0 h + 1) % 2 ^ 64) (number_in b 0 h)) t) (was b)
   numbers_more c h (TakenOut p k m) stands finds was b = go (k == b) refl
@@ -116,7 +130,8 @@ module _ {T : Type 0} where
   numbers_more c h e stands finds was b = numbers_stay h e b refl refl refl (was b)
 
   takes_all : (h : List (Event T)) (p k m : ℕ) → CountFinds h (TakenOut p k m) → Numbers h → m ≡ number_in k 0 h
-  takes_all h p k m finds numbers = same_rest m (number_in k 0 h) finds.0 (numbers k).wraps (takes k h) (counts k h) finds.3 (numbers k).low finds.1 (numbers k).whole
+  takes_all h p k m finds numbers =
+      same_rest m (number_in k 0 h) finds.0 (numbers k).wraps (takes k h) (counts k h) finds.3 (numbers k).low finds.1 (numbers k).whole
 
   -- ---- ways
 
@@ -128,14 +143,17 @@ module _ {T : Type 0} where
   fit_nil (Bits (Set place)) b = λ e. refl
   fit_nil start b = ((λ e. refl), (λ some. absurd (omega arith)))
 
-  fit_more : (start : Start T) (b : ℕ) (wrote : List (Event T)) (d : Option ℕ) (e : Event T) → counts {T = T} b (e ∷ []) ≡ 0 → takes {T = T} b (e ∷ []) ≡ 0 → Fit start b wrote d → Fit start b (wrote ++ e ∷ []) d
+  fit_more : (start : Start T) (b : ℕ) (wrote : List (Event T)) (d : Option ℕ) (e : Event T)
+      → counts {T = T} b (e ∷ []) ≡ 0 → takes {T = T} b (e ∷ []) ≡ 0 → Fit start b wrote d
+      → Fit start b (wrote ++ e ∷ []) d
   fit_more (Bits (Set place)) b wrote d e none nor fit = λ z. (let c = counts_more b wrote (e ∷ []) in fit (omega arith))
   fit_more start b wrote d e none nor fit =
       let t = takes_more b wrote (e ∷ []) in
       ((λ z. fit.0 (omega arith)), (λ some. fit.1 (omega arith)))
 
   -- an own act
-  count_fits : (q k b n : ℕ) (span : Span T) (way : Way T) → Stands counts_promise 0 (Counted q k) span → WayFits Fit b span way → WayFits Fit b (own_after span (Counted q k)) (cond (k == b) (found_now n way) way)
+  count_fits : (q k b n : ℕ) (span : Span T) (way : Way T) → Stands counts_promise 0 (Counted q k) span
+      → WayFits Fit b span way → WayFits Fit b (own_after span (Counted q k)) (cond (k == b) (found_now n way) way)
   count_fits q k b n (Open (Bits (Set place)) wrote) way stands fits = go (k == b) refl
     where
       was : fits.found ≡ None
@@ -162,7 +180,8 @@ module _ {T : Type 0} where
   count_fits q k b n (Open start wrote) way stands fits = absurd stands
   count_fits q k b n span way stands fits = absurd stands
 
-  take_fits : (q k m b n : ℕ) (span : Span T) (way : Way T) → Stands counts_promise 0 (TakenOut q k m) span → WayFits Fit b span way → WayFits Fit b (own_after span (TakenOut q k m)) (cond (k == b) (found_now n way) way)
+  take_fits : (q k m b n : ℕ) (span : Span T) (way : Way T) → Stands counts_promise 0 (TakenOut q k m) span
+      → WayFits Fit b span way → WayFits Fit b (own_after span (TakenOut q k m)) (cond (k == b) (found_now n way) way)
   take_fits q k m b n (Open (Bits ResetAll) wrote) way stands fits = go (k == b) refl
     where
       go : (t : Bool) → (k == b) ≡ t → WayFits Fit b (Open (Bits ResetAll) (wrote ++ TakenOut q k m ∷ [])) (cond (k == b) (found_now n way) way)
@@ -184,7 +203,9 @@ module _ {T : Type 0} where
   take_fits q k m b n (Open start wrote) way stands fits = absurd stands
   take_fits q k m b n span way stands fits = absurd stands
 
-  one_fits : (c p b n : ℕ) (spans : ℕ → Span T) (way : Way T) (e : Event T) → IfSome (whose e) (λ q. Stands counts_promise c e (spans q)) → WayFits Fit b (spans p) way → WayFits Fit b (span_after p (spans p) e) (way_after p b n way e)
+  one_fits : (c p b n : ℕ) (spans : ℕ → Span T) (way : Way T) (e : Event T)
+      → IfSome (whose e) (λ q. Stands counts_promise c e (spans q)) → WayFits Fit b (spans p) way
+      → WayFits Fit b (span_after p (spans p) e) (way_after p b n way e)
   one_fits c p b n spans way (Begun q s) stands fits = begun_fits Fit p q b n (spans p) way s (fit_nil s b) fits
   one_fits c p b n spans way (Finished q s a) stands fits = finished_fits Fit p q b n (spans p) way s a fits
   one_fits c p b n spans way (Counted q k) stands fits = go (q == p) refl
@@ -199,7 +220,8 @@ module _ {T : Type 0} where
       go false t = rw t fits
   one_fits c p b n spans way (event.TheVariants.Set q k) stands fits = absurd stands
   one_fits c p b n spans way (Cleared q k) stands fits = absurd stands
-  one_fits c p b n spans way e stands fits = quiet_fits Fit p b (spans p) way e (λ span. refl) (λ start wrote d fit. fit_more start b wrote d e refl refl fit) fits
+  one_fits c p b n spans way e stands fits =
+      quiet_fits Fit p b (spans p) way e (λ span. refl) (λ start wrote d fit. fit_more start b wrote d e refl refl fit) fits
 
 -- ---- the calls
 
@@ -212,7 +234,8 @@ module _ {T : Type 0} where
 
 -- ---- the whole history
 
-module _ {T : Type 0} (c : ℕ) (events : List (Event T)) (spans : Each (StandsRight counts_promise c) events) (finds : Each CountFinds events) (answers : Each (CountsAnswerOn c) events) where
+module _ {T : Type 0} (c : ℕ) (events : List (Event T)) (spans : Each (StandsRight counts_promise c) events)
+    (finds : Each CountFinds events) (answers : Each (CountsAnswerOn c) events) where
   abbrev Sure : ℕ → Type 0
   Sure b = counts b events < 2 ^ 64
 
@@ -250,14 +273,17 @@ module _ {T : Type 0} (c : ℕ) (events : List (Event T)) (spans : Each (StandsR
         let both = both_true (q == p) (k == b) t in
         subst (λ z. RightAct e z b) (is_number q p both.0) (subst (λ z. RightAct e q z) (is_number k b both.1) right)
 
-    count_acts : (k : ℕ) (q : ℕ) (span : Span T) (w : Way') → Stands counts_promise c (Counted q k) span → WayFits Fit k span w → Acts kinds.TheVariants.Counts k (number k) ((number k + 1) % 2 ^ 64) w
+    count_acts : (k : ℕ) (q : ℕ) (span : Span T) (w : Way') → Stands counts_promise c (Counted q k) span
+        → WayFits Fit k span w → Acts kinds.TheVariants.Counts k (number k) ((number k + 1) % 2 ^ 64) w
     count_acts k q (Open (Bits (Set place)) wrote) w stands fits =
         let none : fits.found ≡ None = fits.fit (rw stands.1 refl) in
-        subst (λ z. Acts kinds.TheVariants.Counts k (number k) ((number k + 1) % 2 ^ 64) z) (sym (fits.is ∙ ap (λ d. Some (Bits (Set place), d)) none)) (stands.0, refl)
+        subst (λ z. Acts kinds.TheVariants.Counts k (number k) ((number k + 1) % 2 ^ 64) z)
+        (sym (fits.is ∙ ap (λ d. Some (Bits (Set place), d)) none)) (stands.0, refl)
     count_acts k q (Open start wrote) w stands fits = absurd stands
     count_acts k q span w stands fits = absurd stands
 
-    take_acts : (k m : ℕ) (q : ℕ) (span : Span T) (w : Way') → Stands counts_promise c (TakenOut q k m) span → WayFits Fit k span w → (1 ≤ m) × Acts kinds.TheVariants.Counts k (number k) 0 w
+    take_acts : (k m : ℕ) (q : ℕ) (span : Span T) (w : Way') → Stands counts_promise c (TakenOut q k m) span
+        → WayFits Fit k span w → (1 ≤ m) × Acts kinds.TheVariants.Counts k (number k) 0 w
     take_acts k m q (Open (Bits ResetAll) wrote) w stands fits =
         let none : fits.found ≡ None = fits.fit.0 (stands.1 k (omega arith)) in
         (stands.0, subst (λ z. Acts kinds.TheVariants.Counts k (number k) 0 z) (sym (fits.is ∙ ap (λ d. Some (Bits ResetAll, d)) none)) (tt, refl))
@@ -314,7 +340,9 @@ module _ {T : Type 0} (c : ℕ) (events : List (Event T)) (spans : Each (StandsR
           was : NumberIs answer.before k
           was =
               numbers answer.before (Counted q k ∷ (Finished q (set_call k) (Number n) ∷ after))
-              (is ∙ (ap (λ xs. xs ++ Finished q (set_call k) (Number n) ∷ after) answer.is ∙ append_assoc answer.before (Counted q k ∷ []) (Finished q (set_call k) (Number n) ∷ after))) k
+              (is ∙ (ap (λ xs. xs ++ Finished q (set_call k) (Number n) ∷ after) answer.is
+              ∙ append_assoc answer.before (Counted q k ∷ []) (Finished q (set_call k) (Number n) ∷ after)))
+              k
 
           told : n ≡ number_in k 0 answer.before
           told = answer.count ∙ rest_is (number_in k 0 answer.before) (takes k answer.before) (counts k answer.before) was.wraps was.low was.whole
@@ -337,18 +365,23 @@ module _ {T : Type 0} (c : ℕ) (events : List (Event T)) (spans : Each (StandsR
               mine : Ends c (Sure k) k (set_call k) (Number n) (way q k)
               mine =
                   let fits = here q k (set_call k) opened.wrote opened.is in
-                  let found : fits.found ≡ Some (number_in k 0 answer.before) = found_some (number_in k 0 answer.before) (way_in q k 0 None answer.before) (set_call k) fits.found (sym counted ∙ fits.is) in
+                  let found : fits.found ≡ Some (number_in k 0 answer.before) =
+                  found_some (number_in k 0 answer.before) (way_in q k 0 None answer.before) (set_call k) fits.found
+                  (sym counted ∙ fits.is) in
                   subst (λ w. Ends c (Sure k) k (set_call k) (Number n) w) (sym (fits.is ∙ ap (λ d. Some ((set_call k), d)) found)) (refl, λ same. told)
 
       -- a place that the call left silently, where its count was 0
-      clear_there : (q b : ℕ) (part rest : List (Event T)) → h ≡ part ++ rest → BeginsNone q rest → way q b ≡ Some (Bits ResetAll, None) → number_in b 0 part ≡ 0 → Fact kinds.TheVariants.Counts c Sure h q (Bits ResetAll) Done b
+      clear_there : (q b : ℕ) (part rest : List (Event T)) → h ≡ part ++ rest → BeginsNone q rest
+          → way q b ≡ Some (Bits ResetAll, None) → number_in b 0 part ≡ 0
+          → Fact kinds.TheVariants.Counts c Sure h q (Bits ResetAll) Done b
       clear_there q b part rest cut none under nought =
           Silent part rest cut none under tt nought (refl, λ sure lt. tt)
 
       end_all : (q : ℕ) → events ≡ h ++ Finished q (Bits ResetAll) Done ∷ after → M (h ++ Finished q (Bits ResetAll) Done ∷ [])
       end_all q is =
           finishes kinds.TheVariants.Counts c Sure h q all_call Done m facts
-          (λ b le. let fits = here q b all_call opened.wrote opened.is in subst (λ w. Ends c (Sure b) b all_call Done w) (sym fits.is) (refl, λ sure lt. absurd (omega arith)))
+          (λ b le. let fits = here q b all_call opened.wrote opened.is in
+          subst (λ w. Ends c (Sure b) b all_call Done w) (sym fits.is) (refl, λ sure lt. absurd (omega arith)))
         where
           opened : OpenFor all_call (CountsWrote c all_call Done) (span_of q h)
           opened = open_for all_call (CountsWrote c all_call Done) (span_of q h) (spans h after (Finished q all_call Done) is)
@@ -375,7 +408,9 @@ module _ {T : Type 0} (c : ℕ) (events : List (Event T)) (spans : Each (StandsR
                   under = fits.is ∙ ap (λ d. Some (all_call, d)) (fits.fit.0 (omega arith))
 
                   whole_is : events ≡ since.before ++ (Begun q since.start ∷ (since.since ++ Finished q all_call Done ∷ after))
-                  whole_is = is ∙ (ap (λ xs. xs ++ Finished q all_call Done ∷ after) since.is ∙ append_assoc since.before (Begun q since.start ∷ since.since) (Finished q all_call Done ∷ after))
+                  whole_is =
+                      is ∙ (ap (λ xs. xs ++ Finished q all_call Done ∷ after) since.is
+                      ∙ append_assoc since.before (Begun q since.start ∷ since.since) (Finished q all_call Done ∷ after))
 
                   was : NumberIs since.before b
                   was = numbers since.before (Begun q since.start ∷ (since.since ++ Finished q all_call Done ∷ after)) whole_is b
@@ -408,8 +443,11 @@ module _ {T : Type 0} (c : ℕ) (events : List (Event T)) (spans : Each (StandsR
                           let one = counts_more b since.before (Begun q since.start ∷ (since.since ++ Finished q all_call Done ∷ after)) in
                           let two = counts_more b (Begun q since.start ∷ []) (since.since ++ Finished q all_call Done ∷ after) in
                           let three = counts_more b since.since (Finished q all_call Done ∷ after) in
-                          let first : counts b events ≡ counts b (since.before ++ (Begun q since.start ∷ (since.since ++ Finished q all_call Done ∷ after))) = ap (counts b) whole_is in
-                          Stays (subst (λ w. Ends c (Sure b) b all_call Done w) (sym fits.is) (refl, λ (sure : counts b events < 2 ^ 64). λ lt. absurd (omega arith)))
+                          let first : counts b events
+                          ≡ counts b (since.before ++ (Begun q since.start ∷ (since.since ++ Finished q all_call Done ∷ after))) =
+                          ap (counts b) whole_is in
+                          Stays (subst (λ w. Ends c (Sure b) b all_call Done w) (sym fits.is)
+                          (refl, λ (sure : counts b events < 2 ^ 64). λ lt. absurd (omega arith)))
 
       ends : (q : ℕ) (s : Start T) (a : Answer T) → events ≡ h ++ Finished q s a ∷ after → M (h ++ Finished q s a ∷ [])
       ends q (Bits (Set k)) (Number n) is = end_set q k n is

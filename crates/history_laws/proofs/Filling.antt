@@ -1,6 +1,7 @@
 -- A history with its silent acts, as it goes on by one event; before the end of a call they are put in where the call has
 -- acted silently.
-use Rattle.std.proofs.Common.{◌≡◌, ◌≢◌, ⊎_elim, ℕ, zero, suc, ◌<◌, ◌≤◌, ◌==◌, ◌&&◌, Bool, true, false, cond, Some, None, List, [], ◌∷◌, ◌++◌, refl, sym, ap, subst, ◌∙◌, arith}
+use Rattle.std.proofs.Common.{◌≡◌, ◌≢◌, ⊎_elim, ℕ, zero, suc, ◌<◌, ◌≤◌, ◌==◌, ◌&&◌, Bool, true, false, cond, Some}
+use Rattle.std.proofs.Common.{None, List, [], ◌∷◌, ◌++◌, refl, sym, ap, subst, ◌∙◌, arith}
 use Rattle.std.proofs.lemmas.Bool.{cases_eq, cases_lt}
 use Rattle.model.specs.declared.event.Answer.{Answer}
 use Rattle.model.specs.declared.event.Event.{Event}
@@ -9,7 +10,9 @@ use Rattle.model.specs.declared.event.Start.{Start}
 use Rattle.model.specs.declared.turn.Kind.{Kind}
 use Rattle.model.specs.Moments.{BeginsNone}
 use Rattle.history_laws.specs.Acts.{Mark, Happens, Leaves, left_by, told, MayAct, Way, way_after, Ends, IsRightEvent}
-use Rattle.history_laws.proofs.Marks.{same_number, other_number, is_number, both_true, number_at, way_at, number_in, way_in, number_told, way_at_more, way_more, told_more, Cut, cut, Right, right_more, put_else, way_else, put_here, way_here}
+use Rattle.history_laws.proofs.Marks.{same_number, other_number, is_number, both_true, number_at, way_at, number_in}
+use Rattle.history_laws.proofs.Marks.{way_in, number_told, way_at_more, way_more, told_more, Cut, cut, Right}
+use Rattle.history_laws.proofs.Marks.{right_more, put_else, way_else, put_here, way_here}
 
 module _ {T : Type 0} (kind : Kind) (capacity : ℕ) (Sure : ℕ → Type 0) where
   abbrev IsGood : ℕ → ℕ → List (Mark T) → Type 0
@@ -30,19 +33,28 @@ module _ {T : Type 0} (kind : Kind) (capacity : ℕ) (Sure : ℕ → Type 0) whe
   told_one : (ms : List (Mark T)) (h : List (Event T)) (e : Event T) → told ms ≡ h → told (ms ++ Happens e ∷ []) ≡ h ++ e ∷ []
   told_one ms h e is = told_more ms (Happens e ∷ []) ∙ ap (λ es. es ++ e ∷ []) is
 
-  right_one : (ms : List (Mark T)) (h : List (Event T)) (e : Event T) → told ms ≡ h → (p b : ℕ) (way : Way T) → IsGood p b ms → way_at p b 0 None ms ≡ way → IsRightEvent kind capacity (Sure b) p b (number_in b 0 h) way e → IsGood p b (ms ++ Happens e ∷ [])
+  right_one : (ms : List (Mark T)) (h : List (Event T)) (e : Event T) → told ms ≡ h → (p b : ℕ) (way : Way T)
+      → IsGood p b ms → way_at p b 0 None ms ≡ way → IsRightEvent kind capacity (Sure b) p b (number_in b 0 h) way e
+      → IsGood p b (ms ++ Happens e ∷ [])
   right_one ms h e is p b way good here now =
-      right_more kind capacity Sure p b 0 None ms (Happens e ∷ []) good
-      (subst (λ n. IsRightEvent kind capacity (Sure b) p b n (way_at p b 0 None ms) e) (sym (numbers ms h is b)) (subst (λ w. IsRightEvent kind capacity (Sure b) p b (number_in b 0 h) w e) (sym here) now), tt)
+      right_more kind capacity Sure p b 0 None ms (Happens e ∷ []) good (
+        subst (λ n. IsRightEvent kind capacity (Sure b) p b n (way_at p b 0 None ms) e) (sym (numbers ms h is b))
+            (subst (λ w. IsRightEvent kind capacity (Sure b) p b (number_in b 0 h) w e) (sym here) now),
+        tt,
+      )
 
-  way_one : (ms : List (Mark T)) (h : List (Event T)) (e : Event T) → told ms ≡ h → (p b : ℕ) → way_at p b 0 None ms ≡ way_in p b 0 None h → way_at p b 0 None (ms ++ Happens e ∷ []) ≡ way_in p b 0 None (h ++ e ∷ [])
+  way_one : (ms : List (Mark T)) (h : List (Event T)) (e : Event T) → told ms ≡ h → (p b : ℕ)
+      → way_at p b 0 None ms ≡ way_in p b 0 None h
+      → way_at p b 0 None (ms ++ Happens e ∷ []) ≡ way_in p b 0 None (h ++ e ∷ [])
   way_one ms h e is p b here =
       way_at_more p b 0 None ms (Happens e ∷ [])
       ∙ (ap (λ n. way_after p b n (way_at p b 0 None ms) e) (numbers ms h is b)
       ∙ (ap (λ w. way_after p b (number_in b 0 h) w e) here ∙ sym (way_more p b 0 None h (e ∷ []))))
 
   -- an event before which nothing has to be put in
-  pub goes_on : (h : List (Event T)) (e : Event T) → Marked h → ((p b : ℕ) → IsRightEvent kind capacity (Sure b) p b (number_in b 0 h) (way_in p b 0 None h) e) → Marked (h ++ e ∷ [])
+  pub goes_on : (h : List (Event T)) (e : Event T) → Marked h
+      → ((p b : ℕ) → IsRightEvent kind capacity (Sure b) p b (number_in b 0 h) (way_in p b 0 None h) e)
+      → Marked (h ++ e ∷ [])
   goes_on h e m now =
       record {
         marks = m.marks ++ Happens e ∷ [];
@@ -63,7 +75,10 @@ module _ {T : Type 0} (kind : Kind) (capacity : ℕ) (Sure : ℕ → Type 0) whe
     -- what the call has found at the place: by its events, or silently, at a moment of it
     pub data Fact (b : ℕ) : Type 0 where
       Stays : IsDone b (way_in p b 0 None h) → Fact b
-      Silent : (part rest : List (Event T)) → h ≡ part ++ rest → BeginsNone p rest → way_in p b 0 None h ≡ Some (start, None) → MayAct b start → number_in b 0 part ≡ left_by kind start (number_in b 0 part) → IsDone b (Some (start, Some (number_in b 0 part))) → Fact b
+      Silent : (part rest : List (Event T)) → h ≡ part ++ rest → BeginsNone p rest
+          → way_in p b 0 None h ≡ Some (start, None) → MayAct b start
+          → number_in b 0 part ≡ left_by kind start (number_in b 0 part)
+          → IsDone b (Some (start, Some (number_in b 0 part))) → Fact b
 
     -- all that it has done silently at places below this one is put in
     record Filled (k : ℕ) : Type 0 where
@@ -84,7 +99,9 @@ module _ {T : Type 0} (kind : Kind) (capacity : ℕ) (Sure : ℕ → Type 0) whe
             (λ (ne : b ≢ k). f.done b (omega arith))
             (cases_eq b k)
 
-    module _ (k : ℕ) (f : Filled k) (part rest : List (Event T)) (is : h ≡ part ++ rest) (none : BeginsNone p rest) (under : way_in p k 0 None h ≡ Some (start, None)) (may : MayAct k start) (left : number_in k 0 part ≡ left_by kind start (number_in k 0 part))
+    module _ (k : ℕ) (f : Filled k) (part rest : List (Event T)) (is : h ≡ part ++ rest) (none : BeginsNone p rest)
+        (under : way_in p k 0 None h ≡ Some (start, None)) (may : MayAct k start)
+        (left : number_in k 0 part ≡ left_by kind start (number_in k 0 part))
         (ends : IsDone k (Some (start, Some (number_in k 0 part)))) where
       c : Cut f.marks part rest
       c = cut f.marks part rest (f.is ∙ is)
@@ -150,7 +167,9 @@ module _ {T : Type 0} (kind : Kind) (capacity : ℕ) (Sure : ℕ → Type 0) whe
               ⊎_elim
               (λ (same : b ≡ k).
               subst (λ z. IsDone z (way_at p z 0 None new)) (sym same)
-              (subst (IsDone k) (sym (way_here kind capacity Sure p k start first second (was p k) late calm may left_there ∙ ap (λ (n : ℕ). Some (start, Some n)) there)) ends))
+              (subst (IsDone k) (sym (way_here kind capacity Sure p k start first second (was p k) late calm may left_there
+              ∙ ap (λ (n : ℕ). Some (start, Some n)) there))
+              ends))
               (λ (ne : b ≢ k). subst (IsDone b) (sym (elsewhere p b (other_place b ne))) (f.done b (omega arith)))
               (cases_eq b k)
 
@@ -159,16 +178,27 @@ module _ {T : Type 0} (kind : Kind) (capacity : ℕ) (Sure : ℕ → Type 0) whe
     one_more k f (Silent part rest is none under may left ends) = put_in k f part rest is none under may left ends
 
     fill : (k : ℕ) → Marked h → ((b : ℕ) → b < k → Fact b) → Filled k
-    fill zero m facts = record { marks = m.marks; is = m.is; right = m.right; others = λ q b ne. m.ways q b; done = λ b lt. absurd (omega arith); later = λ b le. m.ways p b }
+    fill zero m facts =
+        record {
+          marks = m.marks;
+          is = m.is;
+          right = m.right;
+          others = λ q b ne. m.ways q b;
+          done = λ b lt. absurd (omega arith);
+          later = λ b le. m.ways p b;
+        }
     fill (suc k) m facts = one_more k (fill k m (λ b lt. facts b (omega arith))) (facts k (omega arith))
 
     -- the call ends, of which this is known at each place
-    pub finishes : Marked h → ((b : ℕ) → b < capacity → Fact b) → ((b : ℕ) → capacity ≤ b → IsDone b (way_in p b 0 None h)) → Marked (h ++ Finished p start answer ∷ [])
+    pub finishes : Marked h → ((b : ℕ) → b < capacity → Fact b)
+        → ((b : ℕ) → capacity ≤ b → IsDone b (way_in p b 0 None h)) → Marked (h ++ Finished p start answer ∷ [])
     finishes m facts far =
         record {
           marks = f.marks ++ Happens end ∷ [];
           is = told_one f.marks h end f.is;
-          right = λ q b. right_one f.marks h end f.is q b (way_at q b 0 None f.marks) (f.right q b) refl (λ same. subst (λ z. IsDone b (way_at z b 0 None f.marks)) same (done b));
+          right =
+              λ q b. right_one f.marks h end f.is q b (way_at q b 0 None f.marks) (f.right q b) refl
+              (λ same. subst (λ z. IsDone b (way_at z b 0 None f.marks)) same (done b));
           ways = ways;
         }
       where

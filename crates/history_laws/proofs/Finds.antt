@@ -1,6 +1,8 @@
 -- What each act of a history found: a flag is set where it was clear and cleared where it stood, and what is taken out of a
 -- count is all of it.
-use Rattle.std.proofs.Common.{◌≡◌, ◌⊎◌, inl, inr, ⊎_elim, ℕ, ◌+◌, ◌*◌, ◌^◌, ◌<◌, ◌≤◌, ◌==◌, nat_lt, Bool, true, false, Option, Some, None, List, [], ◌∷◌, ◌++◌, get_or, refl, sym, ap, subst, ◌∙◌, append_assoc, append-nil, arith}
+use Rattle.std.proofs.Common.{◌≡◌, ◌⊎◌, inl, inr, ⊎_elim, ℕ, ◌+◌, ◌*◌, ◌^◌, ◌<◌, ◌≤◌, ◌==◌, nat_lt, Bool, true, false}
+use Rattle.std.proofs.Common.{Option, Some, None, List, [], ◌∷◌, ◌++◌, get_or, refl, sym, ap, subst, ◌∙◌, append_assoc}
+use Rattle.std.proofs.Common.{append-nil, arith}
 use Rattle.std.proofs.lemmas.Bool.Decides.{nat_tests}
 use Rattle.steps.specs.declared.bits.bit_set.SetStage.{SetStage}
 use Rattle.steps.specs.declared.bits.bit_set.SetStage as setting
@@ -35,7 +37,8 @@ use Rattle.model.specs.Parties.{party_of}
 use Rattle.model.specs.Reading.{Each, span_of}
 use Rattle.model.specs.Refusals.{call_refusal, is_due}
 use Rattle.model.specs.Step.{answer_in}
-use Rattle.model.specs.Turns.{one_if, old_of, ask_of_doing, number_of, step_in, events_of, events_of_answer, events_of_next, events_of_decision, ending_of, after_turn, IsReachedOn}
+use Rattle.model.specs.Turns.{one_if, old_of, ask_of_doing, number_of, step_in, events_of, events_of_answer}
+use Rattle.model.specs.Turns.{events_of_next, events_of_decision, ending_of, after_turn, IsReachedOn}
 use Rattle.model.specs.World.{Trace, flight_in}
 use Rattle.model.proofs.Frame as frame
 use Rattle.model.proofs.Frame.{is_true}
@@ -78,7 +81,8 @@ next_sided T p c (resetting.TheVariants.ExchangesElement start passed found) old
 next_sided T p c (resetting.TheVariants.StoresPosition place) old b = refl
 
 module _ {T : Type 0} where
-  pub right_from : (P : List (Event T) → Event T → Type 0) (before es : List (Event T)) → ((xs ys : List (Event T)) (e : Event T) → es ≡ xs ++ e ∷ ys → P (before ++ xs) e) → AreRight P before es
+  pub right_from : (P : List (Event T) → Event T → Type 0) (before es : List (Event T))
+      → ((xs ys : List (Event T)) (e : Event T) → es ≡ xs ++ e ∷ ys → P (before ++ xs) e) → AreRight P before es
   right_from P before [] f = tt
   right_from P before (e ∷ es) f = (
     subst (λ h. P h e) (append-nil before) (f [] es e refl),
@@ -96,7 +100,9 @@ module _ {T : Type 0} where
   abbrev OneSided : List (Event T) → Type 0
   OneSided es = ((b : ℕ) → sets b es ≡ 0) ⊎ ((b : ℕ) → clears b es ≡ 0)
 
-  module _ (before es : List (Event T)) (s s' : ℕ → ℕ) (few : (b : ℕ) → s b ≤ 1) (low : (b : ℕ) → s' b ≤ 1) (h : (b : ℕ) → sets b before ≡ clears b before + s b) (h' : (b : ℕ) → sets b (before ++ es) ≡ clears b (before ++ es) + s' b) where
+  module _ (before es : List (Event T)) (s s' : ℕ → ℕ) (few : (b : ℕ) → s b ≤ 1) (low : (b : ℕ) → s' b ≤ 1)
+      (h : (b : ℕ) → sets b before ≡ clears b before + s b)
+      (h' : (b : ℕ) → sets b (before ++ es) ≡ clears b (before ++ es) + s' b) where
     set_here : (p b : ℕ) (xs ys : List (Event T)) → es ≡ xs ++ events.TheVariants.Set p b ∷ ys → OneSided es → sets b (before ++ xs) ≡ clears b (before ++ xs)
     set_here p b xs ys is sided =
         let one : sets {T = T} b (events.TheVariants.Set p b ∷ []) ≡ 1 = rw (same_number b) refl in
@@ -147,7 +153,8 @@ module _ {T : Type 0} where
     turn_finds : OneSided es → AreRight BitFinds before es
     turn_finds sided = right_from BitFinds before es (finds_there sided)
 
-  sided : (c p old : ℕ) (wrote : List (Event T)) (start : BitsStart) (flight : BitsFlight) → bit_calls.CallAt c wrote start flight → OneSided (effects_of p flight old)
+  sided : (c p old : ℕ) (wrote : List (Event T)) (start : BitsStart) (flight : BitsFlight)
+      → bit_calls.CallAt c wrote start flight → OneSided (effects_of p flight old)
   sided c p old wrote (starts.Set bit) (calls.Set run) at = inr (set_sided T p run.given run.call.stage old)
   sided c p old wrote starts.ResetNext (calls.ResetNext run) at = inl (next_sided T p run.call.capacity run.call.stage old)
   sided c p old wrote starts.ResetAll (calls.ResetAll run) at = inl (λ b. sets_none T p b (places_in run.call.word old))
@@ -165,7 +172,9 @@ module _ {T : Type 0} where
   wrote_there t p old start flight kept =
       (step_of t.world.coding t.world.words (beside_of t.world.words t.world.kept t.world.latest p) p start flight old kept).wrote
 
-  step_sided : (t : Trace T) (c p old : ℕ) (wrote : List (Event T)) (kept : Kept T) (start : Start T) (flight : Flight T) → kept ≡ kepts.TheVariants.Nothing → FlightAt (bit_calls.CallAt c wrote) start flight → OneSided (wrote_there t p old start flight kept)
+  step_sided : (t : Trace T) (c p old : ℕ) (wrote : List (Event T)) (kept : Kept T) (start : Start T) (flight : Flight T)
+      → kept ≡ kepts.TheVariants.Nothing → FlightAt (bit_calls.CallAt c wrote) start flight
+      → OneSided (wrote_there t p old start flight kept)
   step_sided t c p old wrote kepts.TheVariants.Nothing (Bits start) (flights.TheVariants.Bits flight) none at = sided c p old wrote start flight at
   step_sided t c p old wrote kept (Bits start) (flights.TheVariants.Bits flight) none at = absurd (cc)
   step_sided t c p old wrote kept start flight none at = absurd at
@@ -179,7 +188,8 @@ module _ {T : Type 0} where
     bits_sound : frame.Sound (family bits.bit_set t.world.coding t.world.capacity) t
     bits_sound = sound_on bits.bit_set bits_laws t so.kind so.reached
 
-    bits_go : (p old : ℕ) (o : Option (Party T)) → party_of p t.world.latest ≡ o → (x : Party T) → o ≡ Some x → (doing : Doing T) → x.doing ≡ doing → OneSided (events_of_answer t.world p x old doing)
+    bits_go : (p old : ℕ) (o : Option (Party T)) → party_of p t.world.latest ≡ o → (x : Party T) → o ≡ Some x
+        → (doing : Doing T) → x.doing ≡ doing → OneSided (events_of_answer t.world p x old doing)
     bits_go p old o is x found (Over others) d = inl (λ b. refl)
     bits_go p old o is x found (Going flight since) d =
         let s = bits_sound in
@@ -212,13 +222,20 @@ module _ {T : Type 0} where
           kind = kind;
           finds =
               Each-append BitFinds t.events (events_of t.world turn) so.finds
-              (turn_finds t.events (events_of t.world turn) (λ b. one_if (stands t.world.words b)) (λ b. one_if (stands (after_turn t turn).world.words b)) (λ b. one_low (stands t.world.words b)) (λ b. one_low (stands (after_turn t turn).world.words b)) was.conserved now.conserved (turn_sided turn));
+              (turn_finds t.events (events_of t.world turn) (λ b. one_if (stands t.world.words b))
+              (λ b. one_if (stands (after_turn t turn).world.words b)) (λ b. one_low (stands t.world.words b))
+              (λ b. one_low (stands (after_turn t turn).world.words b)) was.conserved now.conserved
+              (turn_sided turn));
         }
 
   pub bits_find : (t : Trace T) → t.world.kind ≡ kinds.TheVariants.Bits → IsReachedOn t → Each BitFinds t.events
   bits_find t is r =
       (kept_by_runs_on BitsSo (λ t turn e so. bits_turn t so turn e) t
-      (record { reached = reached_on_opening t.world.coding t.world.kind t.world.capacity t.world.parties r.coded r.admitted; kind = is; finds = Each-nil BitFinds }) r).finds
+      (record {
+        reached = reached_on_opening t.world.coding t.world.kind t.world.capacity t.world.parties r.coded r.admitted;
+        kind = is;
+        finds = Each-nil BitFinds;
+      }) r).finds
 
   -- ---- counts
 
@@ -239,7 +256,9 @@ module _ {T : Type 0} where
     ends_right before p start None = tt
     ends_right before p start (Some answer) = (tt, tt)
 
-    take_right : (p word old : ℕ) (start : Start T) (o : Option (Answer T)) → (1 ≤ old → old ≡ get_or t.world.words word 0) → AreRight CountFinds t.events (take_events p word old ++ ending_of p start o)
+    take_right : (p word old : ℕ) (start : Start T) (o : Option (Answer T))
+        → (1 ≤ old → old ≡ get_or t.world.words word 0)
+        → AreRight CountFinds t.events (take_events p word old ++ ending_of p start o)
     take_right p word old start o is = go (old == 0) refl
       where
         go : (z : Bool) → (old == 0) ≡ z → AreRight CountFinds t.events (take_events p word old ++ ending_of p start o)
@@ -262,13 +281,16 @@ module _ {T : Type 0} where
     hears_next : (flight : Flight T) → Hears flight (old_of t.world.words (ask_of (want_of t.world.coding flight)))
     hears_next (flights.TheVariants.Bits (calls.TakeAll run)) = go (nat_lt run.call.word run.call.end) refl
       where
-        go : (z : Bool) → nat_lt run.call.word run.call.end ≡ z → Hears (flights.TheVariants.Bits (calls.TakeAll run)) (old_of t.world.words (ask_of (want_of t.world.coding (flights.TheVariants.Bits (calls.TakeAll run)))))
+        go : (z : Bool) → nat_lt run.call.word run.call.end ≡ z
+            → Hears (flights.TheVariants.Bits (calls.TakeAll run))
+            (old_of t.world.words (ask_of (want_of t.world.coding (flights.TheVariants.Bits (calls.TakeAll run)))))
         go true z = rw z (λ some. refl)
         go false z = rw z (λ some. absurd (omega arith))
     hears_next (flights.TheVariants.Bits flight) = tt
     hears_next flight = tt
 
-    count_step : (c p old : ℕ) (wrote : List (Event T)) (kept : Kept T) (start : Start T) (flight : Flight T) (o : Option (Answer T)) → kept ≡ kepts.TheVariants.Nothing → FlightAt (counting.CallAt c wrote) start flight → Hears flight old
+    count_step : (c p old : ℕ) (wrote : List (Event T)) (kept : Kept T) (start : Start T) (flight : Flight T) (o : Option (Answer T))
+        → kept ≡ kepts.TheVariants.Nothing → FlightAt (counting.CallAt c wrote) start flight → Hears flight old
         → AreRight CountFinds t.events (wrote_there t p old start flight kept ++ ending_of p start o)
     count_step c p old wrote kepts.TheVariants.Nothing (Bits (starts.Set place)) (flights.TheVariants.Bits (calls.Count run)) o none at hears =
         (tt, ends_right (t.events ++ Counted p run.given ∷ []) p (Bits (starts.Set place)) o)
@@ -278,16 +300,20 @@ module _ {T : Type 0} where
     count_step c p old wrote kept (Bits start) (flights.TheVariants.Bits flight) o none at hears = absurd (cc)
     count_step c p old wrote kept start flight o none at hears = absurd at
 
-    never_due : (c : ℕ) (wrote : List (Event T)) (start : Start T) (flight : Flight T) → FlightAt (counting.CallAt c wrote) start flight → is_question (want_of t.world.coding flight) ≡ false
+    never_due : (c : ℕ) (wrote : List (Event T)) (start : Start T) (flight : Flight T)
+        → FlightAt (counting.CallAt c wrote) start flight → is_question (want_of t.world.coding flight) ≡ false
     never_due c wrote (Bits start) (flights.TheVariants.Bits flight) at = (counts_laws t.world.coding c).asks wrote start flight at
     never_due c wrote start flight at = absurd at
 
-    counts_go : (p old : ℕ) (x : Party T) → party_of p t.world.latest ≡ Some x → (doing : Doing T) → x.doing ≡ doing → ((flight : Flight T) (since : ℕ) → doing ≡ Going flight since → Hears flight old) → AreRight CountFinds t.events (events_of_answer t.world p x old doing)
+    counts_go : (p old : ℕ) (x : Party T) → party_of p t.world.latest ≡ Some x → (doing : Doing T) → x.doing ≡ doing
+        → ((flight : Flight T) (since : ℕ) → doing ≡ Going flight since → Hears flight old)
+        → AreRight CountFinds t.events (events_of_answer t.world p x old doing)
     counts_go p old x found (Over others) d hears = tt
     counts_go p old x found (Going flight since) d hears =
         let s = counts_sound in
         let there = stands_there (family counting.counting_set t.world.coding t.world.capacity) t s p x since flight found d in
-        count_step t.world.capacity p old (wrote_in (span_of p s.state.events)) t.world.kept x.start flight (answer_in (step_in t.world p x flight old).after) s.fit.0 there.at (hears flight since refl)
+        count_step t.world.capacity p old (wrote_in (span_of p s.state.events)) t.world.kept x.start flight
+        (answer_in (step_in t.world p x flight old).after) s.fit.0 there.at (hears flight since refl)
 
     next_counts : (p : ℕ) (o : Option (Party T)) → party_of p t.world.latest ≡ o → AreRight CountFinds t.events (events_of_next t.world p o)
     next_counts p None e = tt
@@ -295,7 +321,9 @@ module _ {T : Type 0} where
         counts_go p (old_of t.world.words (ask_of_doing t.world.coding x.doing)) x e x.doing refl
         (λ flight since d. subst (λ z. Hears flight (old_of t.world.words (ask_of_doing t.world.coding z))) (sym d) (hears_next flight))
 
-    decide_counts : (p : ℕ) (said : Bool) → is_due t.world.coding (flight_in t.world p) ≡ true → (o : Option (Party T)) → party_of p t.world.latest ≡ o → AreRight CountFinds t.events (events_of_decision t.world p said o)
+    decide_counts : (p : ℕ) (said : Bool) → is_due t.world.coding (flight_in t.world p) ≡ true
+        → (o : Option (Party T)) → party_of p t.world.latest ≡ o
+        → AreRight CountFinds t.events (events_of_decision t.world p said o)
     decide_counts p said due None e = tt
     decide_counts p said due (Some x) e = counts_go p (number_of said) x e x.doing refl never
       where
@@ -310,7 +338,9 @@ module _ {T : Type 0} where
     counts_events : (turn : Turn T) → call_refusal t.world turn ≡ None → AreRight CountFinds t.events (events_of t.world turn)
     counts_events (Begin p start) e = (tt, tt)
     counts_events (Next p) e = next_counts p (party_of p t.world.latest) refl
-    counts_events (Decide p said) e = decide_counts p said (is_true (is_due t.world.coding (flight_in t.world p)) (must_be_due t.world p said e)) (party_of p t.world.latest) refl
+    counts_events (Decide p said) e =
+        decide_counts p said (is_true (is_due t.world.coding (flight_in t.world p)) (must_be_due t.world p said e))
+        (party_of p t.world.latest) refl
     counts_events (Die owner) e = (tt, tt)
 
     counts_turn : (turn : Turn T) → call_refusal t.world turn ≡ None → CountsSo (after_turn t turn)
@@ -324,4 +354,8 @@ module _ {T : Type 0} where
   pub counts_find : (t : Trace T) → t.world.kind ≡ kinds.TheVariants.Counts → IsReachedOn t → Each CountFinds t.events
   counts_find t is r =
       (kept_by_runs_on CountsSo (λ t turn e so. counts_turn t so turn e) t
-      (record { reached = reached_on_opening t.world.coding t.world.kind t.world.capacity t.world.parties r.coded r.admitted; kind = is; finds = Each-nil CountFinds }) r).finds
+      (record {
+        reached = reached_on_opening t.world.coding t.world.kind t.world.capacity t.world.parties r.coded r.admitted;
+        kind = is;
+        finds = Each-nil CountFinds;
+      }) r).finds

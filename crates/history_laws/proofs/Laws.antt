@@ -42,7 +42,8 @@ reached_as_set kinds.TheVariants.Bits set t r = r
 reached_as_set kinds.TheVariants.Counts set t r = r
 reached_as_set kind set t r = absurd set
 
-pub histories_act : {T : Type 0} (code : Coding T) (kind : Kind) (capacity : ℕ) (events : List (Event T)) → IsSet kind → IsHistory code kind capacity events → ActsByPlace kind capacity events
+pub histories_act : {T : Type 0} (code : Coding T) (kind : Kind) (capacity : ℕ) (events : List (Event T))
+    → IsSet kind → IsHistory code kind capacity events → ActsByPlace kind capacity events
 histories_act code kind capacity events set h =
     subst (λ es. ActsByPlace kind capacity es) (sym h.is)
     (subst (λ c. ActsByPlace kind c h.trace.events) h.run.sized

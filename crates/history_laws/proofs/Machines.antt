@@ -13,7 +13,8 @@ use Rattle.history_laws.specs.Acts.{ActsByPlace, IsSet}
 use Rattle.history_laws.proofs.Laws.{runs_act}
 
 module _ {T : Type 0} where
-  at_opening : (code : Coding T) (kind : Kind) (capacity queue parties : ℕ) → IsCoding code → capacity_error kind capacity ≡ None → IsSet kind → IsReachedOn (opened code kind capacity queue parties)
+  at_opening : (code : Coding T) (kind : Kind) (capacity queue parties : ℕ) → IsCoding code
+      → capacity_error kind capacity ≡ None → IsSet kind → IsReachedOn (opened code kind capacity queue parties)
   at_opening code kinds.TheVariants.Bits capacity queue parties coded e set = reached_on_opening code kinds.TheVariants.Bits capacity parties coded e
   at_opening code kinds.TheVariants.Counts capacity queue parties coded e set = reached_on_opening code kinds.TheVariants.Counts capacity parties coded e
   at_opening code kind capacity queue parties coded e set = absurd set

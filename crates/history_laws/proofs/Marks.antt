@@ -113,7 +113,8 @@ module _ {T : Type 0} (kind : Kind) (capacity : ℕ) (Sure : ℕ → Type 0) whe
   abbrev pub Right : ℕ → ℕ → ℕ → Way T → List (Mark T) → Type 0
   Right p b n way ms = IsRight kind capacity (Sure b) p b n way ms
 
-  pub right_more : (p b n : ℕ) (way : Way T) (ms ns : List (Mark T)) → Right p b n way ms → Right p b (number_at b n ms) (way_at p b n way ms) ns → Right p b n way (ms ++ ns)
+  pub right_more : (p b n : ℕ) (way : Way T) (ms ns : List (Mark T)) → Right p b n way ms
+      → Right p b (number_at b n ms) (way_at p b n way ms) ns → Right p b n way (ms ++ ns)
   right_more p b n way [] ns h k = k
   right_more p b n way (Happens e ∷ ms) ns h k = (h.0, right_more p b (number_after b n e) (way_after p b n way e) ms ns h.1 k)
   right_more p b n way (Leaves q c ∷ ms) ns h k = (h.0, right_more p b n (cond (q == p && c == b) (found_now n way) way) ms ns h.1 k)
@@ -211,7 +212,9 @@ module _ {T : Type 0} (kind : Kind) (capacity : ℕ) (Sure : ℕ → Type 0) whe
           stays = λ other. more.stays (cond (does p b f) (found_now n other) other) ∙ ap (λ z. cond z (found_now n other) other) t;
         }
 
-    module _ (ms ns : List (Mark T)) (right : Right p b 0 None (ms ++ ns)) (late : way_at p b 0 None (ms ++ ns) ≡ Some (start, None)) (none : BeginsNone p (told ns)) (may : MayAct b start) (left : number_at b 0 ms ≡ left_by kind start (number_at b 0 ms)) where
+    module _ (ms ns : List (Mark T)) (right : Right p b 0 None (ms ++ ns))
+        (late : way_at p b 0 None (ms ++ ns) ≡ Some (start, None)) (none : BeginsNone p (told ns))
+        (may : MayAct b start) (left : number_at b 0 ms ≡ left_by kind start (number_at b 0 ms)) where
       abbrev n : ℕ
       n = number_at b 0 ms
 
@@ -223,8 +226,10 @@ module _ {T : Type 0} (kind : Kind) (capacity : ℕ) (Sure : ℕ → Type 0) whe
 
       pub put_here : Right p b 0 None (ms ++ Leaves p b ∷ ns)
       put_here =
-          right_more p b 0 None ms (Leaves p b ∷ ns) (right_first p b 0 None ms ns right)
-          ((λ yes. subst (Acts kind b n n) (sym calm.was) (may, left)), calm.right (cond (p == p && b == b) (found_now n (way_at p b 0 None ms)) (way_at p b 0 None ms)))
+          right_more p b 0 None ms (Leaves p b ∷ ns) (right_first p b 0 None ms ns right) (
+            (λ yes. subst (Acts kind b n n) (sym calm.was) (may, left)),
+            calm.right (cond (p == p && b == b) (found_now n (way_at p b 0 None ms)) (way_at p b 0 None ms)),
+          )
 
       pub way_here : way_at p b 0 None (ms ++ Leaves p b ∷ ns) ≡ Some (start, Some n)
       way_here =

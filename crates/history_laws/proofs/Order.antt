@@ -1,5 +1,6 @@
 -- The calls that passes made stand in one history, in the order in which each pass, and those that it took in, made them.
-use Rattle.std.proofs.Common.{◌≡◌, ℕ, ◌+◌, ◌<◌, ◌==◌, Bool, true, false, cond, Some, List, [], ◌∷◌, ◌++◌, length, map, refl, sym, ap, subst, ◌∙◌, append_assoc, arith}
+use Rattle.std.proofs.Common.{◌≡◌, ℕ, ◌+◌, ◌<◌, ◌==◌, Bool, true, false, cond, Some, List, [], ◌∷◌, ◌++◌, length, map}
+use Rattle.std.proofs.Common.{refl, sym, ap, subst, ◌∙◌, append_assoc, arith}
 use Rattle.std.proofs.lemmas.List.{length-append}
 use Rattle.std.specs.List.{Contains}
 use Rattle.model.specs.declared.event.Answer.{Answer}
@@ -53,17 +54,24 @@ module _ {T : Type 0} where
 
   -- ---- where a call stands
 
-  same_place : (p : ℕ) (start : Start T) (ys : List (Event T)) (m n : ℕ) → m ≡ n → call_at m p start (response_in p ys (m + 1)) ≡ call_at n p start (response_in p ys (n + 1))
+  same_place : (p : ℕ) (start : Start T) (ys : List (Event T)) (m n : ℕ) → m ≡ n
+      → call_at m p start (response_in p ys (m + 1)) ≡ call_at n p start (response_in p ys (n + 1))
   same_place p start ys m n e = ap (λ z. call_at z p start (response_in p ys (z + 1))) e
 
-  call_there : (p : ℕ) (start : Start T) (xs ys : List (Event T)) (k n : ℕ) → n ≡ k + length xs → Contains (calls_from (xs ++ Begun p start ∷ ys) k) (call_at n p start (response_in p ys (n + 1)))
-  call_there p start [] ys k n e = here (call_at k p start (response_in p ys (k + 1))) (call_at n p start (response_in p ys (n + 1))) (calls_from ys (k + 1)) (same_place p start ys k n (omega arith))
+  call_there : (p : ℕ) (start : Start T) (xs ys : List (Event T)) (k n : ℕ) → n ≡ k + length xs
+      → Contains (calls_from (xs ++ Begun p start ∷ ys) k) (call_at n p start (response_in p ys (n + 1)))
+  call_there p start [] ys k n e =
+      here (call_at k p start (response_in p ys (k + 1))) (call_at n p start (response_in p ys (n + 1)))
+      (calls_from ys (k + 1)) (same_place p start ys k n (omega arith))
   call_there p start (Begun q s ∷ xs) ys k n e =
-      there (call_at k q s (response_in q (xs ++ Begun p start ∷ ys) (k + 1))) (call_at n p start (response_in p ys (n + 1))) (calls_from (xs ++ Begun p start ∷ ys) (k + 1))
+      there (call_at k q s (response_in q (xs ++ Begun p start ∷ ys) (k + 1)))
+      (call_at n p start (response_in p ys (n + 1))) (calls_from (xs ++ Begun p start ∷ ys) (k + 1))
       (call_there p start xs ys (k + 1) n (omega arith))
   call_there p start (x ∷ xs) ys k n e = call_there p start xs ys (k + 1) n (omega arith)
 
-  response_there : (p : ℕ) (start : Start T) (answer : Answer T) (during rest : List (Event T)) (k n : ℕ) → EndsNone p during → n ≡ k + length during → response_in p (during ++ Finished p start answer ∷ rest) k ≡ Some (response_at n answer)
+  response_there : (p : ℕ) (start : Start T) (answer : Answer T) (during rest : List (Event T)) (k n : ℕ)
+      → EndsNone p during → n ≡ k + length during
+      → response_in p (during ++ Finished p start answer ∷ rest) k ≡ Some (response_at n answer)
   response_there p start answer [] rest k n none e =
       let same : k ≡ n = omega arith in
       responded p p start answer rest k refl ∙ ap (λ z. Some (response_at z answer)) same
@@ -71,7 +79,9 @@ module _ {T : Type 0} where
       passed p q s a (es ++ Finished p start answer ∷ rest) k none.0 ∙ response_there p start answer es rest (k + 1) n none.1 (omega arith)
   response_there p start answer (x ∷ es) rest k n none e = response_there p start answer es rest (k + 1) n none (omega arith)
 
-  module _ (p : ℕ) (start : Start T) (answer : Answer T) (wrote : List (Event T)) (old new : View T) (called : Called p start answer wrote old new) (none : EndsNone p wrote) (history : List (Event T)) (beginning : IsBeginning new.seen history) where
+  module _ (p : ℕ) (start : Start T) (answer : Answer T) (wrote : List (Event T)) (old new : View T)
+      (called : Called p start answer wrote old new) (none : EndsNone p wrote) (history : List (Event T))
+      (beginning : IsBeginning new.seen history) where
     abbrev rest : List (Event T)
     rest = beginning.rest
 
@@ -121,7 +131,9 @@ module _ {T : Type 0} where
             omega arith
 
   -- a call that ended in what a pass had seen as it made the next one stands before that
-  pub in_order : (p q : ℕ) (s t : Start T) (a b : Answer T) (old new later last : View T) (history : List (Event T)) (x : StandsIn p s a old new history) (y : StandsIn q t b later last history) → IsBeginning new.seen later.seen → Precedes x.call y.call
+  pub in_order : (p q : ℕ) (s t : Start T) (a b : Answer T) (old new later last : View T) (history : List (Event T))
+      (x : StandsIn p s a old new history) (y : StandsIn q t b later last history)
+      → IsBeginning new.seen later.seen → Precedes x.call y.call
   in_order p q s t a b old new later last history x y seen =
       subst (λ r. StandsBefore r y.call.place) (sym x.answered)
       (let less = x.before in

@@ -14,7 +14,8 @@ use Rattle.history_laws.proofs.Marks.{way_in, number_in, way_more}
 module _ {T : Type 0} where
   -- ---- beginnings
 
-  module _ (events : List (Event T)) (P : List (Event T) → Type 0) (goes : (h after : List (Event T)) (e : Event T) → events ≡ h ++ e ∷ after → P h → P (h ++ e ∷ [])) where
+  module _ (events : List (Event T)) (P : List (Event T) → Type 0)
+      (goes : (h after : List (Event T)) (e : Event T) → events ≡ h ++ e ∷ after → P h → P (h ++ e ∷ [])) where
     from_there : (h es rest : List (Event T)) → events ≡ h ++ (es ++ rest) → P h → P (h ++ es)
     from_there h [] rest is p = subst P (sym (append-nil h)) p
     from_there h (e ∷ es) rest is p =
@@ -60,10 +61,12 @@ module _ {T : Type 0} where
     shut_way b (Open start wrote) way h fits = absurd h
     shut_way b (Ended start answer wrote) way h fits = fits
 
-    pub fits_open : (b : ℕ) (span : Span T) (way : Way T) (start : Start T) (wrote : List (Event T)) → span ≡ Open start wrote → WayFits b span way → Fits start b wrote way
+    pub fits_open : (b : ℕ) (span : Span T) (way : Way T) (start : Start T) (wrote : List (Event T))
+        → span ≡ Open start wrote → WayFits b span way → Fits start b wrote way
     fits_open b span way start wrote is fits = subst (λ s. WayFits b s way) is fits
 
-    pub begun_fits : (p q b n : ℕ) (span : Span T) (way : Way T) (s : Start T) → Fit s b [] None → WayFits b span way → WayFits b (span_after p span (Begun q s)) (way_after p b n way (Begun q s))
+    pub begun_fits : (p q b n : ℕ) (span : Span T) (way : Way T) (s : Start T) → Fit s b [] None
+        → WayFits b span way → WayFits b (span_after p span (Begun q s)) (way_after p b n way (Begun q s))
     begun_fits p q b n span way s nil fits = go (q == p) refl
       where
         go : (t : Bool) → (q == p) ≡ t → WayFits b (span_after p span (Begun q s)) (way_after p b n way (Begun q s))
@@ -75,7 +78,8 @@ module _ {T : Type 0} where
     over b (Open start wrote) a = refl
     over b (Ended start was wrote) a = refl
 
-    pub finished_fits : (p q b n : ℕ) (span : Span T) (way : Way T) (s : Start T) (a : Answer T) → WayFits b span way → WayFits b (span_after p span (Finished q s a)) (way_after p b n way (Finished q s a))
+    pub finished_fits : (p q b n : ℕ) (span : Span T) (way : Way T) (s : Start T) (a : Answer T)
+        → WayFits b span way → WayFits b (span_after p span (Finished q s a)) (way_after p b n way (Finished q s a))
     finished_fits p q b n span way s a fits = go (q == p) refl
       where
         go : (t : Bool) → (q == p) ≡ t → WayFits b (span_after p span (Finished q s a)) (way_after p b n way (Finished q s a))
@@ -83,12 +87,17 @@ module _ {T : Type 0} where
         go false t = rw t fits
 
     -- an event that is no act leaves what fits
-    pub longer_fits : (b : ℕ) (span : Span T) (way : Way T) (e : Event T) → ((start : Start T) (wrote : List (Event T)) (d : Option ℕ) → Fit start b wrote d → Fit start b (wrote ++ e ∷ []) d) → WayFits b span way → WayFits b (longer span e) way
+    pub longer_fits : (b : ℕ) (span : Span T) (way : Way T) (e : Event T)
+        → ((start : Start T) (wrote : List (Event T)) (d : Option ℕ) → Fit start b wrote d → Fit start b (wrote ++ e ∷ []) d)
+        → WayFits b span way → WayFits b (longer span e) way
     longer_fits b Never way e more fits = fits
     longer_fits b (Open start wrote) way e more fits = record { found = fits.found; is = fits.is; fit = more start wrote fits.found fits.fit }
     longer_fits b (Ended start a wrote) way e more fits = fits
 
-    pub quiet_fits : (p b : ℕ) (span : Span T) (way : Way T) (e : Event T) → ((span : Span T) → own_after span e ≡ longer span e) → ((start : Start T) (wrote : List (Event T)) (d : Option ℕ) → Fit start b wrote d → Fit start b (wrote ++ e ∷ []) d) → WayFits b span way
+    pub quiet_fits : (p b : ℕ) (span : Span T) (way : Way T) (e : Event T)
+        → ((span : Span T) → own_after span e ≡ longer span e)
+        → ((start : Start T) (wrote : List (Event T)) (d : Option ℕ) → Fit start b wrote d → Fit start b (wrote ++ e ∷ []) d)
+        → WayFits b span way
         → WayFits b (span_after p span e) way
     quiet_fits p b span way e own more fits = go (is_party p (whose e)) refl
       where
@@ -100,7 +109,9 @@ module _ {T : Type 0} where
     abbrev pub Ways : List (Event T) → Type 0
     Ways h = (p b : ℕ) → WayFits b (span_of p h) (way_in p b 0 None h)
 
-    pub ways_more : (h : List (Event T)) (e : Event T) (p b : ℕ) → WayFits b (span_after p (span_of p h) e) (way_after p b (number_in b 0 h) (way_in p b 0 None h) e) → WayFits b (span_of p (h ++ e ∷ [])) (way_in p b 0 None (h ++ e ∷ []))
+    pub ways_more : (h : List (Event T)) (e : Event T) (p b : ℕ)
+        → WayFits b (span_after p (span_of p h) e) (way_after p b (number_in b 0 h) (way_in p b 0 None h) e)
+        → WayFits b (span_of p (h ++ e ∷ [])) (way_in p b 0 None (h ++ e ∷ []))
     ways_more h e p b fits =
         subst (λ s. WayFits b s (way_in p b 0 None (h ++ e ∷ []))) (sym (fold-append (span_after p) Never h (e ∷ [])))
         (subst (λ w. WayFits b (span_after p (span_of p h) e) w) (sym (way_more p b 0 None h (e ∷ []))) fits)

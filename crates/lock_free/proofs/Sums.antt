@@ -18,10 +18,13 @@ pub sum_made : (f : Event ℕ → ℕ) (p : ℕ) (start : Start ℕ) (answer : A
 sum_made f p start answer wrote old new h =
     ap (sum_by f) h.made
     ∙ (sum_by-append f old.made (Begun p start ∷ (wrote ++ Finished p start answer ∷ []))
-    ∙ ap (λ n. sum_by f old.made + n) (sum_by-cons f (Begun p start) (wrote ++ Finished p start answer ∷ []) ∙ ap (λ n. f (Begun p start) + n) (sum_by_push f wrote (Finished p start answer))))
+    ∙ ap (λ n. sum_by f old.made + n)
+    (sum_by-cons f (Begun p start) (wrote ++ Finished p start answer ∷ [])
+    ∙ ap (λ n. f (Begun p start) + n) (sum_by_push f wrote (Finished p start answer))))
 
 -- a party's events are some of all events
-some_of : (f : Event ℕ → ℕ) (e : Event ℕ) (own all : List (Event ℕ)) (t : Bool) → sum_by f own ≤ sum_by f all → sum_by f (cond t (e ∷ []) [] ++ own) ≤ sum_by f (e ∷ all)
+some_of : (f : Event ℕ → ℕ) (e : Event ℕ) (own all : List (Event ℕ)) (t : Bool) → sum_by f own ≤ sum_by f all
+    → sum_by f (cond t (e ∷ []) [] ++ own) ≤ sum_by f (e ∷ all)
 some_of f e own all true less = let one = sum_by-cons f e own in let two = sum_by-cons f e all in omega arith
 some_of f e own all false less = let two = sum_by-cons f e all in omega arith
 
@@ -30,7 +33,8 @@ sum_of_party f p [] = omega arith
 sum_of_party f p (e ∷ es) = some_of f e (events_by p es) es (is_party p (whose e)) (sum_of_party f p es)
 
 -- what a call wrote was seen
-pub sum_seen : (f : Event ℕ → ℕ) (p : ℕ) (start : Start ℕ) (answer : Answer ℕ) (wrote : List (Event ℕ)) (old new : View ℕ) → Called p start answer wrote old new → sum_by f wrote ≤ sum_by f new.seen
+pub sum_seen : (f : Event ℕ → ℕ) (p : ℕ) (start : Start ℕ) (answer : Answer ℕ) (wrote : List (Event ℕ)) (old new : View ℕ)
+    → Called p start answer wrote old new → sum_by f wrote ≤ sum_by f new.seen
 sum_seen f p start answer wrote old new h =
     let end : List (Event ℕ) = Finished p start answer ∷ [] in
     let own = ap (sum_by f) h.during_own in
@@ -45,7 +49,8 @@ sum_seen f p start answer wrote old new h =
 pub sum_grows : (f : Event ℕ → ℕ) (seen events : List (Event ℕ)) → IsBeginning seen events → sum_by f seen ≤ sum_by f events
 sum_grows f seen events h = let e = ap (sum_by f) h.is ∙ sum_by-append f seen h.rest in omega arith
 
-pub seen_begins : (p : ℕ) (start : Start ℕ) (answer : Answer ℕ) (wrote : List (Event ℕ)) (old new : View ℕ) → Called p start answer wrote old new → IsBeginning old.seen new.seen
+pub seen_begins : (p : ℕ) (start : Start ℕ) (answer : Answer ℕ) (wrote : List (Event ℕ)) (old new : View ℕ)
+    → Called p start answer wrote old new → IsBeginning old.seen new.seen
 seen_begins p start answer wrote old new h =
     record {
       rest = h.others ++ Begun p start ∷ (h.during ++ Finished p start answer ∷ []);
@@ -66,7 +71,8 @@ begins_one p start [] ys none = absurd (none.0 refl)
 begins_one p start (Begun q other ∷ xs) ys none = begins_one p start xs ys none.1
 begins_one p start (x ∷ xs) ys none = begins_one p start xs ys none
 
-pub reaches : (f : Event ℕ → ℕ) (p : ℕ) (start : Start ℕ) (xs ys part rest : List (Event ℕ)) → xs ++ Begun p start ∷ ys ≡ part ++ rest → BeginsNone p rest → sum_by f xs ≤ sum_by f part
+pub reaches : (f : Event ℕ → ℕ) (p : ℕ) (start : Start ℕ) (xs ys part rest : List (Event ℕ))
+    → xs ++ Begun p start ∷ ys ≡ part ++ rest → BeginsNone p rest → sum_by f xs ≤ sum_by f part
 reaches f p start [] ys part rest e none = let zero : sum_by f [] ≡ 0 = refl in omega arith
 reaches f p start (x ∷ xs) ys [] rest e none = begins_one p start (x ∷ xs) ys (subst (λ (es : List (Event ℕ)). BeginsNone p es) (sym e) none)
 reaches f p start (x ∷ xs) ys (z ∷ part) rest e none =

@@ -55,10 +55,13 @@ any_number n s any is = go n (rest n s) (rest_is n)
 
     go : (n : ℕ) (r : Share) → IsPart 1 (power n) r → IsAll (added r (pieces n s))
     go zero r h = part_is_all 1 r (omega arith) h
-    go (suc n) r h = go n (both_of r (rest (suc n) s)) (fewer_parts 1 (power n) (both_of r (rest (suc n) s)) (both_is_part 1 1 (power (suc n)) r (rest (suc n) s) h (rest_is (suc n))))
+    go (suc n) r h =
+        go n (both_of r (rest (suc n) s))
+        (fewer_parts 1 (power n) (both_of r (rest (suc n) s)) (both_is_part 1 1 (power (suc n)) r (rest (suc n) s) h (rest_is (suc n))))
 
 -- shares that have all the parts, joined in any order, are all of it
-pub added_parts : (whole k : ℕ) (s : Share) (ks : List ℕ) (ts : List Share) → IsPart k whole s → AreParts whole ks ts → IsPart (fold (λ a x. a + x) k ks) whole (added s ts)
+pub added_parts : (whole k : ℕ) (s : Share) (ks : List ℕ) (ts : List Share) → IsPart k whole s
+    → AreParts whole ks ts → IsPart (fold (λ a x. a + x) k ks) whole (added s ts)
 added_parts whole k s [] [] h parts = h
 added_parts whole k s [] (t ∷ ts) h parts = absurd parts
 added_parts whole k s (l ∷ ks) [] h parts = absurd parts
@@ -66,4 +69,8 @@ added_parts whole k s (l ∷ ks) (t ∷ ts) h parts = added_parts whole (k + l) 
 
 pub any_order : (whole : ℕ) (ks : List ℕ) (s : Share) (ts : List Share) → 0 < whole → AreParts whole ks (s ∷ ts) → sum ks ≡ whole → IsAll (added s ts)
 any_order whole [] s ts any parts all = absurd parts
-any_order whole (k ∷ ks) s ts any parts all = part_is_all whole (added s ts) any (subst (λ n. IsPart n whole (added s ts)) (ap (λ n. fold (λ a x. a + x) n ks) (let e : k ≡ 0 + k = omega arith in e) ∙ all) (added_parts whole k s ks ts parts.0 parts.1))
+any_order whole (k ∷ ks) s ts any parts all =
+    part_is_all whole (added s ts) any
+    (subst (λ n. IsPart n whole (added s ts))
+    (ap (λ n. fold (λ a x. a + x) n ks) (let e : k ≡ 0 + k = omega arith in e) ∙ all)
+    (added_parts whole k s ks ts parts.0 parts.1))

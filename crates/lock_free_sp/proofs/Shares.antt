@@ -1,5 +1,7 @@
 -- The shares of the right to know all.
-use Rattle.std.proofs.Common.{◌≡◌, ◌≢◌, ℕ, zero, suc, ◌+◌, ◌*◌, ◌<◌, ◌≤◌, ◌⊎◌, inl, inr, ⊎_elim, List, [], ◌∷◌, ◌++◌, length, set, sym, refl, ap, subst, ◌∙◌, arith, length-set, length-append, if◌then◌else◌, eqb, eq-eqb, ne_eqb}
+use Rattle.std.proofs.Common.{◌≡◌, ◌≢◌, ℕ, zero, suc, ◌+◌, ◌*◌, ◌<◌, ◌≤◌, ◌⊎◌, inl, inr, ⊎_elim, List, [], ◌∷◌, ◌++◌}
+use Rattle.std.proofs.Common.{length, set, sym, refl, ap, subst, ◌∙◌, arith, length-set, length-append, if◌then◌else◌}
+use Rattle.std.proofs.Common.{eqb, eq-eqb, ne_eqb}
 use Rattle.std.proofs.Math.Nat.{mul-le-mul_left}
 use Rattle.atomic_table.proofs.Lists.{at_set}
 use Rattle.lock_free_sp.specs.declared.share.Share.{Share}
@@ -110,7 +112,8 @@ module _ {V : Type 0} where
   pub every : (F : ℕ → V → Type 0) (views : List V) (id : ℕ) (w : V) → ((j : ℕ) (u : V) → j ≢ id → get_elem? views j ≡ some u → F j u) → F id w
       → (j : ℕ) (u : V) → get_elem? (set views id w) j ≡ some u → F j u
   every F views id w others mine j u e =
-      ⊎_elim (λ (t : (j ≡ id) × (w ≡ u)). subst (λ (z : ℕ × V). F z.0 z.1) (λ i. (sym t.0 i, t.1 i)) mine) (λ (t : (j ≢ id) × (get_elem? views j ≡ some u)). others j u t.0 t.1) (at_set views id j w u e)
+      ⊎_elim (λ (t : (j ≡ id) × (w ≡ u)). subst (λ (z : ℕ × V). F z.0 z.1) (λ i. (sym t.0 i, t.1 i)) mine)
+      (λ (t : (j ≢ id) × (get_elem? views j ≡ some u)). others j u t.0 t.1) (at_set views id j w u e)
 
   -- and of the only seat
   pub alone : (F : ℕ → V → Type 0) (v : V) → F 0 v → (j : ℕ) (u : V) → get_elem? (v ∷ []) j ≡ some u → F j u
@@ -141,10 +144,14 @@ module _ {V : Type 0} (share : V → Share) where
         each = h.each;
         any = h.any;
         sum = ap (tally h.each) (length-set views id w) ∙ h.sum;
-        fits = every (λ j u. Fits h.whole (h.each j) (share u)) views id w (λ j u ne e. h.fits j u e) (subst (Fits h.whole (h.each id)) (sym same) (h.fits id v at));
+        fits =
+            every (λ j u. Fits h.whole (h.each j) (share u)) views id w (λ j u ne e. h.fits j u e)
+            (subst (Fits h.whole (h.each id)) (sym same) (h.fits id v at));
       }
 
-  pub shares_split : (views : List V) (id : ℕ) (v left right : V) → get_elem? views id ≡ some v → share left ≡ half_of (share v) → share right ≡ half_of (share v) → Shares share views → Shares share (set views id left ++ right ∷ [])
+  pub shares_split : (views : List V) (id : ℕ) (v left right : V) → get_elem? views id ≡ some v
+      → share left ≡ half_of (share v) → share right ≡ half_of (share v) → Shares share views
+      → Shares share (set views id left ++ right ∷ [])
   shares_split views id v left right at e₀ e₁ h =
       let n : ℕ = length views in
       let k = h.each in
@@ -152,7 +159,9 @@ module _ {V : Type 0} (share : V → Share) where
       let one : ℕ → ℕ = put twice id (k id) in
       let two : ℕ → ℕ = put one n (k id) in
       let below = at_below views id v at in
-      let long : length (set views id left ++ right ∷ []) ≡ suc n = let a = length-append (set views id left) (right ∷ []) in let b = length-set views id left in omega arith in
+      let long : length (set views id left ++ right ∷ []) ≡ suc n = let a = length-append (set views id left) (right ∷ []) in
+      let b = length-set views id left in
+      omega arith in
       let first = tally_same one two n (λ j lt. put_other one n (k id) j (λ e. absurd (omega arith))) in
       let second = tally_put twice id (k id) n below in
       let third = tally_twice k n in
@@ -172,12 +181,15 @@ module _ {V : Type 0} (share : V → Share) where
             let is : two j ≡ k j + k j = put_other one n (k id) j (λ e. absurd (omega arith)) ∙ put_other twice id (k id) j ne in
             (theirs.0, same_twice (share u).part h.whole (share u).parts (k j) (two j) is theirs.1))
             (let is : two id ≡ k id = put_other one n (k id) id (λ e. absurd (omega arith)) ∙ put_same twice id (k id) in
-            subst (Fits (h.whole + h.whole) (two id)) (sym e₀) (let s = mine.0 in omega arith, same_half (share v).part h.whole (share v).parts (k id) (two id) is mine.1))
+            subst (Fits (h.whole + h.whole) (two id)) (sym e₀)
+            (let s = mine.0 in omega arith, same_half (share v).part h.whole (share v).parts (k id) (two id) is mine.1))
             j u e')
             (λ (t : (j ≡ length (set views id left)) × (right ≡ u)).
             let here : j ≡ n = t.0 ∙ length-set views id left in
             let is : two j ≡ k id = ap two here ∙ last in
-            subst (λ z. Fits (h.whole + h.whole) (two j) (share z)) t.1 (subst (Fits (h.whole + h.whole) (two j)) (sym e₁) (let s = mine.0 in omega arith, same_half (share v).part h.whole (share v).parts (k id) (two j) is mine.1)))
+            subst (λ z. Fits (h.whole + h.whole) (two j) (share z)) t.1
+            (subst (Fits (h.whole + h.whole) (two j)) (sym e₁)
+            (let s = mine.0 in omega arith, same_half (share v).part h.whole (share v).parts (k id) (two j) is mine.1)))
             (at_snoc_end (set views id left) right u j e);
       }
     where
@@ -216,15 +228,21 @@ module _ {V : Type 0} (share : V → Share) where
             (fact.0, fact.1 ∙ ap (λ z. (share u).parts * z) (sym is)))
             (λ ne'.
             let is : two id ≡ k id + k other = put_other one other 0 id ne' ∙ put_same k id (k id + k other) in
-            subst (Fits h.whole (two id)) (sym e₀) (positive (share v).parts (share w).parts mine.0 theirs.0, shared_parts (share v).part (share v).parts (share w).part (share w).parts h.whole (k id) (k other) mine.1 theirs.1 ∙ ap (λ z. (share v).parts * (share w).parts * z) (sym is)))
+            subst (Fits h.whole (two id)) (sym e₀) (
+              positive (share v).parts (share w).parts mine.0 theirs.0,
+              shared_parts (share v).part (share v).parts (share w).part (share w).parts h.whole (k id) (k other) mine.1 theirs.1
+                  ∙ ap (λ z. (share v).parts * (share w).parts * z) (sym is),
+            ))
             j u e ne)
             (subst (Fits h.whole (two other)) (sym e₁) (omega arith, (let is = put_same one other 0 in omega arith)));
       }
 
   -- who has all shares leaves none to the others
-  pub others_none : (views : List V) (id : ℕ) (v : V) → get_elem? views id ≡ some v → Shares share views → IsAll (share v) → (j : ℕ) (u : V) → j ≢ id → get_elem? views j ≡ some u → (share u).part ≡ 0
+  pub others_none : (views : List V) (id : ℕ) (v : V) → get_elem? views id ≡ some v → Shares share views
+      → IsAll (share v) → (j : ℕ) (u : V) → j ≢ id → get_elem? views j ≡ some u → (share u).part ≡ 0
   others_none views id v at h is j u ne e =
-      let mine : h.whole ≡ h.each id = let fit = h.fits id v at in same_factor (share v).parts h.whole (h.each id) fit.0 (ap (λ z. z * h.whole) (sym is) ∙ fit.1) in
+      let mine : h.whole ≡ h.each id = let fit = h.fits id v at in
+      same_factor (share v).parts h.whole (h.each id) fit.0 (ap (λ z. z * h.whole) (sym is) ∙ fit.1) in
       let both = tally_two h.each id j (length views) ne (at_below views id v at) (at_below views j u e) in
       let all = h.sum in
       let none : h.each j ≡ 0 = omega arith in

@@ -1,5 +1,7 @@
 -- What is known of whole calls on a value.
-use Rattle.std.proofs.Common.{◌≡◌, inl, inr, ℕ, ◌+◌, ◌-◌, ◌^◌, ◌<◌, ◌==◌, Bool, true, false, Some, None, List, [], ◌∷◌, ◌++◌, length, replicate, slice_index, sum_by, refl, sym, ap, subst, ◌∙◌, append_assoc, append-nil, length-append, arith}
+use Rattle.std.proofs.Common.{◌≡◌, inl, inr, ℕ, ◌+◌, ◌-◌, ◌^◌, ◌<◌, ◌==◌, Bool, true, false, Some, None, List, [], ◌∷◌}
+use Rattle.std.proofs.Common.{◌++◌, length, replicate, slice_index, sum_by, refl, sym, ap, subst, ◌∙◌, append_assoc}
+use Rattle.std.proofs.Common.{append-nil, length-append, arith}
 use Rattle.std.proofs.lemmas.Bool.Decides.{nat_tests}
 use Rattle.std.proofs.lemmas.List.Concat.{flat_map-append}
 use Rattle.std.proofs.lemmas.List.Sums.{fold-append, sum_by-append}
@@ -28,7 +30,9 @@ use Rattle.history.specs.History.{IsHistory, Called, IsBeginning}
 use Rattle.history.specs.Known.{events_by}
 use Rattle.history.specs.Stages.{Calling, opened, Ends, Over}
 use Rattle.history.specs.Views.{Looks}
-use Rattle.history.specs.Value.{ByProducer, HasProducer, takes_producer, gives_producer, acquires_producer, releases_producer, store_skips, stores_value, value_of_room, loads_value, last_or, IsLast}
+use Rattle.history.specs.Value.{ByProducer, HasProducer, takes_producer, gives_producer, acquires_producer}
+use Rattle.history.specs.Value.{releases_producer, store_skips, stores_value, value_of_room, loads_value, last_or}
+use Rattle.history.specs.Value.{IsLast}
 use Rattle.history.proofs.Drives.{called}
 use Rattle.history.proofs.Known.{by_more}
 use Rattle.history.proofs.ValueHolders.{history_by_producers, back_over, forth_over, ArePlain}
@@ -40,11 +44,15 @@ use Rattle.lock_free_value.specs.Told.{HasAcquired, HasReleased, HasStored, HasL
 
 module _ {T : Type 0} where
   -- the first event of the party stands somewhere
-  find_own : (p : ℕ) (xs es : List (Event T)) (e : Event T) → events_by p xs ≡ e ∷ es → (ls : List (Event T)) × (rs : List (Event T)) × (xs ≡ ls ++ e ∷ rs) × (events_by p ls ≡ []) × (events_by p rs ≡ es)
+  find_own : (p : ℕ) (xs es : List (Event T)) (e : Event T) → events_by p xs ≡ e ∷ es
+      → (ls : List (Event T)) × (rs : List (Event T)) × (xs ≡ ls ++ e ∷ rs) × (events_by p ls ≡ []) × (events_by p rs ≡ es)
   find_own p [] es e is = absurd (cc)
   find_own p (x ∷ xs) es e is = go (λ rest. find_own p xs es e rest) (is_party p (whose x)) refl
     where
-      go : (events_by p xs ≡ e ∷ es → (ls : List (Event T)) × (rs : List (Event T)) × (xs ≡ ls ++ e ∷ rs) × (events_by p ls ≡ []) × (events_by p rs ≡ es)) → (b : Bool) → is_party p (whose x) ≡ b → (ls : List (Event T)) × (rs : List (Event T)) × (x ∷ xs ≡ ls ++ e ∷ rs) × (events_by p ls ≡ []) × (events_by p rs ≡ es)
+      go : (events_by p xs ≡ e ∷ es
+          → (ls : List (Event T)) × (rs : List (Event T)) × (xs ≡ ls ++ e ∷ rs) × (events_by p ls ≡ []) × (events_by p rs ≡ es))
+          → (b : Bool) → is_party p (whose x) ≡ b
+          → (ls : List (Event T)) × (rs : List (Event T)) × (x ∷ xs ≡ ls ++ e ∷ rs) × (events_by p ls ≡ []) × (events_by p rs ≡ es)
       go later true t =
           let here : x ∷ events_by p xs ≡ e ∷ es = rw t at is in
           let same : x ≡ e = cc in
@@ -68,7 +76,9 @@ module _ {T : Type 0} where
   each_left : {P : List (Event T) → Event T → Type 0} (xs ys : List (Event T)) → Each P (xs ++ ys) → Each P xs
   each_left xs ys each before after e is = each before (after ++ ys) e (ap (λ zs. zs ++ ys) is ∙ append_assoc before (e ∷ after) ys)
 
-  module _ (p : ℕ) (start : Start T) (seen others part : List (Event T)) (each : Each ByProducer ((seen ++ others) ++ Begun p start ∷ part)) (none_others : events_by p others ≡ []) (none_part : events_by p part ≡ []) (holds : holder_of ((seen ++ others) ++ Begun p start ∷ part) ≡ Some p) where
+  module _ (p : ℕ) (start : Start T) (seen others part : List (Event T))
+      (each : Each ByProducer ((seen ++ others) ++ Begun p start ∷ part)) (none_others : events_by p others ≡ [])
+      (none_part : events_by p part ≡ []) (holds : holder_of ((seen ++ others) ++ Begun p start ∷ part) ≡ Some p) where
     split : ((seen ++ others) ++ Begun p start ∷ []) ++ part ≡ (seen ++ others) ++ Begun p start ∷ part
     split = append_assoc (seen ++ others) (Begun p start ∷ []) part
 
@@ -90,7 +100,8 @@ module _ {T : Type 0} where
   it_is : (p : ℕ) (start : Start T) (answer : Answer T) → events_by p (Finished p start answer ∷ []) ≡ Finished p start answer ∷ []
   it_is p start answer = (let t : (p == p) ≡ true = grind (arith, nat_tests) in rw t refl)
 
-  first_wrote : (p : ℕ) (start : Start T) (answer : Answer T) (e : Event T) (es : List (Event T)) (base w : View T) → Called p start answer (e ∷ es) base w → Wrote p e (es ++ Finished p start answer ∷ []) base w
+  first_wrote : (p : ℕ) (start : Start T) (answer : Answer T) (e : Event T) (es : List (Event T)) (base w : View T)
+      → Called p start answer (e ∷ es) base w → Wrote p e (es ++ Finished p start answer ∷ []) base w
   first_wrote p start answer e es base w c =
       let part = find_own p c.during es e c.during_own in
       let xs : List (Event T) = base.seen ++ c.others in
@@ -107,12 +118,16 @@ module _ {T : Type 0} where
         is = whole;
         since = record { rest = c.others ++ Begun p start ∷ part.0; is = append_assoc base.seen c.others (Begun p start ∷ part.0) };
         mine = by_more p part.1 last ∙ (ap (λ zs. zs ++ events_by p last) part.4 ∙ ap (λ zs. es ++ zs) (it_is p start answer));
-        next = λ each holds. none_between p start base.seen c.others part.0 (each_left (xs ++ Begun p start ∷ part.0) (e ∷ (part.1 ++ last)) (subst (Each ByProducer) whole each)) c.others_own part.3 holds;
+        next =
+            λ each holds. none_between p start base.seen c.others part.0
+            (each_left (xs ++ Begun p start ∷ part.0) (e ∷ (part.1 ++ last)) (subst (Each ByProducer) whole each))
+            c.others_own part.3 holds;
       }
 
   -- ---- what the role came to, by what was made
 
-  moved : (taken given : ℕ) (old new more : List (Event T)) → new ≡ old ++ more → sum_by takes_producer more ≡ taken → sum_by gives_producer more ≡ given → Moved taken given old new
+  moved : (taken given : ℕ) (old new more : List (Event T)) → new ≡ old ++ more → sum_by takes_producer more ≡ taken
+      → sum_by gives_producer more ≡ given → Moved taken given old new
   moved taken given old new more is t g =
       let a = sum_by-append takes_producer old more in
       let b = sum_by-append gives_producer old more in
@@ -121,8 +136,10 @@ module _ {T : Type 0} where
       record { takes = omega arith; gives = omega arith }
 
 -- a store is left out where its first load finds the last version
-ends_at : {T : Type 0} (code : Coding T) (x : T) (stage : stages.StoreStage) (n : ℕ) (a : Ask) → store_skips stage n ≡ true → store_asks code.words_of stage x ≡ wants.Ask a → (a.word ≡ 0) × (n ≡ 2 ^ 64 - 1)
-ends_at code x stages.TheVariants.LoadsVersion n a t e = (let is : record { word = 0; op = Loads } ≡ a = cc in (ap (λ (z : Ask). z.word) (sym is), grind (arith, nat_tests)))
+ends_at : {T : Type 0} (code : Coding T) (x : T) (stage : stages.StoreStage) (n : ℕ) (a : Ask)
+    → store_skips stage n ≡ true → store_asks code.words_of stage x ≡ wants.Ask a → (a.word ≡ 0) × (n ≡ 2 ^ 64 - 1)
+ends_at code x stages.TheVariants.LoadsVersion n a t e =
+    (let is : record { word = 0; op = Loads } ≡ a = cc in (ap (λ (z : Ask). z.word) (sym is), grind (arith, nat_tests)))
 ends_at code x (stages.TheVariants.StoresCell cell at) n a t e = absurd (cc)
 ends_at code x stages.TheVariants.AddsVersion n a t e = absurd (cc)
 
@@ -138,14 +155,21 @@ module _ {T : Type 0} (code : Coding T) (base w : View T) (idle : base.going ≡
 
   begun_still : IsBeginning base.seen w.seen → 0 < length (stored base.seen) → 0 < length (stored w.seen)
   begun_still h some =
-      let whole : length (stored w.seen) ≡ length (stored base.seen ++ stored h.rest) = ap (λ es. length (stored es)) h.is ∙ ap length (flat_map-append stores base.seen h.rest) in
+      let whole : length (stored w.seen) ≡ length (stored base.seen ++ stored h.rest) =
+      ap (λ es. length (stored es)) h.is ∙ ap length (flat_map-append stores base.seen h.rest) in
       let long = length-append (stored base.seen) (stored h.rest) in
       omega arith
 
   module _ {C M E : Type 0} (call : Calling T C M E) where
     ends_leaves : (e : E) (m : M) → Ends code kinds.Atomic call base e m w → Leaves
     ends_leaves e m ends =
-        let since : IsBeginning base.seen w.seen = record { rest = ends.since.others ++ (opened ends.party call.start base.going ++ (ends.since.during ++ Finished ends.party call.start (call.answer e m) ∷ [])); is = ends.since.is ∙ append_assoc base.seen ends.since.others _ } in
+        let since : IsBeginning base.seen w.seen =
+        record {
+          rest =
+              ends.since.others
+              ++ (opened ends.party call.start base.going ++ (ends.since.during ++ Finished ends.party call.start (call.answer e m) ∷ []));
+          is = ends.since.is ∙ append_assoc base.seen ends.since.others _;
+        } in
         record {
           goes =
               record {
@@ -188,28 +212,42 @@ module _ {T : Type 0} (code : Coding T) (base w : View T) (idle : base.going ≡
   -- ---- the role
 
   pub acquired : (b : Bool) (m : Unit {0}) → Ends code kinds.Atomic acquires_producer base b m w → HasAcquired b base w
-  acquired b m ends = record { by = ends.party; mine = ends.mine; called = subst (λ es. Called ends.party (Atomic AcquireProducer) (Truth b) es base w) ends.tells (called code kinds.Atomic acquires_producer base w b m idle ends) }
+  acquired b m ends =
+      record {
+        by = ends.party;
+        mine = ends.mine;
+        called =
+            subst (λ es. Called ends.party (Atomic AcquireProducer) (Truth b) es base w) ends.tells
+            (called code kinds.Atomic acquires_producer base w b m idle ends);
+      }
 
   pub taken_once : (b : Bool) (m : Unit {0}) → Ends code kinds.Atomic acquires_producer base b m w → b ≡ true → Moved 1 0 base.made w.made
   unfolding acquired
   taken_once b m ends is =
       let c = (acquired b m ends).called in
       let p = ends.party in
-      moved 1 0 base.made w.made (Begun p (Atomic AcquireProducer) ∷ Finished p (Atomic AcquireProducer) (Truth true) ∷ []) (c.made ∙ ap (λ z. base.made ++ Begun p (Atomic AcquireProducer) ∷ Finished p (Atomic AcquireProducer) (Truth z) ∷ []) is) refl refl
+      moved 1 0 base.made w.made
+      (Begun p (Atomic AcquireProducer) ∷ Finished p (Atomic AcquireProducer) (Truth true) ∷ [])
+      (c.made ∙ ap (λ z. base.made ++ Begun p (Atomic AcquireProducer) ∷ Finished p (Atomic AcquireProducer) (Truth z) ∷ []) is)
+      refl refl
 
   pub not_taken : (b : Bool) (m : Unit {0}) → Ends code kinds.Atomic acquires_producer base b m w → b ≡ false → Moved 0 0 base.made w.made
   unfolding acquired
   not_taken b m ends is =
       let c = (acquired b m ends).called in
       let p = ends.party in
-      moved 0 0 base.made w.made (Begun p (Atomic AcquireProducer) ∷ Finished p (Atomic AcquireProducer) (Truth false) ∷ []) (c.made ∙ ap (λ z. base.made ++ Begun p (Atomic AcquireProducer) ∷ Finished p (Atomic AcquireProducer) (Truth z) ∷ []) is) refl refl
+      moved 0 0 base.made w.made
+      (Begun p (Atomic AcquireProducer) ∷ Finished p (Atomic AcquireProducer) (Truth false) ∷ [])
+      (c.made ∙ ap (λ z. base.made ++ Begun p (Atomic AcquireProducer) ∷ Finished p (Atomic AcquireProducer) (Truth z) ∷ []) is)
+      refl refl
 
   -- the events of a call whose end alone is its own
   pub released : (e m : Unit {0}) → Ends code kinds.Atomic releases_producer base e m w → HasReleased base w
   released e m ends =
       let p = ends.party in
       let start : Start T = Atomic ReleaseProducer in
-      let c : Called p start Done [] base w = subst (λ es. Called p start Done es base w) ends.tells (called code kinds.Atomic releases_producer base w e m idle ends) in
+      let c : Called p start Done [] base w =
+      subst (λ es. Called p start Done es base w) ends.tells (called code kinds.Atomic releases_producer base w e m idle ends) in
       let last : Event T = Finished p start Done in
       let xs : List (Event T) = (base.seen ++ c.others) ++ Begun p start ∷ c.during in
       let is : w.seen ≡ xs ++ last ∷ [] = c.is ∙ sym (append_assoc (base.seen ++ c.others) (Begun p start ∷ c.during) (last ∷ [])) in
@@ -219,7 +257,9 @@ module _ {T : Type 0} (code : Coding T) (base w : View T) (idle : base.going ≡
         by = p;
         mine = ends.mine;
         called = c;
-        list = ap stored is ∙ (flat_map-append stores xs (last ∷ []) ∙ (append-nil (stored xs) ∙ none_between p start base.seen c.others c.during each c.others_own c.during_own held));
+        list =
+            ap stored is ∙ (flat_map-append stores xs (last ∷ [])
+            ∙ (append-nil (stored xs) ∙ none_between p start base.seen c.others c.during each c.others_own c.during_own held));
       }
 
   pub given_once : (e m : Unit {0}) → Ends code kinds.Atomic releases_producer base e m w → Moved 0 1 base.made w.made
@@ -247,8 +287,11 @@ module _ {T : Type 0} (code : Coding T) (base w : View T) (idle : base.going ≡
     abbrev end : ℕ → Event T
     end p = Finished p (Atomic (Store x)) (Truth true)
 
-    stored_so : (m : Unit {0}) → (ends : Ends code kinds.Atomic (stores_value code x) base true m w) → Called ends.party (Atomic (Store x)) (Truth true) (act ends.party ∷ []) base w
-    stored_so m ends = subst (λ es. Called ends.party (Atomic (Store x)) (Truth true) es base w) ends.tells.1 (called code kinds.Atomic (stores_value code x) base w true m idle ends)
+    stored_so : (m : Unit {0}) → (ends : Ends code kinds.Atomic (stores_value code x) base true m w)
+        → Called ends.party (Atomic (Store x)) (Truth true) (act ends.party ∷ []) base w
+    stored_so m ends =
+        subst (λ es. Called ends.party (Atomic (Store x)) (Truth true) es base w) ends.tells.1
+        (called code kinds.Atomic (stores_value code x) base w true m idle ends)
 
     has_stored : (m : Unit {0}) → Ends code kinds.Atomic (stores_value code x) base true m w → HasStored x base w
     has_stored m ends =
@@ -260,7 +303,9 @@ module _ {T : Type 0} (code : Coding T) (base w : View T) (idle : base.going ≡
         let holds : holder_of at.before ≡ Some p = all at.before at.after (act p) at.is in
         let split : w.seen ≡ (at.before ++ act p ∷ []) ++ at.after = at.is ∙ sym (append_assoc at.before (act p ∷ []) at.after) in
         let now : holder_of (at.before ++ act p ∷ []) ≡ Some p = fold-append holder_after None at.before (act p ∷ []) ∙ holds in
-        let rest : flat_map stores at.after ≡ [] = forth_over p (at.before ++ act p ∷ []) at.after (subst (Each ByProducer) split all) (subst (Each GrantsRight) split right) (subst (ArePlain p) (sym at.mine) ((refl, refl), tt)) now in
+        let rest : flat_map stores at.after ≡ [] =
+        forth_over p (at.before ++ act p ∷ []) at.after (subst (Each ByProducer) split all)
+        (subst (Each GrantsRight) split right) (subst (ArePlain p) (sym at.mine) ((refl, refl), tt)) now in
         let next : stored at.before ≡ stored base.seen = at.next all holds in
         record {
           by = p;
@@ -271,14 +316,17 @@ module _ {T : Type 0} (code : Coding T) (base w : View T) (idle : base.going ≡
           is = at.is;
           since = at.since;
           next = next;
-          list = ap stored at.is ∙ (flat_map-append stores at.before (act p ∷ at.after) ∙ (ap (λ zs. stored at.before ++ x ∷ zs) rest ∙ ap (λ zs. zs ++ x ∷ []) next));
+          list =
+              ap stored at.is ∙ (flat_map-append stores at.before (act p ∷ at.after)
+              ∙ (ap (λ zs. stored at.before ++ x ∷ zs) rest ∙ ap (λ zs. zs ++ x ∷ []) next));
         }
 
     pub stored_if : (e : Bool) (m : Unit {0}) → Over code kinds.Atomic (stores_value code x) base e m w → e ≡ true → HasStored x base w
     stored_if e m (inl ends) is = has_stored m (subst (λ b. Ends code kinds.Atomic (stores_value code x) base b m w) is ends)
     stored_if e m (inr left) is = (let no : false ≡ true = sym left.left ∙ is in absurd (cc))
 
-    pub at_end_if : base.other ≡ [] → 0 < base.share.part → HasProducer base.made → (e : Bool) (m : Unit {0}) → Over code kinds.Atomic (stores_value code x) base e m w → e ≡ false → WasAtEnd base w
+    pub at_end_if : base.other ≡ [] → 0 < base.share.part → HasProducer base.made → (e : Bool) (m : Unit {0})
+        → Over code kinds.Atomic (stores_value code x) base e m w → e ≡ false → WasAtEnd base w
     at_end_if alone some has e m (inl ends) is = (let no : true ≡ false = sym ends.tells.0 ∙ is in absurd (cc))
     at_end_if alone some has e m (inr left) is =
         let at = ends_at code x left.from.stage left.word left.ask left.skipped left.asks in
@@ -303,8 +351,11 @@ module _ {T : Type 0} (code : Coding T) (base w : View T) (idle : base.going ≡
     abbrev value_there : R → T
     value_there m = value_of_room code words_in m
 
-    loaded_so : (e : Unit {0}) (m : R) → (ends : Ends code kinds.Atomic (loads_value code words_in) base e m w) → Called ends.party (Atomic Load) (Loaded (value_there m)) (Acted ends.party (Atomic Load) (Loaded (value_there m)) ∷ []) base w
-    loaded_so e m ends = subst (λ es. Called ends.party (Atomic Load) (Loaded (value_there m)) es base w) ends.tells (called code kinds.Atomic (loads_value code words_in) base w e m idle ends)
+    loaded_so : (e : Unit {0}) (m : R) → (ends : Ends code kinds.Atomic (loads_value code words_in) base e m w)
+        → Called ends.party (Atomic Load) (Loaded (value_there m)) (Acted ends.party (Atomic Load) (Loaded (value_there m)) ∷ []) base w
+    loaded_so e m ends =
+        subst (λ es. Called ends.party (Atomic Load) (Loaded (value_there m)) es base w) ends.tells
+        (called code kinds.Atomic (loads_value code words_in) base w e m idle ends)
 
     pub has_loaded : (e : Unit {0}) (m : R) → Ends code kinds.Atomic (loads_value code words_in) base e m w → HasLoaded (value_there m) base w
     has_loaded e m ends =
@@ -314,7 +365,8 @@ module _ {T : Type 0} (code : Coding T) (base w : View T) (idle : base.going ≡
         let at = first_wrote p (Atomic Load) (Loaded x) (Acted p (Atomic Load) (Loaded x)) [] base w c in
         let first : T = code.value_of (replicate code.size 0) in
         let is : x ≡ last_or first (stored at.before) = load_tells code base.capacity w.seen ends.history p x at.before at.after at.is in
-        let whole : length (stored at.before) ≡ length (stored base.seen ++ stored at.since.rest) = ap (λ es. length (stored es)) at.since.is ∙ ap length (flat_map-append stores base.seen at.since.rest) in
+        let whole : length (stored at.before) ≡ length (stored base.seen ++ stored at.since.rest) =
+        ap (λ es. length (stored es)) at.since.is ∙ ap length (flat_map-append stores base.seen at.since.rest) in
         let long = length-append (stored base.seen) (stored at.since.rest) in
         let last = last_is first (stored at.before) (omega arith) in
         record {
@@ -332,4 +384,6 @@ module _ {T : Type 0} (code : Coding T) (base w : View T) (idle : base.going ≡
     load_moves e m ends =
         let p = ends.party in
         let answer : Answer T = Loaded (value_there m) in
-        moved 0 0 base.made w.made (Begun p (Atomic Load) ∷ Acted p (Atomic Load) answer ∷ Finished p (Atomic Load) answer ∷ []) (loaded_so e m ends).made refl refl
+        moved 0 0 base.made w.made
+        (Begun p (Atomic Load) ∷ Acted p (Atomic Load) answer ∷ Finished p (Atomic Load) answer ∷ [])
+        (loaded_so e m ends).made refl refl

@@ -1,5 +1,6 @@
 -- The words with which a value's table opens, as they are filled in.
-use Rattle.std.proofs.Common.{◌≡◌, ℕ, zero, suc, ◌+◌, ◌*◌, ◌<◌, nat_lt, if◌then◌else◌, Bool, true, false, List, [], ◌∷◌, ◌++◌, length, get_or, replicate, set, refl, sym, ap, ◌∙◌, length-append, arith}
+use Rattle.std.proofs.Common.{◌≡◌, ℕ, zero, suc, ◌+◌, ◌*◌, ◌<◌, nat_lt, if◌then◌else◌, Bool, true, false, List, []}
+use Rattle.std.proofs.Common.{◌∷◌, ◌++◌, length, get_or, replicate, set, refl, sym, ap, ◌∙◌, length-append, arith}
 use Rattle.std.proofs.lemmas.Bool.Decides.{nat_tests}
 use Rattle.std.proofs.lemmas.List.{length-replicate, replicate_more}
 use Rattle.std.proofs.lemmas.List.Concat.{flat_map-append}
@@ -68,7 +69,8 @@ module _ {T : Type 0} (code : Coding T) (law : IsCoding code) (value : T) (versi
   pub begins : set (set (replicate (code.size * 2 + 2 + 1) 0) 0 (first_stores version + 1)) 1 1 ≡ filled 0
   begins =
       let all : code.size * 2 + 2 + 1 ≡ suc (suc ((code.size + code.size) + 1)) = omega arith in
-      let cells : replicate ((code.size + code.size) + 1) 0 ≡ (zeros ++ zeros) ++ 0 ∷ [] = sym (ap (λ zs. zs ++ 0 ∷ []) (replicate_both code.size code.size 0) ∙ replicate_more (code.size + code.size) 0) in
+      let cells : replicate ((code.size + code.size) + 1) 0 ≡ (zeros ++ zeros) ++ 0 ∷ [] =
+      sym (ap (λ zs. zs ++ 0 ∷ []) (replicate_both code.size code.size 0) ∙ replicate_more (code.size + code.size) 0) in
       ap (λ n. set (set (replicate n 0) 0 (first_stores version + 1)) 1 1) all ∙ ap (λ zs. (first_stores version + 1) ∷ 1 ∷ zs) cells
 
   module _ (at : ℕ) (below : at < code.size) where
@@ -93,7 +95,9 @@ module _ {T : Type 0} (code : Coding T) (law : IsCoding code) (value : T) (versi
         let second : set (filled at) (2 + code.size + at) (get_or ws at 0) ≡ v ∷ 1 ∷ ((xs ++ mix (suc at) ws zeros) ++ 0 ∷ []) =
         set_at v 1 ((xs ++ ys) ++ 0 ∷ []) (2 + code.size + at) (code.size + at) (get_or ws at 0) (omega arith)
         ∙ ap (λ zs. v ∷ 1 ∷ zs) (set_left (xs ++ ys) (0 ∷ []) (code.size + at) (get_or ws at 0) (omega arith)
-        ∙ ap (λ zs. zs ++ 0 ∷ []) (ap (λ k. set (xs ++ ys) k (get_or ws at 0)) place ∙ (set_right xs ys at (get_or ws at 0) ∙ ap (λ zs. xs ++ zs) (mix_step at ws zeros (omega arith) (omega arith)))))
+        ∙ ap (λ zs. zs ++ 0 ∷ [])
+        (ap (λ k. set (xs ++ ys) k (get_or ws at 0)) place
+        ∙ (set_right xs ys at (get_or ws at 0) ∙ ap (λ zs. xs ++ zs) (mix_step at ws zeros (omega arith) (omega arith)))))
         in
         let more = length-append xs (mix (suc at) ws zeros) in
         ap (λ zs. set zs (2 + at) (get_or first_words at 0)) second
@@ -103,7 +107,8 @@ module _ {T : Type 0} (code : Coding T) (law : IsCoding code) (value : T) (versi
         ∙ ap (λ zs. zs ++ mix (suc at) ws zeros) (mix_step at first_words zeros (omega arith) (omega arith)))))
 
   -- one turn of the loop
-  pub turns : (at n word first : ℕ) (items : List ℕ) → at < code.size → items ≡ filled at → n ≡ code.size → word ≡ get_or ws at 0 → first ≡ (if nat_lt 2 version then word else 0)
+  pub turns : (at n word first : ℕ) (items : List ℕ) → at < code.size → items ≡ filled at → n ≡ code.size
+      → word ≡ get_or ws at 0 → first ≡ (if nat_lt 2 version then word else 0)
       → set (set items (2 + n + at) word) (2 + at) first ≡ filled (at + 1)
   turns at n word first items below here size is is_first =
       let one : first ≡ get_or first_words at 0 = is_first ∙ (ap (λ w. if nat_lt 2 version then w else 0) is ∙ first_word at) in
@@ -123,14 +128,19 @@ module _ {T : Type 0} (code : Coding T) (law : IsCoding code) (value : T) (versi
   ends =
       let one = mix_all code.size first_words zeros firsts_long zeros_long in
       let two = mix_all code.size ws zeros (law.sized value) zeros_long in
-      ap (λ zs. (first_stores version + 1) ∷ 1 ∷ (zs ++ 0 ∷ [])) (ap (λ zs. zs ++ mix code.size ws zeros) one ∙ (ap (λ zs. first_words ++ zs) two ∙ cells_are version))
+      ap (λ zs. (first_stores version + 1) ∷ 1 ∷ (zs ++ 0 ∷ []))
+      (ap (λ zs. zs ++ mix code.size ws zeros) one ∙ (ap (λ zs. first_words ++ zs) two ∙ cells_are version))
 
 -- ---- what the first pass knows
 
 module _ {T : Type 0} (value : T) where
   times_some : (n : ℕ) → 0 < n → 0 < length (stored (stored_times value n))
   times_some zero some = absurd (omega arith)
-  times_some (suc n) some = (let all : length (stored (stored_times value n ++ stored_once value)) ≡ length (stored (stored_times value n) ++ value ∷ []) = ap length (flat_map-append stores (stored_times value n) (stored_once value)) in let long = length-append (stored (stored_times value n)) (value ∷ []) in omega arith)
+  times_some (suc n) some =
+      (let all : length (stored (stored_times value n ++ stored_once value)) ≡ length (stored (stored_times value n) ++ value ∷ []) =
+      ap length (flat_map-append stores (stored_times value n) (stored_once value)) in
+      let long = length-append (stored (stored_times value n)) (value ∷ []) in
+      omega arith)
 
   stores_some : (version : ℕ) → 0 < first_stores version
   stores_some zero = omega arith
@@ -143,7 +153,8 @@ module _ {T : Type 0} (value : T) where
       let n = first_stores version in
       let last : List (Event T) = Begun 0 (Atomic ReleaseProducer) ∷ Finished 0 (Atomic ReleaseProducer) Done ∷ [] in
       let some = times_some n (stores_some version) in
-      let all : length (stored (stored_times value n ++ last)) ≡ length (stored (stored_times value n) ++ []) = ap length (flat_map-append stores (stored_times value n) last) in
+      let all : length (stored (stored_times value n ++ last)) ≡ length (stored (stored_times value n) ++ []) =
+      ap length (flat_map-append stores (stored_times value n) last) in
       let long = length-append (stored (stored_times value n)) [] in
       omega arith
 

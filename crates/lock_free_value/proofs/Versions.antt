@@ -1,5 +1,6 @@
 -- The laws of versions.
-use Rattle.std.proofs.Common.{◌≡◌, ℕ, ◌+◌, ◌<◌, ◌≤◌, List, [], ◌∷◌, ◌++◌, length, replicate, true, refl, sym, ap, subst, ◌∙◌, append-nil, append_assoc, length-append, sum_by, arith}
+use Rattle.std.proofs.Common.{◌≡◌, ℕ, ◌+◌, ◌<◌, ◌≤◌, List, [], ◌∷◌, ◌++◌, length, replicate, true, refl, sym, ap}
+use Rattle.std.proofs.Common.{subst, ◌∙◌, append-nil, append_assoc, length-append, sum_by, arith}
 use Rattle.std.proofs.lemmas.List.Concat.{flat_map-append}
 use Rattle.std.proofs.lemmas.List.Sums.{sum_by-append}
 use Rattle.model.specs.declared.event.Answer.TheVariants.{Truth, Loaded}
@@ -44,7 +45,8 @@ none_left (x ∷ xs) e = absurd (omega arith)
 
 module _ {T : Type 0} where
   -- two stores of the same rank are one
-  same_place : (b1 b2 a1 a2 : List (Event T)) (e1 e2 : Event T) (x1 x2 : T) → stores e1 ≡ x1 ∷ [] → stores e2 ≡ x2 ∷ [] → b1 ++ e1 ∷ a1 ≡ b2 ++ e2 ∷ a2 → length (stored b1) ≡ length (stored b2) → e1 ≡ e2
+  same_place : (b1 b2 a1 a2 : List (Event T)) (e1 e2 : Event T) (x1 x2 : T) → stores e1 ≡ x1 ∷ []
+      → stores e2 ≡ x2 ∷ [] → b1 ++ e1 ∷ a1 ≡ b2 ++ e2 ∷ a2 → length (stored b1) ≡ length (stored b2) → e1 ≡ e2
   same_place [] [] a1 a2 e1 e2 x1 x2 h1 h2 same ranks = cc
   same_place [] (c ∷ b2) a1 a2 e1 e2 x1 x2 h1 h2 same ranks =
       let first : e1 ≡ c = cc in
@@ -65,10 +67,12 @@ module _ {T : Type 0} where
       same_place b1 b2 a1 a2 e1 e2 x1 x2 h1 h2 rest (omega arith)
 
   -- what stands before an event, of what was stored in all
-  stored_before : (events before after : List (Event T)) (e : Event T) → events ≡ before ++ e ∷ after → stored events ≡ stored before ++ (stores e ++ stored after)
+  stored_before : (events before after : List (Event T)) (e : Event T) → events ≡ before ++ e ∷ after
+      → stored events ≡ stored before ++ (stores e ++ stored after)
   stored_before events before after e is = ap stored is ∙ flat_map-append stores before (e ∷ after)
 
-  before_low : (events before after : List (Event T)) (e : Event T) → events ≡ before ++ e ∷ after → length (stored before) + length (stores e) ≤ length (stored events)
+  before_low : (events before after : List (Event T)) (e : Event T) → events ≡ before ++ e ∷ after
+      → length (stored before) + length (stores e) ≤ length (stored events)
   before_low events before after e is =
       let all = ap length (stored_before events before after e is) in
       let long = length-append (stored before) (stores e ++ stored after) in
@@ -77,7 +81,8 @@ module _ {T : Type 0} where
 
   grows : (old new : List (Event T)) → IsBeginning old new → length (stored old) ≤ length (stored new)
   grows old new h =
-      let all : length (stored new) ≡ length (stored old ++ stored h.rest) = ap (λ es. length (stored es)) h.is ∙ ap length (flat_map-append stores old h.rest) in
+      let all : length (stored new) ≡ length (stored old ++ stored h.rest) =
+      ap (λ es. length (stored es)) h.is ∙ ap length (flat_map-append stores old h.rest) in
       let long = length-append (stored old) (stored h.rest) in
       omega arith
 
@@ -85,7 +90,9 @@ module _ {T : Type 0} where
   stored_once p q v x y events a b =
       let ra = a.rank in
       let rb = b.rank in
-      let same : ◌≡◌ {A = Event T} (Acted p (Atomic (Store x)) (Truth true)) (Acted q (Atomic (Store y)) (Truth true)) = same_place a.before b.before a.after b.after (Acted p (Atomic (Store x)) (Truth true)) (Acted q (Atomic (Store y)) (Truth true)) x y refl refl (sym a.is ∙ b.is) (omega arith) in
+      let same : ◌≡◌ {A = Event T} (Acted p (Atomic (Store x)) (Truth true)) (Acted q (Atomic (Store y)) (Truth true)) =
+      same_place a.before b.before a.after b.after (Acted p (Atomic (Store x)) (Truth true))
+      (Acted q (Atomic (Store y)) (Truth true)) x y refl refl (sym a.is ∙ b.is) (omega arith) in
       (let l : p ≡ q = cc in l, let r : x ≡ y = cc in r)
 
   module _ (code : Coding T) (p q v : ℕ) (x y : T) (events : List (Event T)) (h : IsHistory code kinds.Atomic 1 events) where
@@ -98,10 +105,13 @@ module _ {T : Type 0} where
         let ra = a.rank in
         let rb = b.rank in
         let told : y ≡ last_or zeros (stored b.before) = load_tells code 1 events h q y b.before b.after b.is in
-        let one = stored_before events a.before a.after (Acted p (Atomic (Store x)) (Truth true)) a.is ∙ sym (append_assoc (stored a.before) (x ∷ []) (stored a.after)) in
+        let one =
+        stored_before events a.before a.after (Acted p (Atomic (Store x)) (Truth true)) a.is
+        ∙ sym (append_assoc (stored a.before) (x ∷ []) (stored a.after)) in
         let two = stored_before events b.before b.after (Acted q (Atomic Load) (Loaded y)) b.is in
         let long = length-append (stored a.before) (x ∷ []) in
-        let same : stored a.before ++ x ∷ [] ≡ stored b.before = same_part (stored a.before ++ x ∷ []) (stored b.before) (stored a.after) (stored b.after) (sym one ∙ two) (omega arith) in
+        let same : stored a.before ++ x ∷ [] ≡ stored b.before =
+        same_part (stored a.before ++ x ∷ []) (stored b.before) (stored a.after) (stored b.after) (sym one ∙ two) (omega arith) in
         sym (told ∙ (ap (last_or zeros) (sym same) ∙ last_one zeros x (stored a.before)))
 
     pub loaded_loaded : IsLoaded p v x events → IsLoaded q v y events → x ≡ y
@@ -110,7 +120,8 @@ module _ {T : Type 0} where
         let rb = b.rank in
         let one = stored_before events a.before a.after (Acted p (Atomic Load) (Loaded x)) a.is in
         let two = stored_before events b.before b.after (Acted q (Atomic Load) (Loaded y)) b.is in
-        let same : stored a.before ≡ stored b.before = same_part (stored a.before) (stored b.before) (stored a.after) (stored b.after) (sym one ∙ two) (omega arith) in
+        let same : stored a.before ≡ stored b.before =
+        same_part (stored a.before) (stored b.before) (stored a.after) (stored b.after) (sym one ∙ two) (omega arith) in
         load_tells code 1 events h p x a.before a.after a.is ∙ (ap (last_or zeros) same ∙ sym (load_tells code 1 events h q y b.before b.after b.is))
 
   pub sound_history : (code : Coding T) (events : List (Event T)) → IsHistory code kinds.Atomic 1 events → IsSound code events
@@ -124,10 +135,22 @@ module _ {T : Type 0} where
   -- ---- what stands in a beginning stands in the whole
 
   pub still_stored : (p v : ℕ) (x : T) (old new : List (Event T)) → IsBeginning old new → IsStored p v x old → IsStored p v x new
-  still_stored p v x old new h a = record { before = a.before; after = a.after ++ h.rest; is = h.is ∙ (ap (λ es. es ++ h.rest) a.is ∙ append_assoc a.before (Acted p (Atomic (Store x)) (Truth true) ∷ a.after) h.rest); rank = a.rank }
+  still_stored p v x old new h a =
+      record {
+        before = a.before;
+        after = a.after ++ h.rest;
+        is = h.is ∙ (ap (λ es. es ++ h.rest) a.is ∙ append_assoc a.before (Acted p (Atomic (Store x)) (Truth true) ∷ a.after) h.rest);
+        rank = a.rank;
+      }
 
   pub still_loaded : (p v : ℕ) (x : T) (old new : List (Event T)) → IsBeginning old new → IsLoaded p v x old → IsLoaded p v x new
-  still_loaded p v x old new h a = record { before = a.before; after = a.after ++ h.rest; is = h.is ∙ (ap (λ es. es ++ h.rest) a.is ∙ append_assoc a.before (Acted p (Atomic Load) (Loaded x) ∷ a.after) h.rest); rank = a.rank }
+  still_loaded p v x old new h a =
+      record {
+        before = a.before;
+        after = a.after ++ h.rest;
+        is = h.is ∙ (ap (λ es. es ++ h.rest) a.is ∙ append_assoc a.before (Acted p (Atomic Load) (Loaded x) ∷ a.after) h.rest);
+        rank = a.rank;
+      }
 
   -- ---- versions that were known
 
@@ -168,7 +191,8 @@ module _ {T : Type 0} where
       let long = length-append (stores e) (stored es) in
       omega arith
 
-  pub newest : (x : T) (old new : View T) → HasLoaded x old new → IsAll old.share → IsAll new.share → MissesNothing old → MissesNothing new → IsLast x (stored old.seen)
+  pub newest : (x : T) (old new : View T) → HasLoaded x old new → IsAll old.share → IsAll new.share
+      → MissesNothing old → MissesNothing new → IsLast x (stored old.seen)
   newest x old new h was is all_old all_new =
       let f : Event T → ℕ = λ e. length (stores e) in
       let made : sum_by f new.made ≡ sum_by f old.made + 0 = ap (sum_by f) h.called.made ∙ sum_by-append f old.made _ in

@@ -1,5 +1,7 @@
 -- Resetting all places: the closure is called with just those that the call clears.
-use Rattle.std.proofs.Common.{◌≡◌, inl, ⊎_elim, true≢false, ◌==◌, ℕ, zero, suc, ◌+◌, ◌<◌, ◌≤◌, Bool, true, false, cond, Some, None, List, [], ◌∷◌, ◌++◌, map, refl, sym, ap, subst, ◌∙◌, arith, append_assoc, append-nil}
+use Rattle.std.proofs.Common.{◌≡◌, inl, ⊎_elim, true≢false, ◌==◌, ℕ, zero, suc, ◌+◌, ◌<◌, ◌≤◌, Bool, true, false, cond}
+use Rattle.std.proofs.Common.{Some, None, List, [], ◌∷◌, ◌++◌, map, refl, sym, ap, subst, ◌∙◌, arith, append_assoc}
+use Rattle.std.proofs.Common.{append-nil}
 use Rattle.std.proofs.lemmas.List.{map-append}
 use Rattle.std.specs.List.{FoldsTo, All, filter, range_with_len, count_by}
 use Rattle.std.proofs.lemmas.Bool.{cases_lt}
@@ -63,16 +65,21 @@ rise_cons low first rest false le up all = all
 
 rise_some : (test : ℕ → Bool) (low first n : ℕ) → low ≤ first → Rise low (filter test (range_with_len first n))
 rise_some test low first zero le = tt
-rise_some test low first (suc n) le = rise_cons low first (filter test (range_with_len (first + 1) n)) (test first) le (rise_some test (first + 1) (first + 1) n (omega arith)) (rise_some test low (first + 1) n (omega arith))
+rise_some test low first (suc n) le =
+    rise_cons low first (filter test (range_with_len (first + 1) n)) (test first) le
+    (rise_some test (first + 1) (first + 1) n (omega arith)) (rise_some test low (first + 1) n (omega arith))
 
 kept_cons : (Q : ℕ → Type 0) (first : ℕ) (rest : List ℕ) (t : Bool) → (t ≡ true → Q first) → All Q rest → All Q (cond t (first ∷ rest) rest)
 kept_cons Q first rest true h all = All-cons Q first rest (h refl) all
 kept_cons Q first rest false h all = all
 
-kept_all : (Q : ℕ → Type 0) (test : ℕ → Bool) (first n : ℕ) → ((p : ℕ) → first ≤ p → p < first + n → test p ≡ true → Q p) → All Q (filter test (range_with_len first n))
+kept_all : (Q : ℕ → Type 0) (test : ℕ → Bool) (first n : ℕ)
+    → ((p : ℕ) → first ≤ p → p < first + n → test p ≡ true → Q p) → All Q (filter test (range_with_len first n))
 kept_all Q test first zero h = All-nil Q
 kept_all Q test first (suc n) h =
-    kept_cons Q first (filter test (range_with_len (first + 1) n)) (test first) (h first (omega arith) (omega arith)) (kept_all Q test (first + 1) n (λ p low high t. h p (omega arith) (omega arith) t))
+    kept_cons Q first (filter test (range_with_len (first + 1) n)) (test first)
+    (h first (omega arith) (omega arith))
+    (kept_all Q test (first + 1) n (λ p low high t. h p (omega arith) (omega arith) t))
 
 -- places that rise from here are handed on after those that came before
 ascends_more : (cap low : ℕ) (xs ys : List ℕ) → Ascends cap xs → All (λ x. x < low) xs → Rise low ys → All (λ y. y < cap) ys → Ascends cap (xs ++ ys)
@@ -80,15 +87,20 @@ ascends_more cap low xs [] up below rise within = subst (Ascends cap) (sym (appe
 ascends_more cap low xs (y ∷ ys) up below rise within =
     let r = rise.0 in
     let under : All (λ x. x < y) xs = All-weaker (λ x. x < low) (λ x. x < y) (λ x l. omega arith) xs below in
-    let more : Ascends cap (xs ++ y ∷ []) = (all_pairs_push (λ a b. a < b) xs y up.0 under, All-push (λ x. x < cap) xs y up.1 (All-head (λ z. z < cap) y ys within)) in
+    let more : Ascends cap (xs ++ y ∷ []) =
+    (all_pairs_push (λ a b. a < b) xs y up.0 under, All-push (λ x. x < cap) xs y up.1 (All-head (λ z. z < cap) y ys within)) in
     subst (Ascends cap) (append_assoc xs (y ∷ []) ys)
-    (ascends_more cap (y + 1) (xs ++ y ∷ []) ys more (All-push (λ x. x < y + 1) xs y (All-weaker (λ x. x < y) (λ x. x < y + 1) (λ x l. omega arith) xs under) (omega arith)) rise.1 (All-tail (λ z. z < cap) y ys within))
+    (ascends_more cap (y + 1) (xs ++ y ∷ []) ys more
+    (All-push (λ x. x < y + 1) xs y (All-weaker (λ x. x < y) (λ x. x < y + 1) (λ x l. omega arith) xs under) (omega arith))
+    rise.1 (All-tail (λ z. z < cap) y ys within))
 
 folds_more : {F : Type 0} (R : F → ℕ → F → Type 0) (xs ys : List ℕ) (v p q : F) → FoldsTo R v xs p → FoldsTo R p ys q → FoldsTo R v (xs ++ ys) q
 folds_more R [] ys v p q a b = subst (λ z. FoldsTo R z ys q) (sym a) b
 folds_more R (x ∷ xs) ys v p q a b = (a.0, a.1, folds_more R xs ys a.0 p q a.2 b)
 
-pub visited_more : {F : Type 0} (R : F → ℕ → F → Type 0) (found first n : ℕ) (v p q : F) (t : Bool) → has_flag found (first + n) ≡ t → (t ≡ true → R p (first + n) q) → (t ≡ false → q ≡ p) → Visited R found first v n p → Visited R found first v (n + 1) q
+pub visited_more : {F : Type 0} (R : F → ℕ → F → Type 0) (found first n : ℕ) (v p q : F) (t : Bool)
+    → has_flag found (first + n) ≡ t → (t ≡ true → R p (first + n) q) → (t ≡ false → q ≡ p)
+    → Visited R found first v n p → Visited R found first v (n + 1) q
 visited_more {F} R found first n v p q t is hit miss h =
     subst (λ xs. FoldsTo R v xs q) (sym whole) (go t is hit miss)
   where
@@ -98,22 +110,30 @@ visited_more {F} R found first n v p q t is hit miss h =
     whole : filter has (range_with_len first (n + 1)) ≡ filter has (range_with_len first n) ++ cond (has (first + n)) ((first + n) ∷ []) []
     whole = ap (filter has) (range_more first n) ∙ filter-append has (range_with_len first n) ((first + n) ∷ [])
 
-    go : (u : Bool) → has (first + n) ≡ u → (u ≡ true → R p (first + n) q) → (u ≡ false → q ≡ p) → FoldsTo R v (filter has (range_with_len first n) ++ cond (has (first + n)) ((first + n) ∷ []) []) q
+    go : (u : Bool) → has (first + n) ≡ u → (u ≡ true → R p (first + n) q) → (u ≡ false → q ≡ p)
+        → FoldsTo R v (filter has (range_with_len first n) ++ cond (has (first + n)) ((first + n) ∷ []) []) q
     go true e hits misses = rw e (FoldsTo-push R v (filter has (range_with_len first n)) p (first + n) q h (hits refl))
-    go false e hits misses = rw e (subst (λ xs. FoldsTo R v xs q) (sym (append-nil (filter has (range_with_len first n)))) (subst (λ z. FoldsTo R v (filter has (range_with_len first n)) z) (sym (misses refl)) h))
+    go false e hits misses =
+        rw e (subst (λ xs. FoldsTo R v xs q) (sym (append-nil (filter has (range_with_len first n))))
+        (subst (λ z. FoldsTo R v (filter has (range_with_len first n)) z) (sym (misses refl)) h))
 
 -- no flag stands from here on
-pub visited_rest : {F : Type 0} (R : F → ℕ → F → Type 0) (found first n m : ℕ) (v p : F) → ((i : ℕ) → n ≤ i → i < n + m → has_flag found (first + i) ≡ false) → Visited R found first v n p → Visited R found first v (n + m) p
+pub visited_rest : {F : Type 0} (R : F → ℕ → F → Type 0) (found first n m : ℕ) (v p : F)
+    → ((i : ℕ) → n ≤ i → i < n + m → has_flag found (first + i) ≡ false) → Visited R found first v n p
+    → Visited R found first v (n + m) p
 visited_rest R found first n zero v p none h =
     let same : n ≡ n + 0 = omega arith in subst (λ k. Visited R found first v k p) same h
 visited_rest R found first n (suc m) v p none h =
     let up : (n + m) + 1 ≡ n + suc m = omega arith in
     subst (λ k. Visited R found first v k p) up
-    (visited_more R found first (n + m) v p p false (none (n + m) (omega arith) (omega arith)) (λ e. absurd (true≢false (sym e))) (λ e. refl) (visited_rest R found first n m v p (λ i low high. none i low (omega arith)) h))
+    (visited_more R found first (n + m) v p p false (none (n + m) (omega arith) (omega arith))
+    (λ e. absurd (true≢false (sym e))) (λ e. refl)
+    (visited_rest R found first n m v p (λ i low high. none i low (omega arith)) h))
 
 -- ---- no place past the capacity is found
 
-clears_cons : (b : ℕ) (e : Event ℕ) (own all : List (Event ℕ)) (t : Bool) → clears b own ≤ clears b all → clears b (cond t (e ∷ []) [] ++ own) ≤ clears b (e ∷ all)
+clears_cons : (b : ℕ) (e : Event ℕ) (own all : List (Event ℕ)) (t : Bool) → clears b own ≤ clears b all
+    → clears b (cond t (e ∷ []) [] ++ own) ≤ clears b (e ∷ all)
 clears_cons b e own all true less =
     let more = sum_by-cons (λ x. cond (is_clear_of b x) 1 0) e own in
     let whole = sum_by-cons (λ x. cond (is_clear_of b x) 1 0) e all in
@@ -126,7 +146,9 @@ clears_of_party : (b p : ℕ) (es : List (Event ℕ)) → clears b (events_by p 
 clears_of_party b p [] = omega arith
 clears_of_party b p (e ∷ es) = clears_cons b e (events_by p es) es (is_party p (whose e)) (clears_of_party b p es)
 
-pub found_clear : (cap word : ℕ) (v w : View ℕ) (room : OneWord) → 1 ≤ word → (s : Stepped kinds.Bits clear_events v w word room) → v.capacity ≡ cap → (place : ℕ) → element_of place ≡ word → cap ≤ place → has_flag room.0 place ≡ false
+pub found_clear : (cap word : ℕ) (v w : View ℕ) (room : OneWord) → 1 ≤ word
+    → (s : Stepped kinds.Bits clear_events v w word room) → v.capacity ≡ cap → (place : ℕ) → element_of place ≡ word
+    → cap ≤ place → has_flag room.0 place ≡ false
 found_clear cap word v w room low s size place here past = go (has_flag room.0 place) refl
   where
     h : IsBitSet s.history.trace
@@ -145,7 +167,8 @@ found_clear cap word v w room low s size place here past = go (has_flag room.0 p
     some : clears place (clear_events {T = ℕ} s.party word room.0) ≤ clears place w.seen
     some =
         let within = clears_of_party place s.party s.since.during in
-        let own : clears place (events_by s.party s.since.during) ≡ clears place (clear_events {T = ℕ} s.party word room.0) = ap (clears place) (s.since.during_own ∙ s.is) in
+        let own : clears place (events_by s.party s.since.during) ≡ clears place (clear_events {T = ℕ} s.party word room.0) =
+        ap (clears place) (s.since.during_own ∙ s.is) in
         let opens = opened s.party emptying v.going in
         let one = clears_more place (v.seen ++ s.since.others) (opens ++ (s.since.during ++ s.last)) in
         let two = clears_more place opens (s.since.during ++ s.last) in
@@ -165,7 +188,8 @@ found_clear cap word v w room low s size place here past = go (has_flag room.0 p
 
 -- ---- the call and its closure
 
-pub first_word : (n : ℕ) (c : Emptying) (m : OneWord) → first_of kinds.Bits n emptying ((opening_of kinds.Bits).kept n) ≡ Some (clearing {T = ℕ} c m) → c.word ≡ 1
+pub first_word : (n : ℕ) (c : Emptying) (m : OneWord)
+    → first_of kinds.Bits n emptying ((opening_of kinds.Bits).kept n) ≡ Some (clearing {T = ℕ} c m) → c.word ≡ 1
 first_word n c m e = let same : clearing {T = ℕ} (record { word = 1; end = 1 + elements n }) (record { 0 = 0 }) ≡ clearing c m = cc in sym (ap flight_word same)
 
 pub has_word : (c : Emptying) (m : OneWord) → flight_word (clearing {T = ℕ} c m) ≡ c.word
@@ -191,7 +215,10 @@ module _ {F : Type 0} (R : F → ℕ → F → Type 0) (cap : ℕ) (visit : F) w
   pub first_so_far : (v : View ℕ) → IsIdle cap v → 0 < cap → SoFar v v (all_bits cap) fresh visit
   first_so_far v idle some =
       record {
-        at = subst (λ n. At one_word kinds.Bits clears_all v v (all_bits n) fresh) idle.known (clear_first v (record { known = refl; idle = idle.idle; alone = idle.alone; some = idle.some }) (subst (λ n. 0 < n) (sym idle.known) some));
+        at =
+            subst (λ n. At one_word kinds.Bits clears_all v v (all_bits n) fresh) idle.known
+            (clear_first v (record { known = refl; idle = idle.idle; alone = idle.alone; some = idle.some })
+            (subst (λ n. 0 < n) (sym idle.known) some));
         size = idle.known;
         end = refl;
         low = omega arith;
@@ -203,8 +230,11 @@ module _ {F : Type 0} (R : F → ℕ → F → Type 0) (cap : ℕ) (visit : F) w
         made = inl (refl, λ p. refl);
       }
 
-  module _ (base v w : View ℕ) (c : Emptying) (m room : OneWord) (n : ℕ) (f : F) (idle : base.going ≡ None) (h : SoFar base v c m f) (kept : room ≡ reset_all_kept m n) (a : After Emptying (Unit {0})) (goes_so : reset_all_after c n ≡ a)
-      (told : (b : View ℕ) → At one_word kinds.Bits clears_all b v c m → Goes kinds.Bits clearing clear_events 1 (λ k. 1 + elements k) has_word first_word b a room w) where
+  module _ (base v w : View ℕ) (c : Emptying) (m room : OneWord) (n : ℕ) (f : F) (idle : base.going ≡ None)
+      (h : SoFar base v c m f) (kept : room ≡ reset_all_kept m n) (a : After Emptying (Unit {0}))
+      (goes_so : reset_all_after c n ≡ a)
+      (told : (b : View ℕ) → At one_word kinds.Bits clears_all b v c m
+      → Goes kinds.Bits clearing clear_events 1 (λ k. 1 + elements k) has_word first_word b a room w) where
     its_step : Stepped kinds.Bits clear_events v w c.word room
     its_step = stepped kinds.Bits clearing clear_events 1 (λ k. 1 + elements k) has_word first_word base v w c m room n h.at a goes_so told
 
@@ -212,11 +242,15 @@ module _ {F : Type 0} (R : F → ℕ → F → Type 0) (cap : ℕ) (visit : F) w
     place_within : (place : ℕ) → first_place c.word ≤ place → place < first_place c.word + 64 → has_flag room.0 place ≡ true → place < cap
     place_within place from to stood =
         ⊎_elim (λ l. l)
-        (λ past. absurd (true≢false (sym stood ∙ found_clear cap c.word v w room h.low its_step (same_capacity_of base v c m h.at ∙ h.size) place (let low = h.low in let is : element_of place ≡ c.word = omega arith in is) past)))
+        (λ past. absurd
+        (true≢false (sym stood ∙ found_clear cap c.word v w room h.low its_step (same_capacity_of base v c m h.at ∙ h.size) place
+        (let low = h.low in let is : element_of place ≡ c.word = omega arith in is) past)))
         (cases_lt place cap)
 
     -- the closure may be called there
-    pub may_visit : {pre : F → ℕ → Type 0} → TakesPlaces pre R cap visit → (k : ℕ) (now : F) → k < 64 → has_flag room.0 (first_place c.word + k) ≡ true → Visited R room.0 (first_place c.word) f k now → pre now (first_place c.word + k)
+    pub may_visit : {pre : F → ℕ → Type 0} → TakesPlaces pre R cap visit → (k : ℕ) (now : F) → k < 64
+        → has_flag room.0 (first_place c.word + k) ≡ true → Visited R room.0 (first_place c.word) f k now
+        → pre now (first_place c.word + k)
     may_visit {pre} takes k now few stood visited =
         let first = first_place c.word in
         let ys = filter (λ place. has_flag room.0 place) (range_with_len first k) in
@@ -248,7 +282,9 @@ module _ {F : Type 0} (R : F → ℕ → F → Type 0) (cap : ℕ) (visit : F) w
           let moved = goes_next c n next e in
           let word : next.word ≡ c.word + 1 = ap (λ (z : Emptying). z.word) moved.0 in
           let end : next.end ≡ c.end = ap (λ (z : Emptying). z.end) moved.0 in
-          let on = goes_on kinds.Bits clearing clear_events 1 (λ k. 1 + elements k) has_word first_word base v w c m room n (λ p. map (cleared_by p) h.places) idle h.made h.at kept next e
+          let on =
+          goes_on kinds.Bits clearing clear_events 1 (λ k. 1 + elements k) has_word first_word base v w c m room n
+          (λ p. map (cleared_by p) h.places) idle h.made h.at kept next e
           (λ b at. subst (λ z. Goes kinds.Bits clearing clear_events 1 (λ k. 1 + elements k) has_word first_word b z room w) is (told b at))
           in
           record {
@@ -262,7 +298,8 @@ module _ {F : Type 0} (R : F → ℕ → F → Type 0) (cap : ℕ) (visit : F) w
             below = (
                 let low = h.low in
                 let far : first_place c.word + 64 ≡ first_place next.word = omega arith in
-                All-append (λ x. x < first_place next.word) h.places (places_in c.word room.0) (All-weaker (λ x. x < first_place c.word) (λ x. x < first_place next.word) (λ x l. omega arith) h.places h.below)
+                All-append (λ x. x < first_place next.word) h.places (places_in c.word room.0)
+                (All-weaker (λ x. x < first_place c.word) (λ x. x < first_place next.word) (λ x l. omega arith) h.places h.below)
                 (kept_all (λ y. y < first_place next.word) (λ place. has_flag room.0 place) (first_place c.word) 64 (λ p from to t. omega arith)));
             folds = all_folds;
             made = subst (λ z. MadeSoFar emptying base w z) (λ i p. same_events p i) on.0;
@@ -271,7 +308,9 @@ module _ {F : Type 0} (R : F → ℕ → F → Type 0) (cap : ℕ) (visit : F) w
       pub cleared_all : a ≡ Done tt → HasCleanedOut R cap visit base w × HasDone kinds.Bits base w
       cleared_all is =
           let e : reset_all_after c n ≡ Done tt = goes_so ∙ is in
-          let all = ends_all kinds.Bits clearing clear_events 1 (λ k. 1 + elements k) has_word first_word base v w c m room n (λ p. map (cleared_by p) h.places) idle h.made h.at kept e
+          let all =
+          ends_all kinds.Bits clearing clear_events 1 (λ k. 1 + elements k) has_word first_word base v w c m room n
+          (λ p. map (cleared_by p) h.places) idle h.made h.at kept e
           (λ b at. subst (λ z. Goes kinds.Bits clearing clear_events 1 (λ k. 1 + elements k) has_word first_word b z room w) is (told b at))
           in
           let ends = all.0 in (
@@ -282,23 +321,28 @@ module _ {F : Type 0} (R : F → ℕ → F → Type 0) (cap : ℕ) (visit : F) w
               visited = all_folds;
               by = ends.party;
               mine = ends.mine;
-              called = subst (λ es. Called ends.party emptying answers.Done es base w) (all.1 ∙ same_events ends.party) (called one_word kinds.Bits clears_all base w tt room idle ends);
+              called =
+                  subst (λ es. Called ends.party emptying answers.Done es base w) (all.1 ∙ same_events ends.party)
+                  (called one_word kinds.Bits clears_all base w tt room idle ends);
             },
             done kinds.Bits clears_all (λ o p h. h) base w tt room ends,
           )
 
 -- nothing that stood was missed
-pub missed_none : {F : Type 0} (R : F → ℕ → F → Type 0) (cap : ℕ) (visit : F) (base w : View ℕ) → base.capacity ≡ cap → HasDone kinds.Bits base w → HasCleanedOut R cap visit base w → MissedNoPlace cap w
+pub missed_none : {F : Type 0} (R : F → ℕ → F → Type 0) (cap : ℕ) (visit : F) (base w : View ℕ)
+    → base.capacity ≡ cap → HasDone kinds.Bits base w → HasCleanedOut R cap visit base w → MissedNoPlace cap w
 missed_none R cap visit base w size over out =
     let p = out.by in
     let h = over.history in
     let before = before_end out.called in
     let set : IsBitSet h.trace = bits_go_on h.trace h.run.of_kind h.run.reached in
-    let right : SinceBegin p (HasCleared h.trace.world.capacity) before = set.answers before [] (Finished p (Bits ResetAll) answers.Done) (sym h.is ∙ to_end out.called) in
+    let right : SinceBegin p (HasCleared h.trace.world.capacity) before =
+    set.answers before [] (Finished p (Bits ResetAll) answers.Done) (sym h.is ∙ to_end out.called) in
     record { by = p; before = before; is = to_end out.called; cleared = subst (λ n. SinceBegin p (HasCleared n) before) (h.run.sized ∙ size) right }
 
 -- where there is no place, nothing is cleared and the closure is not called
-pub cleared_none : {F : Type 0} (R : F → ℕ → F → Type 0) (visit : F) (base w : View ℕ) (m : OneWord) → base.going ≡ None → Ends one_word kinds.Bits (empties_none clearing) base tt m w → HasCleanedOut R 0 visit base w
+pub cleared_none : {F : Type 0} (R : F → ℕ → F → Type 0) (visit : F) (base w : View ℕ) (m : OneWord)
+    → base.going ≡ None → Ends one_word kinds.Bits (empties_none clearing) base tt m w → HasCleanedOut R 0 visit base w
 cleared_none R visit base w m idle ends =
     record {
       places = [];
@@ -307,5 +351,7 @@ cleared_none R visit base w m idle ends =
       visited = refl;
       by = ends.party;
       mine = ends.mine;
-      called = subst (λ es. Called ends.party emptying answers.Done es base w) ends.tells (called one_word kinds.Bits (empties_none clearing) base w tt m idle ends);
+      called =
+          subst (λ es. Called ends.party emptying answers.Done es base w) ends.tells
+          (called one_word kinds.Bits (empties_none clearing) base w tt m idle ends);
     }

@@ -1,5 +1,6 @@
 -- Resetting the next place: a call of the model, and what it answers.
-use Rattle.std.proofs.Common.{◌≡◌, inl, ℕ, ◌+◌, ◌-◌, ◌<◌, ◌≤◌, ◌==◌, nat_lt, Bool, true, false, Option, Some, None, IfSome, List, [], ◌++◌, refl, sym, ap, subst, ◌∙◌, arith}
+use Rattle.std.proofs.Common.{◌≡◌, inl, ℕ, ◌+◌, ◌-◌, ◌<◌, ◌≤◌, ◌==◌, nat_lt, Bool, true, false, Option, Some, None}
+use Rattle.std.proofs.Common.{IfSome, List, [], ◌++◌, refl, sym, ap, subst, ◌∙◌, arith}
 use Rattle.std.proofs.lemmas.Bool.Decides.{nat_tests}
 use Rattle.steps.specs.Picks.{by_test}
 use Rattle.steps.specs.Queues.Ring.{after_position}
@@ -64,22 +65,32 @@ comes_to cap p start passed from low =
 
 tests : (cap p start passed k : ℕ) (from : ResetNextStage) → start ≤ cap → passed < cap → Stands cap p (reset_tests (at_stage cap from) start passed k) []
 tests cap p start passed k from low few =
-    by_test (λ a. Stands cap p a []) (has_flag k (place_after cap start passed)) (GoOn (at_stage cap (resets.TheVariants.ExchangesElement start passed k))) (reset_comes_to (at_stage cap from) start (passed + 1))
+    by_test (λ a. Stands cap p a []) (has_flag k (place_after cap start passed))
+    (GoOn (at_stage cap (resets.TheVariants.ExchangesElement start passed k)))
+    (reset_comes_to (at_stage cap from) start (passed + 1))
     (λ t. (refl, (low, few), refl)) (λ t. comes_to cap p start (passed + 1) from low)
 
 -- what a step makes of what the call had written
-takes : (cap p n : ℕ) (m : Unit {0}) (stage : ResetNextStage) → ResetStands cap stage → Stands cap p (reset_after (at_stage cap stage) n) (reset_so_far p stage ++ set_effects p (resets_next.flight (at_stage cap stage) m) n)
+takes : (cap p n : ℕ) (m : Unit {0}) (stage : ResetNextStage) → ResetStands cap stage
+    → Stands cap p (reset_after (at_stage cap stage) n)
+    (reset_so_far p stage ++ set_effects p (resets_next.flight (at_stage cap stage) m) n)
 takes cap p n m resets.TheVariants.LoadsPosition h = comes_to cap p (at_most cap n) 0 resets.TheVariants.LoadsPosition (at_most_below cap n)
 takes cap p n m (resets.TheVariants.LoadsElement start passed) h = tests cap p start passed n (resets.TheVariants.LoadsElement start passed) h.0 h.1
 takes cap p n m (resets.TheVariants.ExchangesElement start passed found) h = go (n == found) refl
   where
-    go : (b : Bool) → (n == found) ≡ b → Stands cap p (reset_after (at_stage cap (resets.TheVariants.ExchangesElement start passed found)) n) ([] ++ set_effects p (resets_next.flight (at_stage cap (resets.TheVariants.ExchangesElement start passed found)) m) n)
+    go : (b : Bool) → (n == found) ≡ b
+        → Stands cap p (reset_after (at_stage cap (resets.TheVariants.ExchangesElement start passed found)) n)
+        ([] ++ set_effects p (resets_next.flight (at_stage cap (resets.TheVariants.ExchangesElement start passed found)) m) n)
     go true t = rw t (refl, place_below cap start passed h.0 h.1, refl)
     go false t = rw t (tests cap p start passed n (resets.TheVariants.ExchangesElement start passed found) h.0 h.1)
 takes cap p n m (resets.TheVariants.StoresPosition place) h = (h, refl)
 
-stands_on : (cap p n : ℕ) (m : Unit {0}) (c : Resetting) → (c.capacity ≡ cap) × ResetStands cap c.stage → Stands cap p (reset_after c n) (reset_so_far p c.stage ++ set_effects p (resets_next.flight c m) n)
-stands_on cap p n m c h = subst (λ k. Stands cap p (reset_after (at_stage k c.stage) n) (reset_so_far p c.stage ++ set_effects p (resets_next.flight (at_stage k c.stage) m) n)) (sym h.0) (takes cap p n m c.stage h.1)
+stands_on : (cap p n : ℕ) (m : Unit {0}) (c : Resetting) → (c.capacity ≡ cap) × ResetStands cap c.stage
+    → Stands cap p (reset_after c n) (reset_so_far p c.stage ++ set_effects p (resets_next.flight c m) n)
+stands_on cap p n m c h =
+    subst (λ k. Stands cap p (reset_after (at_stage k c.stage) n)
+    (reset_so_far p c.stage ++ set_effects p (resets_next.flight (at_stage k c.stage) m) n))
+    (sym h.0) (takes cap p n m c.stage h.1)
 
 -- ---- it is a call of the model
 
@@ -101,7 +112,11 @@ asks cap c h = subst (λ k. (a : Ask) × (a.word < 1 + elements cap) × (reset_a
 
     at : (stage : ResetNextStage) → ResetStands cap stage → (a : Ask) × (a.word < 1 + elements cap) × (reset_asks cap stage ≡ wants.Ask a)
     at resets.TheVariants.LoadsPosition s = (record { word = 0; op = Load }, omega arith, refl)
-    at (resets.TheVariants.LoadsElement start passed) s = (record { word = element_of (place_after cap start passed); op = Load }, near (place_after cap start passed) (place_below cap start passed s.0 s.1), refl)
+    at (resets.TheVariants.LoadsElement start passed) s = (
+      record { word = element_of (place_after cap start passed); op = Load },
+      near (place_after cap start passed) (place_below cap start passed s.0 s.1),
+      refl,
+    )
     at (resets.TheVariants.ExchangesElement start passed found) s = (
       record { word = element_of (place_after cap start passed); op = Exchange found (without_flag found (place_after cap start passed)) },
       near (place_after cap start passed) (place_below cap start passed s.0 s.1),
@@ -121,7 +136,11 @@ hears c a n e = at c.stage e
         let same : record { word = element_of (place_after c.capacity start passed); op = Load } ≡ a = cc in
         ap (λ (z : Ask). reset_takes c (resets.TheVariants.LoadsElement start passed) (answered z.op n)) (sym same)
     at (resets.TheVariants.ExchangesElement start passed found) w =
-        let same : record { word = element_of (place_after c.capacity start passed); op = Exchange found (without_flag found (place_after c.capacity start passed)) } ≡ a = cc in
+        let same : record {
+          word = element_of (place_after c.capacity start passed);
+          op = Exchange found (without_flag found (place_after c.capacity start passed));
+        } ≡ a =
+        cc in
         ap (λ (z : Ask). reset_takes c (resets.TheVariants.ExchangesElement start passed found) (answered z.op n)) (sym same)
     at (resets.TheVariants.StoresPosition place) w = refl
 
@@ -131,26 +150,57 @@ is_call =
       same_want = λ c m. refl;
       same_after = λ capacity c m n h. same_after c m n;
       hears = λ c m a n e. (hears c a n e, refl);
-      stays = λ capacity c d n stands e. (let h = subst (λ a. Stands capacity 0 a (reset_so_far 0 c.stage ++ set_effects 0 (resets_next.flight c tt) n)) e (stands_on capacity 0 n tt c stands) in (h.0, h.1));
+      stays =
+          λ capacity c d n stands e.
+          (let h =
+          subst (λ a. Stands capacity 0 a (reset_so_far 0 c.stage ++ set_effects 0 (resets_next.flight c tt) n)) e
+          (stands_on capacity 0 n tt c stands) in
+          (h.0, h.1));
       asks = asks;
       past = λ capacity c d n k h e. refl;
       finds = λ c m n small t. tt;
       leaves = λ c a n t e. absurd (cc);
-      tells = λ capacity p from c d m n es stands wrote e none. (let h = subst (λ a. Stands capacity p a (reset_so_far p c.stage ++ set_effects p (resets_next.flight c m) n)) e (stands_on capacity p n m c stands) in ap (λ zs. zs ++ set_effects p (resets_next.flight c m) n) (wrote none) ∙ h.2);
+      tells =
+          λ capacity p from c d m n es stands wrote e none.
+          (let h =
+          subst (λ a. Stands capacity p a (reset_so_far p c.stage ++ set_effects p (resets_next.flight c m) n)) e
+          (stands_on capacity p n m c stands) in
+          ap (λ zs. zs ++ set_effects p (resets_next.flight c m) n) (wrote none) ∙ h.2);
       tells_all = λ capacity p from c o m n es stands skip wrote e still. (
           let h = subst (λ a. Stands capacity p a (reset_so_far p c.stage ++ set_effects p (resets_next.flight c m) n)) e (stands_on capacity p n m c stands) in
           (h.0, λ none. ap (λ zs. zs ++ set_effects p (resets_next.flight c m) n) (wrote none) ∙ h.1));
     }
 
-pub next_keeps : KeepsRule (λ (z : View ℕ). z.capacity) (At one_word kinds.Bits resets_next) (Ends one_word kinds.Bits resets_next) (λ key. 1 + elements key + 1) (λ key. key) (λ key. IsMachine one_word kinds.Bits key) reset_want reset_after (λ c m n. m)
-next_keeps = keeps_all one_word kinds.Bits set_effects (λ capacity. 1 + elements capacity) (bits_owe one_word) reset_want reset_after (λ c m n. m) resets_next is_call (λ c n. refl)
+pub next_keeps : KeepsRule (λ (z : View ℕ). z.capacity) (At one_word kinds.Bits resets_next)
+    (Ends one_word kinds.Bits resets_next) (λ key. 1 + elements key + 1) (λ key. key)
+    (λ key. IsMachine one_word kinds.Bits key) reset_want reset_after (λ c m n. m)
+next_keeps =
+    keeps_all one_word kinds.Bits set_effects (λ capacity. 1 + elements capacity) (bits_owe one_word) reset_want
+    reset_after (λ c m n. m) resets_next is_call (λ c n. refl)
 
 pub next_first : (v : View ℕ) (m : Unit {0}) → IsIdle v.capacity v → At one_word kinds.Bits resets_next v v (first_reset v.capacity) m
-next_first v m idle = inl (record { is = refl; idle = idle.idle; fresh = idle.alone; standing = (refl, tt); some = idle.some; first = refl; starts = bits_starts one_word resets_next v (first_reset v.capacity) m (λ o p h. h) refl (λ p. refl); wrote = λ p e. refl })
+next_first v m idle =
+    inl (record {
+      is = refl;
+      idle = idle.idle;
+      fresh = idle.alone;
+      standing = (refl, tt);
+      some = idle.some;
+      first = refl;
+      starts = bits_starts one_word resets_next v (first_reset v.capacity) m (λ o p h. h) refl (λ p. refl);
+      wrote = λ p e. refl;
+    })
 
 module _ (base w : View ℕ) (o : Option ℕ) (m : Unit {0}) (idle : base.going ≡ None) (ends : Ends one_word kinds.Bits resets_next base o m w) where
   pub cleared : HasReset o base w
-  cleared = record { by = ends.party; mine = ends.mine; called = subst (λ es. Called ends.party (Bits ResetNext) (reset_answer o) es base w) (ends.tells.1 idle) (called one_word kinds.Bits resets_next base w o m idle ends) }
+  cleared =
+      record {
+        by = ends.party;
+        mine = ends.mine;
+        called =
+            subst (λ es. Called ends.party (Bits ResetNext) (reset_answer o) es base w) (ends.tells.1 idle)
+            (called one_word kinds.Bits resets_next base w o m idle ends);
+      }
 
   pub place_in : IfSome o (λ place. place < base.capacity)
   place_in = go o ends.tells.0
@@ -163,7 +213,10 @@ module _ (base w : View ℕ) (o : Option ℕ) (m : Unit {0}) (idle : base.going 
   all_clear none =
       let p = ends.party in
       let h = ends.history in
-      let c : Called p (Bits ResetNext) ResetNone ends.wrote base w = subst (λ z. Called p (Bits ResetNext) (reset_answer z) ends.wrote base w) none (called one_word kinds.Bits resets_next base w o m idle ends) in
+      let c : Called p (Bits ResetNext) ResetNone ends.wrote base w =
+      subst (λ z. Called p (Bits ResetNext) (reset_answer z) ends.wrote base w) none
+      (called one_word kinds.Bits resets_next base w o m idle ends) in
       let set : IsBitSet h.trace = bits_go_on h.trace h.run.of_kind h.run.reached in
-      let right : (b : ℕ) → b < h.trace.world.capacity → HeldOnce p (λ part. standing b part ≡ 0) (before_end c) = set.answers (before_end c) [] (Finished p (Bits ResetNext) ResetNone) (sym h.is ∙ to_end c) in
+      let right : (b : ℕ) → b < h.trace.world.capacity → HeldOnce p (λ part. standing b part ≡ 0) (before_end c) =
+      set.answers (before_end c) [] (Finished p (Bits ResetNext) ResetNone) (sym h.is ∙ to_end c) in
       record { by = p; before = before_end c; is = to_end c; clear = λ place below. right place (subst (λ n. place < n) (sym h.run.sized) below) }

@@ -33,22 +33,30 @@ use Rattle.lock_free.specs.Bits.Told.{HasSet, StoodOnce}
 use Rattle.lock_free.proofs.Counts.Ends.{before_end, to_end}
 
 module _ (place : ℕ) where
-  same_after : (c : Setting) (m : Unit {0}) (n : ℕ) → after_of one_word ((sets_place {T = ℕ} place).flight c m) n ≡ goes (sets_place place) (set_after c place n) m
+  same_after : (c : Setting) (m : Unit {0}) (n : ℕ)
+      → after_of one_word ((sets_place {T = ℕ} place).flight c m) n ≡ goes (sets_place place) (set_after c place n) m
   same_after c m n = at c.stage
     where
-      tests : (b : Bool) → has_flag n place ≡ b → (k : SetStage) → after_of one_word ((sets_place {T = ℕ} place).flight (record { stage = sets.TheVariants.LoadsElement }) m) n ≡ goes (sets_place place) (set_tests place n) m
+      tests : (b : Bool) → has_flag n place ≡ b → (k : SetStage)
+          → after_of one_word ((sets_place {T = ℕ} place).flight (record { stage = sets.TheVariants.LoadsElement }) m) n
+          ≡ goes (sets_place place) (set_tests place n) m
       tests true t k = rw t refl
       tests false t k = rw t refl
 
-      at : (stage : SetStage) → after_of one_word ((sets_place {T = ℕ} place).flight (record { stage = stage }) m) n ≡ goes (sets_place place) (set_after (record { stage = stage }) place n) m
+      at : (stage : SetStage) → after_of one_word ((sets_place {T = ℕ} place).flight (record { stage = stage }) m) n
+          ≡ goes (sets_place place) (set_after (record { stage = stage }) place n) m
       at sets.TheVariants.LoadsElement = tests (has_flag n place) refl sets.TheVariants.LoadsElement
       at (sets.TheVariants.ExchangesElement found) = go (n == found) refl
         where
-          go : (b : Bool) → (n == found) ≡ b → after_of one_word ((sets_place {T = ℕ} place).flight (record { stage = sets.TheVariants.ExchangesElement found }) m) n ≡ goes (sets_place place) (set_after (record { stage = sets.TheVariants.ExchangesElement found }) place n) m
+          go : (b : Bool) → (n == found) ≡ b
+              → after_of one_word ((sets_place {T = ℕ} place).flight (record { stage = sets.TheVariants.ExchangesElement found }) m) n
+              ≡ goes (sets_place place) (set_after (record { stage = sets.TheVariants.ExchangesElement found }) place n) m
           go true t = rw t refl
           go false t = test (has_flag n place) refl
             where
-              test : (b : Bool) → has_flag n place ≡ b → after_of one_word ((sets_place {T = ℕ} place).flight (record { stage = sets.TheVariants.ExchangesElement found }) m) n ≡ goes (sets_place place) (set_after (record { stage = sets.TheVariants.ExchangesElement found }) place n) m
+              test : (b : Bool) → has_flag n place ≡ b
+                  → after_of one_word ((sets_place {T = ℕ} place).flight (record { stage = sets.TheVariants.ExchangesElement found }) m) n
+                  ≡ goes (sets_place place) (set_after (record { stage = sets.TheVariants.ExchangesElement found }) place n) m
               test true u = rw (t, u) refl
               test false u = rw (t, u) refl
 
@@ -65,7 +73,8 @@ module _ (place : ℕ) where
   hears : (c : Setting) (a : Ask) (n : ℕ) → set_want c place ≡ wants.Ask a → set_after c place (answered a.op n) ≡ set_after c place n
   hears c a n e = at c.stage e
     where
-      at : (stage : SetStage) → set_want (record { stage = stage }) place ≡ wants.Ask a → set_after (record { stage = stage }) place (answered a.op n) ≡ set_after (record { stage = stage }) place n
+      at : (stage : SetStage) → set_want (record { stage = stage }) place ≡ wants.Ask a
+          → set_after (record { stage = stage }) place (answered a.op n) ≡ set_after (record { stage = stage }) place n
       at sets.TheVariants.LoadsElement w =
           let same : record { word = element_of place; op = Load } ≡ a = cc in
           ap (λ (z : Ask). set_after (record { stage = sets.TheVariants.LoadsElement }) place (answered z.op n)) (sym same)
@@ -88,15 +97,19 @@ module _ (place : ℕ) where
   writes : (p : ℕ) (c : Setting) (m : Unit {0}) (n : ℕ) → Wrote p (set_after c place n) (set_effects p ((sets_place place).flight c m) n)
   writes p c m n = at c.stage
     where
-      at : (stage : SetStage) → Wrote p (set_after (record { stage = stage }) place n) (set_effects p ((sets_place place).flight (record { stage = stage }) m) n)
+      at : (stage : SetStage) → Wrote p (set_after (record { stage = stage }) place n)
+          (set_effects p ((sets_place place).flight (record { stage = stage }) m) n)
       at sets.TheVariants.LoadsElement = tested p n
       at (sets.TheVariants.ExchangesElement found) = go (n == found) refl
         where
-          go : (b : Bool) → (n == found) ≡ b → Wrote p (set_after (record { stage = sets.TheVariants.ExchangesElement found }) place n) (set_effects p ((sets_place place).flight (record { stage = sets.TheVariants.ExchangesElement found }) m) n)
+          go : (b : Bool) → (n == found) ≡ b
+              → Wrote p (set_after (record { stage = sets.TheVariants.ExchangesElement found }) place n)
+              (set_effects p ((sets_place place).flight (record { stage = sets.TheVariants.ExchangesElement found }) m) n)
           go true t = rw t refl
           go false t = rw t (tested p n)
 
-  is_call : IsCallOf one_word set_effects (λ capacity. 1 + elements capacity) (λ c. set_want c place) (λ c n. set_after c place n) (λ c m n. m) (sets_place {T = ℕ} place)
+  is_call : IsCallOf one_word set_effects (λ capacity. 1 + elements capacity) (λ c. set_want c place)
+      (λ c n. set_after c place n) (λ c m n. m) (sets_place {T = ℕ} place)
   is_call =
       record {
         same_want = λ c m. refl;
@@ -107,26 +120,57 @@ module _ (place : ℕ) where
         past = λ capacity c d n k h e. refl;
         finds = λ c m n small t. tt;
         leaves = λ c a n t e. absurd (cc);
-        tells = λ capacity p from c d m n es stands wrote e. ap (λ zs. zs ++ set_effects p ((sets_place place).flight c m) n) wrote ∙ subst (λ a. Wrote p a (set_effects p ((sets_place place).flight c m) n)) e (writes p c m n);
-        tells_all = λ capacity p from c b m n es stands skip wrote e still. ap (λ zs. zs ++ set_effects p ((sets_place place).flight c m) n) wrote ∙ subst (λ a. Wrote p a (set_effects p ((sets_place place).flight c m) n)) e (writes p c m n);
+        tells =
+            λ capacity p from c d m n es stands wrote e. ap (λ zs. zs ++ set_effects p ((sets_place place).flight c m) n) wrote
+            ∙ subst (λ a. Wrote p a (set_effects p ((sets_place place).flight c m) n)) e (writes p c m n);
+        tells_all =
+            λ capacity p from c b m n es stands skip wrote e still. ap (λ zs. zs ++ set_effects p ((sets_place place).flight c m) n) wrote
+            ∙ subst (λ a. Wrote p a (set_effects p ((sets_place place).flight c m) n)) e (writes p c m n);
       }
 
-  pub set_keeps : KeepsRule (λ (z : View ℕ). z.capacity) (At one_word kinds.Bits (sets_place place)) (Ends one_word kinds.Bits (sets_place place)) (λ key. 1 + elements key + 1) (λ key. key) (λ key. IsMachine one_word kinds.Bits key) (λ c. set_want c place) (λ c n. set_after c place n) (λ c m n. m)
-  set_keeps = keeps_all one_word kinds.Bits set_effects (λ capacity. 1 + elements capacity) (bits_owe one_word) (λ c. set_want c place) (λ c n. set_after c place n) (λ c m n. m) (sets_place place) is_call (λ c n. refl)
+  pub set_keeps : KeepsRule (λ (z : View ℕ). z.capacity) (At one_word kinds.Bits (sets_place place))
+      (Ends one_word kinds.Bits (sets_place place)) (λ key. 1 + elements key + 1) (λ key. key)
+      (λ key. IsMachine one_word kinds.Bits key) (λ c. set_want c place) (λ c n. set_after c place n) (λ c m n. m)
+  set_keeps =
+      keeps_all one_word kinds.Bits set_effects (λ capacity. 1 + elements capacity) (bits_owe one_word)
+      (λ c. set_want c place) (λ c n. set_after c place n) (λ c m n. m) (sets_place place) is_call (λ c n. refl)
 
   pub set_first : (v : View ℕ) (m : Unit {0}) → IsIdle v.capacity v → place < v.capacity → At one_word kinds.Bits (sets_place place) v v first_set m
   set_first v m idle below =
       let past : nat_le v.capacity place ≡ false = grind (arith, nat_tests) in
-      inl (record { is = refl; idle = idle.idle; fresh = idle.alone; standing = below; some = idle.some; first = refl; starts = bits_starts one_word (sets_place place) v first_set m (λ o p h. h) refl (λ p. rw past refl); wrote = λ p. refl })
+      inl (record {
+        is = refl;
+        idle = idle.idle;
+        fresh = idle.alone;
+        standing = below;
+        some = idle.some;
+        first = refl;
+        starts = bits_starts one_word (sets_place place) v first_set m (λ o p h. h) refl (λ p. rw past refl);
+        wrote = λ p. refl;
+      })
 
   module _ (base w : View ℕ) (b : Bool) (m : Unit {0}) (idle : base.going ≡ None) (ends : Ends one_word kinds.Bits (sets_place place) base b m w) where
     pub added : HasSet place b base w
-    added = record { by = ends.party; mine = ends.mine; called = subst (λ es. Called ends.party (Bits (Set place)) (Truth b) es base w) ends.tells (called one_word kinds.Bits (sets_place place) base w b m idle ends) }
+    added =
+        record {
+          by = ends.party;
+          mine = ends.mine;
+          called =
+              subst (λ es. Called ends.party (Bits (Set place)) (Truth b) es base w) ends.tells
+              (called one_word kinds.Bits (sets_place place) base w b m idle ends);
+        }
 
     pub stood : b ≡ false → StoodOnce place w
     stood not =
         let p = ends.party in
         let h = ends.history in
-        let c : Called p (Bits (Set place)) (Truth false) ends.wrote base w = subst (λ z. Called p (Bits (Set place)) (Truth z) ends.wrote base w) not (called one_word kinds.Bits (sets_place place) base w b m idle ends) in
+        let c : Called p (Bits (Set place)) (Truth false) ends.wrote base w =
+        subst (λ z. Called p (Bits (Set place)) (Truth z) ends.wrote base w) not
+        (called one_word kinds.Bits (sets_place place) base w b m idle ends) in
         let set : IsBitSet h.trace = bits_go_on h.trace h.run.of_kind h.run.reached in
-        record { by = p; before = before_end c; is = to_end c; stood = set.answers (before_end c) [] (Finished p (Bits (Set place)) (Truth false)) (sym h.is ∙ to_end c) }
+        record {
+          by = p;
+          before = before_end c;
+          is = to_end c;
+          stood = set.answers (before_end c) [] (Finished p (Bits (Set place)) (Truth false)) (sym h.is ∙ to_end c);
+        }

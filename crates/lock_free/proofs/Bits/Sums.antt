@@ -1,6 +1,7 @@
 -- For clients: what each call on a bit set adds to what its pass made, place by place, and that nothing stands where a
 -- pass with the whole share found none to reset.
-use Rattle.std.proofs.Common.{◌≡◌, ◌==◌, ℕ, ◌+◌, ◌<◌, ◌≤◌, Bool, true, false, cond, Some, None, List, [], ◌∷◌, ◌++◌, refl, sym, ap, subst, ◌∙◌, append_assoc, arith, ⊎_elim}
+use Rattle.std.proofs.Common.{◌≡◌, ◌==◌, ℕ, ◌+◌, ◌<◌, ◌≤◌, Bool, true, false, cond, Some, None, List, [], ◌∷◌, ◌++◌}
+use Rattle.std.proofs.Common.{refl, sym, ap, subst, ◌∙◌, append_assoc, arith, ⊎_elim}
 use Rattle.std.proofs.lemmas.Bool.{cases_lt}
 use Rattle.std.proofs.lemmas.Bool.Decides.{nat_tests}
 use Rattle.std.specs.List.{sum_by}
@@ -42,7 +43,8 @@ sets_within capacity events h b past =
 module _ (old new : View ℕ) where
   -- ---- a set
 
-  pub set_adds : (place : ℕ) → HasSet place true old new → (b : ℕ) → (sets b new.made ≡ sets b old.made + cond (place == b) 1 0) × (clears b new.made ≡ clears b old.made)
+  pub set_adds : (place : ℕ) → HasSet place true old new → (b : ℕ)
+      → (sets b new.made ≡ sets b old.made + cond (place == b) 1 0) × (clears b new.made ≡ clears b old.made)
   set_adds place h b =
       let wrote : List (Event ℕ) = events.TheVariants.Set h.by place ∷ [] in
       let s = sum_made (λ e. cond (is_set_of b e) 1 0) h.by (Bits (Set place)) (Truth true) wrote old new h.called in
@@ -76,7 +78,8 @@ module _ (old new : View ℕ) where
 
   -- ---- a reset of the next place
 
-  pub reset_adds : (place : ℕ) → HasReset (Some place) old new → (b : ℕ) → (sets b new.made ≡ sets b old.made) × (clears b new.made ≡ clears b old.made + cond (place == b) 1 0)
+  pub reset_adds : (place : ℕ) → HasReset (Some place) old new → (b : ℕ)
+      → (sets b new.made ≡ sets b old.made) × (clears b new.made ≡ clears b old.made + cond (place == b) 1 0)
   reset_adds place h b =
       let wrote : List (Event ℕ) = Cleared h.by place ∷ [] in
       let s = sum_made (λ e. cond (is_set_of b e) 1 0) h.by (Bits ResetNext) (reset_answer (Some place)) wrote old new h.called in
@@ -90,7 +93,9 @@ module _ (old new : View ℕ) where
       (omega arith, omega arith)
 
   -- where it found none and all that was seen is what its pass made, nothing stands: each place was cleared as often as set
-  pub none_left : (capacity : ℕ) → IsHistory one_word kinds.Bits capacity new.seen → ((f : Event ℕ → ℕ) → sum_by f old.seen ≡ sum_by f old.made) → ((f : Event ℕ → ℕ) → sum_by f new.seen ≡ sum_by f new.made)
+  pub none_left : (capacity : ℕ) → IsHistory one_word kinds.Bits capacity new.seen
+      → ((f : Event ℕ → ℕ) → sum_by f old.seen ≡ sum_by f old.made)
+      → ((f : Event ℕ → ℕ) → sum_by f new.seen ≡ sum_by f new.made)
       → HasReset None old new → AllClearOnce capacity new → (b : ℕ) → sets b new.made ≡ clears b new.made
   none_left capacity history before after h clear b = ⊎_elim below past (cases_lt b capacity)
     where
@@ -119,12 +124,19 @@ module _ (old new : View ℕ) where
           let end_there : List (Event ℕ) = Finished q (Bits ResetNext) ResetNone ∷ [] in
           let front = old.seen ++ h.called.others in
           let once = clear.clear b near in
-          let whole : front ++ Begun p (Bits ResetNext) ∷ (h.called.during ++ end) ≡ once.part ++ (once.rest ++ end_there) = sym h.called.is ∙ (clear.is ∙ (ap (λ es. es ++ end_there) once.is ∙ append_assoc once.part once.rest end_there)) in
-          let ends : (front ++ Begun p (Bits ResetNext) ∷ h.called.during) ++ end ≡ clear.before ++ end_there = append_assoc front (Begun p (Bits ResetNext) ∷ h.called.during) end ∙ (sym h.called.is ∙ clear.is) in
-          let last = same_last (front ++ Begun p (Bits ResetNext) ∷ h.called.during) clear.before (Finished p (Bits ResetNext) ResetNone) (Finished q (Bits ResetNext) ResetNone) ends in
+          let whole : front ++ Begun p (Bits ResetNext) ∷ (h.called.during ++ end) ≡ once.part ++ (once.rest ++ end_there) =
+          sym h.called.is ∙ (clear.is ∙ (ap (λ es. es ++ end_there) once.is ∙ append_assoc once.part once.rest end_there)) in
+          let ends : (front ++ Begun p (Bits ResetNext) ∷ h.called.during) ++ end ≡ clear.before ++ end_there =
+          append_assoc front (Begun p (Bits ResetNext) ∷ h.called.during) end ∙ (sym h.called.is ∙ clear.is) in
+          let last =
+          same_last (front ++ Begun p (Bits ResetNext) ∷ h.called.during) clear.before
+          (Finished p (Bits ResetNext) ResetNone) (Finished q (Bits ResetNext) ResetNone) ends in
           let party : q ≡ p = cc in
-          let none : BeginsNone p (once.rest ++ end_there) = begins_none_more p once.rest end_there (subst (λ z. BeginsNone z once.rest) party once.within) tt in
-          let reached = reaches (λ e. cond (is_set_of b e) 1 0) p (Bits ResetNext) front (h.called.during ++ end) once.part (once.rest ++ end_there) whole none in
+          let none : BeginsNone p (once.rest ++ end_there) =
+          begins_none_more p once.rest end_there (subst (λ z. BeginsNone z once.rest) party once.within) tt in
+          let reached =
+          reaches (λ e. cond (is_set_of b e) 1 0) p (Bits ResetNext) front (h.called.during ++ end) once.part
+          (once.rest ++ end_there) whole none in
           let grown = sets_more b old.seen h.called.others in
           let later = clears_more b once.part (once.rest ++ end_there) in
           let all : clears b new.seen ≡ clears b (once.part ++ (once.rest ++ end_there)) = ap (clears b) (h.called.is ∙ whole) in

@@ -47,17 +47,39 @@ module _ (place : ℕ) where
           let same : record { word = place; op = Add 1 } ≡ a = cc in
           ap (λ (z : Ask). set_after c (answered z.op n)) (sym same)
 
-  pub count_keeps : KeepsRule (λ (z : View ℕ). z.capacity) (At one_word kinds.Counts (counts_place place)) (Ends one_word kinds.Counts (counts_place place)) (λ key. key + 1) (λ key. key) (λ key. IsMachine one_word kinds.Counts key) (λ c. set_want c place) (λ c n. set_after c n) (λ c m n. m)
-  count_keeps = keeps_all one_word kinds.Counts set_effects (λ capacity. capacity) (counts_owe one_word) (λ c. set_want c place) (λ c n. set_after c n) (λ c m n. m) (counts_place place) is_call (λ c n. refl)
+  pub count_keeps : KeepsRule (λ (z : View ℕ). z.capacity) (At one_word kinds.Counts (counts_place place))
+      (Ends one_word kinds.Counts (counts_place place)) (λ key. key + 1) (λ key. key)
+      (λ key. IsMachine one_word kinds.Counts key) (λ c. set_want c place) (λ c n. set_after c n) (λ c m n. m)
+  count_keeps =
+      keeps_all one_word kinds.Counts set_effects (λ capacity. capacity) (counts_owe one_word) (λ c. set_want c place)
+      (λ c n. set_after c n) (λ c m n. m) (counts_place place) is_call (λ c n. refl)
 
-  pub count_first : (v : View ℕ) (c : counting.Set) (m : Unit {0}) → IsIdle v.capacity v → place < v.capacity → At one_word kinds.Counts (counts_place place) v v c m
+  pub count_first : (v : View ℕ) (c : counting.Set) (m : Unit {0}) → IsIdle v.capacity v → place < v.capacity
+      → At one_word kinds.Counts (counts_place place) v v c m
   count_first v c m idle below =
       let past : nat_le v.capacity place ≡ false = grind (arith, nat_tests) in
-      inl (record { is = refl; idle = idle.idle; fresh = idle.alone; standing = below; some = idle.some; first = refl; starts = counts_starts one_word (counts_place place) v c m (λ o p h. h) refl (λ p. rw past refl); wrote = λ p. refl })
+      inl (record {
+        is = refl;
+        idle = idle.idle;
+        fresh = idle.alone;
+        standing = below;
+        some = idle.some;
+        first = refl;
+        starts = counts_starts one_word (counts_place place) v c m (λ o p h. h) refl (λ p. rw past refl);
+        wrote = λ p. refl;
+      })
 
-  module _ (base w : View ℕ) (number : ℕ) (m : Unit {0}) (idle : base.going ≡ None) (ends : Ends one_word kinds.Counts (counts_place place) base number m w) where
+  module _ (base w : View ℕ) (number : ℕ) (m : Unit {0}) (idle : base.going ≡ None)
+      (ends : Ends one_word kinds.Counts (counts_place place) base number m w) where
     pub counted : HasCounted place number base w
-    counted = record { by = ends.party; mine = ends.mine; called = subst (λ es. Called ends.party (Bits (Set place)) (Number number) es base w) ends.tells (called one_word kinds.Counts (counts_place place) base w number m idle ends) }
+    counted =
+        record {
+          by = ends.party;
+          mine = ends.mine;
+          called =
+              subst (λ es. Called ends.party (Bits (Set place)) (Number number) es base w) ends.tells
+              (called one_word kinds.Counts (counts_place place) base w number m idle ends);
+        }
 
     pub answers : AnswersCount place number w
     unfolding counted

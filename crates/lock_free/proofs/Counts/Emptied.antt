@@ -28,7 +28,9 @@ abbrev pub emptying : Start ℕ
 emptying = Bits ResetAll
 
 module _ (kind : Kind) (flight : Emptying → OneWord → Flight ℕ) (writes : ℕ → ℕ → ℕ → List (Event ℕ)) (first : ℕ) (end_of : ℕ → ℕ)
-    (has_word : (c : Emptying) (m : OneWord) → flight_word (flight c m) ≡ c.word) (first_word : (n : ℕ) (c : Emptying) (m : OneWord) → first_of kind n emptying ((opening_of kind).kept n) ≡ Some (flight c m) → c.word ≡ first) where
+    (has_word : (c : Emptying) (m : OneWord) → flight_word (flight c m) ≡ c.word)
+    (first_word : (n : ℕ) (c : Emptying) (m : OneWord)
+    → first_of kind n emptying ((opening_of kind).kept n) ≡ Some (flight c m) → c.word ≡ first) where
   abbrev pub AtWord : View ℕ → View ℕ → Emptying → OneWord → Type 0
   AtWord = At one_word kind (empties flight writes first end_of)
 
@@ -52,7 +54,9 @@ module _ (kind : Kind) (flight : Emptying → OneWord → Flight ℕ) (writes : 
   stands base v c m (inl now) = now.standing
   stands base v c m (inr under) = under.standing
 
-  module _ (base v w : View ℕ) (c : Emptying) (m room : OneWord) (n : ℕ) (f : ℕ → List (Event ℕ)) (idle : base.going ≡ None) (so_far : MadeSoFar emptying base v f) (at : AtWord base v c m) (kept : room ≡ reset_all_kept m n) where
+  module _ (base v w : View ℕ) (c : Emptying) (m room : OneWord) (n : ℕ) (f : ℕ → List (Event ℕ))
+      (idle : base.going ≡ None) (so_far : MadeSoFar emptying base v f) (at : AtWord base v c m)
+      (kept : room ≡ reset_all_kept m n) where
     abbrev more : ℕ → List (Event ℕ)
     more p = writes p c.word room.0
 
@@ -60,7 +64,9 @@ module _ (kind : Kind) (flight : Emptying → OneWord → Flight ℕ) (writes : 
     from = word_now v v c m refl (itself base v c m at)
 
     -- it has come to the next word
-    pub goes_on : (next : Emptying) → reset_all_after c n ≡ GoOn next → ((b : View ℕ) → AtWord b v c m → AtWord b w next room) → MadeSoFar emptying base w (λ p. f p ++ writes p c.word room.0) × AtWord base w next room
+    pub goes_on : (next : Emptying) → reset_all_after c n ≡ GoOn next
+        → ((b : View ℕ) → AtWord b v c m → AtWord b w next room)
+        → MadeSoFar emptying base w (λ p. f p ++ writes p c.word room.0) × AtWord base w next room
     goes_on next e told = (go (told v (itself base v c m at)), told base at)
       where
         word : next.word ≡ c.word + 1
@@ -77,7 +83,8 @@ module _ (kind : Kind) (flight : Emptying → OneWord → Flight ℕ) (writes : 
             made_more emptying base v w f more under.wrote under.party (flight next room) idle so_far under.same under.mine under.going under.since is
 
     -- it has emptied the last
-    pub ends_all : reset_all_after c n ≡ Done tt → ((b : View ℕ) → AtWord b v c m → EndsAll b tt room w) → (ends : EndsAll base tt room w) × (ends.wrote ≡ f ends.party ++ writes ends.party c.word room.0)
+    pub ends_all : reset_all_after c n ≡ Done tt → ((b : View ℕ) → AtWord b v c m → EndsAll b tt room w)
+        → (ends : EndsAll base tt room w) × (ends.wrote ≡ f ends.party ++ writes ends.party c.word room.0)
     ends_all e told =
         let here = told v (itself base v c m at) in
         let all = told base at in
@@ -92,8 +99,11 @@ module _ (kind : Kind) (flight : Emptying → OneWord → Flight ℕ) (writes : 
         let mine_all = called one_word kind (empties flight writes first end_of) base w tt room idle all in
         let two : w.made ≡ base.made ++ Begun all.party emptying ∷ ((f all.party ++ more all.party) ++ Finished all.party emptying answers.Done ∷ []) =
         subst (λ p. w.made ≡ base.made ++ Begun p emptying ∷ ((f p ++ more p) ++ Finished p emptying answers.Done ∷ [])) same one
-        in
-        (all, same_between base.made all.wrote (f all.party ++ more all.party) (Begun all.party emptying) (Finished all.party emptying answers.Done) (sym mine_all.made ∙ two))
+        in (
+          all,
+          same_between base.made all.wrote (f all.party ++ more all.party) (Begun all.party emptying)
+              (Finished all.party emptying answers.Done) (sym mine_all.made ∙ two),
+        )
 
 -- what one step wrote, whichever way it went on
 pub record Stepped (kind : Kind) (writes : ℕ → ℕ → ℕ → List (Event ℕ)) (v w : View ℕ) (word : ℕ) (room : OneWord) : Type 0 where
@@ -105,9 +115,15 @@ pub record Stepped (kind : Kind) (writes : ℕ → ℕ → ℕ → List (Event �
   pub history : IsHistory one_word kind v.capacity w.seen
 
 module _ (kind : Kind) (flight : Emptying → OneWord → Flight ℕ) (writes : ℕ → ℕ → ℕ → List (Event ℕ)) (first : ℕ) (end_of : ℕ → ℕ)
-    (has_word : (c : Emptying) (m : OneWord) → flight_word (flight c m) ≡ c.word) (first_word : (n : ℕ) (c : Emptying) (m : OneWord) → first_of kind n emptying ((opening_of kind).kept n) ≡ Some (flight c m) → c.word ≡ first) where
-  pub stepped : (base v w : View ℕ) (c : Emptying) (m room : OneWord) (n : ℕ) → At one_word kind (empties flight writes first end_of) base v c m → (a : After Emptying (Unit {0})) → reset_all_after c n ≡ a
-      → ((b : View ℕ) → At one_word kind (empties flight writes first end_of) b v c m → Goes kind flight writes first end_of has_word first_word b a room w) → Stepped kind writes v w c.word room
+    (has_word : (c : Emptying) (m : OneWord) → flight_word (flight c m) ≡ c.word)
+    (first_word : (n : ℕ) (c : Emptying) (m : OneWord)
+    → first_of kind n emptying ((opening_of kind).kept n) ≡ Some (flight c m) → c.word ≡ first) where
+  pub stepped : (base v w : View ℕ) (c : Emptying) (m room : OneWord) (n : ℕ)
+      → At one_word kind (empties flight writes first end_of) base v c m → (a : After Emptying (Unit {0}))
+      → reset_all_after c n ≡ a
+      → ((b : View ℕ) → At one_word kind (empties flight writes first end_of) b v c m
+      → Goes kind flight writes first end_of has_word first_word b a room w)
+      → Stepped kind writes v w c.word room
   stepped base v w c m room n at (GoOn next) e told = go (told v mine)
     where
       mine : At one_word kind (empties flight writes first end_of) v v c m
@@ -125,7 +141,15 @@ module _ (kind : Kind) (flight : Emptying → OneWord → Flight ℕ) (writes : 
           let low = (stands kind flight writes first end_of has_word first_word base v c m at).1 in
           let further = word in
           absurd (omega arith)
-      go (inr under) = record { party = under.party; es = under.wrote; last = []; since = under.since; is = under.tells.2 (word ∙ ap (λ z. z + 1) (sym from)) ∙ ap (λ z. writes under.party z room.0) from; history = under.history }
+      go (inr under) =
+          record {
+            party = under.party;
+            es = under.wrote;
+            last = [];
+            since = under.since;
+            is = under.tells.2 (word ∙ ap (λ z. z + 1) (sym from)) ∙ ap (λ z. writes under.party z room.0) from;
+            history = under.history;
+          }
   stepped base v w c m room n at (Done end) e told =
       let mine = itself kind flight writes first end_of has_word first_word base v c m at in
       let here = told v mine in
@@ -142,6 +166,7 @@ module _ (kind : Kind) (flight : Emptying → OneWord → Flight ℕ) (writes : 
         history = here.history;
       }
 
-pub same_capacity_of : {kind : Kind} {call : Calling ℕ Emptying OneWord (Unit {0})} (base v : View ℕ) (c : Emptying) (m : OneWord) → At one_word kind call base v c m → v.capacity ≡ base.capacity
+pub same_capacity_of : {kind : Kind} {call : Calling ℕ Emptying OneWord (Unit {0})} (base v : View ℕ) (c : Emptying) (m : OneWord)
+    → At one_word kind call base v c m → v.capacity ≡ base.capacity
 same_capacity_of {kind} {call} base v c m (inl now) = ap (λ (z : View ℕ). z.capacity) now.is
 same_capacity_of {kind} {call} base v c m (inr under) = under.capacity

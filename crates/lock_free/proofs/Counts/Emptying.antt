@@ -59,14 +59,18 @@ module _ (c : Emptying) (n : ℕ) where
 wants_word : (c : Emptying) → c.word < c.end → reset_all_want c ≡ wants.Ask (record { word = c.word; op = Swap 0 })
 wants_word c less = let t : nat_lt c.word c.end ≡ true = grind (arith, nat_tests) in rw t refl
 
-hears_word : (c : Emptying) (m : OneWord) (a : Ask) (n : ℕ) → reset_all_want c ≡ wants.Ask a → (reset_all_after c (answered a.op n) ≡ reset_all_after c n) × (reset_all_kept m (answered a.op n) ≡ reset_all_kept m n)
+hears_word : (c : Emptying) (m : OneWord) (a : Ask) (n : ℕ) → reset_all_want c ≡ wants.Ask a
+    → (reset_all_after c (answered a.op n) ≡ reset_all_after c n) × (reset_all_kept m (answered a.op n) ≡ reset_all_kept m n)
 hears_word c m a n e = go (nat_lt c.word c.end) refl
   where
-    go : (b : Bool) → nat_lt c.word c.end ≡ b → (reset_all_after c (answered a.op n) ≡ reset_all_after c n) × (reset_all_kept m (answered a.op n) ≡ reset_all_kept m n)
+    go : (b : Bool) → nat_lt c.word c.end ≡ b
+        → (reset_all_after c (answered a.op n) ≡ reset_all_after c n) × (reset_all_kept m (answered a.op n) ≡ reset_all_kept m n)
     go true t =
         let asks : wants.Ask (record { word = c.word; op = Swap 0 }) ≡ wants.Ask a = rw t at e in
         let same : record { word = c.word; op = Swap 0 } ≡ a = cc in
-        subst (λ (z : Ask). (reset_all_after c (answered z.op n) ≡ reset_all_after c n) × (reset_all_kept m (answered z.op n) ≡ reset_all_kept m n)) same (refl, refl)
+        subst (λ (z : Ask). (reset_all_after c (answered z.op n) ≡ reset_all_after c n)
+        × (reset_all_kept m (answered z.op n) ≡ reset_all_kept m n))
+        same (refl, refl)
     go false t =
         let asks : ◌≡◌ {A = Want (Unit {0})} wants.Nothing (wants.Ask a) = rw t at e in
         absurd (cc)
@@ -75,7 +79,8 @@ hears_word c m a n e = go (nat_lt c.word c.end) refl
 
 module _ (flight : Emptying → OneWord → Flight ℕ) (writes : ℕ → ℕ → ℕ → List (Event ℕ)) (first : ℕ) (end_of : ℕ → ℕ)
     (same_want : (c : Emptying) (m : OneWord) → want_of one_word (flight c m) ≡ reset_all_want c)
-    (same_after : (c : Emptying) (m : OneWord) (n : ℕ) → after_of one_word (flight c m) n ≡ goes (empties flight writes first end_of) (reset_all_after c n) (reset_all_kept m n))
+    (same_after : (c : Emptying) (m : OneWord) (n : ℕ)
+    → after_of one_word (flight c m) n ≡ goes (empties flight writes first end_of) (reset_all_after c n) (reset_all_kept m n))
     (same_effects : (p : ℕ) (c : Emptying) (m : OneWord) (n : ℕ) → set_effects p (flight c m) n ≡ writes p c.word n)
     (never : NeverPushes flight) where
   pub empties_call : IsCallOf one_word set_effects end_of reset_all_want reset_all_after (λ c m n. reset_all_kept m n) (empties flight writes first end_of)
@@ -112,7 +117,8 @@ module _ (flight : Emptying → OneWord → Flight ℕ) (writes : ℕ → ℕ �
             all_of p c m n (word_of first from) here es (wrote.1 here));
       }
     where
-      all_of : (p : ℕ) (c : Emptying) (m : OneWord) (n from : ℕ) → c.word ≡ from → (es : List (Event ℕ)) → es ≡ [] → es ++ set_effects p (flight c m) n ≡ writes p from n
+      all_of : (p : ℕ) (c : Emptying) (m : OneWord) (n from : ℕ) → c.word ≡ from → (es : List (Event ℕ)) → es ≡ []
+          → es ++ set_effects p (flight c m) n ≡ writes p from n
       all_of p c m n from here es none = ap (λ zs. zs ++ set_effects p (flight c m) n) none ∙ (same_effects p c m n ∙ ap (λ z. writes p z n) here)
 
 after_taking : (c : Emptying) (m : OneWord) (n : ℕ) → after_of one_word (taking {T = ℕ} c m) n ≡ goes takes_all (reset_all_after c n) (reset_all_kept m n)
@@ -122,15 +128,28 @@ after_taking c m n = go (nat_lt (c.word + 1) c.end) refl
     go true t = rw t refl
     go false t = rw t refl
 
-pub take_keeps : KeepsRule (λ (z : View ℕ). z.capacity) (At one_word kinds.Counts takes_all) (Ends one_word kinds.Counts takes_all) (λ key. key + 1) (λ key. key) (λ key. IsMachine one_word kinds.Counts key) reset_all_want reset_all_after (λ c m n. reset_all_kept m n)
+pub take_keeps : KeepsRule (λ (z : View ℕ). z.capacity) (At one_word kinds.Counts takes_all)
+    (Ends one_word kinds.Counts takes_all) (λ key. key + 1) (λ key. key) (λ key. IsMachine one_word kinds.Counts key)
+    reset_all_want reset_all_after (λ c m n. reset_all_kept m n)
 take_keeps =
-    keeps_all one_word kinds.Counts set_effects (λ capacity. capacity) (counts_owe one_word) reset_all_want reset_all_after (λ c m n. reset_all_kept m n) takes_all
+    keeps_all one_word kinds.Counts set_effects (λ capacity. capacity) (counts_owe one_word) reset_all_want
+    reset_all_after (λ c m n. reset_all_kept m n) takes_all
     (empties_call taking take_events 0 (λ capacity. capacity) (λ c m. refl) after_taking (λ p c m n. refl) (λ c m n. tt)) (λ c n. refl)
 
 -- ---- its begin
 
 pub take_first : (v : View ℕ) → IsIdle v.capacity v → 0 < v.capacity → At one_word kinds.Counts takes_all v v (all_counts v.capacity) fresh
-take_first v idle some = inl (record { is = refl; idle = idle.idle; fresh = idle.alone; standing = (refl, omega arith, some); some = idle.some; first = refl; starts = counts_starts one_word takes_all v (all_counts v.capacity) fresh (λ o p h. h) refl (λ p. refl); wrote = λ p. (omega arith, λ e. refl, λ e. absurd (omega arith)) })
+take_first v idle some =
+    inl (record {
+      is = refl;
+      idle = idle.idle;
+      fresh = idle.alone;
+      standing = (refl, omega arith, some);
+      some = idle.some;
+      first = refl;
+      starts = counts_starts one_word takes_all v (all_counts v.capacity) fresh (λ o p h. h) refl (λ p. refl);
+      wrote = λ p. (omega arith, λ e. refl, λ e. absurd (omega arith));
+    })
 
 -- ---- a set of no place
 
@@ -141,8 +160,19 @@ module _ (v : View ℕ) (slots id word : ℕ) (idle : IsIdle v.capacity v) (none
   one_count : nat_lt 1 v.capacity ≡ false
   one_count = grind (arith, nat_tests)
 
-  pub take_none : Allows (IsMachine one_word kinds.Counts v.capacity) slots id (v, []) word (λ n. n) (λ found me. Ends one_word kinds.Counts (empties_none taking) v tt (record { 0 = 0 }) me.0 × (me.1 ≡ []))
+  pub take_none : Allows (IsMachine one_word kinds.Counts v.capacity) slots id (v, []) word (λ n. n)
+      (λ found me. Ends one_word kinds.Counts (empties_none taking) v tt (record { 0 = 0 }) me.0 × (me.1 ≡ []))
   take_none =
-      at_once one_word kinds.Counts set_effects (λ capacity. capacity) (counts_owe one_word) (empties_none taking) v (all_counts v.capacity) fresh fresh tt v.capacity slots id word refl
-      (record { is = refl; idle = idle.idle; fresh = idle.alone; standing = tt; some = idle.some; first = refl; starts = counts_starts one_word (empties_none taking) v (all_counts v.capacity) fresh (λ o p h. h) refl (λ p. refl); wrote = λ p. refl })
+      at_once one_word kinds.Counts set_effects (λ capacity. capacity) (counts_owe one_word) (empties_none taking) v
+      (all_counts v.capacity) fresh fresh tt v.capacity slots id word refl
+      (record {
+        is = refl;
+        idle = idle.idle;
+        fresh = idle.alone;
+        standing = tt;
+        some = idle.some;
+        first = refl;
+        starts = counts_starts one_word (empties_none taking) v (all_counts v.capacity) fresh (λ o p h. h) refl (λ p. refl);
+        wrote = λ p. refl;
+      })
       (rw no_count refl) tt (rw one_count refl) (λ p. refl) (λ p wrote h. h)

@@ -11,7 +11,9 @@ use Rattle.history.specs.History.{Called}
 use Rattle.history.specs.Stages.{Calling, Ends}
 use Rattle.lock_free.specs.Counts.Driven.{HasDone}
 
-module _ {C M E : Type 0} (kind : Kind) (call : Calling ℕ C M E) (own : (o : Option ℕ) (p : ℕ) → call.by o p → IfSome o (λ q. q ≡ p)) (base w : View ℕ) (e : E) (m : M) (ends : Ends one_word kind call base e m w) where
+module _ {C M E : Type 0} (kind : Kind) (call : Calling ℕ C M E)
+    (own : (o : Option ℕ) (p : ℕ) → call.by o p → IfSome o (λ q. q ≡ p)) (base w : View ℕ) (e : E) (m : M)
+    (ends : Ends one_word kind call base e m w) where
   pub done : HasDone kind base w
   done =
       record {
@@ -29,8 +31,11 @@ module _ {C M E : Type 0} (kind : Kind) (call : Calling ℕ C M E) (own : (o : O
       go (Some p) h = ends.mine ∙ ap Some (sym h)
 
 -- all that was seen before the end of the call
-abbrev pub before_end : {p : ℕ} {start : Start ℕ} {answer : Answer ℕ} {wrote : List (Event ℕ)} {old new : View ℕ} → Called p start answer wrote old new → List (Event ℕ)
+abbrev pub before_end : {p : ℕ} {start : Start ℕ} {answer : Answer ℕ} {wrote : List (Event ℕ)} {old new : View ℕ}
+    → Called p start answer wrote old new → List (Event ℕ)
 before_end {p} {start} {answer} {wrote} {old} {new} c = (old.seen ++ c.others) ++ Begun p start ∷ c.during
 
-pub to_end : {p : ℕ} {start : Start ℕ} {answer : Answer ℕ} {wrote : List (Event ℕ)} {old new : View ℕ} (c : Called p start answer wrote old new) → new.seen ≡ before_end c ++ Finished p start answer ∷ []
+pub to_end : {p : ℕ} {start : Start ℕ} {answer : Answer ℕ} {wrote : List (Event ℕ)} {old new : View ℕ}
+    (c : Called p start answer wrote old new)
+    → new.seen ≡ before_end c ++ Finished p start answer ∷ []
 to_end {p} {start} {answer} {wrote} {old} {new} c = c.is ∙ sym (append_assoc (old.seen ++ c.others) (Begun p start ∷ c.during) (Finished p start answer ∷ []))

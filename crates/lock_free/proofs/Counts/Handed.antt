@@ -41,13 +41,20 @@ module _ {F : Type 0} (R : F → BitState → F → Type 0) (cap : ℕ) (v : F) 
         folds = subst (λ z. FoldsTo R v h.states z) (sym same) h.folds;
       }
 
-  pub counted_more : (low count : ℕ) (p q : F) → low < cap → 0 < count → R p (record { bit = low; count = count }) q → Counted R cap low v p → Counted R cap (low + 1) v q
+  pub counted_more : (low count : ℕ) (p q : F) → low < cap → 0 < count → R p (record { bit = low; count = count }) q
+      → Counted R cap low v p → Counted R cap (low + 1) v q
   counted_more low count p q within some hit h =
       let x : BitState = record { bit = low; count = count } in
       record {
         states = h.states ++ x ∷ [];
-        ascend = (all_pairs_push (λ (y z : BitState). y.bit < z.bit) h.states x h.ascend.0 h.below, All-push (λ (y : BitState). (y.bit < cap) × (0 < y.count)) h.states x h.ascend.1 (within, some));
-        below = All-push (λ (y : BitState). y.bit < low + 1) h.states x (All-weaker (λ (y : BitState). y.bit < low) (λ (y : BitState). y.bit < low + 1) (λ y l. omega arith) h.states h.below) (omega arith);
+        ascend = (
+          all_pairs_push (λ (y z : BitState). y.bit < z.bit) h.states x h.ascend.0 h.below,
+          All-push (λ (y : BitState). (y.bit < cap) × (0 < y.count)) h.states x h.ascend.1 (within, some),
+        );
+        below =
+            All-push (λ (y : BitState). y.bit < low + 1) h.states x
+            (All-weaker (λ (y : BitState). y.bit < low) (λ (y : BitState). y.bit < low + 1) (λ y l. omega arith) h.states h.below)
+            (omega arith);
         folds = FoldsTo-push R v h.states p x q h.folds hit;
       }
 
@@ -63,7 +70,9 @@ module _ {F : Type 0} (R : F → BitState → F → Type 0) (cap : ℕ) (v : F) 
   found_events p place zero = refl
   found_events p place (suc n) = let t : (suc n == 0) ≡ false = grind (arith, nat_tests) in rw t refl
 
-  pub counted_found : (low n : ℕ) (p q : F) → low < cap → (0 < n → R p (record { bit = low; count = n }) q) → (n ≡ 0 → q ≡ p) → (h : Counted R cap low v p) → (g : Counted R cap (low + 1) v q) × (g.states ≡ h.states ++ found low n)
+  pub counted_found : (low n : ℕ) (p q : F) → low < cap → (0 < n → R p (record { bit = low; count = n }) q)
+      → (n ≡ 0 → q ≡ p) → (h : Counted R cap low v p)
+      → (g : Counted R cap (low + 1) v q) × (g.states ≡ h.states ++ found low n)
   unfolding counted_on counted_more
   counted_found low zero p q within hit miss h =
       let g = counted_on R cap v low p q (miss refl) h in
@@ -72,5 +81,6 @@ module _ {F : Type 0} (R : F → BitState → F → Type 0) (cap : ℕ) (v : F) 
 
 -- ---- the closure at an equal capacity
 
-pub takes_counts_at : {F : Type 0} {pre : F → BitState → Type 0} {step : F → BitState → F → Type 0} {a b : ℕ} {f : F} → a ≡ b → TakesCounts pre step a f → TakesCounts pre step b f
+pub takes_counts_at : {F : Type 0} {pre : F → BitState → Type 0} {step : F → BitState → F → Type 0} {a b : ℕ} {f : F}
+    → a ≡ b → TakesCounts pre step a f → TakesCounts pre step b f
 takes_counts_at {F} {pre} {step} {a} {b} {f} e h = subst (λ z. TakesCounts pre step z f) e h

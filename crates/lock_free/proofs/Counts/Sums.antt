@@ -39,10 +39,14 @@ takes_of p b (s ∷ states) =
 
 counts_of : (p b : ℕ) (states : List BitState) → counts b (map (taken_by p) states) ≡ 0
 counts_of p b [] = refl
-counts_of p b (s ∷ states) = let one = sum_by-cons (λ (e : Event ℕ). cond (is_count_of b e) 1 0) (taken_by p s) (map (taken_by p) states) in let rest = counts_of p b states in omega arith
+counts_of p b (s ∷ states) =
+    let one = sum_by-cons (λ (e : Event ℕ). cond (is_count_of b e) 1 0) (taken_by p s) (map (taken_by p) states) in
+    let rest = counts_of p b states in
+    omega arith
 
 module _ (old new : View ℕ) where
-  pub count_adds : (place number : ℕ) → HasCounted place number old new → (b : ℕ) → (counts b new.made ≡ counts b old.made + cond (place == b) 1 0) × (takes b new.made ≡ takes b old.made)
+  pub count_adds : (place number : ℕ) → HasCounted place number old new → (b : ℕ)
+      → (counts b new.made ≡ counts b old.made + cond (place == b) 1 0) × (takes b new.made ≡ takes b old.made)
   count_adds place number h b =
       let wrote : List (Event ℕ) = Counted h.by place ∷ [] in
       let c = sum_made (λ e. cond (is_count_of b e) 1 0) h.by (Bits (Set place)) (Number number) wrote old new h.called in
@@ -60,7 +64,8 @@ module _ (old new : View ℕ) where
       (omega arith, omega arith)
 
   -- the count that the set answers is what was counted there and not taken out
-  pub answers_count : (place number : ℕ) → ((f : Event ℕ → ℕ) → sum_by f new.seen ≡ sum_by f new.made) → HasCounted place number old new → AnswersCount place number new
+  pub answers_count : (place number : ℕ) → ((f : Event ℕ → ℕ) → sum_by f new.seen ≡ sum_by f new.made)
+      → HasCounted place number old new → AnswersCount place number new
       → number ≡ (counts place old.made - takes place old.made) % 2 ^ 64
   answers_count place number all h a =
       let same : (place == place) ≡ true = grind (arith, nat_tests) in
@@ -69,8 +74,12 @@ module _ (old new : View ℕ) where
       let counted : List (Event ℕ) = Counted a.by place ∷ [] in
       let end : Event ℕ = Finished a.by (Bits (Set place)) (Number number) in
       let is_count : Event ℕ → ℕ = λ e. cond (is_count_of place e) 1 0 in
-      let c : counts place new.seen ≡ counts place a.before + cond (place == place) 1 0 + 0 = ap (counts place) a.is ∙ (sum_by_push is_count (a.before ++ counted) end ∙ ap (λ n. n + 0) (sum_by_push is_count a.before (Counted a.by place))) in
-      let t : takes place new.seen ≡ takes place a.before + 0 + 0 = ap (takes place) a.is ∙ (sum_by_push (take_of place) (a.before ++ counted) end ∙ ap (λ n. n + 0) (sum_by_push (take_of place) a.before (Counted a.by place))) in
+      let c : counts place new.seen ≡ counts place a.before + cond (place == place) 1 0 + 0 =
+      ap (counts place) a.is
+      ∙ (sum_by_push is_count (a.before ++ counted) end ∙ ap (λ n. n + 0) (sum_by_push is_count a.before (Counted a.by place))) in
+      let t : takes place new.seen ≡ takes place a.before + 0 + 0 =
+      ap (takes place) a.is ∙ (sum_by_push (take_of place) (a.before ++ counted) end
+      ∙ ap (λ n. n + 0) (sum_by_push (take_of place) a.before (Counted a.by place))) in
       let seen_c : counts place new.seen ≡ counts place new.made = all is_count in
       let seen_t : takes place new.seen ≡ takes place new.made = all (take_of place) in
       let m = made.0 in

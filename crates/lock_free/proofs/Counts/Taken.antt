@@ -50,14 +50,19 @@ module _ {F : Type 0} (R : F → BitState → F → Type 0) (cap : ℕ) (visit :
   pub first_so_far : (v : View ℕ) → IsIdle cap v → 0 < cap → SoFar v v (all_counts cap) fresh visit
   first_so_far v idle some =
       record {
-        at = subst (λ n. At one_word kinds.Counts takes_all v v (all_counts n) fresh) idle.known (take_first v (record { known = refl; idle = idle.idle; alone = idle.alone; some = idle.some }) (subst (λ n. 0 < n) (sym idle.known) some));
+        at =
+            subst (λ n. At one_word kinds.Counts takes_all v v (all_counts n) fresh) idle.known
+            (take_first v (record { known = refl; idle = idle.idle; alone = idle.alone; some = idle.some })
+            (subst (λ n. 0 < n) (sym idle.known) some));
         end = refl;
         within = some;
         handed = none_counted R cap visit 0;
         made = inl (refl, λ p. ap (map (taken_by p)) (none_states R cap visit 0));
       }
 
-  module _ (base v w : View ℕ) (c : Emptying) (m room : OneWord) (n : ℕ) (f g : F) (idle : base.going ≡ None) (h : SoFar base v c m f) (kept : room ≡ reset_all_kept m n) (hit : 0 < room.0 → R f (record { bit = c.word; count = room.0 }) g) (miss : room.0 ≡ 0 → g ≡ f) where
+  module _ (base v w : View ℕ) (c : Emptying) (m room : OneWord) (n : ℕ) (f g : F) (idle : base.going ≡ None)
+      (h : SoFar base v c m f) (kept : room ≡ reset_all_kept m n)
+      (hit : 0 < room.0 → R f (record { bit = c.word; count = room.0 }) g) (miss : room.0 ≡ 0 → g ≡ f) where
     next_handed : (x : Counted R cap (c.word + 1) visit g) × (x.states ≡ h.handed.states ++ found R cap visit c.word room.0)
     next_handed = counted_found R cap visit c.word room.0 f g h.within hit miss h.handed
 
@@ -66,9 +71,14 @@ module _ {F : Type 0} (R : F → BitState → F → Type 0) (cap : ℕ) (visit :
         ap (λ es. map (taken_by p) h.handed.states ++ es) (sym (found_events R cap visit p c.word room.0))
         ∙ (sym (map-append (taken_by p) h.handed.states (found R cap visit c.word room.0)) ∙ ap (map (taken_by p)) (sym next_handed.1))
 
-    pub so_far_on : (next : Emptying) → reset_all_after c n ≡ GoOn next → next.word ≡ c.word + 1 → next.end ≡ c.end → next.word < next.end → ((b : View ℕ) → At one_word kinds.Counts takes_all b v c m → At one_word kinds.Counts takes_all b w next room) → SoFar base w next room g
+    pub so_far_on : (next : Emptying) → reset_all_after c n ≡ GoOn next → next.word ≡ c.word + 1 → next.end ≡ c.end
+        → next.word < next.end
+        → ((b : View ℕ) → At one_word kinds.Counts takes_all b v c m → At one_word kinds.Counts takes_all b w next room)
+        → SoFar base w next room g
     so_far_on next e word end less told =
-        let on = goes_on kinds.Counts taking take_events 0 (λ k. k) has_word first_word base v w c m room n (λ p. map (taken_by p) h.handed.states) idle h.made h.at kept next e told in
+        let on =
+        goes_on kinds.Counts taking take_events 0 (λ k. k) has_word first_word base v w c m room n
+        (λ p. map (taken_by p) h.handed.states) idle h.made h.at kept next e told in
         let last = end ∙ h.end in
         record {
           at = on.1;
@@ -81,9 +91,13 @@ module _ {F : Type 0} (R : F → BitState → F → Type 0) (cap : ℕ) (visit :
         moved : (x : Counted R cap next.word visit g) × (x.states ≡ next_handed.0.states)
         moved = subst (λ k. (x : Counted R cap k visit g) × (x.states ≡ next_handed.0.states)) (sym word) (next_handed.0, refl)
 
-    pub taken_all : reset_all_after c n ≡ Done tt → ((b : View ℕ) → At one_word kinds.Counts takes_all b v c m → Ends one_word kinds.Counts takes_all b tt room w) → HasTakenOut R cap visit base w × HasDone kinds.Counts base w
+    pub taken_all : reset_all_after c n ≡ Done tt
+        → ((b : View ℕ) → At one_word kinds.Counts takes_all b v c m → Ends one_word kinds.Counts takes_all b tt room w)
+        → HasTakenOut R cap visit base w × HasDone kinds.Counts base w
     taken_all e told =
-        let all = ends_all kinds.Counts taking take_events 0 (λ k. k) has_word first_word base v w c m room n (λ p. map (taken_by p) h.handed.states) idle h.made h.at kept e told in
+        let all =
+        ends_all kinds.Counts taking take_events 0 (λ k. k) has_word first_word base v w c m room n
+        (λ p. map (taken_by p) h.handed.states) idle h.made h.at kept e told in
         let ends = all.0 in (
           record {
             states = next_handed.0.states;
@@ -92,23 +106,28 @@ module _ {F : Type 0} (R : F → BitState → F → Type 0) (cap : ℕ) (visit :
             visited = next_handed.0.folds;
             by = ends.party;
             mine = ends.mine;
-            called = subst (λ es. Called ends.party emptying answers.Done es base w) (all.1 ∙ same_events ends.party) (called one_word kinds.Counts takes_all base w tt room idle ends);
+            called =
+                subst (λ es. Called ends.party emptying answers.Done es base w) (all.1 ∙ same_events ends.party)
+                (called one_word kinds.Counts takes_all base w tt room idle ends);
           },
           done kinds.Counts takes_all (λ o p h. h) base w tt room ends,
         )
 
 -- nothing that counted was missed
-pub missed_none : {F : Type 0} (R : F → BitState → F → Type 0) (cap : ℕ) (visit : F) (base w : View ℕ) → base.capacity ≡ cap → HasDone kinds.Counts base w → HasTakenOut R cap visit base w → MissedNoCount cap w
+pub missed_none : {F : Type 0} (R : F → BitState → F → Type 0) (cap : ℕ) (visit : F) (base w : View ℕ)
+    → base.capacity ≡ cap → HasDone kinds.Counts base w → HasTakenOut R cap visit base w → MissedNoCount cap w
 missed_none R cap visit base w size over out =
     let p = out.by in
     let h = over.history in
     let before = before_end out.called in
     let set : IsCountingOn h.trace = counts_go_on h.trace h.run.of_kind h.run.reached in
-    let right : SinceBegin p (HasTakenOn h.trace.world.capacity) before = set.answers before [] (Finished p (Bits ResetAll) answers.Done) (sym h.is ∙ to_end out.called) in
+    let right : SinceBegin p (HasTakenOn h.trace.world.capacity) before =
+    set.answers before [] (Finished p (Bits ResetAll) answers.Done) (sym h.is ∙ to_end out.called) in
     record { by = p; before = before; is = to_end out.called; taken = subst (λ n. SinceBegin p (HasTakenOn n) before) (h.run.sized ∙ size) right }
 
 -- where there is no place, nothing is taken and the closure is not called
-pub taken_none : {F : Type 0} (R : F → BitState → F → Type 0) (visit : F) (base w : View ℕ) (m : OneWord) → base.going ≡ None → Ends one_word kinds.Counts (empties_none taking) base tt m w → HasTakenOut R 0 visit base w
+pub taken_none : {F : Type 0} (R : F → BitState → F → Type 0) (visit : F) (base w : View ℕ) (m : OneWord)
+    → base.going ≡ None → Ends one_word kinds.Counts (empties_none taking) base tt m w → HasTakenOut R 0 visit base w
 taken_none R visit base w m idle ends =
     record {
       states = [];
@@ -117,5 +136,7 @@ taken_none R visit base w m idle ends =
       visited = refl;
       by = ends.party;
       mine = ends.mine;
-      called = subst (λ es. Called ends.party emptying answers.Done es base w) ends.tells (called one_word kinds.Counts (empties_none taking) base w tt m idle ends);
+      called =
+          subst (λ es. Called ends.party emptying answers.Done es base w) ends.tells
+          (called one_word kinds.Counts (empties_none taking) base w tt m idle ends);
     }

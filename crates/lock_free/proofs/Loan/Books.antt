@@ -1,5 +1,7 @@
 -- A sender's book stays right.
-use Rattle.std.proofs.Common.{◌≡◌, ◌≢◌, ℕ, zero, suc, ◌+◌, ◌<◌, ◌==◌, Bool, true, false, true≢false, if◌then◌else◌, List, [], ◌∷◌, ◌++◌, length, set, map, take, drop, replicate, count_by, sum_by, add-one, get_or-set_same, get_or-set_other, length-set, subst, sym, refl, ap, ◌∙◌, ⊎_elim, arith}
+use Rattle.std.proofs.Common.{◌≡◌, ◌≢◌, ℕ, zero, suc, ◌+◌, ◌<◌, ◌==◌, Bool, true, false, true≢false, if◌then◌else◌}
+use Rattle.std.proofs.Common.{List, [], ◌∷◌, ◌++◌, length, set, map, take, drop, replicate, count_by, sum_by, add-one}
+use Rattle.std.proofs.Common.{get_or-set_same, get_or-set_other, length-set, subst, sym, refl, ap, ◌∙◌, ⊎_elim, arith}
 use Rattle.std.proofs.lemmas.List.{length-replicate}
 use Rattle.std.proofs.lemmas.List.Sums.{count_by_more_yes, count_by_more_no}
 use Rattle.std.proofs.lemmas.Bool.{cases_eq}
@@ -50,7 +52,10 @@ module _ {v : View ℕ} {ps : List Place} (book : IsBookOf v ps) where
 
   module _ (i : ℕ) (p : Place) (lt : i < length ps) where
     -- one place more or less is out, as one index is
-    moved : (w : View ℕ) → w.capacity ≡ v.capacity → ((j : ℕ) → sum_by (claims j) w.made + (sum_by (frees j) v.made + (if i == j then counts (is_out (place_at ps i)) else 0)) ≡ sum_by (claims j) v.made + (sum_by (frees j) w.made + (if i == j then counts (is_out p) else 0))) → IsBookOf w (set ps i p)
+    moved : (w : View ℕ) → w.capacity ≡ v.capacity
+        → ((j : ℕ) → sum_by (claims j) w.made + (sum_by (frees j) v.made + (if i == j then counts (is_out (place_at ps i)) else 0))
+        ≡ sum_by (claims j) v.made + (sum_by (frees j) w.made + (if i == j then counts (is_out p) else 0)))
+        → IsBookOf w (set ps i p)
     moved w same moves =
         record {
           long = length-set ps i p ∙ (book.long ∙ sym same);
@@ -60,7 +65,9 @@ module _ {v : View ℕ} {ps : List Place} (book : IsBookOf v ps) where
         here : (j : ℕ) → j ≡ i → sum_by (claims j) w.made ≡ sum_by (frees j) w.made + counts (is_out (place_at (set ps i p) j))
         here j e =
             let t : (i == i) ≡ true = grind (arith, nat_tests) in
-            let m : sum_by (claims i) w.made + (sum_by (frees i) v.made + counts (is_out (place_at ps i))) ≡ sum_by (claims i) v.made + (sum_by (frees i) w.made + counts (is_out p)) = (let it = moves i in rw t at it) in
+            let m : sum_by (claims i) w.made + (sum_by (frees i) v.made + counts (is_out (place_at ps i)))
+            ≡ sum_by (claims i) v.made + (sum_by (frees i) w.made + counts (is_out p)) =
+            (let it = moves i in rw t at it) in
             let was = book.held i in
             let now : counts (is_out (place_at (set ps i p) i)) ≡ counts (is_out p) = ap (λ z. counts (is_out z)) (get_or-set_same ps i p Free lt) in
             subst (λ k. sum_by (claims k) w.made ≡ sum_by (frees k) w.made + counts (is_out (place_at (set ps i p) k))) (sym e) (omega arith)
@@ -68,20 +75,27 @@ module _ {v : View ℕ} {ps : List Place} (book : IsBookOf v ps) where
         there : (j : ℕ) → j ≢ i → sum_by (claims j) w.made ≡ sum_by (frees j) w.made + counts (is_out (place_at (set ps i p) j))
         there j ne =
             let t : (i == j) ≡ false = grind (arith, nat_tests) in
-            let m : sum_by (claims j) w.made + (sum_by (frees j) v.made + 0) ≡ sum_by (claims j) v.made + (sum_by (frees j) w.made + 0) = (let it = moves j in rw t at it) in
+            let m : sum_by (claims j) w.made + (sum_by (frees j) v.made + 0)
+            ≡ sum_by (claims j) v.made + (sum_by (frees j) w.made + 0) =
+            (let it = moves j in rw t at it) in
             let was = book.held j in
-            let now : counts (is_out (place_at (set ps i p) j)) ≡ counts (is_out (place_at ps j)) = ap (λ z. counts (is_out z)) (get_or-set_other ps i j p Free ne) in
+            let now : counts (is_out (place_at (set ps i p) j)) ≡ counts (is_out (place_at ps j)) =
+            ap (λ z. counts (is_out z)) (get_or-set_other ps i j p Free ne) in
             omega arith
 
   -- what is out stays out
   pub stays_out : (i : ℕ) (p : Place) → is_out (place_at ps i) ≡ true → is_out p ≡ true → IsBookOf v (set ps i p)
-  stays_out i p out outside = moved i p (within ps i out) v refl (λ j. ap (λ n. sum_by (claims j) v.made + (sum_by (frees j) v.made + (if i == j then n else 0))) (ap counts (out ∙ sym outside)))
+  stays_out i p out outside =
+      moved i p (within ps i out) v refl
+      (λ j. ap (λ n. sum_by (claims j) v.made + (sum_by (frees j) v.made + (if i == j then n else 0))) (ap counts (out ∙ sym outside)))
 
   -- what is given back is free
-  pub is_freed : (i : ℕ) (state : ReleaseState) (w : View ℕ) → is_out (place_at ps i) ≡ true → w.capacity ≡ v.capacity → HasGiven i state v w → IsBookOf w (set ps i Free)
+  pub is_freed : (i : ℕ) (state : ReleaseState) (w : View ℕ) → is_out (place_at ps i) ≡ true
+      → w.capacity ≡ v.capacity → HasGiven i state v w → IsBookOf w (set ps i Free)
   is_freed i state w out same h = moved i Free (within ps i out) w same go
     where
-      go : (j : ℕ) → sum_by (claims j) w.made + (sum_by (frees j) v.made + (if i == j then counts (is_out (place_at ps i)) else 0)) ≡ sum_by (claims j) v.made + (sum_by (frees j) w.made + (if i == j then zero else zero))
+      go : (j : ℕ) → sum_by (claims j) w.made + (sum_by (frees j) v.made + (if i == j then counts (is_out (place_at ps i)) else 0))
+          ≡ sum_by (claims j) v.made + (sum_by (frees j) w.made + (if i == j then zero else zero))
       go j =
           let m = given_moves v w j i state h in
           let a = m.claimed in
@@ -124,12 +138,14 @@ module _ {v : View ℕ} {ps : List Place} (book : IsBookOf v ps) where
       free : is_out (place_at ps i) ≡ false
       free = was_free i w h
 
-      go : (j : ℕ) → sum_by (claims j) w.made + (sum_by (frees j) v.made + (if i == j then counts (is_out (place_at ps i)) else 0)) ≡ sum_by (claims j) v.made + (sum_by (frees j) w.made + (if i == j then 1 else 0))
+      go : (j : ℕ) → sum_by (claims j) w.made + (sum_by (frees j) v.made + (if i == j then counts (is_out (place_at ps i)) else 0))
+          ≡ sum_by (claims j) v.made + (sum_by (frees j) w.made + (if i == j then 1 else 0))
       go j =
           let m = taken_moves v w j i h.taken in
           let a = m.claimed in
           let b = m.freed in
-          let x : (if i == j then counts (is_out (place_at ps i)) else 0) ≡ (if i == j then zero else zero) = ap (λ n. if i == j then n else 0) (ap counts free) in
+          let x : (if i == j then counts (is_out (place_at ps i)) else 0) ≡ (if i == j then zero else zero) =
+          ap (λ n. if i == j then n else 0) (ap counts free) in
           let y : (if i == j then zero else zero) ≡ 0 = none (i == j) in
           omega arith
         where
@@ -142,7 +158,11 @@ pub book_opens : (v : View ℕ) (n : ℕ) → n ≡ v.capacity → HoldsNothing 
 book_opens v n same none =
     record {
       long = length-replicate n Free ∙ same;
-      held = λ i. (let was = none i in let out : is_out (place_at (replicate n Free) i) ≡ false = ap is_out (get_or-replicate_all n i) in let z = ap counts out in omega arith);
+      held =
+          λ i. (let was = none i in
+          let out : is_out (place_at (replicate n Free) i) ≡ false = ap is_out (get_or-replicate_all n i) in
+          let z = ap counts out in
+          omega arith);
     }
   where
     get_or-replicate_all : (n i : ℕ) → place_at (replicate n Free) i ≡ Free
@@ -181,8 +201,10 @@ kept_one (p ∷ ps) (suc i) h = ap (λ z. reclaimed p ∷ z) (kept_one ps i h)
 module _ (ps ys : List Place) (i : ℕ) (e : ys ≡ so_far i ps) (lt : i < length ps) where
   pub sent_step : is_sent (place_at ys i) ≡ true → (set ys i Free ≡ so_far (i + 1) ps) × (count_by is_sent (take (i + 1) ps) ≡ count_by is_sent (take i ps) + 1)
   sent_step h =
-      let there : is_sent (place_at ps i) ≡ true = ap is_sent (sym (at_so_far ps i) ∙ ap (λ z. place_at z i) (sym e)) ∙ h in
-      (subst (λ n. set ys i Free ≡ so_far n ps) (sym (add-one i)) (ap (λ z. set z i Free) e ∙ freed_one ps i there), count_by_more_yes is_sent ps i Free lt there)
+      let there : is_sent (place_at ps i) ≡ true = ap is_sent (sym (at_so_far ps i) ∙ ap (λ z. place_at z i) (sym e)) ∙ h in (
+        subst (λ n. set ys i Free ≡ so_far n ps) (sym (add-one i)) (ap (λ z. set z i Free) e ∙ freed_one ps i there),
+        count_by_more_yes is_sent ps i Free lt there,
+      )
 
   pub other_step : is_sent (place_at ys i) ≡ false → (ys ≡ so_far (i + 1) ps) × (count_by is_sent (take (i + 1) ps) ≡ count_by is_sent (take i ps))
   other_step h =

@@ -1,5 +1,6 @@
 -- What is known of whole calls on a set.
-use Rattle.std.proofs.Common.{◌≡◌, ⊎_elim, ℕ, ◌+◌, ◌<◌, ◌≤◌, ◌==◌, Bool, true, false, true≢false, Some, None, Ok, fold, List, [], ◌∷◌, ◌++◌, refl, sym, ap, subst, ◌∙◌, append_assoc, arith, sum_by}
+use Rattle.std.proofs.Common.{◌≡◌, ⊎_elim, ℕ, ◌+◌, ◌<◌, ◌≤◌, ◌==◌, Bool, true, false, true≢false, Some, None, Ok, fold}
+use Rattle.std.proofs.Common.{List, [], ◌∷◌, ◌++◌, refl, sym, ap, subst, ◌∙◌, append_assoc, arith, sum_by}
 use Rattle.std.proofs.lemmas.Bool.{cases_lt}
 use Rattle.std.proofs.lemmas.Bool.Decides.{nat_tests}
 use Rattle.std.proofs.lemmas.List.Sums.{fold-append, sum_by-append}
@@ -46,7 +47,9 @@ find_own : (p : ℕ) (xs es : List (Event ℕ)) (e : Event ℕ) → events_by p 
 find_own p [] es e is = absurd (cc)
 find_own p (x ∷ xs) es e is = go (λ rest. find_own p xs es e rest) (is_party p (whose x)) refl
   where
-    go : (events_by p xs ≡ e ∷ es → (ls : List (Event ℕ)) × (rs : List (Event ℕ)) × (xs ≡ ls ++ e ∷ rs)) → (b : Bool) → is_party p (whose x) ≡ b → (ls : List (Event ℕ)) × (rs : List (Event ℕ)) × (x ∷ xs ≡ ls ++ e ∷ rs)
+    go : (events_by p xs ≡ e ∷ es → (ls : List (Event ℕ)) × (rs : List (Event ℕ)) × (xs ≡ ls ++ e ∷ rs))
+        → (b : Bool) → is_party p (whose x) ≡ b
+        → (ls : List (Event ℕ)) × (rs : List (Event ℕ)) × (x ∷ xs ≡ ls ++ e ∷ rs)
     go later true t =
         let here : x ∷ events_by p xs ≡ e ∷ es = rw t at is in
         let same : x ≡ e = cc in
@@ -73,7 +76,8 @@ sound capacity v same h parties =
     within : (i : ℕ) → Holds i v.made → i < v.capacity
     within i holds = subst (λ n. i < n) (sym same) (held_within capacity v.seen h i (by i holds).0 (by i holds).2)
 
-    nothing : (i : ℕ) → (sum_by (frees i) v.made ≤ sum_by (claims i) v.made) × (sum_by (claims i) v.made ≤ sum_by (frees i) v.made + 1) → holder_of i v.seen ≡ None → 0 + sum_by (frees i) v.made ≡ sum_by (claims i) v.made
+    nothing : (i : ℕ) → (sum_by (frees i) v.made ≤ sum_by (claims i) v.made) × (sum_by (claims i) v.made ≤ sum_by (frees i) v.made + 1)
+        → holder_of i v.seen ≡ None → 0 + sum_by (frees i) v.made ≡ sum_by (claims i) v.made
     nothing i both none = ⊎_elim holds_it (λ less. (let low = both.0 in omega arith)) (cases_lt (sum_by (frees i) v.made) (sum_by (claims i) v.made))
       where
         holds_it : sum_by (frees i) v.made < sum_by (claims i) v.made → 0 + sum_by (frees i) v.made ≡ sum_by (claims i) v.made
@@ -138,7 +142,9 @@ module _ (base w : View ℕ) (same : w.capacity ≡ base.capacity) (h : IsHistor
           before = before;
           is = is_last;
           since = record { rest = c.others ++ Begun p (Indices start) ∷ c.during; is = append_assoc base.seen c.others (Begun p (Indices start) ∷ c.during) };
-          right = subst (λ n. AnswersRight n before last) (h.run.sized ∙ sym same) ((is_index_set h.trace h.run.of_kind h.run.reached).answers before [] last at_end);
+          right =
+              subst (λ n. AnswersRight n before last) (h.run.sized ∙ sym same)
+              ((is_index_set h.trace h.run.of_kind h.run.reached).answers before [] last at_end);
         }
 
     -- its answer is one of that call
@@ -154,14 +160,23 @@ module _ (base w : View ℕ) (same : w.capacity ≡ base.capacity) (h : IsHistor
 
   pub at_most : (p number : ℕ) (wrote : List (Event ℕ)) → Called p (Indices BorrowedIndices) (Number number) wrote base w → number ≤ base.capacity
   at_most p number wrote c =
-      let few = (reached_on_sound h.trace h.run.of_kind h.run.reached).holds.answers (before p BorrowedIndices (Number number) wrote c) [] (last p BorrowedIndices (Number number) wrote c) (at_end p BorrowedIndices (Number number) wrote c) in
+      let few =
+      (reached_on_sound h.trace h.run.of_kind h.run.reached).holds.answers
+      (before p BorrowedIndices (Number number) wrote c) [] (last p BorrowedIndices (Number number) wrote c)
+      (at_end p BorrowedIndices (Number number) wrote c) in
       subst (λ n. number ≤ n) h.run.sized few.1
 
   -- who found none left found no lock
   pub open_still : (p : ℕ) (wrote : List (Event ℕ)) → Called p (Indices Acquire) (NoIndex OutOfIndices) wrote base w → is_locked base.seen ≡ false
   open_still p wrote c =
-      let few = (reached_on_sound h.trace h.run.of_kind h.run.reached).holds.answers (before p Acquire (NoIndex OutOfIndices) wrote c) [] (last p Acquire (NoIndex OutOfIndices) wrote c) (at_end p Acquire (NoIndex OutOfIndices) wrote c) in
-      not_locked (record { rest = c.others ++ Begun p (Indices Acquire) ∷ c.during; is = append_assoc base.seen c.others (Begun p (Indices Acquire) ∷ c.during) }) few.1
+      let few =
+      (reached_on_sound h.trace h.run.of_kind h.run.reached).holds.answers
+      (before p Acquire (NoIndex OutOfIndices) wrote c) [] (last p Acquire (NoIndex OutOfIndices) wrote c)
+      (at_end p Acquire (NoIndex OutOfIndices) wrote c) in
+      not_locked (record {
+        rest = c.others ++ Begun p (Indices Acquire) ∷ c.during;
+        is = append_assoc base.seen c.others (Begun p (Indices Acquire) ∷ c.during);
+      }) few.1
 
 never_locks : (index : ℕ) (state : ReleaseState) (done : Deeds) → done_by {T = ℕ} (Release index modes.Default) (State state) ≡ Some done → state ≡ Unlocked
 never_locks index Unlocked done e = refl
@@ -169,7 +184,14 @@ never_locks index Locked done e = absurd (cc)
 
 module _ (base w : View ℕ) (m : Unit {0}) (idle : base.going ≡ None) where
   pub taken : (answer : Acquired) → Ends one_word kinds.Indices takes_index base answer m w → HasTaken answer base w
-  taken answer ends = record { by = ends.party; mine = ends.mine; called = subst (λ es. Called ends.party (Indices Acquire) (acquire_answer answer) es base w) ends.tells (called one_word kinds.Indices takes_index base w answer m idle ends) }
+  taken answer ends =
+      record {
+        by = ends.party;
+        mine = ends.mine;
+        called =
+            subst (λ es. Called ends.party (Indices Acquire) (acquire_answer answer) es base w) ends.tells
+            (called one_word kinds.Indices takes_index base w answer m idle ends);
+      }
 
   module _ (i : ℕ) (ends : Ends one_word kinds.Indices takes_index base (Ok i) m w) where
     pub free : WasFree i base w
@@ -210,26 +232,58 @@ module _ (base w : View ℕ) (m : Unit {0}) (idle : base.going ≡ None) where
         let it : (i == i) ≡ true = grind (arith, nat_tests) in
         let one : sum_by (claims i) more ≡ 1 = rw it refl in
         let none : sum_by (frees i) more ≡ 0 = refl in
-        let a : sum_by (claims i) w.made ≡ sum_by (claims i) base.made + sum_by (claims i) more = ap (sum_by (claims i)) c.made ∙ sum_by-append (claims i) base.made more in
-        let b : sum_by (frees i) w.made ≡ sum_by (frees i) base.made + sum_by (frees i) more = ap (sum_by (frees i)) c.made ∙ sum_by-append (frees i) base.made more in
+        let a : sum_by (claims i) w.made ≡ sum_by (claims i) base.made + sum_by (claims i) more =
+        ap (sum_by (claims i)) c.made ∙ sum_by-append (claims i) base.made more in
+        let b : sum_by (frees i) w.made ≡ sum_by (frees i) base.made + sum_by (frees i) more =
+        ap (sum_by (frees i)) c.made ∙ sum_by-append (frees i) base.made more in
         let before = was.least i in
         let after = (sound base.capacity w ends.capacity ends.history ends.parties).once i in
         omega arith
 
   pub taken_answered : (answer : Acquired) → Ends one_word kinds.Indices takes_index base answer m w → Answered Acquire (acquire_answer answer) base w
-  taken_answered answer ends = let t = taken answer ends in answered_by base w ends.capacity ends.history t.by Acquire (acquire_answer answer) (claimed_by t.by answer) t.called
+  taken_answered answer ends = let t = taken answer ends in
+      answered_by base w ends.capacity ends.history t.by Acquire (acquire_answer answer) (claimed_by t.by answer) t.called
 
   pub given : (index : ℕ) (state : ReleaseState) → Ends one_word kinds.Indices (gives_index index) base state m w → HasGiven index state base w
-  given index state ends = record { by = ends.party; mine = ends.mine; called = subst (λ es. Called ends.party (Indices (Release index modes.Default)) (State state) es base w) (ends.tells idle) (called one_word kinds.Indices (gives_index index) base w state m idle ends) }
+  given index state ends =
+      record {
+        by = ends.party;
+        mine = ends.mine;
+        called =
+            subst (λ es. Called ends.party (Indices (Release index modes.Default)) (State state) es base w) (ends.tells idle)
+            (called one_word kinds.Indices (gives_index index) base w state m idle ends);
+      }
 
-  pub given_or_locked : (index : ℕ) (state : ReleaseState) → Ends one_word kinds.Indices (gives_or_locks index) base state m w → HasGivenOrLocked index state base w
-  given_or_locked index state ends = record { by = ends.party; mine = ends.mine; called = subst (λ es. Called ends.party (Indices (Release index modes.LockIfLastIndex)) (State state) es base w) (ends.tells idle) (called one_word kinds.Indices (gives_or_locks index) base w state m idle ends) }
+  pub given_or_locked : (index : ℕ) (state : ReleaseState)
+      → Ends one_word kinds.Indices (gives_or_locks index) base state m w → HasGivenOrLocked index state base w
+  given_or_locked index state ends =
+      record {
+        by = ends.party;
+        mine = ends.mine;
+        called =
+            subst (λ es. Called ends.party (Indices (Release index modes.LockIfLastIndex)) (State state) es base w)
+            (ends.tells idle) (called one_word kinds.Indices (gives_or_locks index) base w state m idle ends);
+      }
 
   pub counted : (n : ℕ) → Ends one_word kinds.Indices counts_out base n m w → HasCounted n base w
-  counted n ends = record { by = ends.party; mine = ends.mine; called = subst (λ es. Called ends.party (Indices BorrowedIndices) (Number n) es base w) ends.tells (called one_word kinds.Indices counts_out base w n m idle ends) }
+  counted n ends =
+      record {
+        by = ends.party;
+        mine = ends.mine;
+        called =
+            subst (λ es. Called ends.party (Indices BorrowedIndices) (Number n) es base w) ends.tells
+            (called one_word kinds.Indices counts_out base w n m idle ends);
+      }
 
   pub looked : (b : Bool) → Ends one_word kinds.Indices looks_locked base b m w → HasLooked b base w
-  looked b ends = record { by = ends.party; mine = ends.mine; called = subst (λ es. Called ends.party (Indices IsLocked) (Truth b) es base w) ends.tells (called one_word kinds.Indices looks_locked base w b m idle ends) }
+  looked b ends =
+      record {
+        by = ends.party;
+        mine = ends.mine;
+        called =
+            subst (λ es. Called ends.party (Indices IsLocked) (Truth b) es base w) ends.tells
+            (called one_word kinds.Indices looks_locked base w b m idle ends);
+      }
 
   pub unlocked : (index : ℕ) (state : ReleaseState) → Ends one_word kinds.Indices (gives_index index) base state m w → state ≡ Unlocked
   unlocked index state ends =
@@ -237,8 +291,12 @@ module _ (base w : View ℕ) (m : Unit {0}) (idle : base.going ≡ None) where
       let fits = fits_call base w ends.capacity ends.history g.by (Release index modes.Default) (State state) (Freed g.by index ∷ []) g.called in
       never_locks index state fits.0 fits.1
 
-  pub locked_answered : (index : ℕ) (state : ReleaseState) → Ends one_word kinds.Indices (gives_or_locks index) base state m w → Answered (Release index modes.LockIfLastIndex) (State state) base w
-  locked_answered index state ends = let g = given_or_locked index state ends in answered_by base w ends.capacity ends.history g.by (Release index modes.LockIfLastIndex) (State state) (given_by g.by index state) g.called
+  pub locked_answered : (index : ℕ) (state : ReleaseState)
+      → Ends one_word kinds.Indices (gives_or_locks index) base state m w
+      → Answered (Release index modes.LockIfLastIndex) (State state) base w
+  locked_answered index state ends = let g = given_or_locked index state ends in
+      answered_by base w ends.capacity ends.history g.by (Release index modes.LockIfLastIndex) (State state)
+      (given_by g.by index state) g.called
 
   pub counted_answered : (n : ℕ) → Ends one_word kinds.Indices counts_out base n m w → Answered BorrowedIndices (Number n) base w
   counted_answered n ends = let g = counted n ends in answered_by base w ends.capacity ends.history g.by BorrowedIndices (Number n) [] g.called
@@ -250,9 +308,13 @@ module _ (base w : View ℕ) (m : Unit {0}) (idle : base.going ≡ None) where
   looked_answered b ends = let g = looked b ends in answered_by base w ends.capacity ends.history g.by IsLocked (Truth b) [] g.called
 
 -- no index was held by both
-pub apart : (v other w : View ℕ) (i : ℕ) → Looks one_word kinds.Indices (joined_view v other).capacity (joined_view v other) w → Holds i v.made → Holds i other.made → ⊥
+pub apart : (v other w : View ℕ) (i : ℕ)
+    → Looks one_word kinds.Indices (joined_view v other).capacity (joined_view v other) w → Holds i v.made
+    → Holds i other.made → ⊥
 apart v other w i looks mine theirs =
     let one = (sound (joined_view v other).capacity w looks.capacity looks.history looks.parties).once i in
-    let a : sum_by (claims i) w.made ≡ sum_by (claims i) v.made + sum_by (claims i) other.made = ap (sum_by (claims i)) looks.made ∙ sum_by-append (claims i) v.made other.made in
-    let b : sum_by (frees i) w.made ≡ sum_by (frees i) v.made + sum_by (frees i) other.made = ap (sum_by (frees i)) looks.made ∙ sum_by-append (frees i) v.made other.made in
+    let a : sum_by (claims i) w.made ≡ sum_by (claims i) v.made + sum_by (claims i) other.made =
+    ap (sum_by (claims i)) looks.made ∙ sum_by-append (claims i) v.made other.made in
+    let b : sum_by (frees i) w.made ≡ sum_by (frees i) v.made + sum_by (frees i) other.made =
+    ap (sum_by (frees i)) looks.made ∙ sum_by-append (frees i) v.made other.made in
     absurd (omega arith)

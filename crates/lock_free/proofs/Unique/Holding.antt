@@ -137,7 +137,8 @@ held_still v w is held moves j =
     omega arith
 
 -- and what the one held is still held
-pub holds_joined : (i : ℕ) (v other : View ℕ) → IsSound other → ((j : ℕ) → Holds j v.made → Holds j other.made → ⊥) → Holds i v.made → Holds i (v.made ++ other.made)
+pub holds_joined : (i : ℕ) (v other : View ℕ) → IsSound other → ((j : ℕ) → Holds j v.made → Holds j other.made → ⊥)
+    → Holds i v.made → Holds i (v.made ++ other.made)
 holds_joined i v other sound apart mine =
     let low = sound.least i in
     let high = sound.once i in
@@ -193,10 +194,22 @@ held_apart is v sound held = go is (λ i. (let was = held i in let most = sound.
         (go xs (λ i. (let all = few i in let rest = times_both i (x ∷ []) xs in omega arith)))
 
 -- once the one pass has seen the lock, the other that it takes in holds nothing either
-pub lock_apart : (v other w : View ℕ) → IsSound v → IsSound other → IsSound w → w.made ≡ v.made ++ other.made → (seen : List (Event ℕ)) → IsBeginning seen w.seen → is_locked seen ≡ true → HoldsNothing v.made × HoldsNothing other.made
+pub lock_apart : (v other w : View ℕ) → IsSound v → IsSound other → IsSound w → w.made ≡ v.made ++ other.made
+    → (seen : List (Event ℕ)) → IsBeginning seen w.seen → is_locked seen ≡ true
+    → HoldsNothing v.made × HoldsNothing other.made
 lock_apart v other w low low' sound is seen since shut = (
-  λ i. (let both_none = none i in let a = low.least i in let b = low'.least i in let c = sum_by-append (claims i) v.made other.made in let d = sum_by-append (frees i) v.made other.made in omega arith),
-  λ i. (let both_none = none i in let a = low.least i in let b = low'.least i in let c = sum_by-append (claims i) v.made other.made in let d = sum_by-append (frees i) v.made other.made in omega arith),
+  λ i. (let both_none = none i in
+      let a = low.least i in
+      let b = low'.least i in
+      let c = sum_by-append (claims i) v.made other.made in
+      let d = sum_by-append (frees i) v.made other.made in
+      omega arith),
+  λ i. (let both_none = none i in
+      let a = low.least i in
+      let b = low'.least i in
+      let c = sum_by-append (claims i) v.made other.made in
+      let d = sum_by-append (frees i) v.made other.made in
+      omega arith),
 )
   where
     none : HoldsNothing (v.made ++ other.made)

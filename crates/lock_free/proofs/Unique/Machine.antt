@@ -1,6 +1,8 @@
 -- What is known of a set's history by its machine: once it is locked nobody holds an index; and where each call that was
 -- begun has ended and a pass made all of it, what is in use is what that pass holds.
-use Rattle.std.proofs.Common.{◌≡◌, ◌≢◌, ⊎_elim, ℕ, zero, suc, ◌+◌, ◌<◌, ◌≤◌, ◌==◌, Bool, true, false, Option, Some, None, List, [], ◌∷◌, ◌++◌, length, fold, sum_by, refl, sym, ap, subst, ◌∙◌, append_assoc, append-nil, arith, if◌then◌else◌}
+use Rattle.std.proofs.Common.{◌≡◌, ◌≢◌, ⊎_elim, ℕ, zero, suc, ◌+◌, ◌<◌, ◌≤◌, ◌==◌, Bool, true, false, Option, Some}
+use Rattle.std.proofs.Common.{None, List, [], ◌∷◌, ◌++◌, length, fold, sum_by, refl, sym, ap, subst, ◌∙◌, append_assoc}
+use Rattle.std.proofs.Common.{append-nil, arith, if◌then◌else◌}
 use Rattle.std.proofs.lemmas.Bool.{cases_lt}
 use Rattle.std.proofs.lemmas.Bool.Decides.{nat_tests}
 use Rattle.std.proofs.lemmas.List.{get_or_past}
@@ -41,14 +43,20 @@ module _ {S : Type 0} (a b : Event ℕ → ℕ) (after : S → Event ℕ → S) 
   abbrev Moves : List (Event ℕ) → Event ℕ → Type 0
   Moves before e = a e + weight (fold after first before) ≡ b e + weight (after (fold after first before) e)
 
-  adds : (before es : List (Event ℕ)) → Each Moves (before ++ es) → sum_by a es + weight (fold after first before) ≡ sum_by b es + weight (fold after first (before ++ es))
-  adds before [] each = let same : weight (fold after first (before ++ [])) ≡ weight (fold after first before) = ap (λ xs. weight (fold after first xs)) (append-nil before) in omega arith
+  adds : (before es : List (Event ℕ)) → Each Moves (before ++ es)
+      → sum_by a es + weight (fold after first before) ≡ sum_by b es + weight (fold after first (before ++ es))
+  adds before [] each =
+      let same : weight (fold after first (before ++ [])) ≡ weight (fold after first before) =
+      ap (λ xs. weight (fold after first xs)) (append-nil before) in
+      omega arith
   adds before (e ∷ es) each =
       let here = each before es e refl in
       let longer_is : (before ++ e ∷ []) ++ es ≡ before ++ e ∷ es = append_assoc before (e ∷ []) es in
       let more = adds (before ++ e ∷ []) es (subst (Each Moves) (sym longer_is) each) in
-      let last : weight (fold after first ((before ++ e ∷ []) ++ es)) ≡ weight (fold after first (before ++ e ∷ es)) = ap (λ xs. weight (fold after first xs)) longer_is in
-      let next : weight (fold after first (before ++ e ∷ [])) ≡ weight (after (fold after first before) e) = ap weight (fold-append after first before (e ∷ [])) in
+      let last : weight (fold after first ((before ++ e ∷ []) ++ es)) ≡ weight (fold after first (before ++ e ∷ es)) =
+      ap (λ xs. weight (fold after first xs)) longer_is in
+      let next : weight (fold after first (before ++ e ∷ [])) ≡ weight (after (fold after first before) e) =
+      ap weight (fold-append after first before (e ∷ [])) in
       let one = sum_by-cons a e es in
       let two = sum_by-cons b e es in
       omega arith
@@ -110,7 +118,9 @@ module _ (c i : ℕ) (before : List (Event ℕ)) where
   moves : (e : Event ℕ) → HoldsRight c before e → claims i e + one_held (holder_of i before) ≡ frees i e + one_held (holder_after i (holder_of i before) e)
   moves (Claimed p index) h = go (index == i) refl
     where
-      go : (b : Bool) → (index == i) ≡ b → claims {T = ℕ} i (Claimed p index) + one_held (holder_of i before) ≡ 0 + one_held (holder_after {T = ℕ} i (holder_of i before) (Claimed p index))
+      go : (b : Bool) → (index == i) ≡ b
+          → claims {T = ℕ} i (Claimed p index) + one_held (holder_of i before)
+          ≡ 0 + one_held (holder_after {T = ℕ} i (holder_of i before) (Claimed p index))
       go true t =
           let same : index ≡ i = grind (arith, nat_tests) in
           let none : one_held (holder_of i before) ≡ 0 = ap one_held (subst (λ n. holder_of n before ≡ None) same h.1) in
@@ -118,7 +128,9 @@ module _ (c i : ℕ) (before : List (Event ℕ)) where
       go false t = rw t refl
   moves (Freed p index) h = go (index == i) refl
     where
-      go : (b : Bool) → (index == i) ≡ b → 0 + one_held (holder_of i before) ≡ frees {T = ℕ} i (Freed p index) + one_held (holder_after {T = ℕ} i (holder_of i before) (Freed p index))
+      go : (b : Bool) → (index == i) ≡ b
+          → 0 + one_held (holder_of i before)
+          ≡ frees {T = ℕ} i (Freed p index) + one_held (holder_after {T = ℕ} i (holder_of i before) (Freed p index))
       go true t =
           let same : index ≡ i = grind (arith, nat_tests) in
           let some : one_held (holder_of i before) ≡ 1 = ap one_held (subst (λ n. holder_of n before ≡ Some p) same h) in
@@ -131,9 +143,17 @@ module _ (c i : ℕ) (before : List (Event ℕ)) where
 pub length_is : (c : ℕ) (is : List ℕ) → ((i : ℕ) → c ≤ i → times i is ≡ 0) → sum_below (λ i. times i is) c ≡ length is
 length_is c [] none = sum_none (λ i. times i []) c (λ i below. refl)
 length_is c (x ∷ xs) none =
-    let here : times x (x ∷ xs) ≡ 1 + times x xs = (let t : (x == x) ≡ true = grind (arith, nat_tests) in let one : one_if x x ≡ 1 = rw t refl in let more = sum_by-cons (λ z. one_if z x) x xs in omega arith) in
+    let here : times x (x ∷ xs) ≡ 1 + times x xs =
+    (let t : (x == x) ≡ true = grind (arith, nat_tests) in
+    let one : one_if x x ≡ 1 = rw t refl in
+    let more = sum_by-cons (λ z. one_if z x) x xs in
+    omega arith) in
     let below : x < c = ⊎_elim (λ less. less) (λ more. (let zero_is = none x more in absurd (omega arith))) (cases_lt x c) in
-    let others : (i : ℕ) → i ≢ x → times i (x ∷ xs) ≡ times i xs = λ i ne. (let t : (x == i) ≡ false = grind (arith, nat_tests) in let none_is : one_if x i ≡ 0 = rw t refl in let more = sum_by-cons (λ z. one_if z i) x xs in omega arith) in
+    let others : (i : ℕ) → i ≢ x → times i (x ∷ xs) ≡ times i xs =
+    λ i ne. (let t : (x == i) ≡ false = grind (arith, nat_tests) in
+    let none_is : one_if x i ≡ 0 = rw t refl in
+    let more = sum_by-cons (λ z. one_if z i) x xs in
+    omega arith) in
     let rest = length_is c xs (λ i more. (let ne : i ≢ x = omega arith in sym (others i ne) ∙ none i more)) in
     let moved = sum_moved (λ i. times i (x ∷ xs)) (λ i. times i xs) c x below others in
     omega arith
@@ -145,7 +165,8 @@ sum_less f g (suc n) less = let here = less n in let rest = sum_less f g n less 
 -- ---- the machine of a history
 
 -- a call whose span is not open is not under way
-not_going : (F : frame.Family ℕ) (s : F.State) (p : ℕ) (o : Option (Party ℕ)) (span : Span ℕ) → is_open span ≡ 0 → frame.Fits F s p o span → flight_of (doing_of o) ≡ None
+not_going : (F : frame.Family ℕ) (s : F.State) (p : ℕ) (o : Option (Party ℕ)) (span : Span ℕ) → is_open span ≡ 0
+    → frame.Fits F s p o span → flight_of (doing_of o) ≡ None
 not_going F s p None span shut h = refl
 not_going F s p (Some x) span shut h = go x.doing h
   where
@@ -196,7 +217,9 @@ module _ (capacity : ℕ) (seen : List (Event ℕ)) (h : IsHistory one_word kind
   none_held shut i =
       let says : says_locked (head_of machine.state.words) ≡ true = sym laws.lock ∙ (sym (ap is_locked h.is) ∙ shut) in
       let is : counted_in machine.state.words ≡ locked = grind (arith, nat_tests) in
-      let none = counts_none c (counted_in machine.state.words) (held_below hs c + all_counted t.world.latest machine.state.seats) laws.good.few laws.good.tally is in
+      let none =
+      counts_none c (counted_in machine.state.words)
+      (held_below hs c + all_counted t.world.latest machine.state.seats) laws.good.few laws.good.tally is in
       holder_is i ∙ ⊎_elim
       (λ less. (let one = sum_one (λ j. one_held (holder hs j)) c i less in none_if_zero (holder hs i) (omega arith)))
       (past i)
@@ -223,7 +246,8 @@ module _ (capacity : ℕ) (seen : List (Event ℕ)) (h : IsHistory one_word kind
         let b = all (ends p) in
         let d = done p in
         let shut : is_open (span_of p seen) ≡ 0 = omega arith in
-        not_going of_set machine.state p (party_of p t.world.latest) (span_of p t.events) (sym (ap (λ es. is_open (span_of p es)) h.is) ∙ shut) (machine.inv.calls p)
+        not_going of_set machine.state p (party_of p t.world.latest) (span_of p t.events)
+        (sym (ap (λ es. is_open (span_of p es)) h.is) ∙ shut) (machine.inv.calls p)
 
     none_under : (weight : Flight ℕ → ℕ) → total weight t.world.latest machine.state.seats ≡ 0
     none_under weight = sum_none (weight_at weight t.world.latest) machine.state.seats (λ p below. ap (weight_of weight) (idle p))
@@ -263,7 +287,8 @@ module _ (capacity : ℕ) (seen : List (Event ℕ)) (h : IsHistory one_word kind
 
 -- ---- what one pass holds
 
-module _ (capacity : ℕ) (v : View ℕ) (h : IsHistory one_word kinds.Indices capacity v.seen) (parties : IsOfParties v) (is : List ℕ) (held : HeldBy is v.made) where
+module _ (capacity : ℕ) (v : View ℕ) (h : IsHistory one_word kinds.Indices capacity v.seen)
+    (parties : IsOfParties v) (is : List ℕ) (held : HeldBy is v.made) where
   abbrev holders : List (Option ℕ)
   holders = hs capacity v.seen h
 

@@ -16,5 +16,9 @@ module _ (capacity : ℕ) (some : 0 < capacity) (small : capacity < 2 ^ 24 - 1) 
   least : nat_lt capacity 1 ≡ false
   least = grind (arith, nat_tests)
 
-  pub indices_open : (words : List ℕ) → words ≡ opening_words capacity ++ 0 ∷ [] → IsMachine one_word kinds.Indices capacity (opening words [] (first_view capacity))
-  indices_open words same = opens one_word kinds.Indices capacity words (record { some = omega arith; few = omega arith; sized = λ x. refl; given_back = λ x. refl }) (rw (most, least) refl) same
+  pub indices_open : (words : List ℕ) → words ≡ opening_words capacity ++ 0 ∷ []
+      → IsMachine one_word kinds.Indices capacity (opening words [] (first_view capacity))
+  indices_open words same =
+      opens one_word kinds.Indices capacity words
+      (record { some = omega arith; few = omega arith; sized = λ x. refl; given_back = λ x. refl })
+      (rw (most, least) refl) same

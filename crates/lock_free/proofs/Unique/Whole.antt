@@ -1,5 +1,6 @@
 -- What the answers of calls say of what passes hold: of any pass, and of one that has the whole share.
-use Rattle.std.proofs.Common.{◌≡◌, ℕ, ◌<◌, ◌≤◌, Bool, true, false, None, Ok, Err, IfOk, IfErr, List, [], ◌∷◌, ◌++◌, length, refl, sym, ap, subst, ◌∙◌, arith, sum_by}
+use Rattle.std.proofs.Common.{◌≡◌, ℕ, ◌<◌, ◌≤◌, Bool, true, false, None, Ok, Err, IfOk, IfErr, List, [], ◌∷◌, ◌++◌}
+use Rattle.std.proofs.Common.{length, refl, sym, ap, subst, ◌∙◌, arith, sum_by}
 use Rattle.std.proofs.lemmas.List.Sums.{fold-append, sum_by-append}
 use Rattle.steps.specs.Indices.Unique.{Acquired}
 use Rattle.steps.specs.declared.indices.enums.ReleaseMode.TheVariants as modes
@@ -26,7 +27,9 @@ use Rattle.history.specs.Stages.{Ends}
 use Rattle.lock_free.specs.Unique.Held.{HeldBy, HoldsNothing, HoldsAll, HoldsSome, IsSound, begins, ends as finishes, IsDone}
 use Rattle.lock_free.specs.Unique.Told.{HasTaken, HasGiven, HasGivenOrLocked, HasCounted, HasLooked, Answered, HasAcquired, WasRefused}
 use Rattle.lock_free.proofs.Sums.{sum_made}
-use Rattle.lock_free.proofs.Unique.Facts.{lock_stays, not_locked, taken, taken_answered, free, holds, open_still, given_or_locked, locked_answered, counted, counted_answered, looked_answered, sound}
+use Rattle.lock_free.proofs.Unique.Facts.{lock_stays, not_locked, taken, taken_answered, free, holds, open_still}
+use Rattle.lock_free.proofs.Unique.Facts.{given_or_locked, locked_answered, counted, counted_answered, looked_answered}
+use Rattle.lock_free.proofs.Unique.Facts.{sound}
 use Rattle.lock_free.proofs.Unique.Machine.{tally_is, few, none_left, own_few}
 
 -- ---- a call that was begun has ended
@@ -83,7 +86,9 @@ module _ (base w : View ℕ) (m : Unit {0}) (idle : base.going ≡ None) where
       let h = ends.history in
       let all = ends.all (subst IsAll ends.share whole) in
       let now = taken_done base w (Err OutOfIndices) (taken base w m idle (Err OutOfIndices) ends) done in
-      let tally = sym (ap tally_of a.is ∙ fold-append tally_after _ a.before (Finished a.by (Indices Acquire) (NoIndex OutOfIndices) ∷ [])) ∙ tally_is base.capacity w.seen h w.made all now is held in
+      let tally =
+      sym (ap tally_of a.is ∙ fold-append tally_after _ a.before (Finished a.by (Indices Acquire) (NoIndex OutOfIndices) ∷ []))
+      ∙ tally_is base.capacity w.seen h w.made all now is held in
       let x = ap (λ (t : Tally). t.held) tally in
       let y = ap (λ (t : Tally). t.taking) tally in
       let z = ap (λ (t : Tally). t.giving) tally in
@@ -125,24 +130,33 @@ module _ (base w : View ℕ) (m : Unit {0}) (idle : base.going ≡ None) where
   refused_if (Ok i) ends done = tt
   refused_if (Err e) ends done = refused e ends done
 
-  pub within_if : (answer : Acquired) → Ends one_word kinds.Indices takes_index base answer m w → (capacity : ℕ) → base.capacity ≡ capacity → IfOk answer (λ i. i < capacity)
+  pub within_if : (answer : Acquired) → Ends one_word kinds.Indices takes_index base answer m w → (capacity : ℕ)
+      → base.capacity ≡ capacity → IfOk answer (λ i. i < capacity)
   within_if (Ok i) ends capacity size = subst (λ n. i < n) (ends.capacity ∙ size) (free base w m idle i ends).within
   within_if (Err e) ends capacity size = tt
 
   -- who locks the set holds none
-  pub locked_nothing : (index : ℕ) (state : ReleaseState) → Ends one_word kinds.Indices (gives_or_locks index) base state m w → state ≡ Locked → HoldsNothing w.made
-  locked_nothing index Locked ends = λ same. (let a = locked_answered base w m idle index Locked ends in (sound base.capacity w ends.capacity ends.history ends.parties).lock (lock_stays (last_of a) a.right))
+  pub locked_nothing : (index : ℕ) (state : ReleaseState)
+      → Ends one_word kinds.Indices (gives_or_locks index) base state m w → state ≡ Locked → HoldsNothing w.made
+  locked_nothing index Locked ends =
+      λ same. (let a = locked_answered base w m idle index Locked ends in
+      (sound base.capacity w ends.capacity ends.history ends.parties).lock (lock_stays (last_of a) a.right))
   locked_nothing index Unlocked ends = λ same. absurd (cc)
 
   -- who does not lock, with the whole share, holds some index
-  pub locked_whole : (index : ℕ) (state : ReleaseState) → Ends one_word kinds.Indices (gives_or_locks index) base state m w → IsDone base.made → state ≡ Unlocked → HoldsSome w
+  pub locked_whole : (index : ℕ) (state : ReleaseState)
+      → Ends one_word kinds.Indices (gives_or_locks index) base state m w → IsDone base.made → state ≡ Unlocked
+      → HoldsSome w
   locked_whole index Locked ends done = λ same. absurd (cc)
   locked_whole index Unlocked ends done = λ same whole held. (
       let a = locked_answered base w m idle index Unlocked ends in
       let h = ends.history in
       let all = ends.all (subst IsAll ends.share whole) in
       let now = locked_done base w index Unlocked (given_or_locked base w m idle index Unlocked ends) done in
-      let tally = sym (ap tally_of a.is ∙ fold-append tally_after _ a.before (Finished a.by (Indices (Release index modes.LockIfLastIndex)) (State Unlocked) ∷ [])) ∙ tally_is base.capacity w.seen h w.made all now [] held in
+      let tally =
+      sym (ap tally_of a.is
+      ∙ fold-append tally_after _ a.before (Finished a.by (Indices (Release index modes.LockIfLastIndex)) (State Unlocked) ∷ []))
+      ∙ tally_is base.capacity w.seen h w.made all now [] held in
       let x = ap (λ (t : Tally). t.held) tally in
       let y = ap (λ (t : Tally). t.taking) tally in
       let z = ap (λ (t : Tally). t.giving) tally in

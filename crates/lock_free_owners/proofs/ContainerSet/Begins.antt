@@ -28,10 +28,14 @@ use Rattle.history.specs.Stages.{Calling, At}
 use Rattle.history.proofs.CallsIn.{AsksFor}
 use Rattle.history.proofs.Containers.{container_words}
 use Rattle.history.proofs.ContainerAdds.{container_add_keeps, container_add_first, container_replace_keeps, container_replace_first}
-use Rattle.history.proofs.ContainerCalls.{container_count_keeps, container_count_first, container_lock_keeps, container_lock_first, remove_call, container_remove_keeps, container_remove_first}
+use Rattle.history.proofs.ContainerCalls.{container_count_keeps, container_count_first, container_lock_keeps}
+use Rattle.history.proofs.ContainerCalls.{container_lock_first, remove_call, container_remove_keeps}
+use Rattle.history.proofs.ContainerCalls.{container_remove_first}
 use Rattle.history.proofs.ContainerRests.{Keeps, rested_keeps, container_settles}
 use Rattle.lock_free_owners.specs.Container.Idle.{IsIdle}
-use Rattle.lock_free_owners.specs.Container.Turns.{CallAt, BeginsAdd, BeginsRemove, BeginsReplace, BeginsCount, BeginsLock, AddAt, AddEnds, RemoveAt, RemoveEnds, ReplaceAt, ReplaceEnds, CountAt, CountEnds, LockAt, LockEnds}
+use Rattle.lock_free_owners.specs.Container.Turns.{CallAt, BeginsAdd, BeginsRemove, BeginsReplace, BeginsCount}
+use Rattle.lock_free_owners.specs.Container.Turns.{BeginsLock, AddAt, AddEnds, RemoveAt, RemoveEnds, ReplaceAt}
+use Rattle.lock_free_owners.specs.Container.Turns.{ReplaceEnds, CountAt, CountEnds, LockAt, LockEnds}
 use Rattle.lock_free_owners.proofs.ContainerSet.Idle.{rests}
 use Rattle.lock_free_owners.proofs.Rules.Container.Bare.{leaves}
 

@@ -1,5 +1,6 @@
 -- What is known of whole calls on a container.
-use Rattle.std.proofs.Common.{Option, IfSome, ◌≡◌, ⊎_elim, ℕ, ◌<◌, ◌≤◌, ◌==◌, Bool, true, false, true≢false, Ok, Err, IfOk, OnOk, List, [], ◌∷◌, ◌++◌, refl, sym, ap, subst, ◌∙◌, append_assoc, arith}
+use Rattle.std.proofs.Common.{Option, IfSome, ◌≡◌, ⊎_elim, ℕ, ◌<◌, ◌≤◌, ◌==◌, Bool, true, false, true≢false, Ok, Err}
+use Rattle.std.proofs.Common.{IfOk, OnOk, List, [], ◌∷◌, ◌++◌, refl, sym, ap, subst, ◌∙◌, append_assoc, arith}
 use Rattle.steps.specs.Container.Add.{Added}
 use Rattle.steps.specs.Container.Remove.{Removed}
 use Rattle.steps.specs.Container.Replace.{Replaced}
@@ -36,9 +37,12 @@ use Rattle.history.specs.ContainerLooks.{KeepsState}
 use Rattle.history.specs.Stages.{Calling, LeavesState}
 use Rattle.lock_free_owners.specs.Robust.Told.{WroteAt, WasFilled, WasGranted, WasFreed, HasReleased, FoundLock}
 use Rattle.lock_free_owners.specs.Container.Told.{IsSound, HasMade, HasAdded, HasRemoved, HasReplaced, HasCounted, HasTested, HasLooked, Answered, WasNotAdded}
-use Rattle.lock_free_owners.specs.Container.Turns.{CallEnds, AddEnds, RemoveEnds, ReplaceEnds, CountEnds, LockEnds, BeginsAdd, BeginsRemove, BeginsReplace, BeginsCount, BeginsLock}
+use Rattle.lock_free_owners.specs.Container.Turns.{CallEnds, AddEnds, RemoveEnds, ReplaceEnds, CountEnds, LockEnds}
+use Rattle.lock_free_owners.specs.Container.Turns.{BeginsAdd, BeginsRemove, BeginsReplace, BeginsCount, BeginsLock}
 use Rattle.lock_free_owners.proofs.ContainerSet.Sound.{sound_history}
-use Rattle.lock_free_owners.proofs.ContainerSet.Began.{history_of as began_history, share_from, capacity_from, idle_from, later, ended_goes, ended_called, ended_answered, ended_keeps}
+use Rattle.lock_free_owners.proofs.ContainerSet.Began.{history_of as began_history, share_from, capacity_from}
+use Rattle.lock_free_owners.proofs.ContainerSet.Began.{idle_from, later, ended_goes, ended_called, ended_answered}
+use Rattle.lock_free_owners.proofs.ContainerSet.Began.{ended_keeps}
 use Rattle.lock_free_owners.proofs.RobustSet.Events.{find_own, lock_stays, not_locked, covers, longer}
 
 module _ {T : Type 0} (code : Coding T) where

@@ -1,5 +1,6 @@
 -- A find of a container between two turns, as a call of the history.
-use Rattle.std.proofs.Common.{◌≡◌, ◌⊎◌, inl, inr, ⊎_elim, ℕ, ◌+◌, ◌<◌, ◌==◌, nat_lt, Bool, true, false, Option, Some, None, List, [], ◌∷◌, ◌++◌, slice_set, refl, sym, ap, subst, ◌∙◌, append-nil, arith}
+use Rattle.std.proofs.Common.{◌≡◌, ◌⊎◌, inl, inr, ⊎_elim, ℕ, ◌+◌, ◌<◌, ◌==◌, nat_lt, Bool, true, false, Option, Some}
+use Rattle.std.proofs.Common.{None, List, [], ◌∷◌, ◌++◌, slice_set, refl, sym, ap, subst, ◌∙◌, append-nil, arith}
 use Rattle.steps.specs.Container.Find.{first_find, find_asks, find_want, find_keeps as keeps_of, find_takes}
 use Rattle.steps.specs.Indices.Robust.Parts.{empty}
 use Rattle.steps.specs.Picks.{by_test}
@@ -33,11 +34,14 @@ use Rattle.history.proofs.Containers.{container_words}
 use Rattle.history.proofs.ContainerRests.{Keeps, rested_asks, apart_asked}
 use Rattle.history.proofs.Rooms.{room_fresh}
 use Rattle.lock_free_owners.specs.Container.FindTold.{copied, Rests, HasSearched}
-use Rattle.lock_free_owners.specs.Container.FindTurns.{words_in, Copying, BeginsFind, finding, find_goes, find_copying, FindBegun, FindOver, FindAt, FindEnds, FindTells, IsLeft}
+use Rattle.lock_free_owners.specs.Container.FindTurns.{words_in, Copying, BeginsFind, finding, find_goes, find_copying}
+use Rattle.lock_free_owners.specs.Container.FindTurns.{FindBegun, FindOver, FindAt, FindEnds, FindTells, IsLeft}
 use Rattle.lock_free_owners.specs.Container.Visits.{visits_of}
 use Rattle.lock_free_owners.specs.Container.Idle.{asks, may_rest, IsIdle}
 use Rattle.lock_free_owners.proofs.ContainerSet.Idle.{rests, idle_none}
-use Rattle.lock_free_owners.proofs.ContainerSet.Began.{idle_from, capacity_from, share_from, seen_is, made_is, ended_goes, ended_called, ended_answered, under_goes, ended_keeps, under_keeps}
+use Rattle.lock_free_owners.proofs.ContainerSet.Began.{idle_from, capacity_from, share_from, seen_is, made_is}
+use Rattle.lock_free_owners.proofs.ContainerSet.Began.{ended_goes, ended_called, ended_answered, under_goes}
+use Rattle.lock_free_owners.proofs.ContainerSet.Began.{ended_keeps, under_keeps}
 
 -- what it has copied is what its closure was called with
 named_copies : {T : Type 0} (p owner id : ℕ) (copies : List (ℕ × T)) → copies_of p copies ≡ copied p (visits_of owner id copies)
@@ -92,12 +96,14 @@ module _ {T : Type 0} (code : Coding T) (law : IsCoding code) (owner : ℕ) wher
   pub find_keeps : Keeps code (FindAt code owner) (FindEnds code owner) (λ c. find_want code.size c) (find_goes code owner) (find_copying code owner)
   find_keeps =
       rested_asks code (finding code owner) (λ c. find_want code.size c) (λ c m. refl) (BeginsFind owner) begins_asks
-      (find_goes code owner) (find_copying code owner) (FindOver code owner) never_first (container_find_keeps code law words_in kept_at put_in owner) begins_first
+      (find_goes code owner) (find_copying code owner) (FindOver code owner) never_first
+      (container_find_keeps code law words_in kept_at put_in owner) begins_first
 
   apart : (base v : View T) (c : Find T (Kept 128)) (m k : Copying T) → IsResting code v → BeginsFind owner v.capacity c k → FindBegun code owner base v c m → ⊥
   apart =
       apart_asked code (finding code owner) (λ c. find_want code.size c) (λ c m. refl) (BeginsFind owner) begins_asks
-      (find_goes code owner) (find_copying code owner) (FindOver code owner) never_first (container_find_keeps code law words_in kept_at put_in owner) begins_first
+      (find_goes code owner) (find_copying code owner) (FindOver code owner) never_first
+      (container_find_keeps code law words_in kept_at put_in owner) begins_first
 
   abbrev WaitsAt : View T → View T → Find T (Kept 128) → Copying T → Type 0
   WaitsAt = Waits code kinds.Container (λ base. BeginsFind owner base.capacity)
@@ -119,13 +125,16 @@ module _ {T : Type 0} (code : Coding T) (law : IsCoding code) (owner : ℕ) wher
 
   -- one step tells of all that it may have copied
   pub find_tells : (base v : View T) (c : Find T (Kept 128)) (room : Kept 128) (copies : List (ℕ × T)) → FindAt code owner base v c (room, copies)
-      → (n : ℕ) (w : View T) → Told (λ (z : View T). z.capacity) (FindAt code owner) (FindEnds code owner) (find_goes code owner) (find_copying code owner) c (room, copies) v n w
+      → (n : ℕ) (w : View T) → Told (λ (z : View T). z.capacity) (FindAt code owner) (FindEnds code owner) (find_goes code owner)
+      (find_copying code owner) c (room, copies) v n w
       → (w.capacity ≡ v.capacity) × FindTells code owner c room v n w
   find_tells base v c room copies at n w h = (
     h.0,
     λ other more there. (
         let same : copies ≡ more = same_copies base other v c (room, copies) (room, more) at there in
-        subst (λ xs. Next (λ (z : View T). z.capacity) (FindAt code owner) (FindEnds code owner) other (find_goes code owner c n) (find_copying code owner c (room, xs) n) w) same
+        subst (λ xs. Next (λ (z : View T). z.capacity) (FindAt code owner) (FindEnds code owner) other
+        (find_goes code owner c n) (find_copying code owner c (room, xs) n) w)
+        same
         (h.1 other (subst (λ xs. FindAt code owner other v c (room, xs)) (sym same) there))),
   )
 
@@ -238,7 +247,9 @@ module _ {T : Type 0} (code : Coding T) (law : IsCoding code) (owner : ℕ) wher
             share = under.share ∙ share_from code base from settled;
             alone = under.alone;
             goes = under_goes code base from settled (finding code owner) w rest.asking m under;
-            keeps = under_keeps code base from settled (finding code owner) w (record { start = refl; flight = λ c k. refl }) (λ was p by. by) rest.asking m under;
+            keeps =
+                under_keeps code base from settled (finding code owner) w
+                (record { start = refl; flight = λ c k. refl }) (λ was p by. by) rest.asking m under;
           }
 
     module _ (ends : Ends code kinds.Container (finding code owner) from e m w) where

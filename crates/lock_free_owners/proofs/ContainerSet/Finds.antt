@@ -64,13 +64,16 @@ module _ {T F : Type 0} (code : Coding T) (step : F → T → ContainerHandle �
     stepped w (GoOn d) left copies stands at so = record { copies = copies; at = at; stands = stands; so_far = so }
     stepped w (Done n) left copies stands ends found = whole w n p copies (over_so code law owner base w n (left, copies) id ends) found
 
-    by_step : (stage : FindStage) → c.stage ≡ stage → (still : IsQuiet step cap owner id f stage) → (w : View T) (a : After (Find T (Kept 128)) ℕ) (left : Kept 128)
+    by_step : (stage : FindStage) → c.stage ≡ stage → (still : IsQuiet step cap owner id f stage)
+        → (w : View T) (a : After (Find T (Kept 128)) ℕ) (left : Kept 128)
         → FindGoes code owner v c m a left w → Further w a left p
     by_step stage is still w a left goes =
         subst (λ (z : After (Find T (Kept 128)) ℕ × Kept 128). Further w z.0 z.1 p) (λ i. (sym goes.1 i, sym goes.2 i))
-        (stepped w (find_goes code owner c goes.0) (find_kept kept_at c m goes.0) (find_copying code owner c (m, h.copies) goes.0).1 (stood goes.0) (goes.3 base h.copies h.at)
+        (stepped w (find_goes code owner c goes.0) (find_kept kept_at c m goes.0)
+        (find_copying code owner c (m, h.copies) goes.0).1 (stood goes.0) (goes.3 base h.copies h.at)
         (subst (λ z. StepsOnward step cap owner id f code.size c value_in_room kept_at z h.copies m goes.0 p) (sym is)
-        (quietly step cap owner id f code.size c value_in_room kept_at small stage still (subst (visits.FindStage code.size cap) is h.stands.1) h.copies m p goes.0
+        (quietly step cap owner id f code.size c value_in_room kept_at small stage still
+        (subst (visits.FindStage code.size cap) is h.stands.1) h.copies m p goes.0
         (subst (λ z. SoFar step cap owner id f z h.copies (value_in_room m) p) is h.so_far))))
 
     -- ---- an answer

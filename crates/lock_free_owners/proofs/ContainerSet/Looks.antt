@@ -1,5 +1,6 @@
 -- A look of a state on a pass: its steps, its begin, and what it leaves.
-use Rattle.std.proofs.Common.{◌≡◌, ◌⊎◌, inl, inr, ℕ, zero, suc, ◌+◌, ◌<◌, ◌==◌, nat_lt, Bool, true, false, Some, None, List, [], refl, sym, ap, subst, ◌∙◌, slice_index_or, arith}
+use Rattle.std.proofs.Common.{◌≡◌, ◌⊎◌, inl, inr, ℕ, zero, suc, ◌+◌, ◌<◌, ◌==◌, nat_lt, Bool, true, false, Some, None}
+use Rattle.std.proofs.Common.{List, [], refl, sym, ap, subst, ◌∙◌, slice_index_or, arith}
 use Rattle.std.proofs.lemmas.Bool.Decides.{nat_tests}
 use Rattle.steps.specs.Container.Layout.{is_even}
 use Rattle.steps.specs.Container.Look.{first_look, look_want, look_comes_to, look_finds, look_takes, look_after, look_kept}
@@ -68,7 +69,8 @@ module _ {T : Type 0} (code : Coding T) (law : IsCoding code) (which : LookOf) (
 
   -- ---- its steps
 
-  abbrev NextOf : (View T → View T → Looking T → Showing T → Type 0) → (View T → Bool → Showing T → View T → Type 0) → View T → After (Looking T) Bool → Showing T → View T
+  abbrev NextOf : (View T → View T → Looking T → Showing T → Type 0) → (View T → Bool → Showing T → View T → Type 0)
+      → View T → After (Looking T) Bool → Showing T → View T
       → Type 0
   NextOf at over = Next (λ (z : View T). z.capacity) at over
 
@@ -95,7 +97,8 @@ module _ {T : Type 0} (code : Coding T) (law : IsCoding code) (which : LookOf) (
       (λ n w h. (h.0, λ b here. joins on b (after c n) (kept c m n) w (h.1 from (here.0 on))))
       (state_rests_keep code law which from.capacity seen from v c m key words slots id wide known (at.0 on))
   look_keeps_by (inr other) base v c m key words slots id wide known at =
-      weaker_owes (IsMachine code kinds.Container key) words slots id (ToldStill c m) (Told (λ (z : View T). z.capacity) At Over after kept c m) (want c) (v, [])
+      weaker_owes (IsMachine code kinds.Container key) words slots id (ToldStill c m)
+      (Told (λ (z : View T). z.capacity) At Over after kept c m) (want c) (v, [])
       (λ n w h. (h.0, λ b here. leaves other b (after c n) (kept c m n) w (h.1 from (here.1 other))))
       (state_rule code code.value_of code.size law.some seen from v c m key words slots id wide known (at.1 other))
 
@@ -179,7 +182,8 @@ module _ {T : Type 0} (code : Coding T) (which : LookOf) (from w : View T) (seen
   pub look_goes : Goes code kinds.Container from.capacity from w
   look_goes = ended_goes code from ends.from ends.settled (looking code which from.capacity seen) w changed m ends.over.0
 
-  pub look_made : HasMade code (look_start which) (looked which (state_of_look from.capacity seen m) changed) (λ by es. HasLookedAll from.capacity by changed es) from w
+  pub look_made : HasMade code (look_start which) (looked which (state_of_look from.capacity seen m) changed)
+      (λ by es. HasLookedAll from.capacity by changed es) from w
   look_made =
       let over = ends.over.0 in
       record {
@@ -227,7 +231,8 @@ module _ {T : Type 0} (code : Coding T) (from : View T) where
   latest_so which w changed old new e is ends =
       (ends.over.0.party, ends.over.0.mine, ends.over.1 ∙ ap Some (same changed ∙ ap (λ s. unnumbered s) (sym is)))
     where
-      same : (b : Bool) → settled_if (Done b) (state_of_look from.capacity old.seen new.shown) ≡ unnumbered (settled_if (Done b) (record old { shown = new.shown }))
+      same : (b : Bool) → settled_if (Done b) (state_of_look from.capacity old.seen new.shown)
+          ≡ unnumbered (settled_if (Done b) (record old { shown = new.shown }))
       same true = ap (λ n. settled (state_of_look n old.seen new.shown)) (sym e)
       same false = ap (λ n. state_of_look n old.seen new.shown) (sym e)
 
@@ -238,7 +243,8 @@ pub record Left {T : Type 0} (v w : View T) : Type 0 where
   pub share : w.share ≡ v.share
   pub capacity : w.capacity ≡ v.capacity
 
-module _ {T : Type 0} (code : Coding T) (which : LookOf) (from : View T) (shown : Showing T) (seen : Numbers) (changed : Bool) (m : Showing T) (w : View T) where
+module _ {T : Type 0} (code : Coding T) (which : LookOf) (from : View T) (shown : Showing T) (seen : Numbers)
+    (changed : Bool) (m : Showing T) (w : View T) where
   pub left_so : Decided (IsOnHistory code which from shown seen) → IsIdle from → from.other ≡ [] → LookOver code which from shown seen changed m w → Left from w
   left_so (inl on) idle alone over =
       let ends = over.0 on in

@@ -1,5 +1,6 @@
 -- A recovery of a container between two turns, as a call of the history.
-use Rattle.std.proofs.Common.{◌≡◌, ◌⊎◌, inl, inr, ℕ, ◌+◌, ◌<◌, ◌==◌, nat_lt, Bool, true, false, None, List, [], ◌∷◌, ◌++◌, slice_set, refl, sym, ap, subst, ◌∙◌, append_assoc, append-nil, arith}
+use Rattle.std.proofs.Common.{◌≡◌, ◌⊎◌, inl, inr, ℕ, ◌+◌, ◌<◌, ◌==◌, nat_lt, Bool, true, false, None, List, [], ◌∷◌}
+use Rattle.std.proofs.Common.{◌++◌, slice_set, refl, sym, ap, subst, ◌∙◌, append_assoc, append-nil, arith}
 use Rattle.steps.specs.Container.Recover.{first_recover, goes_to, recover_asks, recover_want, recover_keeps as keeps_of, recover_takes}
 use Rattle.steps.specs.Indices.Robust.Parts.{empty}
 use Rattle.steps.specs.Picks.{by_test}
@@ -44,7 +45,9 @@ use Rattle.history.proofs.Rooms.{room_fresh}
 use Rattle.lock_free_owners.specs.Robust.Told.{FoundState}
 use Rattle.lock_free_owners.specs.Container.FindTurns.{words_in}
 use Rattle.lock_free_owners.specs.Container.Idle.{IsIdle}
-use Rattle.lock_free_owners.specs.Container.RecoverTurns.{Visiting, BeginsRecover, recovering, recover_goes, recover_visiting, RecoverBegun, RecoverAt, RecoverEnds, RecoverTells}
+use Rattle.lock_free_owners.specs.Container.RecoverTurns.{Visiting, BeginsRecover, recovering, recover_goes}
+use Rattle.lock_free_owners.specs.Container.RecoverTurns.{recover_visiting, RecoverBegun, RecoverAt, RecoverEnds}
+use Rattle.lock_free_owners.specs.Container.RecoverTurns.{RecoverTells}
 use Rattle.lock_free_owners.specs.Container.Told.{Answered}
 use Rattle.lock_free_owners.proofs.ContainerSet.Idle.{rests}
 use Rattle.lock_free_owners.proofs.ContainerSet.Began.{idle_from, seen_is, from_since, ended_goes, ended_called, ended_answered, open_since}
@@ -109,7 +112,8 @@ module _ {T : Type 0} (code : Coding T) (law : IsCoding code) (given : DeadOwner
       (recover_visiting code given)
   recover_keeps =
       rested_asks code (recovering code given) (λ c. recover_want code.size c given) (λ c m. refl) (BeginsRecover given) begins_asks
-      (recover_goes code given) (recover_visiting code given) (Ends code kinds.Container (recovering code given)) never_first (container_recover_keeps code law words_in kept_at put_in given) begins_first
+      (recover_goes code given) (recover_visiting code given) (Ends code kinds.Container (recovering code given))
+      never_first (container_recover_keeps code law words_in kept_at put_in given) begins_first
 
   apart : (base v : View T) (c : Recover T (Kept 128)) (m k : Visiting T) → IsResting code v → BeginsRecover given v.capacity c k
       → RecoverBegun code given base v c m → ⊥
@@ -140,7 +144,8 @@ module _ {T : Type 0} (code : Coding T) (law : IsCoding code) (given : DeadOwner
   -- one step tells of all that it may have done
   pub recover_tells : (base v : View T) (c : Recover T (Kept 128)) (room : Kept 128) (visits : List (ℕ × Came T)) → RecoverAt code given base v c (room, visits)
       → (n : ℕ) (w : View T)
-      → DriverTold (λ (z : View T). z.capacity) (RecoverAt code given) (RecoverEnds code given) (recover_goes code given) (recover_visiting code given) c (room, visits) v n w
+      → DriverTold (λ (z : View T). z.capacity) (RecoverAt code given) (RecoverEnds code given)
+      (recover_goes code given) (recover_visiting code given) c (room, visits) v n w
       → (w.capacity ≡ v.capacity) × RecoverTells code given c room v n w
   recover_tells base v c room visits at n w h = (
     h.0,

@@ -21,7 +21,9 @@ use Rattle.history.proofs.ContainerRecoveries.{recover_call}
 use Rattle.lock_free_owners.specs.Container.FindTurns.{words_in}
 use Rattle.lock_free_owners.specs.Container.Questions.{TakesValues}
 use Rattle.lock_free_owners.specs.Container.RecoverTold.{HasRecovered}
-use Rattle.lock_free_owners.specs.Container.RecoverTurns.{Visiting, recover_goes, recover_visiting, RecoverAt, RecoverEnds, RecoverGoes, RecoverTurns, RecoverAsks, RecoverMoves}
+use Rattle.lock_free_owners.specs.Container.RecoverTurns.{Visiting, recover_goes, recover_visiting, RecoverAt}
+use Rattle.lock_free_owners.specs.Container.RecoverTurns.{RecoverEnds, RecoverGoes, RecoverTurns, RecoverAsks}
+use Rattle.lock_free_owners.specs.Container.RecoverTurns.{RecoverMoves}
 use Rattle.lock_free_owners.proofs.ContainerSet.RecoverTurns.{put_in, heard_on, answer_last, asked_open, recovered_called}
 use Rattle.lock_free_owners.proofs.Rules.Container.Recovering.{SoFar, Knows, Onward, StepsOnward, IsQuiet, quietly, answered as answers_so, may_ask}
 
@@ -109,7 +111,8 @@ module _ {T F : Type 0} (code : Coding T) (step : F → T → Bool → F → Typ
         (stepped w (recover_goes code given c goes.0) (recover_kept kept_at c m goes.0) (recover_visiting code given c (m, h.visits) goes.0).1 p goes.0 refl
         (goes.3 base h.visits h.at)
         (subst (λ z. StepsOnward step cap shut given f code.size c value_in_room kept_at z h.visits m goes.0 p) (sym is)
-        (quietly step cap shut given f code.size c value_in_room kept_at stage still (subst (RecoverIn code.size cap given.mode) is h.stands.1) h.visits m p goes.0
+        (quietly step cap shut given f code.size c value_in_room kept_at stage still
+        (subst (RecoverIn code.size cap given.mode) is h.stands.1) h.visits m p goes.0
         (subst (λ z. SoFar step cap shut given f z h.visits value p) is h.so_far))))
 
     -- an answer
@@ -122,7 +125,8 @@ module _ {T F : Type 0} (code : Coding T) (step : F → T → Bool → F → Typ
         → Further v (recover_goes code given c (if said then 1 else 0)) m q
     by_answer index count is q said hit =
         let free : shut ≡ false = asked_open code law given base v c (m, h.visits) index count is h.at in
-        let same : recover_goes code given c (number_of said) ≡ recover_goes code given c (if said then 1 else 0) = ap (recover_goes code given c) (same_number said) in
+        let same : recover_goes code given c (number_of said) ≡ recover_goes code given c (if said then 1 else 0) =
+        ap (recover_goes code given c) (same_number said) in
         stepped v (recover_goes code given c (if said then 1 else 0)) m h.visits q (number_of said) same
         (heard said (recover_goes code given c (if said then 1 else 0)) index count is same)
         (subst (λ z. Onward step cap shut given f (recover_takes code.size c z given (if said then 1 else 0)) h.visits value q) (sym is)
@@ -130,7 +134,8 @@ module _ {T F : Type 0} (code : Coding T) (step : F → T → Bool → F → Typ
         (subst (λ z. SoFar step cap shut given f z h.visits value p) is h.so_far)))
 
     module _ (w : View T) (a : After (Recover T (Kept 128)) ReleaseState) (left : Kept 128) (q : F) where
-      passes : (stage : RecoverStage) → c.stage ≡ stage → IsQuiet step cap shut given f stage → RecoverGoes code given v c m a left w → q ≡ p → Further w a left q
+      passes : (stage : RecoverStage) → c.stage ≡ stage → IsQuiet step cap shut given f stage
+          → RecoverGoes code given v c m a left w → q ≡ p → Further w a left q
       passes stage is still turns moves = subst (λ (z : F). Further w a left z) (sym moves) (by_step stage is still w a left turns)
 
       turned : (stage : RecoverStage) → c.stage ≡ stage → RecoverTurns code given stage v c m a left w

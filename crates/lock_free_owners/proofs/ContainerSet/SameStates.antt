@@ -83,7 +83,8 @@ module _ {T : Type 0} (code : Coding T) (law : IsCoding code) where
       by_state : (p : ℕ) (s : ContainerState T) → base.party ≡ Some p → base.state ≡ Some s → Decided (s ≡ state_of_look cells seen m) → Decided Has
       by_state p s mine is (inl same) = inl (p, mine, is ∙ ap Some same)
       by_state p s mine is (inr other) =
-          inr (λ h. (let both_are : ◌≡◌ {A = Option (ContainerState T)} (Some s) (Some (state_of_look cells seen m)) = sym is ∙ h.2 in other (inside s _ both_are)))
+          inr (λ h. (let both_are : ◌≡◌ {A = Option (ContainerState T)} (Some s) (Some (state_of_look cells seen m)) = sym is ∙ h.2 in
+          other (inside s _ both_are)))
         where
           inside : (x y : ContainerState T) → ◌≡◌ {A = Option (ContainerState T)} (Some x) (Some y) → x ≡ y
           inside x y e = cc

@@ -15,7 +15,8 @@ use Rattle.history.specs.declared.view.View.{View}
 use Rattle.history.specs.Container.{adds_value, removes_value, replaces_value, counts_values, sees_lock}
 use Rattle.history.specs.ContainerLooks.{KeepsState}
 use Rattle.lock_free_owners.specs.Container.RecoverTurns.{Visiting, recovering, RecoverEnds}
-use Rattle.lock_free_owners.specs.Container.Turns.{AddEnds, RemoveEnds, ReplaceEnds, CountEnds, LockEnds, BeginsAdd, BeginsRemove, BeginsReplace, BeginsCount, BeginsLock}
+use Rattle.lock_free_owners.specs.Container.Turns.{AddEnds, RemoveEnds, ReplaceEnds, CountEnds, LockEnds, BeginsAdd}
+use Rattle.lock_free_owners.specs.Container.Turns.{BeginsRemove, BeginsReplace, BeginsCount, BeginsLock}
 use Rattle.lock_free_owners.proofs.ContainerSet.Began.{ended_keeps}
 use Rattle.lock_free_owners.proofs.ContainerSet.Facts.{keeps}
 
@@ -34,7 +35,8 @@ module _ {T : Type 0} (code : Coding T) (base w : View T) where
       (λ was p by. by)
 
   pub count_leaves : (which : CountOf) (n : ℕ) → CountEnds code which base n tt w → KeepsState base w
-  count_leaves counts.Len n ends = keeps code BeginsCount (counts_values counts.Len) base w n ends (record { start = refl; flight = λ c m. refl }) (λ was p by. by)
+  count_leaves counts.Len n ends =
+      keeps code BeginsCount (counts_values counts.Len) base w n ends (record { start = refl; flight = λ c m. refl }) (λ was p by. by)
   count_leaves counts.IsEmpty n ends =
       keeps code BeginsCount (counts_values counts.IsEmpty) base w n ends (record { start = refl; flight = λ c m. refl }) (λ was p by. by)
 

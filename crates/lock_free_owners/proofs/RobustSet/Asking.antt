@@ -1,5 +1,6 @@
 -- Where a recovery asks about an index, or has been told to free it, the set was not locked when it began.
-use Rattle.std.proofs.Common.{◌≡◌, inl, inr, ℕ, ◌+◌, ◌<◌, ◌==◌, nat_lt, Bool, true, false, true≢false, refl, arith, Option, Some, None, List, [], ◌∷◌, ◌++◌, sym, ap, subst, ◌∙◌, append_assoc}
+use Rattle.std.proofs.Common.{◌≡◌, inl, inr, ℕ, ◌+◌, ◌<◌, ◌==◌, nat_lt, Bool, true, false, true≢false, refl, arith}
+use Rattle.std.proofs.Common.{Option, Some, None, List, [], ◌∷◌, ◌++◌, sym, ap, subst, ◌∙◌, append_assoc}
 use Rattle.steps.specs.Indices.Robust.Parts.{raise_want, lock_want}
 use Rattle.steps.specs.Indices.Robust.Recover.{at_recover, recover_asks, recover_comes_to, recover_takes}
 use Rattle.steps.specs.Picks.{by_test}
@@ -31,7 +32,8 @@ use Rattle.model.specs.Turns.{number_of}
 use Rattle.robust_laws.specs.Gone.{Word, AsksBy}
 use Rattle.history.specs.declared.view.View.{View}
 use Rattle.history.specs.History.{IsHistory}
-use Rattle.history.specs.Robust.{recovers_owned, RecoverIn, Came, HasAsked, WasTold, HasFreed, HasLocked, Visit, visit, VisitsAt, visits_taken, visits_after, wrote_to, wrote_by, wrote_now}
+use Rattle.history.specs.Robust.{recovers_owned, RecoverIn, Came, HasAsked, WasTold, HasFreed, HasLocked, Visit, visit}
+use Rattle.history.specs.Robust.{VisitsAt, visits_taken, visits_after, wrote_to, wrote_by, wrote_now}
 use Rattle.history.proofs.RobustVisits.{one_more, wider, wrote_last}
 use Rattle.history.specs.Stages.{Since, opened, IsUnderWay, IsFirst}
 use Rattle.history.proofs.Robusts.{is_open_set}

@@ -1,5 +1,6 @@
 -- What is known of whole calls on a set.
-use Rattle.std.proofs.Common.{◌≡◌, ⊎_elim, ℕ, ◌<◌, ◌≤◌, Bool, true, false, true≢false, None, Ok, Err, IfOk, IfErr, OnOk, List, [], ◌∷◌, ◌++◌, refl, sym, ap, subst, ◌∙◌, append_assoc, arith}
+use Rattle.std.proofs.Common.{◌≡◌, ⊎_elim, ℕ, ◌<◌, ◌≤◌, Bool, true, false, true≢false, None, Ok, Err, IfOk, IfErr}
+use Rattle.std.proofs.Common.{OnOk, List, [], ◌∷◌, ◌++◌, refl, sym, ap, subst, ◌∙◌, append_assoc, arith}
 use Rattle.steps.specs.Indices.Robust.Acquire.{Acquired}
 use Rattle.steps.specs.Indices.Robust.Release.{Released}
 use Rattle.steps.specs.declared.indices.enums.ReleaseMode.{ReleaseMode}
@@ -29,7 +30,9 @@ use Rattle.history.specs.Robust.{takes_owned, gives_owned, recovers_owned, count
 use Rattle.history.specs.Stages.{Calling, Ends, opened}
 use Rattle.history.specs.Views.{Looks}
 use Rattle.history.proofs.Called.{called}
-use Rattle.lock_free_owners.specs.Robust.Told.{HasTaken, HasGiven, HasRecovered, HasCounted, HasLooked, WroteAt, WasFilled, WasGranted, WasFreed, IsSound, Answered, WasRefused, HasReleased, FoundLock, FoundState}
+use Rattle.lock_free_owners.specs.Robust.Told.{HasTaken, HasGiven, HasRecovered, HasCounted, HasLooked, WroteAt}
+use Rattle.lock_free_owners.specs.Robust.Told.{WasFilled, WasGranted, WasFreed, IsSound, Answered, WasRefused}
+use Rattle.lock_free_owners.specs.Robust.Told.{HasReleased, FoundLock, FoundState}
 use Rattle.lock_free_owners.specs.Robust.Callable.{HasVisited}
 use Rattle.lock_free_owners.proofs.RobustSet.Asking.{visits_none}
 use Rattle.lock_free_owners.proofs.RobustSet.Sound.{sound_history}

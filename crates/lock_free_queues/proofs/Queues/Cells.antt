@@ -1,6 +1,7 @@
 -- What the words of a cell are, by the history of a queue: those of the value that was published there, while nobody
 -- has taken it out.
-use Rattle.std.proofs.Common.{◌≡◌, ℕ, suc, ◌+◌, ◌-◌, ◌*◌, ◌%◌, ◌<◌, ◌≤◌, Option, Some, None, List, [], ◌∷◌, ◌++◌, length, map, get_or, slice_get, slice_index, refl, sym, ap, subst, ◌∙◌, arith}
+use Rattle.std.proofs.Common.{◌≡◌, ℕ, suc, ◌+◌, ◌-◌, ◌*◌, ◌%◌, ◌<◌, ◌≤◌, Option, Some, None, List, [], ◌∷◌, ◌++◌}
+use Rattle.std.proofs.Common.{length, map, get_or, slice_get, slice_index, refl, sym, ap, subst, ◌∙◌, arith}
 use Rattle.std.proofs.lemmas.Option.{slice_get-map}
 use Rattle.std.specs.Option.{option_map}
 use Rattle.model.specs.declared.event.Item.{Item}
@@ -77,7 +78,9 @@ module _ {T : Type 0} (code : Coding T) (kd : QueueKind) (capacity : ℕ) (t : T
           is = (let back : x ≡ named y = cc in back);
           words = λ k below.
               ap (λ ws. slice_index ws (4 + (size * (i % cells_of kd capacity) + k))) (kept_is t.world.kept t.world.words s.state s.fit).1
-              ∙ (core.word_at s.state.core.write s.state.core.read (free s.state.roles.producer) (free s.state.roles.consumer) s.state.core.cells (4 + (size * (i % cells_of kd capacity) + k)) (size * (i % cells_of kd capacity) + k) refl
+              ∙ (core.word_at s.state.core.write s.state.core.read (free s.state.roles.producer)
+              (free s.state.roles.consumer) s.state.core.cells (4 + (size * (i % cells_of kd capacity) + k))
+              (size * (i % cells_of kd capacity) + k) refl
               ∙ lies y e k below);
         }
 

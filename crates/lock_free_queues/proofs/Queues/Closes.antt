@@ -1,5 +1,7 @@
 -- What the words that were read say of the list that is made of them.
-use Rattle.std.proofs.Common.{◌≡◌, inl, inr, ⊎_elim, ℕ, zero, suc, ◌+◌, ◌-◌, ◌*◌, ◌%◌, ◌<◌, ◌≤◌, Some, List, [], ◌∷◌, ◌++◌, length, map, max, get_or, slice_get, slice_index, refl, sym, ap, subst, ◌∙◌, length-append, append-nil, arith}
+use Rattle.std.proofs.Common.{◌≡◌, inl, inr, ⊎_elim, ℕ, zero, suc, ◌+◌, ◌-◌, ◌*◌, ◌%◌, ◌<◌, ◌≤◌, Some, List, [], ◌∷◌}
+use Rattle.std.proofs.Common.{◌++◌, length, map, max, get_or, slice_get, slice_index, refl, sym, ap, subst, ◌∙◌}
+use Rattle.std.proofs.Common.{length-append, append-nil, arith}
 use Rattle.std.proofs.lemmas.Bool.{cases_lt}
 use Rattle.std.proofs.lemmas.Grind.{flat_map-append}
 use Rattle.std.proofs.lemmas.List.{length-map}
@@ -56,16 +58,19 @@ words_alike ws xs at b (suc k) h =
     ap (λ z. get_or ws z 0) x ∙ (h (i + 1) (omega arith) ∙ ap (λ z. get_or xs z 0) y)) in
     λ j. head j ∷ tail j
 
-value_in_list : {V : Type 0} (value_of : List ℕ → V) (size capacity : ℕ) (words : List ℕ) (p m k : ℕ) → k < m → slice_get (values_from value_of size capacity words p m) k ≡ Some (value_at value_of size capacity words (p + k))
+value_in_list : {V : Type 0} (value_of : List ℕ → V) (size capacity : ℕ) (words : List ℕ) (p m k : ℕ) → k < m
+    → slice_get (values_from value_of size capacity words p m) k ≡ Some (value_at value_of size capacity words (p + k))
 value_in_list value_of size capacity words p zero k low = absurd (omega arith)
-value_in_list value_of size capacity words p (suc m) zero low = (let here : p ≡ p + 0 = omega arith in ap (λ q. Some (value_at value_of size capacity words q)) here)
+value_in_list value_of size capacity words p (suc m) zero low =
+    (let here : p ≡ p + 0 = omega arith in ap (λ q. Some (value_at value_of size capacity words q)) here)
 value_in_list value_of size capacity words p (suc m) (suc k) low =
     let there : (p + 1) + k ≡ p + suc k = omega arith in
     value_in_list value_of size capacity words (p + 1) m k (omega arith) ∙ ap (λ q. Some (value_at value_of size capacity words q)) there
 
 -- ---- the words that were read
 
-cells_are_words : {T : Type 0} (code : Coding T) (kd : QueueKind) (capacity : ℕ) → words_in_cells code.size kd capacity ≡ (encoded code kd).size * cells_of kd capacity
+cells_are_words : {T : Type 0} (code : Coding T) (kd : QueueKind) (capacity : ℕ)
+    → words_in_cells code.size kd capacity ≡ (encoded code kd).size * cells_of kd capacity
 cells_are_words code IndexQueue capacity = omega arith
 cells_are_words code Overflow capacity = omega arith
 cells_are_words code Queue capacity = refl
@@ -76,7 +81,9 @@ coded code law IndexQueue = is_coding
 coded code law Overflow = is_coding
 coded code law Queue = law
 
-module _ {T : Type 0} (code : Coding T) (law : IsCoding code) (kd : QueueKind) (capacity : ℕ) (v : View T) (words : List ℕ) (l : LastWords code (machine_kind kd) (words_in_cells code.size kd capacity) capacity v words) where
+module _ {T : Type 0} (code : Coding T) (law : IsCoding code) (kd : QueueKind) (capacity : ℕ) (v : View T)
+    (words : List ℕ)
+    (l : LastWords code (machine_kind kd) (words_in_cells code.size kd capacity) capacity v words) where
   abbrev kind : Kind
   kind = machine_kind kd
 
@@ -97,7 +104,9 @@ module _ {T : Type 0} (code : Coding T) (law : IsCoding code) (kd : QueueKind) (
   some_view = first_view capacity
 
   listed : (word found : ℕ) (old new : View T) → (w : WasRead code kind capacity old new word found) → IsListed cells w.trace.events
-  listed word found old new w = listed_always code capacity w.trace.events kd (record { trace = w.trace; run = w.run; is = refl }) w.trace.events [] (sym (append-nil w.trace.events))
+  listed word found old new w =
+      listed_always code capacity w.trace.events kd (record { trace = w.trace; run = w.run; is = refl }) w.trace.events
+      [] (sym (append-nil w.trace.events))
 
   -- the positions that were loaded
   write_is : l.write ≡ length (published l.first_read.trace.events)
@@ -108,13 +117,23 @@ module _ {T : Type 0} (code : Coding T) (law : IsCoding code) (kd : QueueKind) (
 
   -- what was taken out as any of the words was read
   taken_by : (word found : ℕ) → (w : WasRead code kind capacity v l.new word found) → length (handed_out w.trace.events) ≤ l.taken
-  taken_by word found w = (let is = taken_is in let grown = hits_grow hands_out w.trace.events l.last_read.trace.events (begins_further w.trace.events l.new.seen l.last_read.trace.events w.until l.last_read.since) in omega arith)
+  taken_by word found w =
+      (let is = taken_is in
+      let grown =
+      hits_grow hands_out w.trace.events l.last_read.trace.events
+      (begins_further w.trace.events l.new.seen l.last_read.trace.events w.until l.last_read.since) in
+      omega arith)
 
   seen_published : length (published v.seen) ≤ l.write
   seen_published = (let is = write_is in let grown = hits_grow publishes v.seen l.first_read.trace.events l.first_read.since in omega arith)
 
   seen_taken : length (handed_out v.seen) ≤ l.taken
-  seen_taken = (let is = taken_is in let grown = hits_grow hands_out v.seen l.last_read.trace.events (begins_further v.seen l.new.seen l.last_read.trace.events l.read.since l.last_read.since) in omega arith)
+  seen_taken =
+      (let is = taken_is in
+      let grown =
+      hits_grow hands_out v.seen l.last_read.trace.events
+      (begins_further v.seen l.new.seen l.last_read.trace.events l.read.since l.last_read.since) in
+      omega arith)
 
   near : l.write ≤ l.taken + cells
   near =
@@ -163,7 +182,10 @@ module _ {T : Type 0} (code : Coding T) (law : IsCoding code) (kd : QueueKind) (
     stood k below =
         let w = read_at k below in
         let t = w.trace in
-        let there : slice_get (published t.events) i ≡ Some x = ap (λ es. slice_get (published es) i) w.since.is ∙ (ap (λ xs. slice_get xs i) (flat_map-append publishes v.seen w.since.rest) ∙ get_left (published v.seen) (published w.since.rest) i x at) in
+        let there : slice_get (published t.events) i ≡ Some x =
+        ap (λ es. slice_get (published es) i) w.since.is
+        ∙ (ap (λ xs. slice_get xs i) (flat_map-append publishes v.seen w.since.rest)
+        ∙ get_left (published v.seen) (published w.since.rest) i x at) in
         let taken = taken_by (place k) (slice_index words (place k)) w in
         stands code kd capacity t w.run i x there (omega arith)
 
@@ -184,11 +206,13 @@ module _ {T : Type 0} (code : Coding T) (law : IsCoding code) (kd : QueueKind) (
     waits =
         let y = first_one in
         let long_one = (coded code law kd).sized y in
-        let alike : words_from words (4 + z.size * (i % cells)) z.size ≡ words_from (z.words_of y) 0 z.size = words_alike words (z.words_of y) (4 + z.size * (i % cells)) 0 z.size (λ k below.
+        let alike : words_from words (4 + z.size * (i % cells)) z.size ≡ words_from (z.words_of y) 0 z.size =
+        words_alike words (z.words_of y) (4 + z.size * (i % cells)) 0 z.size (λ k below.
         let here : 4 + z.size * (i % cells) + k ≡ place k = omega arith in
         let there : k ≡ 0 + k = omega arith in
         ap (λ n. get_or words n 0) here ∙ (same_words k below ∙ ap (λ n. get_or (z.words_of y) n 0) there)) in
-        let all : words_from (z.words_of y) 0 z.size ≡ z.words_of y = subst (λ n. words_from (z.words_of y) 0 n ≡ z.words_of y) long_one (words_all (z.words_of y)) in
+        let all : words_from (z.words_of y) 0 z.size ≡ z.words_of y =
+        subst (λ n. words_from (z.words_of y) 0 n ≡ z.words_of y) long_one (words_all (z.words_of y)) in
         record { low = low_one; value = y; is = (stood 0 one).is; there = ap z.value_of (alike ∙ all) ∙ (coded code law kd).given_back y }
 
   -- who has the whole share has seen all of it
@@ -213,11 +237,15 @@ module _ {T : Type 0} (code : Coding T) (law : IsCoding code) (kd : QueueKind) (
         omega arith
 
     list_seen : IsListed cells v.seen
-    list_seen = (let t = l.first_read.trace in listed_always code capacity t.events kd (record { trace = t; run = l.first_read.run; is = refl }) v.seen l.first_read.since.rest l.first_read.since.is)
+    list_seen =
+        (let t = l.first_read.trace in
+        listed_always code capacity t.events kd (record { trace = t; run = l.first_read.run; is = refl }) v.seen
+        l.first_read.since.rest l.first_read.since.is)
 
   -- ---- the list: these words, but that it may begin later
 
-  module _ (ws : List ℕ) (alike : (word : ℕ) → 4 ≤ word → slice_index ws word ≡ slice_index words word) (end : slice_index ws 0 ≡ max l.write l.taken) (from : l.taken ≤ slice_index ws 1) where
+  module _ (ws : List ℕ) (alike : (word : ℕ) → 4 ≤ word → slice_index ws word ≡ slice_index words word)
+      (end : slice_index ws 0 ≡ max l.write l.taken) (from : l.taken ≤ slice_index ws 1) where
     abbrev count : ℕ
     count = slice_index ws 0 - slice_index ws 1
 
@@ -225,7 +253,9 @@ module _ {T : Type 0} (code : Coding T) (law : IsCoding code) (kd : QueueKind) (
     values = values_from z.value_of z.size cells ws (slice_index ws 1) count
 
     same_value : (i : ℕ) → value_at z.value_of z.size cells ws i ≡ value_at z.value_of z.size cells words i
-    same_value i = ap z.value_of (words_alike ws words (4 + z.size * (i % cells)) (4 + z.size * (i % cells)) z.size (λ k below. alike (4 + z.size * (i % cells) + k) (omega arith)))
+    same_value i =
+        ap z.value_of (words_alike ws words (4 + z.size * (i % cells)) (4 + z.size * (i % cells)) z.size
+        (λ k below. alike (4 + z.size * (i % cells) + k) (omega arith)))
 
     value_there : (i : ℕ) → slice_index ws 1 ≤ i → i < l.write → slice_get values (i - slice_index ws 1) ≡ Some (value_at z.value_of z.size cells words i)
     value_there i high low =
@@ -244,19 +274,25 @@ module _ {T : Type 0} (code : Coding T) (law : IsCoding code) (kd : QueueKind) (
           omega arith
 
       waiting_is : waiting v.seen ≡ map named values
-      waiting_is = same_list (waiting v.seen) (map named values) (number_is ∙ (sym (values_length z.value_of z.size cells ws (slice_index ws 1) count) ∙ sym (length-map values named))) each
+      waiting_is =
+          same_list (waiting v.seen) (map named values)
+          (number_is ∙ (sym (values_length z.value_of z.size cells ws (slice_index ws 1) count) ∙ sym (length-map values named)))
+          each
         where
           each : (k : ℕ) (x : Item T) → slice_get (waiting v.seen) k ≡ Some x → slice_get (map named values) k ≡ Some x
           each k x e =
               let i : ℕ = length (handed_out v.seen) + k in
-              let at : slice_get (published v.seen) i ≡ Some x = ap (λ xs. slice_get xs i) (list_seen all).book ∙ (get_behind (handed_out v.seen) (waiting v.seen) k ∙ e) in
+              let at : slice_get (published v.seen) i ≡ Some x =
+              ap (λ xs. slice_get xs i) (list_seen all).book ∙ (get_behind (handed_out v.seen) (waiting v.seen) k ∙ e) in
               let b = taken_all all in
               let w = waits i x at (omega arith) in
               let place : i - slice_index ws 1 ≡ k = omega arith in
-              let there : slice_get values k ≡ Some (value_at z.value_of z.size cells words i) = ap (slice_get values) (sym place) ∙ value_there i (omega arith) w.low in
+              let there : slice_get values k ≡ Some (value_at z.value_of z.size cells words i) =
+              ap (slice_get values) (sym place) ∙ value_there i (omega arith) w.low in
               slice_get-map named values k ∙ (ap (λ o. option_map named o) there ∙ ap Some (ap named w.there ∙ sym w.is))
 
-    pub closes_later : (IsAll v.share → slice_index ws 1 ≡ l.taken) → Closes named capacity v (record { capacity = capacity; first = slice_index ws 1; values = values })
+    pub closes_later : (IsAll v.share → slice_index ws 1 ≡ l.taken)
+        → Closes named capacity v (record { capacity = capacity; first = slice_index ws 1; values = values })
     closes_later exact =
         record {
           same = refl;
@@ -271,5 +307,9 @@ module _ {T : Type 0} (code : Coding T) (law : IsCoding code) (kd : QueueKind) (
         }
 
   -- just these words
-  pub closes : Closes named capacity v (record { capacity = capacity; first = slice_index words 1; values = values_from z.value_of z.size cells words (slice_index words 1) (slice_index words 0 - slice_index words 1) })
+  pub closes : Closes named capacity v (record {
+    capacity = capacity;
+    first = slice_index words 1;
+    values = values_from z.value_of z.size cells words (slice_index words 1) (slice_index words 0 - slice_index words 1);
+  })
   closes = (let first = l.first in closes_later words (λ word high. refl) l.last (omega arith) (λ all. first))

@@ -1,5 +1,6 @@
 -- What a push and a pop say once they have ended, on a queue of indices or of values.
-use Rattle.std.proofs.Common.{◌≡◌, ◌⊎◌, inl, inr, ℕ, Bool, true, false, Option, Some, None, IfSome, IfNone, List, [], length, sym, ap, subst, ◌∙◌, slice_index, ◌-◌, ◌^◌, ◌<◌}
+use Rattle.std.proofs.Common.{◌≡◌, ◌⊎◌, inl, inr, ℕ, Bool, true, false, Option, Some, None, IfSome, IfNone, List, []}
+use Rattle.std.proofs.Common.{length, sym, ap, subst, ◌∙◌, slice_index, ◌-◌, ◌^◌, ◌<◌}
 use Rattle.std.specs.Option.{option_map}
 use Rattle.steps.specs.Queues.Ring.{pop_answer}
 use Rattle.steps.specs.declared.ask.Ask.{Ask}
@@ -25,7 +26,8 @@ use Rattle.history.specs.Roles.{HasRole}
 use Rattle.history.specs.Stages.{Calling, Ends, Over, LeftOut}
 use Rattle.history.proofs.Drives.{called}
 use Rattle.history.proofs.Queues.{queue_goes_on}
-use Rattle.lock_free_queues.specs.Queues.Told.{push_of, push_told, popped_item, pop_told, HasPushed, HasPublished, HasTakenOut, WasAtEnd, WasFull, HasPopped, WasEmpty}
+use Rattle.lock_free_queues.specs.Queues.Told.{push_of, push_told, popped_item, pop_told, HasPushed, HasPublished}
+use Rattle.lock_free_queues.specs.Queues.Told.{HasTakenOut, WasAtEnd, WasFull, HasPopped, WasEmpty}
 use Rattle.lock_free_queues.proofs.Queues.Facts.{was_full, has_published, was_empty, has_taken_out, looked_alone, role_alone, IsAlone}
 
 module _ {T : Type 0} where
@@ -33,28 +35,40 @@ module _ {T : Type 0} where
   pub record IsPush {C : Type 0} (code : Coding T) (item : Item T) (call : Calling T C (Unit {0}) Bool) : Type 0 where
     pub start : call.start ≡ Queues (push_of item)
     pub answer : (e : Bool) (m : Unit {0}) → call.answer e m ≡ Truth e
-    pub tells : (n p : ℕ) (from : Option (Start T × Flight T)) (e : Bool) (m : Unit {0}) (es : List (Event T)) → call.wrote_all n p from e m es → es ≡ push_told p item e
+    pub tells : (n p : ℕ) (from : Option (Start T × Flight T)) (e : Bool) (m : Unit {0}) (es : List (Event T))
+        → call.wrote_all n p from e m es → es ≡ push_told p item e
     pub left : (e : Bool) → call.left e → e ≡ false
-    pub at_end : (c : C) (m : Unit {0}) (n : ℕ) (a : Ask) → call.skips c n ≡ true → want_of code (call.flight c m) ≡ wants.Ask a → (a.word ≡ 0) × (n ≡ 2 ^ 64 - 1)
+    pub at_end : (c : C) (m : Unit {0}) (n : ℕ) (a : Ask) → call.skips c n ≡ true
+        → want_of code (call.flight c m) ≡ wants.Ask a → (a.word ≡ 0) × (n ≡ 2 ^ 64 - 1)
 
   -- the call is a pop, by way of a room that has this value in the end
   pub record IsPop {C M V : Type 0} (named : V → Item T) (value : M → V) (call : Calling T C M Bool) : Type 0 where
     pub start : call.start ≡ Queues Pop
     pub answer : (e : Bool) (m : M) → call.answer e m ≡ popped_item (option_map named (pop_answer (value m) e))
-    pub tells : (n p : ℕ) (from : Option (Start T × Flight T)) (e : Bool) (m : M) (es : List (Event T)) → call.wrote_all n p from e m es → es ≡ pop_told p (option_map named (pop_answer (value m) e))
+    pub tells : (n p : ℕ) (from : Option (Start T × Flight T)) (e : Bool) (m : M) (es : List (Event T))
+        → call.wrote_all n p from e m es → es ≡ pop_told p (option_map named (pop_answer (value m) e))
 
 module _ {T : Type 0} (code : Coding T) (kd : QueueKind) (base w : View T) where
   -- a push that is left out finds the last position, by a load of the write position
-  pub was_at_end : {C M E : Type 0} (call : Calling T C M E) → ((c : C) (m : M) (n : ℕ) (a : Ask) → call.skips c n ≡ true → want_of code (call.flight c m) ≡ wants.Ask a → (a.word ≡ 0) × (n ≡ 2 ^ 64 - 1))
-      → IsAlone kd Producer → base.other ≡ [] → 0 < base.share.part → HasRole Producer base.made → (e : E) (m : M) → LeftOut code (machine_kind kd) call base e m w → WasAtEnd base w
+  pub was_at_end : {C M E : Type 0} (call : Calling T C M E)
+      → ((c : C) (m : M) (n : ℕ) (a : Ask) → call.skips c n ≡ true → want_of code (call.flight c m) ≡ wants.Ask a
+      → (a.word ≡ 0) × (n ≡ 2 ^ 64 - 1))
+      → IsAlone kd Producer → base.other ≡ [] → 0 < base.share.part → HasRole Producer base.made → (e : E) (m : M)
+      → LeftOut code (machine_kind kd) call base e m w → WasAtEnd base w
   was_at_end call at_end only alone some has e m left =
       let queue = queue_goes_on code kd base left.trace left.run in
       let at = at_end left.from left.room left.word left.ask left.skipped left.asks in
       let word : slice_index left.trace.world.words 0 ≡ 2 ^ 64 - 1 = ap (λ n. slice_index left.trace.world.words n) (sym at.0) ∙ (left.found ∙ at.1) in
-      record { since = left.looked.mine; made = left.looked.made; end = ap (λ es. length (published es)) left.seen ∙ (sym queue.book.write ∙ word); list = looked_alone code kd Producer only base w left.looked alone some has }
+      record {
+        since = left.looked.mine;
+        made = left.looked.made;
+        end = ap (λ es. length (published es)) left.seen ∙ (sym queue.book.write ∙ word);
+        list = looked_alone code kd Producer only base w left.looked alone some has;
+      }
 
 module _ {T : Type 0} (code : Coding T) (r : Ring) (base w : View T) (idle : base.going ≡ None) where
-  module _ {C : Type 0} (item : Item T) (call : Calling T C (Unit {0}) Bool) (is : IsPush code item call) (alone : base.other ≡ []) (some : 0 < base.share.part) (has : HasRole Producer base.made) where
+  module _ {C : Type 0} (item : Item T) (call : Calling T C (Unit {0}) Bool) (is : IsPush code item call)
+      (alone : base.other ≡ []) (some : 0 < base.share.part) (has : HasRole Producer base.made) where
     pushed_so : (e : Bool) (m : Unit {0}) → Ends code (machine_kind (kind_of r)) call base e m w → HasPushed item e base w
     pushed_so e m ends =
         record {
@@ -75,17 +89,22 @@ module _ {T : Type 0} (code : Coding T) (r : Ring) (base w : View T) (idle : bas
     pushed e m (inr left) = inr (is.left e left.left, at_last e m left)
 
     pub published_if : (e : Bool) (m : Unit {0}) → Over code (machine_kind (kind_of r)) call base e m w → e ≡ true → HasPublished item base w
-    published_if e m (inl ends) took = has_published code r base.capacity base w ends.history item (subst (λ b. HasPushed item b base w) took (pushed_so e m ends))
+    published_if e m (inl ends) took =
+        has_published code r base.capacity base w ends.history item (subst (λ b. HasPushed item b base w) took (pushed_so e m ends))
     published_if e m (inr left) took = (let never : false ≡ true = sym (is.left e left.left) ∙ took in absurd (cc))
 
-    pub full : (e : Bool) (m : Unit {0}) → Over code (machine_kind (kind_of r)) call base e m w → e ≡ false → WasFull base.capacity item base w ⊎ WasAtEnd base w
-    full e m (inl ends) refused = inl (was_full code r base.capacity base w ends.history item (subst (λ b. HasPushed item b base w) refused (pushed_so e m ends)))
+    pub full : (e : Bool) (m : Unit {0}) → Over code (machine_kind (kind_of r)) call base e m w → e ≡ false
+        → WasFull base.capacity item base w ⊎ WasAtEnd base w
+    full e m (inl ends) refused =
+        inl (was_full code r base.capacity base w ends.history item (subst (λ b. HasPushed item b base w) refused (pushed_so e m ends)))
     full e m (inr left) refused = inr (at_last e m left)
 
 -- ---- pops
 
 module _ {T : Type 0} (code : Coding T) (kd : QueueKind) (base w : View T) (idle : base.going ≡ None) where
-  pub has_popped : {C M V : Type 0} (named : V → Item T) (value : M → V) (call : Calling T C M Bool) → IsPop named value call → (e : Bool) (m : M) → Ends code (machine_kind kd) call base e m w → HasPopped (option_map named (pop_answer (value m) e)) base w
+  pub has_popped : {C M V : Type 0} (named : V → Item T) (value : M → V) (call : Calling T C M Bool)
+      → IsPop named value call → (e : Bool) (m : M) → Ends code (machine_kind kd) call base e m w
+      → HasPopped (option_map named (pop_answer (value m) e)) base w
   has_popped named value call is e m ends =
       let told = pop_told ends.party (option_map named (pop_answer (value m) e)) in
       record {
@@ -99,7 +118,8 @@ module _ {T : Type 0} (code : Coding T) (kd : QueueKind) (base w : View T) (idle
       }
 
 -- what its answer says of the list
-module _ {T V : Type 0} (code : Coding T) (r : Ring) (named : V → Item T) (capacity : ℕ) (base w : View T) (h : IsHistory code (machine_kind (kind_of r)) capacity w.seen) where
+module _ {T V : Type 0} (code : Coding T) (r : Ring) (named : V → Item T) (capacity : ℕ) (base w : View T)
+    (h : IsHistory code (machine_kind (kind_of r)) capacity w.seen) where
   pub taken_if : (o : Option V) → HasPopped (option_map named o) base w → IfSome o (λ x. HasTakenOut (named x) base w)
   taken_if None popping = tt
   taken_if (Some x) popping = has_taken_out code r capacity base w h (named x) popping

@@ -1,5 +1,6 @@
 -- What is known of whole calls on a queue.
-use Rattle.std.proofs.Common.{◌≡◌, ◌≤◌, inl, inr, ℕ, Bool, true, false, Some, None, List, [], ◌∷◌, ◌++◌, length, refl, sym, ap, subst, ◌∙◌, append_assoc, append-nil, arith, sum_by, ◌<◌}
+use Rattle.std.proofs.Common.{◌≡◌, ◌≤◌, inl, inr, ℕ, Bool, true, false, Some, None, List, [], ◌∷◌, ◌++◌, length, refl}
+use Rattle.std.proofs.Common.{sym, ap, subst, ◌∙◌, append_assoc, append-nil, arith, sum_by, ◌<◌}
 use Rattle.std.proofs.lemmas.Grind.{flat_map-append}
 use Rattle.std.specs.List.{flat_map}
 use Rattle.steps.specs.declared.queues.roles.Role.{Role}
@@ -35,7 +36,8 @@ use Rattle.history.proofs.Drives.{called}
 use Rattle.history.proofs.Queues.{queue_goes_on}
 use Rattle.history.proofs.Roles.{role_by}
 use Rattle.lock_free_sp.specs.Shares.{IsAll}
-use Rattle.lock_free_queues.specs.Queues.Told.{HasPushed, HasPublished, HasTakenOut, WasFull, HasPopped, WasEmpty, HasMeasured, HasAcquired, HasReleased, FoundNone}
+use Rattle.lock_free_queues.specs.Queues.Told.{HasPushed, HasPublished, HasTakenOut, WasFull, HasPopped, WasEmpty}
+use Rattle.lock_free_queues.specs.Queues.Told.{HasMeasured, HasAcquired, HasReleased, FoundNone}
 use Rattle.model.specs.declared.event.Item.{Item}
 use Rattle.model.specs.declared.event.Item.TheVariants.{Value}
 use Rattle.model.specs.declared.turn.Kind.{Kind}
@@ -83,10 +85,14 @@ module _ {T : Type 0} (code : Coding T) (kd : QueueKind) where
   grants capacity seen h = subst (Each GrantsRight) (sym h.is) (promised capacity seen h).roles
 
   pub answers_right : (capacity : ℕ) (seen : List (Event T)) → IsSeen capacity seen → Each (AnswersRight capacity) seen
-  answers_right capacity seen h = subst (λ es. Each (AnswersRight capacity) es) (sym h.is) (subst (λ n. Each (AnswersRight n) h.trace.events) h.run.sized (promised capacity seen h).answers)
+  answers_right capacity seen h =
+      subst (λ es. Each (AnswersRight capacity) es) (sym h.is)
+      (subst (λ n. Each (AnswersRight n) h.trace.events) h.run.sized (promised capacity seen h).answers)
 
   pub tells_lengths : (capacity : ℕ) (seen : List (Event T)) → IsSeen capacity seen → Each (TellsLength capacity) seen
-  tells_lengths capacity seen h = subst (λ es. Each (TellsLength capacity) es) (sym h.is) (subst (λ n. Each (TellsLength n) h.trace.events) h.run.sized (promised capacity seen h).lengths)
+  tells_lengths capacity seen h =
+      subst (λ es. Each (TellsLength capacity) es) (sym h.is)
+      (subst (λ n. Each (TellsLength n) h.trace.events) h.run.sized (promised capacity seen h).lengths)
 
 pub by_holder : {T : Type 0} (code : Coding T) (r : Ring) (capacity : ℕ) (seen : List (Event T)) → IsSeen code (kind_of r) capacity seen → Each ByHolder seen
 by_holder code r capacity seen h = history_by_holders code r capacity seen h
@@ -102,7 +108,8 @@ module _ {T : Type 0} (code : Coding T) (capacity : ℕ) (seen : List (Event T))
   by_its_holder Overflow Consumer alone h = absurd alone
 
   -- at any time what was taken out is a beginning of what was published, and so many wait at most
-  pub listed_always : (kd : QueueKind) → IsSeen code kd capacity seen → (part rest : List (Event T)) → seen ≡ part ++ rest → IsListed (most_waiting kd capacity) part
+  pub listed_always : (kd : QueueKind) → IsSeen code kd capacity seen → (part rest : List (Event T))
+      → seen ≡ part ++ rest → IsListed (most_waiting kd capacity) part
   listed_always IndexQueue h part rest is = always_listed capacity code of_indices seen h part rest is
   listed_always Queue h part rest is = always_listed capacity code of_values seen h part rest is
   listed_always Overflow h part rest is = over_listed code capacity seen h part rest is
@@ -111,11 +118,14 @@ module _ {T : Type 0} (code : Coding T) (capacity : ℕ) (seen : List (Event T))
 
 module _ {T : Type 0} where
   -- what a push of an item is
-  acted_by : (item : Item T) (p : ℕ) (taken : Bool) (before : List (Event T)) → ByHolder before (Acted p (Queues (push_of item)) (Truth taken)) → producer_of before ≡ Some p
+  acted_by : (item : Item T) (p : ℕ) (taken : Bool) (before : List (Event T))
+      → ByHolder before (Acted p (Queues (push_of item)) (Truth taken)) → producer_of before ≡ Some p
   acted_by (Index v) p taken before h = h
   acted_by (Value v) p taken before h = h
 
-  full_by : (item : Item T) (p capacity : ℕ) (before : List (Event T)) → AnswersRight capacity before (Acted p (Queues (push_of item)) (Truth false)) → length (waiting before) ≡ capacity
+  full_by : (item : Item T) (p capacity : ℕ) (before : List (Event T))
+      → AnswersRight capacity before (Acted p (Queues (push_of item)) (Truth false))
+      → length (waiting before) ≡ capacity
   full_by (Index v) p capacity before h = h
   full_by (Value v) p capacity before h = h
 
@@ -124,7 +134,10 @@ module _ {T : Type 0} where
   plain_end (Value v) p taken = (refl, refl)
 
 -- a push that published first, and then wrote what neither publishes nor moves a role
-pub published_by : {T : Type 0} (code : Coding T) (kd : QueueKind) (capacity : ℕ) (base w : View T) (item : Item T) (p : ℕ) (answer : Answer T) (rest : List (Event T)) → IsSeen code kd capacity w.seen → IsAlone kd Producer → Called p (Queues (push_of item)) answer (Published p item ∷ rest) base w
+pub published_by : {T : Type 0} (code : Coding T) (kd : QueueKind) (capacity : ℕ) (base w : View T) (item : Item T)
+    (p : ℕ) (answer : Answer T) (rest : List (Event T))
+    → IsSeen code kd capacity w.seen → IsAlone kd Producer
+    → Called p (Queues (push_of item)) answer (Published p item ∷ rest) base w
     → ArePlain p Producer (rest ++ Finished p (Queues (push_of item)) answer ∷ []) → HasPublished item base w
 published_by code kd capacity base w item p answer rest h alone call plain =
     let at = first_wrote p (Queues (push_of item)) answer (Published p item) rest base w call in
@@ -137,16 +150,26 @@ published_by code kd capacity base w item p answer rest h alone call plain =
       is = at.is;
       since = at.since;
       next = at.next Producer all holds;
-      list = listed Producer p (Published p item) (rest ++ Finished p (Queues (push_of item)) answer ∷ []) base w at all (grants code kd capacity w.seen h) holds refl plain;
+      list =
+          listed Producer p (Published p item) (rest ++ Finished p (Queues (push_of item)) answer ∷ []) base w at all
+          (grants code kd capacity w.seen h) holds refl plain;
     }
 
 -- where a pop answers None nothing waited as it acted
-pub found_none : {T : Type 0} (code : Coding T) (kd : QueueKind) (capacity : ℕ) (base w : View T) → IsSeen code kd capacity w.seen → HasPopped None base w → FoundNone base w
+pub found_none : {T : Type 0} (code : Coding T) (kd : QueueKind) (capacity : ℕ) (base w : View T)
+    → IsSeen code kd capacity w.seen → HasPopped None base w → FoundNone base w
 found_none code kd capacity base w h popping =
     let p = popping.by in
     let act = Acted p (Queues Pop) (popped_item None) in
     let at = first_wrote p (Queues Pop) (popped_item None) act [] base w popping.called in
-    record { by = p; before = at.before; after = at.after; is = at.is; since = at.since; empty = answers_right code kd capacity w.seen h at.before at.after act at.is }
+    record {
+      by = p;
+      before = at.before;
+      after = at.after;
+      is = at.is;
+      since = at.since;
+      empty = answers_right code kd capacity w.seen h at.before at.after act at.is;
+    }
 
 pub role_alone : (r : Ring) (role : Role) → IsAlone (kind_of r) role
 role_alone of_indices role = tt
@@ -172,11 +195,18 @@ module _ {T : Type 0} (code : Coding T) (r : Ring) (capacity : ℕ) (base w : Vi
           since = at.since;
           next = at.next Producer (marked Producer) holds;
           full = full_by item p capacity at.before (answers_right code (kind_of r) capacity w.seen h at.before at.after act at.is);
-          list = listed Producer p act (Finished p (Queues (push_of item)) (Truth false) ∷ []) base w at (marked Producer) (grants code (kind_of r) capacity w.seen h) holds refl (plain_end item p false, tt) ∙ append-nil (published base.seen);
+          list =
+              listed Producer p act (Finished p (Queues (push_of item)) (Truth false) ∷ []) base w at (marked Producer)
+              (grants code (kind_of r) capacity w.seen h) holds refl (plain_end item p false, tt)
+              ∙ append-nil (published base.seen);
         }
 
     pub has_published : HasPushed item true base w → HasPublished item base w
-    has_published pushing = (let p = pushing.by in published_by code (kind_of r) capacity base w item p (Truth true) (Acted p (Queues (push_of item)) (Truth true) ∷ []) h (role_alone r Producer) pushing.called ((refl, refl), (plain_end item p true, tt)))
+    has_published pushing =
+        (let p = pushing.by in
+        published_by code (kind_of r) capacity base w item p (Truth true)
+        (Acted p (Queues (push_of item)) (Truth true) ∷ []) h (role_alone r Producer) pushing.called
+        ((refl, refl), (plain_end item p true, tt)))
 
   -- ---- pops
 
@@ -195,7 +225,10 @@ module _ {T : Type 0} (code : Coding T) (r : Ring) (capacity : ℕ) (base w : Vi
         since = at.since;
         next = at.next Consumer (marked Consumer) holds;
         empty = answers_right code (kind_of r) capacity w.seen h at.before at.after act at.is;
-        list = listed Consumer p act (Finished p (Queues Pop) (popped_item None) ∷ []) base w at (marked Consumer) (grants code (kind_of r) capacity w.seen h) holds refl ((refl, refl), tt) ∙ append-nil (handed_out base.seen);
+        list =
+            listed Consumer p act (Finished p (Queues Pop) (popped_item None) ∷ []) base w at (marked Consumer)
+            (grants code (kind_of r) capacity w.seen h) holds refl ((refl, refl), tt)
+            ∙ append-nil (handed_out base.seen);
       }
 
   pub has_taken_out : (item : Item T) → HasPopped (Some item) base w → HasTakenOut item base w
@@ -212,12 +245,17 @@ module _ {T : Type 0} (code : Coding T) (r : Ring) (capacity : ℕ) (base w : Vi
         is = at.is;
         since = at.since;
         next = at.next Consumer (marked Consumer) holds;
-        list = listed Consumer p (HandedOut p item) (act ∷ Finished p (Queues Pop) (popped_item (Some item)) ∷ []) base w at (marked Consumer) (grants code (kind_of r) capacity w.seen h) holds refl ((refl, refl), ((refl, refl), tt));
+        list =
+            listed Consumer p (HandedOut p item) (act ∷ Finished p (Queues Pop) (popped_item (Some item)) ∷ []) base w
+            at (marked Consumer) (grants code (kind_of r) capacity w.seen h) holds refl
+            ((refl, refl), ((refl, refl), tt));
       }
 
 module _ {T : Type 0} (code : Coding T) (kd : QueueKind) where
   -- a look by who has a role: nobody else wrote what its holder writes
-  pub looked_alone : (role : Role) → IsAlone kd role → (base w : View T) → Looks code (machine_kind kd) base.capacity base w → base.other ≡ [] → 0 < base.share.part → HasRole role base.made → flat_map (marks role) w.seen ≡ flat_map (marks role) base.seen
+  pub looked_alone : (role : Role) → IsAlone kd role → (base w : View T)
+      → Looks code (machine_kind kd) base.capacity base w → base.other ≡ [] → 0 < base.share.part
+      → HasRole role base.made → flat_map (marks role) w.seen ≡ flat_map (marks role) base.seen
   looked_alone role only base w looks alone some has =
       let m = marks {T = T} role in
       let q = looks.parties in
@@ -225,18 +263,25 @@ module _ {T : Type 0} (code : Coding T) (kd : QueueKind) where
       let by = role_by q.owner q.seat role w.seen base.made (grants code kd base.capacity w.seen h) (λ f. ap (sum_by f) (sym looks.made) ∙ q.sums f) has in
       let rest = looks.mine.rest in
       let is : w.seen ≡ base.seen ++ rest = looks.mine.is in
-      let back = back_over_of by.0 role base.seen rest (subst (Each (ByHolderOf role)) is (by_its_holder code base.capacity w.seen kd role only h)) (looks.apart alone some by.0 by.1) (ap (held role) (sym is) ∙ by.2) in
+      let back =
+      back_over_of by.0 role base.seen rest
+      (subst (Each (ByHolderOf role)) is (by_its_holder code base.capacity w.seen kd role only h))
+      (looks.apart alone some by.0 by.1) (ap (held role) (sym is) ∙ by.2) in
       ap (flat_map m) is ∙ (flat_map-append m base.seen rest ∙ (ap (λ zs. flat_map m base.seen ++ zs) back.1 ∙ append-nil (flat_map m base.seen)))
 
   module _ (base w : View T) (idle : base.going ≡ None) where
     -- ---- lengths
 
-    stood_as : (which : LengthOf) (p c : ℕ) (answer : Answer T) (xs : List (Event T)) → TellsLength c xs (Finished p (Queues (length_start which)) answer) → HeldOnce p (λ part. answer ≡ length_answer which c (length (waiting part))) xs
+    stood_as : (which : LengthOf) (p c : ℕ) (answer : Answer T) (xs : List (Event T))
+        → TellsLength c xs (Finished p (Queues (length_start which)) answer)
+        → HeldOnce p (λ part. answer ≡ length_answer which c (length (waiting part))) xs
     stood_as measures.Len p c answer xs h = h
     stood_as measures.IsEmpty p c answer xs h = h
     stood_as measures.IsFull p c answer xs h = h
 
-    pub measured : (which : LengthOf) (n : ℕ) (m : Unit {0}) → Ends code (machine_kind kd) (counts_waiting which base.capacity) base n m w → HasMeasured which base.capacity (length_answer which base.capacity n) base w
+    pub measured : (which : LengthOf) (n : ℕ) (m : Unit {0})
+        → Ends code (machine_kind kd) (counts_waiting which base.capacity) base n m w
+        → HasMeasured which base.capacity (length_answer which base.capacity n) base w
     measured which n m ends =
         let p = ends.party in
         let start : Start T = Queues (length_start which) in
@@ -247,10 +292,13 @@ module _ {T : Type 0} (code : Coding T) (kd : QueueKind) where
         let last : Event T = Finished p start answer in
         let is : w.seen ≡ xs ++ last ∷ [] = it.is ∙ sym (append_assoc (base.seen ++ it.others) (Begun p start ∷ it.during) (last ∷ [])) in
         let h = ends.history in
-        let told : TellsLength base.capacity xs last = subst (λ k. TellsLength k xs last) h.run.sized ((promised code kd base.capacity w.seen h).lengths xs [] last (sym h.is ∙ is)) in
+        let told : TellsLength base.capacity xs last =
+        subst (λ k. TellsLength k xs last) h.run.sized ((promised code kd base.capacity w.seen h).lengths xs [] last (sym h.is ∙ is)) in
         record { by = p; mine = ends.mine; called = it; before = xs; is = is; stood = stood_as which p base.capacity answer xs told }
 
-    pub few : (which : LengthOf) → which ≡ measures.Len → (n : ℕ) (m : Unit {0}) → Ends code (machine_kind kd) (counts_waiting which base.capacity) base n m w → n ≤ most_waiting kd base.capacity
+    pub few : (which : LengthOf) → which ≡ measures.Len → (n : ℕ) (m : Unit {0})
+        → Ends code (machine_kind kd) (counts_waiting which base.capacity) base n m w
+        → n ≤ most_waiting kd base.capacity
     few measures.IsEmpty is n m ends = absurd (cc)
     few measures.IsFull is n m ends = absurd (cc)
     few measures.Len is n m ends =
@@ -258,19 +306,35 @@ module _ {T : Type 0} (code : Coding T) (kd : QueueKind) where
         let stood = told.stood in
         let same : n ≡ length (waiting stood.part) = (let e = stood.held in cc) in
         let last : Event T = Finished told.by (Queues (length_start measures.Len)) (length_answer measures.Len base.capacity n) in
-        let is : w.seen ≡ stood.part ++ (stood.rest ++ last ∷ []) = told.is ∙ (ap (λ xs. xs ++ last ∷ []) stood.is ∙ append_assoc stood.part stood.rest (last ∷ [])) in
+        let is : w.seen ≡ stood.part ++ (stood.rest ++ last ∷ []) =
+        told.is ∙ (ap (λ xs. xs ++ last ∷ []) stood.is ∙ append_assoc stood.part stood.rest (last ∷ [])) in
         let low = (listed_always code base.capacity w.seen kd ends.history stood.part (stood.rest ++ last ∷ []) is).few in
         omega arith
 
     pub acquired : (role : Role) (taken : Bool) (m : Unit {0}) → Ends code (machine_kind kd) (takes_role role) base taken m w → HasAcquired role taken base w
-    acquired role taken m ends = record { by = ends.party; mine = ends.mine; called = subst (λ es. Called ends.party (Queues (acquire_start role)) (Truth taken) es base w) ends.tells (called code (machine_kind kd) (takes_role role) base w taken m idle ends) }
+    acquired role taken m ends =
+        record {
+          by = ends.party;
+          mine = ends.mine;
+          called =
+              subst (λ es. Called ends.party (Queues (acquire_start role)) (Truth taken) es base w) ends.tells
+              (called code (machine_kind kd) (takes_role role) base w taken m idle ends);
+        }
 
     -- ---- releases: while the role was held, and as it was given back, nobody else wrote what its holder writes
 
     pub released : (role : Role) (e m : Unit {0}) → Ends code (machine_kind kd) (gives_role role) base e m w → HasReleased role base w
-    released role e m ends = record { by = ends.party; mine = ends.mine; called = subst (λ es. Called ends.party (Queues (release_start role)) Done es base w) ends.tells (called code (machine_kind kd) (gives_role role) base w e m idle ends) }
+    released role e m ends =
+        record {
+          by = ends.party;
+          mine = ends.mine;
+          called =
+              subst (λ es. Called ends.party (Queues (release_start role)) Done es base w) ends.tells
+              (called code (machine_kind kd) (gives_role role) base w e m idle ends);
+        }
 
-    left_after : (role : Role) → IsAlone kd role → IsHistory code (machine_kind kd) base.capacity w.seen → HasReleased role base w → flat_map (marks role) w.seen ≡ flat_map (marks role) base.seen
+    left_after : (role : Role) → IsAlone kd role → IsHistory code (machine_kind kd) base.capacity w.seen
+        → HasReleased role base w → flat_map (marks role) w.seen ≡ flat_map (marks role) base.seen
     left_after role only h left =
         let p = left.by in
         let start : Start T = Queues (release_start role) in
@@ -284,7 +348,9 @@ module _ {T : Type 0} (code : Coding T) (kd : QueueKind) where
         ∙ (flat_map-append m xs (last ∷ [])
         ∙ (ap (λ zs. flat_map m xs ++ (zs ++ [])) (no_mark role p)
         ∙ (append-nil (flat_map m xs)
-        ∙ none_between role p start base.seen c.others c.during (each_left xs (last ∷ []) (subst (Each (ByHolderOf role)) is (by_its_holder code base.capacity w.seen kd role only h))) c.others_own c.during_own holds)))
+        ∙ none_between role p start base.seen c.others c.during
+        (each_left xs (last ∷ []) (subst (Each (ByHolderOf role)) is (by_its_holder code base.capacity w.seen kd role only h)))
+        c.others_own c.during_own holds)))
       where
         held_at : (r : Role) (p : ℕ) (xs : List (Event T)) → GrantsRight xs (Finished p (Queues (release_start r)) Done) → held r xs ≡ Some p
         held_at Producer p xs h = h.1
@@ -294,7 +360,9 @@ module _ {T : Type 0} (code : Coding T) (kd : QueueKind) where
         no_mark Producer p = refl
         no_mark Consumer p = refl
 
-    pub left_alone : (role : Role) → IsAlone kd role → (e m : Unit {0}) → Ends code (machine_kind kd) (gives_role role) base e m w → flat_map (marks role) w.seen ≡ flat_map (marks role) base.seen
+    pub left_alone : (role : Role) → IsAlone kd role → (e m : Unit {0})
+        → Ends code (machine_kind kd) (gives_role role) base e m w
+        → flat_map (marks role) w.seen ≡ flat_map (marks role) base.seen
     left_alone role only e m ends = left_after role only ends.history (released role e m ends)
 
 -- a producer's release; and a consumer's, where it says what was taken out
@@ -313,14 +381,25 @@ module _ {T : Type 0} (code : Coding T) (base w : View T) (idle : base.going ≡
 module _ {T : Type 0} (code : Coding T) (kind : Kind) where
   module _ {C M E : Type 0} (call : Calling T C M E) (base w : View T) where
     later_than : (p : ℕ) (wrote last : List (Event T)) → Since p call.start wrote last base w → IsBeginning base.seen w.seen
-    later_than p wrote last s = record { rest = s.others ++ (opened p call.start base.going ++ (s.during ++ last)); is = s.is ∙ append_assoc base.seen s.others (opened p call.start base.going ++ (s.during ++ last)) }
+    later_than p wrote last s =
+        record {
+          rest = s.others ++ (opened p call.start base.going ++ (s.during ++ last));
+          is = s.is ∙ append_assoc base.seen s.others (opened p call.start base.going ++ (s.during ++ last));
+        }
 
     pub goes_on : (e : E) (m : M) → Ends code kind call base e m w → Goes code kind base.capacity base w
-    goes_on e m ends = record { share = ends.share; since = later_than ends.party ends.wrote (Finished ends.party call.start (call.answer e m) ∷ []) ends.since; history = ends.history; all = λ whole. ends.all (subst IsAll ends.share whole) }
+    goes_on e m ends =
+        record {
+          share = ends.share;
+          since = later_than ends.party ends.wrote (Finished ends.party call.start (call.answer e m) ∷ []) ends.since;
+          history = ends.history;
+          all = λ whole. ends.all (subst IsAll ends.share whole);
+        }
 
   pub looked_on : (base w : View T) → Looks code kind base.capacity base w → Goes code kind base.capacity base w
   looked_on base w looks = record { share = looks.share; since = looks.mine; history = looks.history; all = λ whole. looks.all (subst IsAll looks.share whole) }
 
-  pub goes_over : {C M E : Type 0} (call : Calling T C M E) (base w : View T) (e : E) (m : M) → Over code kind call base e m w → Goes code kind base.capacity base w
+  pub goes_over : {C M E : Type 0} (call : Calling T C M E) (base w : View T) (e : E) (m : M)
+      → Over code kind call base e m w → Goes code kind base.capacity base w
   goes_over call base w e m (inl ends) = goes_on call base w e m ends
   goes_over call base w e m (inr left) = looked_on base w left.looked

@@ -1,5 +1,7 @@
 -- Words of the cells of a queue, of which so many hold those of one value, again and again.
-use Rattle.std.proofs.Common.{◌≡◌, ⊎_elim, ℕ, zero, suc, ◌+◌, ◌*◌, ◌%◌, ◌<◌, ◌≤◌, List, [], ◌∷◌, ◌++◌, length, get_or, set, replicate, refl, sym, ap, ◌∙◌, length-set, take, get_or-set_same, get_or-set_other, arith}
+use Rattle.std.proofs.Common.{◌≡◌, ⊎_elim, ℕ, zero, suc, ◌+◌, ◌*◌, ◌%◌, ◌<◌, ◌≤◌, List, [], ◌∷◌, ◌++◌, length, get_or}
+use Rattle.std.proofs.Common.{set, replicate, refl, sym, ap, ◌∙◌, length-set, take, get_or-set_same, get_or-set_other}
+use Rattle.std.proofs.Common.{arith}
 use Rattle.std.proofs.lemmas.Bool.{cases_lt}
 use Rattle.std.proofs.lemmas.List.{length-replicate, take-replicate}
 use Rattle.steps.specs.Copied.{value_in}
@@ -30,10 +32,12 @@ module _ (ws : List ℕ) (size capacity : ℕ) where
   filled_there zero j low most = absurd (omega arith)
   filled_there (suc n) j low most =
       let long = filled_length n in
-      ⊎_elim (λ (before : j < n). get_or-set_other (filled n) n j (get_or ws (n % size) 0) 0 (λ e. absurd (omega arith)) ∙ filled_there n j before (omega arith))
+      ⊎_elim (λ (before : j < n). get_or-set_other (filled n) n j (get_or ws (n % size) 0) 0 (λ e. absurd (omega arith))
+      ∙ filled_there n j before (omega arith))
       (λ (here : n ≤ j).
       let same : j ≡ n = omega arith in
-      ap (λ k. get_or (filled (suc n)) k 0) same ∙ (get_or-set_same (filled n) n (get_or ws (n % size) 0) 0 (omega arith) ∙ ap (λ k. get_or ws (k % size) 0) (sym same)))
+      ap (λ k. get_or (filled (suc n)) k 0) same
+      ∙ (get_or-set_same (filled n) n (get_or ws (n % size) 0) 0 (omega arith) ∙ ap (λ k. get_or ws (k % size) 0) (sym same)))
       (cases_lt j n)
 
   -- and is written again
@@ -47,7 +51,8 @@ module _ (ws : List ℕ) (size capacity : ℕ) where
       let long = filled_length at in
       let next : suc at ≡ at + 1 = omega arith in
       core.set_at a b c d (filled at ++ 0 ∷ []) (4 + at) at word refl
-      ∙ ap (λ zs. a ∷ b ∷ c ∷ d ∷ zs) (set_left (filled at) (0 ∷ []) at word (omega arith) ∙ ap (λ zs. zs ++ 0 ∷ []) (ap (set (filled at) at) is ∙ ap filled next))
+      ∙ ap (λ zs. a ∷ b ∷ c ∷ d ∷ zs)
+      (set_left (filled at) (0 ∷ []) at word (omega arith) ∙ ap (λ zs. zs ++ 0 ∷ []) (ap (set (filled at) at) is ∙ ap filled next))
 
 -- the cells of an index queue, in which the number 0 was written, are as they were
 pub zeros_stay : (capacity n : ℕ) → filled (0 ∷ []) 1 capacity n ≡ replicate capacity 0

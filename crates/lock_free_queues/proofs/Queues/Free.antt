@@ -1,6 +1,7 @@
 -- A role that was given back as often as it was taken is free, and an overflowing queue whose producer's role is free
 -- has no more than its capacity.
-use Rattle.std.proofs.Common.{◌≡◌, ◌≤◌, ℕ, ◌+◌, true, Option, Some, None, List, [], ◌∷◌, ◌++◌, length, map, refl, sym, ap, subst, ◌∙◌, append_assoc, append-nil, sum_by, arith}
+use Rattle.std.proofs.Common.{◌≡◌, ◌≤◌, ℕ, ◌+◌, true, Option, Some, None, List, [], ◌∷◌, ◌++◌, length, map, refl, sym}
+use Rattle.std.proofs.Common.{ap, subst, ◌∙◌, append_assoc, append-nil, sum_by, arith}
 use Rattle.std.proofs.lemmas.List.{length-map}
 use Rattle.std.proofs.lemmas.List.Sums.{fold-append}
 use Rattle.steps.specs.declared.queues.roles.Role.{Role}
@@ -37,34 +38,45 @@ nobody None e = refl
 nobody (Some p) e = absurd (omega arith)
 
 module _ {T : Type 0} where
-  moves : (role : Role) (before : List (Event T)) (e : Event T) → GrantsRight before e → takes role e + one (held role before) ≡ gives role e + one (role_after role (held role before) e)
-  moves Producer before (Finished p (Queues AcquireProducer) (Truth true)) h = (let none : one (producer_of before) ≡ 0 = ap one (granted (producer_of before) h) in omega arith)
+  moves : (role : Role) (before : List (Event T)) (e : Event T) → GrantsRight before e
+      → takes role e + one (held role before) ≡ gives role e + one (role_after role (held role before) e)
+  moves Producer before (Finished p (Queues AcquireProducer) (Truth true)) h =
+      (let none : one (producer_of before) ≡ 0 = ap one (granted (producer_of before) h) in omega arith)
   moves Producer before (Finished p (Queues ReleaseProducer) answer) h = (let some : one (producer_of before) ≡ 1 = ap one h.1 in omega arith)
-  moves Consumer before (Finished p (Queues AcquireConsumer) (Truth true)) h = (let none : one (consumer_of before) ≡ 0 = ap one (granted (consumer_of before) h) in omega arith)
+  moves Consumer before (Finished p (Queues AcquireConsumer) (Truth true)) h =
+      (let none : one (consumer_of before) ≡ 0 = ap one (granted (consumer_of before) h) in omega arith)
   moves Consumer before (Finished p (Queues ReleaseConsumer) answer) h = (let some : one (consumer_of before) ≡ 1 = ap one h.1 in omega arith)
   moves Producer before e h = refl
   moves Consumer before e h = refl
 
-  adds_up : (role : Role) (before es : List (Event T)) → Each GrantsRight (before ++ es) → sum_by (takes role) es + one (held role before) ≡ sum_by (gives role) es + one (held role (before ++ es))
-  adds_up role before [] each = (let same : one (held role (before ++ [])) ≡ one (held role before) = ap (λ xs. one (held role xs)) (append-nil before) in omega arith)
+  adds_up : (role : Role) (before es : List (Event T)) → Each GrantsRight (before ++ es)
+      → sum_by (takes role) es + one (held role before) ≡ sum_by (gives role) es + one (held role (before ++ es))
+  adds_up role before [] each =
+      (let same : one (held role (before ++ [])) ≡ one (held role before) = ap (λ xs. one (held role xs)) (append-nil before) in
+      omega arith)
   adds_up role before (e ∷ es) each =
       let here = moves role before e (each before es e refl) in
       let longer : (before ++ e ∷ []) ++ es ≡ before ++ e ∷ es = append_assoc before (e ∷ []) es in
       let more = adds_up role (before ++ e ∷ []) es (subst (Each GrantsRight) (sym longer) each) in
       let last : one (held role ((before ++ e ∷ []) ++ es)) ≡ one (held role (before ++ e ∷ es)) = ap (λ xs. one (held role xs)) longer in
-      let next : one (held role (before ++ e ∷ [])) ≡ one (role_after role (held role before) e) = ap one (fold-append (role_after role) None before (e ∷ [])) in
+      let next : one (held role (before ++ e ∷ [])) ≡ one (role_after role (held role before) e) =
+      ap one (fold-append (role_after role) None before (e ∷ [])) in
       let a = sum_first (takes role) e es in
       let b = sum_first (gives role) e es in
       omega arith
 
-  pub is_free : (role : Role) (events : List (Event T)) → Each GrantsRight events → sum_by (takes role) events ≡ sum_by (gives role) events → held role events ≡ None
+  pub is_free : (role : Role) (events : List (Event T)) → Each GrantsRight events
+      → sum_by (takes role) events ≡ sum_by (gives role) events → held role events ≡ None
   is_free role events each same = (let sum = adds_up role [] events each in nobody (held role events) (omega arith))
 
-pub few_when_free : {T : Type 0} (code : Coding T) (capacity : ℕ) (t : Trace T) → IsRun code kinds.Overflow capacity t → producer_of t.events ≡ None → length (waiting t.events) ≤ capacity
+pub few_when_free : {T : Type 0} (code : Coding T) (capacity : ℕ) (t : Trace T)
+    → IsRun code kinds.Overflow capacity t → producer_of t.events ≡ None → length (waiting t.events) ≤ capacity
 few_when_free {T} code capacity t run free =
     let s = sound_of code capacity Overflow t run in
     let nobody_has : s.state.roles.producer ≡ None = sym s.holds.producers ∙ free in
-    let few : length s.state.core.waiting ≤ t.world.capacity = subst (λ o. Hangs T Overflow t.world.capacity s.state.core (pending s.state.core.read o t.world.latest)) nobody_has s.holds.hangs in
-    let long : length (waiting t.events) ≡ length s.state.core.waiting = ap length (waiting_is t.events (map Index s.state.core.waiting) s.holds.book) ∙ length-map s.state.core.waiting Index in
+    let few : length s.state.core.waiting ≤ t.world.capacity =
+    subst (λ o. Hangs T Overflow t.world.capacity s.state.core (pending s.state.core.read o t.world.latest)) nobody_has s.holds.hangs in
+    let long : length (waiting t.events) ≡ length s.state.core.waiting =
+    ap length (waiting_is t.events (map Index s.state.core.waiting) s.holds.book) ∙ length-map s.state.core.waiting Index in
     let size = run.sized in
     omega arith

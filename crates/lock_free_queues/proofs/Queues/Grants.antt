@@ -14,13 +14,15 @@ use Rattle.lock_free_queues.specs.Queues.Opened.{pushed_once, popped_once, given
 
 module _ {T : Type 0} where
   -- what moves no role leaves it
-  pub still_has : (role : Role) (es more : List (Event T)) → sum_by (takes role) more ≡ 0 → sum_by (gives role) more ≡ 0 → HasRole role es → HasRole role (es ++ more)
+  pub still_has : (role : Role) (es more : List (Event T)) → sum_by (takes role) more ≡ 0
+      → sum_by (gives role) more ≡ 0 → HasRole role es → HasRole role (es ++ more)
   still_has role es more a b has =
       let t = sum_by-append (takes role) es more in
       let g = sum_by-append (gives role) es more in
       omega arith
 
-  lacks_after : (role : Role) (es more : List (Event T)) → sum_by (takes role) more ≡ 0 → sum_by (gives role) more ≡ 1 → HasRole role es → LacksRole role (es ++ more)
+  lacks_after : (role : Role) (es more : List (Event T)) → sum_by (takes role) more ≡ 0
+      → sum_by (gives role) more ≡ 1 → HasRole role es → LacksRole role (es ++ more)
   lacks_after role es more a b has =
       let t = sum_by-append (takes role) es more in
       let g = sum_by-append (gives role) es more in
@@ -54,9 +56,14 @@ module _ {T : Type 0} (answer : Answer T) (quiet : IsQuiet answer) where
   pub has_it : (x : Item T) (n : ℕ) (role : Role) → HasRole role (rounds answer x n)
   has_it x zero Producer = refl
   has_it x zero Consumer = refl
-  has_it x (suc n) role = subst (HasRole role) (append_assoc (rounds answer x n) (pushed_once answer x) (popped_once x)) (after_pop role x (rounds answer x n ++ pushed_once answer x) (after_push role x (rounds answer x n) (has_it x n role)))
+  has_it x (suc n) role =
+      subst (HasRole role) (append_assoc (rounds answer x n) (pushed_once answer x) (popped_once x))
+      (after_pop role x (rounds answer x n ++ pushed_once answer x) (after_push role x (rounds answer x n) (has_it x n role)))
 
   -- the first pass has no role
   pub has_none : (x : Item T) (n : ℕ) → LacksRole Producer (opened answer x n) × LacksRole Consumer (opened answer x n)
   has_none x zero = (refl, refl)
-  has_none x (suc n) = (lacks_after Producer (rounds answer x (suc n)) given_roles refl refl (has_it x (suc n) Producer), lacks_after Consumer (rounds answer x (suc n)) given_roles refl refl (has_it x (suc n) Consumer))
+  has_none x (suc n) = (
+    lacks_after Producer (rounds answer x (suc n)) given_roles refl refl (has_it x (suc n) Producer),
+    lacks_after Consumer (rounds answer x (suc n)) given_roles refl refl (has_it x (suc n) Consumer),
+  )

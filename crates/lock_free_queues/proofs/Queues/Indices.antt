@@ -20,8 +20,10 @@ pub is_coding : IsCoding one_word
 is_coding = record { some = omega arith; few = omega arith; sized = λ x. refl; given_back = λ x. refl }
 
 -- a push is left out where its first load finds the last position
-pub ends_at : {V : Type 0} (words_of : V → List ℕ) (value : V) (n : ℕ) (a : Ask) (stage : pushes.PushStage) → push_skips stage n ≡ true → push_asks words_of stage value ≡ wants.Ask a → (a.word ≡ 0) × (n ≡ 2 ^ 64 - 1)
-ends_at words_of value n a pushes.TheVariants.LoadsWrite t e = (let is : record { word = 0; op = Load } ≡ a = cc in (ap (λ (z : Ask). z.word) (sym is), grind (arith, nat_tests)))
+pub ends_at : {V : Type 0} (words_of : V → List ℕ) (value : V) (n : ℕ) (a : Ask) (stage : pushes.PushStage)
+    → push_skips stage n ≡ true → push_asks words_of stage value ≡ wants.Ask a → (a.word ≡ 0) × (n ≡ 2 ^ 64 - 1)
+ends_at words_of value n a pushes.TheVariants.LoadsWrite t e =
+    (let is : record { word = 0; op = Load } ≡ a = cc in (ap (λ (z : Ask). z.word) (sym is), grind (arith, nat_tests)))
 ends_at words_of value n a (pushes.TheVariants.LoadsRead write) t e = absurd (cc)
 ends_at words_of value n a (pushes.TheVariants.StoresCell write cell at) t e = absurd (cc)
 ends_at words_of value n a (pushes.TheVariants.StoresWrite write) t e = absurd (cc)

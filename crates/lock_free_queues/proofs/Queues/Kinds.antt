@@ -24,7 +24,7 @@ use Rattle.history.specs.Stages.{Calling, At, Ends}
 use Rattle.history.specs.Views.{WhenIdle}
 use Rattle.history.proofs.OverflowRoles.{over_acquire_keeps, over_release_keeps, over_lens_keep}
 use Rattle.history.proofs.Overflows.{overflow_owes}
-use Rattle.history.proofs.QueueCalls.{acquire_keeps, release_keeps, lens_keep}
+use Rattle.history.proofs.QueueRoles.{acquire_keeps, release_keeps, lens_keep}
 use Rattle.history.proofs.Queues.{index_owes, values_owe}
 use Rattle.history.proofs.ValueQueueRoles.{value_acquire_keeps, value_release_keeps, value_lens_keep}
 use Rattle.lock_free_queues.specs.Queues.Kinds.{words_in_cells, opened_by}
@@ -40,20 +40,24 @@ module _ {T : Type 0} where
   told_idle Queue going Told idle h = h
 
 module _ {T : Type 0} (code : Coding T) where
-  pub words_long : (kd : QueueKind) (capacity : ℕ) (t : Trace T) → IsRun code (machine_kind kd) capacity t → length t.world.words ≡ 4 + words_in_cells code.size kd capacity
+  pub words_long : (kd : QueueKind) (capacity : ℕ) (t : Trace T) → IsRun code (machine_kind kd) capacity t
+      → length t.world.words ≡ 4 + words_in_cells code.size kd capacity
   words_long IndexQueue capacity t run = (index_owes code capacity).size t run
   words_long Overflow capacity t run = (overflow_owes code capacity).size t run
   words_long Queue capacity t run = (values_owe code capacity).size t run
 
   -- the first pass has no role
-  pub opens_bare : (kd : QueueKind) (capacity position : ℕ) → LacksRole Producer (opened_by code kd capacity position).made × LacksRole Consumer (opened_by code kd capacity position).made
+  pub opens_bare : (kd : QueueKind) (capacity position : ℕ)
+      → LacksRole Producer (opened_by code kd capacity position).made × LacksRole Consumer (opened_by code kd capacity position).made
   opens_bare IndexQueue capacity position = has_none (Truth true) quiet_true (Index 0) (position_at capacity position)
   opens_bare Overflow capacity position = has_none PoppedNone quiet_none (Index 0) (position_at capacity position)
   opens_bare Queue capacity position = has_none (Truth true) quiet_true (Value (code.value_of (replicate code.size 0))) (position_at capacity position)
 
 module _ {T : Type 0} (code : Coding T) (law : IsCoding code) where
   abbrev Keeps : {C M E : Type 0} → QueueKind → Calling T C M E → (C → Want (Unit {0})) → (C → ℕ → After C E) → (C → M → ℕ → M) → Type 0
-  Keeps kd call = KeepsRule (λ (z : View T). z.capacity) (At code (machine_kind kd) call) (Ends code (machine_kind kd) call) (λ key. 4 + words_in_cells code.size kd key + 1) (λ key. key) (λ key. IsMachine code (machine_kind kd) key)
+  Keeps kd call =
+      KeepsRule (λ (z : View T). z.capacity) (At code (machine_kind kd) call) (Ends code (machine_kind kd) call)
+      (λ key. 4 + words_in_cells code.size kd key + 1) (λ key. key) (λ key. IsMachine code (machine_kind kd) key)
 
   pub acquires_keep : (kd : QueueKind) (role : Role) → Keeps kd (takes_role role) acquire_want acquire_after (λ c m n. m)
   acquires_keep IndexQueue role = acquire_keeps code role
@@ -65,7 +69,10 @@ module _ {T : Type 0} (code : Coding T) (law : IsCoding code) where
   releases_keep Overflow role = over_release_keeps code role
   releases_keep Queue role = value_release_keeps code law role
 
-  pub lengths_keep : (kd : QueueKind) (which : LengthOf) → KeepsRule (λ (z : View T). z.capacity) (λ (base : View T). At code (machine_kind kd) (counts_waiting which base.capacity) base) (λ (base : View T). Ends code (machine_kind kd) (counts_waiting which base.capacity) base)
+  pub lengths_keep : (kd : QueueKind) (which : LengthOf)
+      → KeepsRule (λ (z : View T). z.capacity)
+      (λ (base : View T). At code (machine_kind kd) (counts_waiting which base.capacity) base)
+      (λ (base : View T). Ends code (machine_kind kd) (counts_waiting which base.capacity) base)
       (λ key. 4 + words_in_cells code.size kd key + 1) (λ key. key) (λ key. IsMachine code (machine_kind kd) key) len_want len_after (λ c m n. m)
   lengths_keep IndexQueue which = lens_keep code which
   lengths_keep Overflow which = over_lens_keep code which

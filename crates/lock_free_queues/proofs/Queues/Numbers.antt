@@ -22,13 +22,16 @@ module _ (capacity : ℕ) (small : capacity < 2 ^ 32) (position : ℕ) (fits : p
   zeros : (words : List ℕ) → words ≡ words_with (replicate capacity 0) → words ≡ words_with (filled (0 ∷ []) 1 capacity (1 * min position capacity))
   zeros words same = same ∙ ap words_with (sym (zeros_stay capacity (1 * min position capacity)))
 
-  opens : (kd : QueueKind) (words : List ℕ) → words ≡ words_with (replicate (words_in_cells 1 kd capacity) 0) → IsMachine one_word (machine_of kd) capacity (opening words [] (opened_by one_word kd capacity position))
+  opens : (kd : QueueKind) (words : List ℕ) → words ≡ words_with (replicate (words_in_cells 1 kd capacity) 0)
+      → IsMachine one_word (machine_of kd) capacity (opening words [] (opened_by one_word kd capacity position))
   opens IndexQueue words same = queue_opens one_word is_coding of_indices 0 capacity small position fits words (zeros words same)
   opens Overflow words same = over_opens one_word is_coding capacity small position fits words same
   opens Queue words same =
       let one : 1 * capacity ≡ capacity = omega arith in
       queue_opens one_word is_coding of_values 0 capacity small position fits words (zeros words (same ∙ ap (λ n. words_with (replicate n 0)) one))
 
-  pub numbers_open : (kd : QueueKind) (cells start : ℕ) (words : List ℕ) → words_in_cells 1 kd capacity ≡ cells → start ≡ position_at capacity position → words ≡ start ∷ start ∷ 1 ∷ 1 ∷ (replicate cells 0 ++ 0 ∷ [])
+  pub numbers_open : (kd : QueueKind) (cells start : ℕ) (words : List ℕ) → words_in_cells 1 kd capacity ≡ cells
+      → start ≡ position_at capacity position → words ≡ start ∷ start ∷ 1 ∷ 1 ∷ (replicate cells 0 ++ 0 ∷ [])
       → IsMachine one_word (machine_of kd) capacity (opening words [] (opened_by one_word kd capacity position))
-  numbers_open kd cells start words long at same = opens kd words (same ∙ (ap (λ n. n ∷ n ∷ 1 ∷ 1 ∷ (replicate cells 0 ++ 0 ∷ [])) at ∙ ap (λ n. words_with (replicate n 0)) (sym long)))
+  numbers_open kd cells start words long at same =
+      opens kd words (same ∙ (ap (λ n. n ∷ n ∷ 1 ∷ 1 ∷ (replicate cells 0 ++ 0 ∷ [])) at ∙ ap (λ n. words_with (replicate n 0)) (sym long)))

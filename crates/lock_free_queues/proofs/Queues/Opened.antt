@@ -1,5 +1,8 @@
 -- How a queue's table opens, also at a position: one party has pushed and popped one value as often, alone.
-use Rattle.std.proofs.Common.{◌≡◌, ⊎_elim, ℕ, zero, suc, ◌+◌, ◌*◌, ◌-◌, ◌%◌, ◌^◌, ◌<◌, ◌≤◌, ◌==◌, min, true, false, Option, Some, None, List, [], ◌∷◌, ◌++◌, length, get_or, set, replicate, slice_index, slice_set, sum_by, refl, sym, ap, subst, ◌∙◌, append_assoc, length-append, take, drop, arith}
+use Rattle.std.proofs.Common.{◌≡◌, ⊎_elim, ℕ, zero, suc, ◌+◌, ◌*◌, ◌-◌, ◌%◌, ◌^◌, ◌<◌, ◌≤◌, ◌==◌, min, true, false}
+use Rattle.std.proofs.Common.{Option, Some, None, List, [], ◌∷◌, ◌++◌, length, get_or, set, replicate, slice_index}
+use Rattle.std.proofs.Common.{slice_set, sum_by, refl, sym, ap, subst, ◌∙◌, append_assoc, length-append, take, drop}
+use Rattle.std.proofs.Common.{arith}
 use Rattle.std.proofs.lemmas.Bool.{cases_lt}
 use Rattle.std.proofs.lemmas.List.{get_or_append_left, take-append-le}
 use Rattle.std.proofs.Math.Nat.{mul-add-mod_self_left, mod-eq_of_lt, mul-le-mul_left}
@@ -56,7 +59,13 @@ use Rattle.lock_free_queues.proofs.Queues.Grants.{after_push, has_it, quiet_true
 use Rattle.lock_free_queues.proofs.Queues.Tests.{not_last, some_cells, not_full, one_apart, at_last, before_last, not_below, none_used}
 use Rattle.lock_free_queues.proofs.Queues.Filled.{filled, filled_length, filled_there, filled_again}
 use Rattle.lock_free_queues.proofs.Queues.Roles.{QuietRoles, takes_both, gives_both}
-use Rattle.lock_free_queues.proofs.Queues.Single.{fresh, pushing, popping, push_named, push_lacks, push_wants, push_fresh, GoesOn, push_loads_write, push_loads_read, push_stores_cell, push_stores_last, push_ends, told_of_push, wrote_by_push, push_tells, pop_named, pop_wants, pop_fresh, pop_loads_read, pop_loads_write, pop_loads_cell, pop_loads_last, pop_ends, told_of_pop, wrote_by_pop, pop_tells, opens_with, admits, wide_is, fresh_long}
+use Rattle.lock_free_queues.proofs.Queues.Single.{fresh, pushing, popping, push_named, push_lacks, push_wants}
+use Rattle.lock_free_queues.proofs.Queues.Single.{push_fresh, GoesOn, push_loads_write, push_loads_read}
+use Rattle.lock_free_queues.proofs.Queues.Single.{push_stores_cell, push_stores_last, push_ends, told_of_push}
+use Rattle.lock_free_queues.proofs.Queues.Single.{wrote_by_push, push_tells, pop_named, pop_wants, pop_fresh}
+use Rattle.lock_free_queues.proofs.Queues.Single.{pop_loads_read, pop_loads_write, pop_loads_cell, pop_loads_last}
+use Rattle.lock_free_queues.proofs.Queues.Single.{pop_ends, told_of_pop, wrote_by_pop, pop_tells, opens_with, admits}
+use Rattle.lock_free_queues.proofs.Queues.Single.{wide_is, fresh_long}
 
 -- ---- the calls of the one party
 
@@ -102,7 +111,9 @@ module _ {T : Type 0} (code : Coding T) (law : IsCoding code) (r : Ring) (v : Va
   words_at write read producer consumer cells = write ∷ read ∷ producer ∷ consumer ∷ (cells ++ 0 ∷ [])
 
   starts : Here (words_at 0 0 1 1 (replicate (size * capacity) 0)) [] None
-  starts = subst (λ zs. Here (zs ++ 0 ∷ []) [] None) (opens_with code capacity r) (alone.opens_here code kind capacity (4 + size * capacity) effects owes law (admits code capacity r small))
+  starts =
+      subst (λ zs. Here (zs ++ 0 ∷ []) [] None) (opens_with code capacity r)
+      (alone.opens_here code kind capacity (4 + size * capacity) effects owes law (admits code capacity r small))
 
   -- the calls as those of a pass
   abbrev push_call : Calling T (push_calls.Push (Val T (kind_of r))) (Unit {0}) (Unit {0})
@@ -134,9 +145,14 @@ module _ {T : Type 0} (code : Coding T) (law : IsCoding code) (r : Ring) (v : Va
       }
 
   -- a step that goes on
-  step : (words : List ℕ) (es : List (Event T)) (start : Start T) (flight next : Flight T) (a : Ask) → Here words es (Some (start, flight)) → a.word < 4 + size * capacity → want_of code flight ≡ wants.Ask a → IsFreshCall (slice_index words a.word) flight → (words' : List ℕ)
-      → slice_set words a.word (written a.op (slice_index words a.word)) ≡ words' → GoesOn code capacity flight next (slice_index words a.word) → Here words' es (Some (start, next))
-  step words es start flight next a h low asks finds words' same goes = alone.goes_on code kind capacity (4 + size * capacity) effects owes words es start flight h a low asks finds words' next same goes.comes goes.quiet
+  step : (words : List ℕ) (es : List (Event T)) (start : Start T) (flight next : Flight T) (a : Ask)
+      → Here words es (Some (start, flight)) → a.word < 4 + size * capacity → want_of code flight ≡ wants.Ask a
+      → IsFreshCall (slice_index words a.word) flight → (words' : List ℕ)
+      → slice_set words a.word (written a.op (slice_index words a.word)) ≡ words'
+      → GoesOn code capacity flight next (slice_index words a.word) → Here words' es (Some (start, next))
+  step words es start flight next a h low asks finds words' same goes =
+      alone.goes_on code kind capacity (4 + size * capacity) effects owes words es start flight h a low asks finds
+      words' next same goes.comes goes.quiet
 
   module _ (room : 0 < capacity) (n : ℕ) (below_end : n < 2 ^ 64 - 1) (es : List (Event T)) where
     none : (capacity == 0) ≡ false
@@ -159,7 +175,8 @@ module _ {T : Type 0} (code : Coding T) (law : IsCoding code) (r : Ring) (v : Va
 
     -- ---- the push
 
-    module _ (cells : ℕ → List ℕ) (long : (k : ℕ) → length (cells k) ≡ size * capacity) (put : (k : ℕ) → k < size → set (cells k) (place k) (get_or ws k 0) ≡ cells (suc k)) where
+    module _ (cells : ℕ → List ℕ) (long : (k : ℕ) → length (cells k) ≡ size * capacity)
+        (put : (k : ℕ) → k < size → set (cells k) (place k) (get_or ws k 0) ≡ cells (suc k)) where
       abbrev now : ℕ → List ℕ
       now k = words_at n n 0 0 (cells k)
 
@@ -179,26 +196,61 @@ module _ {T : Type 0} (code : Coding T) (law : IsCoding code) (r : Ring) (v : Va
       word_low : (k : ℕ) → k < size → word_at cell k < 4 + size * capacity
       word_low k below = (let is = place_is k below in let inside = place_low k below in omega arith)
 
-      fills : (xs : List (Event T)) (rest k : ℕ) → k + suc rest ≡ size → Here (now k) xs (Some (name, storing k)) → Here (now size) xs (Some (name, pushing r v capacity (pushes.TheVariants.StoresWrite n)))
+      fills : (xs : List (Event T)) (rest k : ℕ) → k + suc rest ≡ size → Here (now k) xs (Some (name, storing k))
+          → Here (now size) xs (Some (name, pushing r v capacity (pushes.TheVariants.StoresWrite n)))
       fills xs zero k sum h =
           let t = at_last k size (omega arith) in
           let same : suc k ≡ size = omega arith in
           subst (λ m. Here (now m) xs (Some (name, pushing r v capacity (pushes.TheVariants.StoresWrite n)))) same
-          (step (now k) xs name (storing k) (pushing r v capacity (pushes.TheVariants.StoresWrite n)) (record { word = word_at cell k; op = Store (get_or ws k 0) }) h (word_low k (omega arith)) (push_wants code capacity r v (pushes.TheVariants.StoresCell n cell k)) (push_fresh code capacity r v (slice_index (now k) (word_at cell k)) (pushes.TheVariants.StoresCell n cell k) tt) (now (suc k)) (stored k (omega arith)) (push_stores_last code capacity r v n cell k (slice_index (now k) (word_at cell k)) t))
+          (step (now k) xs name (storing k) (pushing r v capacity (pushes.TheVariants.StoresWrite n))
+          (record { word = word_at cell k; op = Store (get_or ws k 0) }) h (word_low k (omega arith))
+          (push_wants code capacity r v (pushes.TheVariants.StoresCell n cell k))
+          (push_fresh code capacity r v (slice_index (now k) (word_at cell k)) (pushes.TheVariants.StoresCell n cell k) tt)
+          (now (suc k)) (stored k (omega arith))
+          (push_stores_last code capacity r v n cell k (slice_index (now k) (word_at cell k)) t))
       fills xs (suc rest) k sum h =
           let t = before_last k size (omega arith) in
           let same : k + 1 ≡ suc k = omega arith in
           fills xs rest (suc k) (omega arith) (subst (λ m. Here (now (suc k)) xs (Some (name, storing m))) same
-          (step (now k) xs name (storing k) (storing (k + 1)) (record { word = word_at cell k; op = Store (get_or ws k 0) }) h (word_low k (omega arith)) (push_wants code capacity r v (pushes.TheVariants.StoresCell n cell k)) (push_fresh code capacity r v (slice_index (now k) (word_at cell k)) (pushes.TheVariants.StoresCell n cell k) tt) (now (suc k)) (stored k (omega arith)) (push_stores_cell code capacity r v n cell k (slice_index (now k) (word_at cell k)) t)))
+          (step (now k) xs name (storing k) (storing (k + 1))
+          (record { word = word_at cell k; op = Store (get_or ws k 0) }) h (word_low k (omega arith))
+          (push_wants code capacity r v (pushes.TheVariants.StoresCell n cell k))
+          (push_fresh code capacity r v (slice_index (now k) (word_at cell k)) (pushes.TheVariants.StoresCell n cell k) tt)
+          (now (suc k)) (stored k (omega arith))
+          (push_stores_cell code capacity r v n cell k (slice_index (now k) (word_at cell k)) t)))
 
       pushed : HasRole Producer es → Here (now 0) es None → Here (words_at (n + 1) n 0 0 (cells size)) (es ++ pushed_once (Truth true) it) None
       pushed has h =
           let xs = es ++ Begun 0 name ∷ [] in
-          let a = alone.begins code kind capacity (4 + size * capacity) effects owes push_call (first_push capacity) tt (now 0) es h (role_starts code (kind_of r) (maker es) push_call (push_of it) (first_push capacity) tt refl (λ kept. push_named code capacity r v kept) Producer (λ o p. tt) (λ roles p is. push_lacks code capacity r v roles p is) has h.u same_seat 0 h.between.run refl refl (sums (now 0) es h)) in
-          let b = step (now 0) xs name (pushing r v capacity pushes.TheVariants.LoadsWrite) (pushing r v capacity (pushes.TheVariants.LoadsRead n)) (record { word = 0; op = Load }) a (omega arith) (push_wants code capacity r v pushes.TheVariants.LoadsWrite) (push_fresh code capacity r v n pushes.TheVariants.LoadsWrite below_end) (now 0) refl (push_loads_write code capacity r v n (not_last n below_end)) in
-          let c = step (now 0) xs name (pushing r v capacity (pushes.TheVariants.LoadsRead n)) (storing 0) (record { word = 1; op = Load }) b (omega arith) (push_wants code capacity r v (pushes.TheVariants.LoadsRead n)) (push_fresh code capacity r v n (pushes.TheVariants.LoadsRead n) tt) (now 0) refl (push_loads_read code capacity r v n none (not_full n capacity (omega arith) room)) in
+          let a =
+          alone.begins code kind capacity (4 + size * capacity) effects owes push_call (first_push capacity) tt
+          (now 0) es h
+          (role_starts code (kind_of r) (maker es) push_call (push_of it) (first_push capacity) tt refl
+          (λ kept. push_named code capacity r v kept) Producer (λ o p. tt)
+          (λ roles p is. push_lacks code capacity r v roles p is) has h.u same_seat 0 h.between.run refl refl
+          (sums (now 0) es h)) in
+          let b =
+          step (now 0) xs name (pushing r v capacity pushes.TheVariants.LoadsWrite)
+          (pushing r v capacity (pushes.TheVariants.LoadsRead n)) (record { word = 0; op = Load }) a (omega arith)
+          (push_wants code capacity r v pushes.TheVariants.LoadsWrite)
+          (push_fresh code capacity r v n pushes.TheVariants.LoadsWrite below_end) (now 0) refl
+          (push_loads_write code capacity r v n (not_last n below_end)) in
+          let c =
+          step (now 0) xs name (pushing r v capacity (pushes.TheVariants.LoadsRead n)) (storing 0)
+          (record { word = 1; op = Load }) b (omega arith)
+          (push_wants code capacity r v (pushes.TheVariants.LoadsRead n))
+          (push_fresh code capacity r v n (pushes.TheVariants.LoadsRead n) tt) (now 0) refl
+          (push_loads_read code capacity r v n none (not_full n capacity (omega arith) room)) in
           let d = fills xs (size - 1) 0 (let one = some in omega arith) c in
-          let e = alone.ends code kind capacity (4 + size * capacity) effects owes (now size) xs name (pushing r v capacity (pushes.TheVariants.StoresWrite n)) d (record { word = 0; op = Store (after_position n) }) (omega arith) (push_wants code capacity r v (pushes.TheVariants.StoresWrite n)) (push_fresh code capacity r v n (pushes.TheVariants.StoresWrite n) tt) (words_at (n + 1) n 0 0 (cells size)) (Truth true) (wrote_by_push code capacity it) (ap (λ k. words_at k n 0 0 (cells size)) next_is) (push_ends code capacity r v n n) (push_tells code capacity r v n n) (refl, (refl, tt)) in
+          let e =
+          alone.ends code kind capacity (4 + size * capacity) effects owes (now size) xs name
+          (pushing r v capacity (pushes.TheVariants.StoresWrite n)) d
+          (record { word = 0; op = Store (after_position n) }) (omega arith)
+          (push_wants code capacity r v (pushes.TheVariants.StoresWrite n))
+          (push_fresh code capacity r v n (pushes.TheVariants.StoresWrite n) tt)
+          (words_at (n + 1) n 0 0 (cells size)) (Truth true) (wrote_by_push code capacity it)
+          (ap (λ k. words_at k n 0 0 (cells size)) next_is) (push_ends code capacity r v n n)
+          (push_tells code capacity r v n n) (refl, (refl, tt)) in
           subst (λ zs. Here (words_at (n + 1) n 0 0 (cells size)) zs None) (append_assoc es (Begun 0 name ∷ []) (told_of_push code capacity it)) e
 
     -- ---- the pop of what it pushed
@@ -213,7 +265,9 @@ module _ {T : Type 0} (code : Coding T) (law : IsCoding code) (r : Ring) (v : Va
     room_is (suc k) low =
         let long = ws_long in
         let wide = fresh_long code r law in
-        put_in r (room_at k) k (get_or ws k 0) ∙ (ap (λ zs. set zs k (get_or ws k 0)) (room_is k (omega arith)) ∙ mix_step k ws (words_in r (fresh r)) (omega arith) (omega arith))
+        put_in r (room_at k) k (get_or ws k 0)
+        ∙ (ap (λ zs. set zs k (get_or ws k 0)) (room_is k (omega arith))
+        ∙ mix_step k ws (words_in r (fresh r)) (omega arith) (omega arith))
 
     reads_it : read_in code r (room_at size) ≡ v
     reads_it =
@@ -242,7 +296,8 @@ module _ {T : Type 0} (code : Coding T) (law : IsCoding code) (r : Ring) (v : Va
       found_is : (k : ℕ) → k < size → slice_index then (word_at cell k) ≡ get_or ws k 0
       found_is k below =
           let inside = place_low k below in
-          core.word_at (n + 1) n 0 0 (cells ++ 0 ∷ []) (word_at cell k) (place k) (place_is k below) ∙ (get_or_append_left cells (0 ∷ []) 0 (place k) (omega arith) ∙ has k below)
+          core.word_at (n + 1) n 0 0 (cells ++ 0 ∷ []) (word_at cell k) (place k) (place_is k below)
+          ∙ (get_or_append_left cells (0 ∷ []) 0 (place k) (omega arith) ∙ has k below)
 
       then_low : (k : ℕ) → k < size → word_at cell k < 4 + size * capacity
       then_low k below = (let is = place_is k below in let inside = place_low k below in omega arith)
@@ -254,24 +309,61 @@ module _ {T : Type 0} (code : Coding T) (law : IsCoding code) (r : Ring) (v : Va
           let below : k < size = omega arith in
           subst (λ m. Here then xs (Some (Queues Pop, popping r capacity (pops.TheVariants.StoresRead n) (room_at m)))) same
           (subst (λ w. Here then xs (Some (Queues Pop, popping r capacity (pops.TheVariants.StoresRead n) (with_word r (room_at k) k w)))) (found_is k below)
-          (step then xs (Queues Pop) (loading k) (popping r capacity (pops.TheVariants.StoresRead n) (with_word r (room_at k) k (slice_index then (word_at cell k)))) (record { word = word_at cell k; op = Load }) h (then_low k below) (pop_wants code capacity r (pops.TheVariants.LoadsCell n cell k) (room_at k)) (pop_fresh code capacity r (slice_index then (word_at cell k)) (pops.TheVariants.LoadsCell n cell k) (room_at k)) then (set_same then (word_at cell k)) (pop_loads_last code capacity r n cell k (slice_index then (word_at cell k)) (room_at k) t)))
+          (step then xs (Queues Pop) (loading k)
+          (popping r capacity (pops.TheVariants.StoresRead n) (with_word r (room_at k) k (slice_index then (word_at cell k))))
+          (record { word = word_at cell k; op = Load }) h (then_low k below)
+          (pop_wants code capacity r (pops.TheVariants.LoadsCell n cell k) (room_at k))
+          (pop_fresh code capacity r (slice_index then (word_at cell k)) (pops.TheVariants.LoadsCell n cell k) (room_at k))
+          then (set_same then (word_at cell k))
+          (pop_loads_last code capacity r n cell k (slice_index then (word_at cell k)) (room_at k) t)))
       loads xs (suc rest) k sum h =
           let t = before_last k size (omega arith) in
           let same : k + 1 ≡ suc k = omega arith in
           let below : k < size = omega arith in
           loads xs rest (suc k) (omega arith)
           (subst (λ m. Here then xs (Some (Queues Pop, popping r capacity (pops.TheVariants.LoadsCell n cell m) (room_at (suc k))))) same
-          (subst (λ w. Here then xs (Some (Queues Pop, popping r capacity (pops.TheVariants.LoadsCell n cell (k + 1)) (with_word r (room_at k) k w)))) (found_is k below)
-          (step then xs (Queues Pop) (loading k) (popping r capacity (pops.TheVariants.LoadsCell n cell (k + 1)) (with_word r (room_at k) k (slice_index then (word_at cell k)))) (record { word = word_at cell k; op = Load }) h (then_low k below) (pop_wants code capacity r (pops.TheVariants.LoadsCell n cell k) (room_at k)) (pop_fresh code capacity r (slice_index then (word_at cell k)) (pops.TheVariants.LoadsCell n cell k) (room_at k)) then (set_same then (word_at cell k)) (pop_loads_cell code capacity r n cell k (slice_index then (word_at cell k)) (room_at k) t))))
+          (subst (λ w. Here then xs
+          (Some (Queues Pop, popping r capacity (pops.TheVariants.LoadsCell n cell (k + 1)) (with_word r (room_at k) k w))))
+          (found_is k below)
+          (step then xs (Queues Pop) (loading k)
+          (popping r capacity (pops.TheVariants.LoadsCell n cell (k + 1))
+          (with_word r (room_at k) k (slice_index then (word_at cell k))))
+          (record { word = word_at cell k; op = Load }) h (then_low k below)
+          (pop_wants code capacity r (pops.TheVariants.LoadsCell n cell k) (room_at k))
+          (pop_fresh code capacity r (slice_index then (word_at cell k)) (pops.TheVariants.LoadsCell n cell k) (room_at k))
+          then (set_same then (word_at cell k))
+          (pop_loads_cell code capacity r n cell k (slice_index then (word_at cell k)) (room_at k) t))))
 
       popped : HasRole Consumer es → Here then es None → Here (words_at (n + 1) (n + 1) 0 0 cells) (es ++ popped_once it) None
       popped role h =
           let xs = es ++ Begun 0 (Queues Pop) ∷ [] in
-          let a = alone.begins code kind capacity (4 + size * capacity) effects owes pop_call (first_pop capacity) (fresh r) then es h (role_starts code (kind_of r) (maker es) pop_call Pop (first_pop capacity) (fresh r) refl (λ kept. pop_named code capacity r kept) Consumer (λ o p. tt) (λ roles p is. holds_it roles.consumer p is) role h.u same_seat 0 h.between.run refl refl (sums then es h)) in
-          let b = step then xs (Queues Pop) (popping r capacity pops.TheVariants.LoadsRead (room_at 0)) (popping r capacity (pops.TheVariants.LoadsWrite n) (room_at 0)) (record { word = 1; op = Load }) a (omega arith) (pop_wants code capacity r pops.TheVariants.LoadsRead (room_at 0)) (pop_fresh code capacity r n pops.TheVariants.LoadsRead (room_at 0)) then refl (pop_loads_read code capacity r n (room_at 0)) in
-          let c = step then xs (Queues Pop) (popping r capacity (pops.TheVariants.LoadsWrite n) (room_at 0)) (loading 0) (record { word = 0; op = Load }) b (omega arith) (pop_wants code capacity r (pops.TheVariants.LoadsWrite n) (room_at 0)) (pop_fresh code capacity r (n + 1) (pops.TheVariants.LoadsWrite n) (room_at 0)) then refl (pop_loads_write code capacity r n (n + 1) (room_at 0) none (one_apart n)) in
+          let a =
+          alone.begins code kind capacity (4 + size * capacity) effects owes pop_call (first_pop capacity) (fresh r)
+          then es h
+          (role_starts code (kind_of r) (maker es) pop_call Pop (first_pop capacity) (fresh r) refl
+          (λ kept. pop_named code capacity r kept) Consumer (λ o p. tt) (λ roles p is. holds_it roles.consumer p is)
+          role h.u same_seat 0 h.between.run refl refl (sums then es h)) in
+          let b =
+          step then xs (Queues Pop) (popping r capacity pops.TheVariants.LoadsRead (room_at 0))
+          (popping r capacity (pops.TheVariants.LoadsWrite n) (room_at 0)) (record { word = 1; op = Load }) a
+          (omega arith) (pop_wants code capacity r pops.TheVariants.LoadsRead (room_at 0))
+          (pop_fresh code capacity r n pops.TheVariants.LoadsRead (room_at 0)) then refl
+          (pop_loads_read code capacity r n (room_at 0)) in
+          let c =
+          step then xs (Queues Pop) (popping r capacity (pops.TheVariants.LoadsWrite n) (room_at 0)) (loading 0)
+          (record { word = 0; op = Load }) b (omega arith)
+          (pop_wants code capacity r (pops.TheVariants.LoadsWrite n) (room_at 0))
+          (pop_fresh code capacity r (n + 1) (pops.TheVariants.LoadsWrite n) (room_at 0)) then refl
+          (pop_loads_write code capacity r n (n + 1) (room_at 0) none (one_apart n)) in
           let d = loads xs (size - 1) 0 (let one = some in omega arith) c in
-          let e = alone.ends code kind capacity (4 + size * capacity) effects owes then xs (Queues Pop) last_of d (record { word = 1; op = Store (after_position n) }) (omega arith) (pop_wants code capacity r (pops.TheVariants.StoresRead n) (room_at size)) (pop_fresh code capacity r n (pops.TheVariants.StoresRead n) (room_at size)) (words_at (n + 1) (n + 1) 0 0 cells) (popped_item (Some it)) (wrote_by_pop code capacity it) (ap (λ k. words_at (n + 1) k 0 0 cells) next_is) (pop_ends code capacity r v n n (room_at size) reads_it) (pop_tells code capacity r v n n (room_at size) reads_it) (refl, (refl, tt)) in
+          let e =
+          alone.ends code kind capacity (4 + size * capacity) effects owes then xs (Queues Pop) last_of d
+          (record { word = 1; op = Store (after_position n) }) (omega arith)
+          (pop_wants code capacity r (pops.TheVariants.StoresRead n) (room_at size))
+          (pop_fresh code capacity r n (pops.TheVariants.StoresRead n) (room_at size))
+          (words_at (n + 1) (n + 1) 0 0 cells) (popped_item (Some it)) (wrote_by_pop code capacity it)
+          (ap (λ k. words_at (n + 1) k 0 0 cells) next_is) (pop_ends code capacity r v n n (room_at size) reads_it)
+          (pop_tells code capacity r v n n (room_at size) reads_it) (refl, (refl, tt)) in
           subst (λ zs. Here (words_at (n + 1) (n + 1) 0 0 cells) zs None) (append_assoc es (Begun 0 (Queues Pop) ∷ []) (told_of_pop code capacity it)) e
 
   quiet_roles : QuietRoles effects
@@ -284,20 +376,31 @@ module _ {T : Type 0} (code : Coding T) (law : IsCoding code) (r : Ring) (v : Va
   cells_at n = filled ws size capacity (size * min n capacity)
 
   -- a round, in which the push writes so
-  round : (n : ℕ) → (room : 0 < capacity) → n < 2 ^ 64 - 1 → (cells : ℕ → List ℕ) → ((k : ℕ) → length (cells k) ≡ size * capacity) → ((k : ℕ) → k < size → set (cells k) (size * (n % capacity) + k) (get_or ws k 0) ≡ cells (suc k)) → ((k : ℕ) → k < size → get_or (cells size) (size * (n % capacity) + k) 0 ≡ get_or ws k 0)
-      → Here (words_at n n 0 0 (cells 0)) (rounds (Truth true) it n) None → Here (words_at (suc n) (suc n) 0 0 (cells size)) (rounds (Truth true) it (suc n)) None
+  round : (n : ℕ) → (room : 0 < capacity) → n < 2 ^ 64 - 1 → (cells : ℕ → List ℕ)
+      → ((k : ℕ) → length (cells k) ≡ size * capacity)
+      → ((k : ℕ) → k < size → set (cells k) (size * (n % capacity) + k) (get_or ws k 0) ≡ cells (suc k))
+      → ((k : ℕ) → k < size → get_or (cells size) (size * (n % capacity) + k) 0 ≡ get_or ws k 0)
+      → Here (words_at n n 0 0 (cells 0)) (rounds (Truth true) it n) None
+      → Here (words_at (suc n) (suc n) 0 0 (cells size)) (rounds (Truth true) it (suc n)) None
   round n room low cells long put has h =
       let a = pushed room n low (rounds (Truth true) it n) cells long put (has_it (Truth true) quiet_true it n Producer) h in
-      let b = popped room n low (rounds (Truth true) it n ++ pushed_once (Truth true) it) (cells size) (long size) has (after_push (Truth true) quiet_true Consumer it (rounds (Truth true) it n) (has_it (Truth true) quiet_true it n Consumer)) a in
+      let b =
+      popped room n low (rounds (Truth true) it n ++ pushed_once (Truth true) it) (cells size) (long size) has
+      (after_push (Truth true) quiet_true Consumer it (rounds (Truth true) it n) (has_it (Truth true) quiet_true it n Consumer))
+      a in
       let same : n + 1 ≡ suc n = omega arith in
-      subst (λ k. Here (words_at k k 0 0 (cells size)) (rounds (Truth true) it (suc n)) None) same (subst (λ zs. Here (words_at (n + 1) (n + 1) 0 0 (cells size)) zs None) (append_assoc (rounds (Truth true) it n) (pushed_once (Truth true) it) (popped_once it)) b)
+      subst (λ k. Here (words_at k k 0 0 (cells size)) (rounds (Truth true) it (suc n)) None) same
+      (subst (λ zs. Here (words_at (n + 1) (n + 1) 0 0 (cells size)) zs None)
+      (append_assoc (rounds (Truth true) it n) (pushed_once (Truth true) it) (popped_once it)) b)
 
   rank : (q k : ℕ) → k < size → (size * q + k) % size ≡ k
   rank q k below = mul-add-mod_self_left size q k ∙ mod-eq_of_lt below
 
   driven : (n : ℕ) → 0 < capacity → n < 2 ^ 64 → Here (words_at n n 0 0 (cells_at n)) (rounds (Truth true) it n) None
   driven zero room low =
-      let a = takes_both code (kind_of r) capacity (4 + size * capacity) effects owes (omega arith) quiet_roles 0 0 (replicate (size * capacity) 0 ++ 0 ∷ []) starts in
+      let a =
+      takes_both code (kind_of r) capacity (4 + size * capacity) effects owes (omega arith) quiet_roles 0 0
+      (replicate (size * capacity) 0 ++ 0 ∷ []) starts in
       subst (λ m. Here (words_at 0 0 0 0 (filled ws size capacity m)) (rounds (Truth true) it zero) None) (sym (none_used size capacity)) a
   driven (suc n) room low =
       let h = driven n room (omega arith) in
@@ -306,15 +409,21 @@ module _ {T : Type 0} (code : Coding T) (law : IsCoding code) (r : Ring) (v : Va
       let as_many : min n capacity ≡ n = omega arith in
       let start : size * min n capacity ≡ size * n + 0 = ap (λ m. size * m) as_many ∙ omega arith in
       let one_more : min (suc n) capacity ≡ n + 1 = omega arith in
-      let end : size * n + size ≡ size * min (suc n) capacity = (let both : size * (n + 1) ≡ size * n + size = omega arith in sym both ∙ ap (λ m. size * m) (sym one_more)) in
+      let end : size * n + size ≡ size * min (suc n) capacity =
+      (let both : size * (n + 1) ≡ size * n + size = omega arith in sym both ∙ ap (λ m. size * m) (sym one_more)) in
       let cells : ℕ → List ℕ = λ k. filled ws size capacity (size * n + k) in
-      let up_to : size * n + size ≤ size * capacity = (let both : size * (n + 1) ≡ size * n + size = omega arith in let low' : size * (n + 1) ≤ size * capacity = mul-le-mul_left size (omega arith) in omega arith) in
+      let up_to : size * n + size ≤ size * capacity =
+      (let both : size * (n + 1) ≡ size * n + size = omega arith in
+      let low' : size * (n + 1) ≤ size * capacity = mul-le-mul_left size (omega arith) in
+      omega arith) in
       subst (λ m. Here (words_at (suc n) (suc n) 0 0 (filled ws size capacity m)) (rounds (Truth true) it (suc n)) None) end
       (round n room (omega arith) cells (λ k. filled_length ws size capacity (size * n + k))
       (λ k below.
       let next : suc (size * n + k) ≡ size * n + suc k = omega arith in
-      ap (λ q. set (cells k) (size * q + k) (get_or ws k 0)) here ∙ (ap (λ i. set (cells k) (size * n + k) (get_or ws i 0)) (sym (rank n k below)) ∙ ap (filled ws size capacity) next))
-      (λ k below. ap (λ q. get_or (cells size) (size * q + k) 0) here ∙ (filled_there ws size capacity (size * n + size) (size * n + k) (omega arith) up_to ∙ ap (λ i. get_or ws i 0) (rank n k below)))
+      ap (λ q. set (cells k) (size * q + k) (get_or ws k 0)) here
+      ∙ (ap (λ i. set (cells k) (size * n + k) (get_or ws i 0)) (sym (rank n k below)) ∙ ap (filled ws size capacity) next))
+      (λ k below. ap (λ q. get_or (cells size) (size * q + k) 0) here
+      ∙ (filled_there ws size capacity (size * n + size) (size * n + k) (omega arith) up_to ∙ ap (λ i. get_or ws i 0) (rank n k below)))
       (subst (λ m. Here (words_at n n 0 0 (filled ws size capacity m)) (rounds (Truth true) it n) None) start h)))
       (λ (late : capacity ≤ n).
       let all : min n capacity ≡ capacity = omega arith in
@@ -322,8 +431,11 @@ module _ {T : Type 0} (code : Coding T) (law : IsCoding code) (r : Ring) (v : Va
       let cells : ℕ → List ℕ = λ k. filled ws size capacity (size * capacity) in
       subst (λ m. Here (words_at (suc n) (suc n) 0 0 (filled ws size capacity (size * m))) (rounds (Truth true) it (suc n)) None) (sym all_later)
       (round n room (omega arith) cells (λ k. filled_length ws size capacity (size * capacity))
-      (λ k below. ap (λ i. set (cells k) (size * (n % capacity) + k) (get_or ws i 0)) (sym (rank (n % capacity) k below)) ∙ filled_again ws size capacity (size * (n % capacity) + k) (cell_within size capacity n k room below))
-      (λ k below. filled_there ws size capacity (size * capacity) (size * (n % capacity) + k) (cell_within size capacity n k room below) (omega arith) ∙ ap (λ i. get_or ws i 0) (rank (n % capacity) k below))
+      (λ k below. ap (λ i. set (cells k) (size * (n % capacity) + k) (get_or ws i 0)) (sym (rank (n % capacity) k below))
+      ∙ filled_again ws size capacity (size * (n % capacity) + k) (cell_within size capacity n k room below))
+      (λ k below. filled_there ws size capacity (size * capacity) (size * (n % capacity) + k)
+      (cell_within size capacity n k room below) (omega arith)
+      ∙ ap (λ i. get_or ws i 0) (rank (n % capacity) k below))
       (subst (λ m. Here (words_at n n 0 0 (filled ws size capacity (size * m))) (rounds (Truth true) it n) None) all h)))
       (cases_lt n capacity)
 
@@ -335,15 +447,20 @@ module _ {T : Type 0} (code : Coding T) (law : IsCoding code) (r : Ring) (v : Va
   opens_at (suc n) room low =
       let k = suc n in
       alone.opens_so code kind capacity (4 + size * capacity) effects owes (words_at k k 1 1 (cells_at k)) (opened (Truth true) it k)
-      (gives_both code (kind_of r) capacity (4 + size * capacity) effects owes (omega arith) quiet_roles k k (cells_at k ++ 0 ∷ []) (rounds (Truth true) it k) (has_it (Truth true) quiet_true it k) (driven k room low))
+      (gives_both code (kind_of r) capacity (4 + size * capacity) effects owes (omega arith) quiet_roles k k
+      (cells_at k ++ 0 ∷ []) (rounds (Truth true) it k) (has_it (Truth true) quiet_true it k) (driven k room low))
 
   -- a queue opens so, at any position
   pub queue_opens : (position : ℕ) → position < 2 ^ 64 → (words : List ℕ)
       → words ≡ position_at capacity position ∷ position_at capacity position ∷ 1 ∷ 1 ∷ (cells_at position ++ 0 ∷ [])
       → IsMachine code kind capacity (opening words [] (opened_view it capacity position))
-  queue_opens position low words same = subst (λ ys. IsMachine code kind capacity (opening ys [] (opened_view it capacity position))) (sym same) (go capacity refl)
+  queue_opens position low words same =
+      subst (λ ys. IsMachine code kind capacity (opening ys [] (opened_view it capacity position))) (sym same) (go capacity refl)
     where
-      go : (c : ℕ) → c ≡ capacity → IsMachine code kind capacity (opening (words_at (position_at capacity position) (position_at capacity position) 1 1 (cells_at position)) [] (opened_view it capacity position))
+      go : (c : ℕ) → c ≡ capacity
+          → IsMachine code kind capacity
+          (opening (words_at (position_at capacity position) (position_at capacity position) 1 1 (cells_at position)) []
+          (opened_view it capacity position))
       go zero e =
           let without : min position capacity ≡ 0 = omega arith in
           let nothing : size * min position capacity ≡ 0 = ap (λ m. size * m) without ∙ omega arith in
@@ -353,7 +470,9 @@ module _ {T : Type 0} (code : Coding T) (law : IsCoding code) (r : Ring) (v : Va
           (alone.opens_so code kind capacity (4 + size * capacity) effects owes (words_at 0 0 1 1 (replicate (size * capacity) 0)) [] starts))
       go (suc less) e =
           let start : position_at capacity position ≡ position = ap (λ c. position_at c position) (sym e) in
-          subst (λ p. IsMachine code kind capacity (opening (words_at p p 1 1 (cells_at position)) [] (maker (opened (Truth true) it p)))) (sym start) (opens_at position (omega arith) low)
+          subst
+          (λ p. IsMachine code kind capacity (opening (words_at p p 1 1 (cells_at position)) [] (maker (opened (Truth true) it p))))
+          (sym start) (opens_at position (omega arith) low)
 
 -- at position 0 nothing was done
 pub opens_at_first : {T : Type 0} (answer : Answer T) (x : Item T) (capacity : ℕ) → opened_with answer x capacity 0 ≡ first_view capacity

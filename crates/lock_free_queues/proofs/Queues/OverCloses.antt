@@ -1,6 +1,8 @@
 -- What the words that were read of an overflowing queue say of the list that is made of them: it begins later where one
 -- value more than the capacity stands there.
-use Rattle.std.proofs.Common.{◌≡◌, ℕ, ◌+◌, ◌-◌, ◌<◌, ◌≤◌, max, List, [], length, set, slice_index, refl, sym, ap, subst, ◌∙◌, length-set, length-append, append-nil, get_or-set_same, get_or-set_other, sum_by, arith}
+use Rattle.std.proofs.Common.{◌≡◌, ℕ, ◌+◌, ◌-◌, ◌<◌, ◌≤◌, max, List, [], length, set, slice_index, refl, sym, ap}
+use Rattle.std.proofs.Common.{subst, ◌∙◌, length-set, length-append, append-nil, get_or-set_same, get_or-set_other}
+use Rattle.std.proofs.Common.{sum_by, arith}
 use Rattle.plain.specs.Overflowing.{Fits, list_in}
 use Rattle.steps.specs.declared.queues.roles.Role.TheVariants.{Producer}
 use Rattle.model.specs.declared.event.Event.{Event}
@@ -22,7 +24,8 @@ use Rattle.lock_free_queues.proofs.Queues.Free.{is_free, few_when_free}
 use Rattle.lock_free_queues.proofs.Queues.Indices.{is_coding}
 use Rattle.lock_free_queues.proofs.Queues.Whole.{none_more}
 
-module _ (capacity : ℕ) (v : View ℕ) (words : List ℕ) (l : LastWords one_word kinds.Overflow (capacity + 1) capacity v words) (lacks : LacksRole Producer v.made) where
+module _ (capacity : ℕ) (v : View ℕ) (words : List ℕ)
+    (l : LastWords one_word kinds.Overflow (capacity + 1) capacity v words) (lacks : LacksRole Producer v.made) where
   -- the read position that leaves at most the capacity
   abbrev first : ℕ
   first = max (slice_index words 1) (slice_index words 0 - capacity)
@@ -72,7 +75,8 @@ module _ (capacity : ℕ) (v : View ℕ) (words : List ℕ) (l : LastWords one_w
     few : length (waiting at) ≤ capacity
     few =
         let h : IsHistory one_word kinds.Overflow capacity at = record { trace = l.first_read.trace; run = l.first_read.run; is = refl } in
-        few_when_free one_word capacity l.first_read.trace l.first_read.run (is_free Producer at (grants one_word Overflow capacity at h) (moved (takes Producer) ∙ (lacks ∙ sym (moved (gives Producer)))))
+        few_when_free one_word capacity l.first_read.trace l.first_read.run
+        (is_free Producer at (grants one_word Overflow capacity at h) (moved (takes Producer) ∙ (lacks ∙ sym (moved (gives Producer)))))
 
     exact : slice_index later 1 ≡ l.taken
     exact =
@@ -90,4 +94,6 @@ module _ (capacity : ℕ) (v : View ℕ) (words : List ℕ) (l : LastWords one_w
         omega arith
 
   pub over_closes : Closes Index capacity v (list_in capacity later)
-  over_closes = closing.closes_later one_word is_coding Overflow capacity v words l later above (other 0 (omega arith) ∙ l.last) (let one = first_is in let taken = l.first in omega arith) exact
+  over_closes =
+      closing.closes_later one_word is_coding Overflow capacity v words l later above (other 0 (omega arith) ∙ l.last)
+      (let one = first_is in let taken = l.first in omega arith) exact

@@ -1,5 +1,6 @@
 -- What a push and a pop say once they have ended, on an overflowing queue.
-use Rattle.std.proofs.Common.{◌≡◌, ◌⊎◌, inl, inr, ℕ, Bool, true, false, Option, Some, None, IfSome, IfNone, List, [], ◌∷◌, ◌++◌, refl, sym, ap, subst, ◌∙◌, append_assoc, ◌<◌}
+use Rattle.std.proofs.Common.{◌≡◌, ◌⊎◌, inl, inr, ℕ, Bool, true, false, Option, Some, None, IfSome, IfNone, List, []}
+use Rattle.std.proofs.Common.{◌∷◌, ◌++◌, refl, sym, ap, subst, ◌∙◌, append_assoc, ◌<◌}
 use Rattle.std.specs.Option.{option_map}
 use Rattle.steps.specs.declared.copied.OneWord.{OneWord}
 use Rattle.steps.specs.declared.queues.overflow.PushEnd.{PushEnd}
@@ -43,15 +44,22 @@ module _ {T : Type 0} where
 
 module _ {T : Type 0} (code : Coding T) (base w : View T) (h : IsHistory code kinds.Overflow base.capacity w.seen) where
   -- what leaves is what waited first
-  first_of_all : (p : ℕ) (item : Item T) (before after : List (Event T)) → w.seen ≡ before ++ HandedOut p item ∷ after → (rest : List (Item T)) × (waiting before ≡ item ∷ rest)
+  first_of_all : (p : ℕ) (item : Item T) (before after : List (Event T))
+      → w.seen ≡ before ++ HandedOut p item ∷ after → (rest : List (Item T)) × (waiting before ≡ item ∷ rest)
   first_of_all p item before after is = over_lists_kept code base.capacity w.seen h before after (HandedOut p item) is
 
   -- ---- pushes
 
   pub over_published : (value : ℕ) (back : Option ℕ) → HasOverflowed value back base w → HasPublished (Index value) base w
-  over_published value None push = (let p = push.by in published_by code Overflow base.capacity base w (Index value) p PoppedNone (Acted p (Queues (PushIndex value)) PoppedNone ∷ []) h tt push.called ((refl, refl), ((refl, refl), tt)))
+  over_published value None push =
+      (let p = push.by in
+      published_by code Overflow base.capacity base w (Index value) p PoppedNone
+      (Acted p (Queues (PushIndex value)) PoppedNone ∷ []) h tt push.called ((refl, refl), ((refl, refl), tt)))
   over_published value (Some oldest) push =
-      (let p = push.by in published_by code Overflow base.capacity base w (Index value) p (PoppedIndex oldest) (HandedOut p (Index oldest) ∷ Acted p (Queues (PushIndex value)) (PoppedIndex oldest) ∷ []) h tt push.called ((refl, refl), ((refl, refl), ((refl, refl), tt))))
+      (let p = push.by in
+      published_by code Overflow base.capacity base w (Index value) p (PoppedIndex oldest)
+      (HandedOut p (Index oldest) ∷ Acted p (Queues (PushIndex value)) (PoppedIndex oldest) ∷ []) h tt push.called
+      ((refl, refl), ((refl, refl), ((refl, refl), tt))))
 
   pub over_took : (value oldest : ℕ) → HasOverflowed value (Some oldest) base w → HasTakenFirst (Index oldest) base w
   over_took value oldest push =
@@ -62,19 +70,28 @@ module _ {T : Type 0} (code : Coding T) (base w : View T) (h : IsHistory code ki
       let at = first_wrote p start (PoppedIndex oldest) (Published p (Index value)) (out ∷ act ∷ []) base w push.called in
       let then = find_own p at.after (act ∷ Finished p start (PoppedIndex oldest) ∷ []) out at.mine in
       let before : List (Event T) = at.before ++ Published p (Index value) ∷ then.0 in
-      let is : w.seen ≡ before ++ out ∷ then.1 = at.is ∙ (ap (λ zs. at.before ++ Published p (Index value) ∷ zs) then.2 ∙ sym (append_assoc at.before (Published p (Index value) ∷ then.0) (out ∷ then.1))) in
+      let is : w.seen ≡ before ++ out ∷ then.1 =
+      at.is ∙ (ap (λ zs. at.before ++ Published p (Index value) ∷ zs) then.2
+      ∙ sym (append_assoc at.before (Published p (Index value) ∷ then.0) (out ∷ then.1))) in
       let first = first_of_all p (Index oldest) before then.1 is in
       record {
         by = p;
         before = before;
         after = then.1;
         is = is;
-        since = record { rest = at.since.rest ++ Published p (Index value) ∷ then.0; is = ap (λ zs. zs ++ Published p (Index value) ∷ then.0) at.since.is ∙ append_assoc base.seen at.since.rest (Published p (Index value) ∷ then.0) };
+        since =
+            record {
+              rest = at.since.rest ++ Published p (Index value) ∷ then.0;
+              is =
+                  ap (λ zs. zs ++ Published p (Index value) ∷ then.0) at.since.is
+                  ∙ append_assoc base.seen at.since.rest (Published p (Index value) ∷ then.0);
+            };
         rest = first.0;
         oldest = first.1;
       }
 
-  pub over_both : (value : ℕ) (back : Option ℕ) → HasOverflowed value back base w → IfSome back (λ y. HasPublished (Index value) base w × HasTakenFirst (Index y) base w)
+  pub over_both : (value : ℕ) (back : Option ℕ) → HasOverflowed value back base w
+      → IfSome back (λ y. HasPublished (Index value) base w × HasTakenFirst (Index y) base w)
   over_both value None push = tt
   over_both value (Some oldest) push = (over_published value (Some oldest) push, over_took value oldest push)
 
@@ -110,12 +127,20 @@ module _ {T : Type 0} (code : Coding T) (base w : View T) (idle : base.going ≡
         record {
           by = p;
           mine = ends.mine;
-          called = subst (λ es. Called p (Queues (PushIndex value)) (popped (push_answer value m.0 e)) es base w) (ends.tells.1 ∙ told_is p value m e ends.tells.0) (called code kinds.Overflow (pushes_told value) base w e m idle ends);
+          called =
+              subst (λ es. Called p (Queues (PushIndex value)) (popped (push_answer value m.0 e)) es base w)
+              (ends.tells.1 ∙ told_is p value m e ends.tells.0)
+              (called code kinds.Overflow (pushes_told value) base w e m idle ends);
         }
 
     pub over_pushed : (e : PushEnd) (m : OneWord) → Over code kinds.Overflow (pushes_told value) base e m w → Pushed (push_answer value m.0 e)
     over_pushed e m (inl ends) = inl (overflowed e m ends)
-    over_pushed e m (inr left) = inr (ap (push_answer value m.0) left.left, was_at_end code Overflow base w (pushes_told value) (λ c m n a skip asks. over_ends_at c.capacity value n a c.stage skip asks) tt alone some has e m left)
+    over_pushed e m (inr left) =
+        inr (
+          ap (push_answer value m.0) left.left,
+          was_at_end code Overflow base w (pushes_told value)
+              (λ c m n a skip asks. over_ends_at c.capacity value n a c.stage skip asks) tt alone some has e m left,
+        )
 
   -- what it hands back
   module _ (value : ℕ) (h : IsHistory code kinds.Overflow base.capacity w.seen) where
@@ -127,7 +152,8 @@ module _ {T : Type 0} (code : Coding T) (base w : View T) (idle : base.going ≡
     over_none None (inr left) = (let no : None ≡ Some value = left.0 in absurd (cc))
     over_none (Some y) pushed = tt
 
-    pub over_some : (back : Option ℕ) → Back back → IfSome back (λ y. HasPublished (Index value) base w × HasTakenFirst (Index y) base w ⊎ (y ≡ value) × WasAtEnd base w)
+    pub over_some : (back : Option ℕ) → Back back
+        → IfSome back (λ y. HasPublished (Index value) base w × HasTakenFirst (Index y) base w ⊎ (y ≡ value) × WasAtEnd base w)
     over_some None pushed = tt
     over_some (Some y) (inl push) = inl (over_published code base w h value (Some y) push, over_took code base w h value y push)
     over_some (Some y) (inr left) = inr ((let both : Some y ≡ Some value = left.0 in cc), left.1)
@@ -152,7 +178,9 @@ module _ {T : Type 0} (code : Coding T) (base w : View T) (idle : base.going ≡
       told p x false = refl
 
   pub over_popped : (e : Bool) (m : OneWord) → Ends code kinds.Overflow pops_over base e m w → HasPopped (option_map Index (pop_answer m.0 e)) base w
-  over_popped e m ends = subst (λ o. HasPopped (option_map Index o) base w) (same m.0 e) (has_popped code Overflow base w idle named in_room pops_over over_pop e m ends)
+  over_popped e m ends =
+      subst (λ o. HasPopped (option_map Index o) base w) (same m.0 e)
+      (has_popped code Overflow base w idle named in_room pops_over over_pop e m ends)
     where
       same : (x : ℕ) (e : Bool) → rings.pop_answer x e ≡ pop_answer x e
       same x true = refl

@@ -1,5 +1,7 @@
 -- How an overflowing queue's table opens at a position: one party has pushed and popped the number 0 as often, alone.
-use Rattle.std.proofs.Common.{◌≡◌, ◌≢◌, ⊎_elim, ℕ, zero, suc, ◌+◌, ◌*◌, ◌-◌, ◌%◌, ◌^◌, ◌<◌, ◌≤◌, ◌==◌, nat_lt, true, false, Option, Some, None, List, [], ◌∷◌, ◌++◌, get_or, replicate, slice_index, slice_set, sum_by, refl, sym, ap, subst, ◌∙◌, append_assoc, arith}
+use Rattle.std.proofs.Common.{◌≡◌, ◌≢◌, ⊎_elim, ℕ, zero, suc, ◌+◌, ◌*◌, ◌-◌, ◌%◌, ◌^◌, ◌<◌, ◌≤◌, ◌==◌, nat_lt, true}
+use Rattle.std.proofs.Common.{false, Option, Some, None, List, [], ◌∷◌, ◌++◌, get_or, replicate, slice_index}
+use Rattle.std.proofs.Common.{slice_set, sum_by, refl, sym, ap, subst, ◌∙◌, append_assoc, arith}
 use Rattle.std.proofs.lemmas.Bool.{cases_eq}
 use Rattle.std.proofs.lemmas.Bool.Decides.{nat_tests}
 use Rattle.std.proofs.lemmas.List.{length-replicate, get_or_append_left}
@@ -76,30 +78,42 @@ module _ {T : Type 0} where
   name_in (Some call) = call.0
 
   abbrev pushing : ℕ → pushes.PushStage → Flight T
-  pushing capacity stage = flights.TheVariants.Queues (flying.TheVariants.Overflow (overflows.TheVariants.Push (record { call = at_push (first_push capacity) stage; given = 0; room = record { 0 = 0 } })))
+  pushing capacity stage =
+      flights.TheVariants.Queues
+      (flying.TheVariants.Overflow
+      (overflows.TheVariants.Push (record { call = at_push (first_push capacity) stage; given = 0; room = record { 0 = 0 } })))
 
   abbrev popping : ℕ → pops.PopStage → Flight T
-  popping capacity stage = flights.TheVariants.Queues (flying.TheVariants.Overflow (overflows.TheVariants.Pop (record { call = at_pop (first_pop capacity) stage; given = tt; room = record { 0 = 0 } })))
+  popping capacity stage =
+      flights.TheVariants.Queues
+      (flying.TheVariants.Overflow
+      (overflows.TheVariants.Pop (record { call = at_pop (first_pop capacity) stage; given = tt; room = record { 0 = 0 } })))
 
-  first_pushing : (capacity : ℕ) → (capacity == 0) ≡ false → (pushes_over {T = T} 0).flight (first_push capacity) (record { 0 = 0 }) ≡ pushing capacity pushes.TheVariants.LoadsWrite
+  first_pushing : (capacity : ℕ) → (capacity == 0) ≡ false
+      → (pushes_over {T = T} 0).flight (first_push capacity) (record { 0 = 0 }) ≡ pushing capacity pushes.TheVariants.LoadsWrite
   first_pushing capacity t = rw t refl
 
-  first_popping : (capacity : ℕ) → (capacity == 0) ≡ false → (pops_over {T = T}).flight (first_pop capacity) (record { 0 = 0 }) ≡ popping capacity pops.TheVariants.LoadsRead
+  first_popping : (capacity : ℕ) → (capacity == 0) ≡ false
+      → (pops_over {T = T}).flight (first_pop capacity) (record { 0 = 0 }) ≡ popping capacity pops.TheVariants.LoadsRead
   first_popping capacity t = rw t refl
 
 -- ---- steps that test a position
 
 module _ {T : Type 0} (code : Coding T) (capacity n : ℕ) where
-  push_loads_write : (n == 2 ^ 64 - 1) ≡ false → after_of code (pushing capacity pushes.TheVariants.LoadsWrite) n ≡ GoOn (pushing capacity (pushes.TheVariants.LoadsRead n))
+  push_loads_write : (n == 2 ^ 64 - 1) ≡ false
+      → after_of code (pushing capacity pushes.TheVariants.LoadsWrite) n ≡ GoOn (pushing capacity (pushes.TheVariants.LoadsRead n))
   push_loads_write t = rw t refl
 
   push_ends : (distance n n == capacity) ≡ false → after_of code (pushing capacity (pushes.TheVariants.StoresWrite n n)) n ≡ Done answers.PoppedNone
   push_ends t = rw t refl
 
-  push_tells : (distance n n == capacity) ≡ false → (w : World T) → over_effects w 0 (pushing capacity (pushes.TheVariants.StoresWrite n n)) n ≡ Published 0 it ∷ Acted 0 push_name answers.PoppedNone ∷ []
+  push_tells : (distance n n == capacity) ≡ false → (w : World T)
+      → over_effects w 0 (pushing capacity (pushes.TheVariants.StoresWrite n n)) n
+      ≡ Published 0 it ∷ Acted 0 push_name answers.PoppedNone ∷ []
   push_tells t w = rw t refl
 
-  pop_loads_write : (found : ℕ) → (found == n) ≡ false → after_of code (popping capacity (pops.TheVariants.LoadsWrite n)) found ≡ GoOn (popping capacity (pops.TheVariants.LoadsCell n))
+  pop_loads_write : (found : ℕ) → (found == n) ≡ false
+      → after_of code (popping capacity (pops.TheVariants.LoadsWrite n)) found ≡ GoOn (popping capacity (pops.TheVariants.LoadsCell n))
   pop_loads_write found t = rw t refl
 
   pop_quiet : (found : ℕ) → (found == n) ≡ false → (w : World T) → over_effects w 0 (popping capacity (pops.TheVariants.LoadsWrite n)) found ≡ []
@@ -109,10 +123,18 @@ module _ {T : Type 0} (code : Coding T) (capacity n : ℕ) where
   pop_ends t = rw t refl
 
   -- where nobody's push waits, and the number 0 stands there
-  pop_tells : (n == n) ≡ true → (w : World T) → slice_index w.words (cell_word capacity n) ≡ 0 → beside_of w.words w.kept w.latest 0 ≡ None → over_effects w 0 (popping capacity (pops.TheVariants.MovesRead n)) n ≡ HandedOut 0 it ∷ Acted 0 pop_name (answers.PoppedIndex 0) ∷ []
+  pop_tells : (n == n) ≡ true → (w : World T) → slice_index w.words (cell_word capacity n) ≡ 0
+      → beside_of w.words w.kept w.latest 0 ≡ None
+      → over_effects w 0 (popping capacity (pops.TheVariants.MovesRead n)) n
+      ≡ HandedOut 0 it ∷ Acted 0 pop_name (answers.PoppedIndex 0) ∷ []
   pop_tells t w words none =
-      let is : effects_of 0 Pop (takes_effect (Index (slice_index w.words (cell_word capacity n))) (beside_of w.words w.kept w.latest 0)) (Some (answers.PoppedIndex 0)) ≡ HandedOut 0 it ∷ Acted 0 pop_name (answers.PoppedIndex 0) ∷ [] =
-      ap (λ o. effects_of 0 Pop (takes_effect (Index (slice_index w.words (cell_word capacity n))) o) (Some (answers.PoppedIndex 0))) none ∙ ap (λ u. HandedOut 0 (Index u) ∷ Acted 0 pop_name (answers.PoppedIndex 0) ∷ []) words
+      let is : effects_of 0 Pop
+      (takes_effect (Index (slice_index w.words (cell_word capacity n))) (beside_of w.words w.kept w.latest 0))
+      (Some (answers.PoppedIndex 0))
+      ≡ HandedOut 0 it ∷ Acted 0 pop_name (answers.PoppedIndex 0) ∷ [] =
+      ap (λ o. effects_of 0 Pop (takes_effect (Index (slice_index w.words (cell_word capacity n))) o) (Some (answers.PoppedIndex 0)))
+      none
+      ∙ ap (λ u. HandedOut 0 (Index u) ∷ Acted 0 pop_name (answers.PoppedIndex 0) ∷ []) words
       in
       rw t is
 
@@ -145,7 +167,8 @@ module _ {T : Type 0} (code : Coding T) (law : IsCoding code) (capacity : ℕ) (
   starts : Here (at 0 0 1 1) [] None
   starts =
       let many : 1 * (capacity + 1) ≡ capacity + 1 = omega arith in
-      subst (λ n. Here (0 ∷ 0 ∷ 1 ∷ 1 ∷ (replicate n 0 ++ 0 ∷ [])) [] None) many (alone.opens_here code kinds.Overflow capacity size over_effects (overflow_owes code capacity) law (rw (most, least) refl))
+      subst (λ n. Here (0 ∷ 0 ∷ 1 ∷ 1 ∷ (replicate n 0 ++ 0 ∷ [])) [] None) many
+      (alone.opens_here code kinds.Overflow capacity size over_effects (overflow_owes code capacity) law (rw (most, least) refl))
 
   quiet_roles : QuietRoles {T = T} over_effects
   quiet_roles Producer = (λ w n. refl, λ w n. refl)
@@ -153,9 +176,16 @@ module _ {T : Type 0} (code : Coding T) (law : IsCoding code) (capacity : ℕ) (
 
   -- ---- a step that goes on, and tells nothing
 
-  step : (words : List ℕ) (es : List (Event T)) (start : Start T) (flight next : Flight T) (a : Ask) → Here words es (Some (start, flight)) → a.word < size → want_of code flight ≡ wants.Ask a → IsFreshCall (slice_index words a.word) flight → (words' : List ℕ)
-      → slice_set words a.word (written a.op (slice_index words a.word)) ≡ words' → after_of code flight (slice_index words a.word) ≡ GoOn next → ((w : World T) → over_effects w 0 flight (slice_index words a.word) ≡ []) → Here words' es (Some (start, next))
-  step words es start flight next a h low asks finds words' same comes quiet = alone.goes_on code kinds.Overflow capacity size over_effects (overflow_owes code capacity) words es start flight h a low asks finds words' next same comes (quiet h.u.world)
+  step : (words : List ℕ) (es : List (Event T)) (start : Start T) (flight next : Flight T) (a : Ask)
+      → Here words es (Some (start, flight)) → a.word < size → want_of code flight ≡ wants.Ask a
+      → IsFreshCall (slice_index words a.word) flight → (words' : List ℕ)
+      → slice_set words a.word (written a.op (slice_index words a.word)) ≡ words'
+      → after_of code flight (slice_index words a.word) ≡ GoOn next
+      → ((w : World T) → over_effects w 0 flight (slice_index words a.word) ≡ [])
+      → Here words' es (Some (start, next))
+  step words es start flight next a h low asks finds words' same comes quiet =
+      alone.goes_on code kinds.Overflow capacity size over_effects (overflow_owes code capacity) words es start flight h
+      a low asks finds words' next same comes (quiet h.u.world)
 
   module _ (room : 0 < capacity) (n : ℕ) (below_end : n < 2 ^ 64 - 1) (es : List (Event T)) where
     some : (capacity == 0) ≡ false
@@ -174,7 +204,9 @@ module _ {T : Type 0} (code : Coding T) (law : IsCoding code) (capacity : ℕ) (
     zero_there write read =
         let low : n % (capacity + 1) < capacity + 1 = omega arith in
         let long = length-replicate {A = ℕ} (capacity + 1) 0 in
-        core.word_at write read 0 0 (replicate (capacity + 1) 0 ++ 0 ∷ []) cell (n % (capacity + 1)) refl ∙ (get_or_append_left (replicate (capacity + 1) 0) (0 ∷ []) 0 (n % (capacity + 1)) (omega arith) ∙ zero_at (capacity + 1) (n % (capacity + 1)))
+        core.word_at write read 0 0 (replicate (capacity + 1) 0 ++ 0 ∷ []) cell (n % (capacity + 1)) refl
+        ∙ (get_or_append_left (replicate (capacity + 1) 0) (0 ∷ []) 0 (n % (capacity + 1)) (omega arith)
+        ∙ zero_at (capacity + 1) (n % (capacity + 1)))
 
     zero_stays : (write read : ℕ) → slice_set (at write read 0 0) cell 0 ≡ at write read 0 0
     zero_stays write read = ap (slice_set (at write read 0 0) cell) (sym (zero_there write read)) ∙ set_same (at write read 0 0) cell
@@ -189,13 +221,31 @@ module _ {T : Type 0} (code : Coding T) (law : IsCoding code) (capacity : ℕ) (
         let xs = es ++ Begun 0 push_name ∷ [] in
         let last = not_last n below_end in
         let apart = not_full n capacity (omega arith) room in
-        let a₀ = alone.begins code kinds.Overflow capacity size over_effects (overflow_owes code capacity) (pushes_over 0) (first_push capacity) (record { 0 = 0 }) (at n n 0 0) es h
-        (role_starts code Overflow (maker es) (pushes_over 0) (PushIndex 0) (first_push capacity) (record { 0 = 0 }) refl (λ kept. refl) Producer (λ o p. tt) (λ roles p is. holds_it roles.producer p is) has h.u same_seat 0 h.between.run refl refl (sums (at n n 0 0) es h)) in
-        let a : Here (at n n 0 0) xs (Some (push_name, pushing capacity pushes.TheVariants.LoadsWrite)) = subst (λ f. Here (at n n 0 0) xs (Some (push_name, f))) (first_pushing capacity some) a₀ in
-        let b = step (at n n 0 0) xs push_name (pushing capacity pushes.TheVariants.LoadsWrite) (pushing capacity (pushes.TheVariants.LoadsRead n)) (record { word = 0; op = Load }) a (omega arith) refl below_end (at n n 0 0) refl (push_loads_write code capacity n last) (λ w. refl) in
-        let c = step (at n n 0 0) xs push_name (pushing capacity (pushes.TheVariants.LoadsRead n)) (pushing capacity (pushes.TheVariants.StoresCell n n)) (record { word = 1; op = Load }) b (omega arith) refl tt (at n n 0 0) refl refl (λ w. refl) in
-        let d = step (at n n 0 0) xs push_name (pushing capacity (pushes.TheVariants.StoresCell n n)) (pushing capacity (pushes.TheVariants.StoresWrite n n)) (record { word = cell; op = Store 0 }) c cell_low refl tt (at n n 0 0) (zero_stays n n) refl (λ w. refl) in
-        let e = alone.ends code kinds.Overflow capacity size over_effects (overflow_owes code capacity) (at n n 0 0) xs push_name (pushing capacity (pushes.TheVariants.StoresWrite n n)) d (record { word = 0; op = Store (after_position n) }) (omega arith) refl tt (at (n + 1) n 0 0) answers.PoppedNone (Published 0 it ∷ Acted 0 push_name answers.PoppedNone ∷ [])
+        let a₀ =
+        alone.begins code kinds.Overflow capacity size over_effects (overflow_owes code capacity) (pushes_over 0)
+        (first_push capacity) (record { 0 = 0 }) (at n n 0 0) es h
+        (role_starts code Overflow (maker es) (pushes_over 0) (PushIndex 0) (first_push capacity) (record { 0 = 0 })
+        refl (λ kept. refl) Producer (λ o p. tt) (λ roles p is. holds_it roles.producer p is) has h.u same_seat 0
+        h.between.run refl refl (sums (at n n 0 0) es h)) in
+        let a : Here (at n n 0 0) xs (Some (push_name, pushing capacity pushes.TheVariants.LoadsWrite)) =
+        subst (λ f. Here (at n n 0 0) xs (Some (push_name, f))) (first_pushing capacity some) a₀ in
+        let b =
+        step (at n n 0 0) xs push_name (pushing capacity pushes.TheVariants.LoadsWrite)
+        (pushing capacity (pushes.TheVariants.LoadsRead n)) (record { word = 0; op = Load }) a (omega arith) refl
+        below_end (at n n 0 0) refl (push_loads_write code capacity n last) (λ w. refl) in
+        let c =
+        step (at n n 0 0) xs push_name (pushing capacity (pushes.TheVariants.LoadsRead n))
+        (pushing capacity (pushes.TheVariants.StoresCell n n)) (record { word = 1; op = Load }) b (omega arith) refl
+        tt (at n n 0 0) refl refl (λ w. refl) in
+        let d =
+        step (at n n 0 0) xs push_name (pushing capacity (pushes.TheVariants.StoresCell n n))
+        (pushing capacity (pushes.TheVariants.StoresWrite n n)) (record { word = cell; op = Store 0 }) c cell_low
+        refl tt (at n n 0 0) (zero_stays n n) refl (λ w. refl) in
+        let e =
+        alone.ends code kinds.Overflow capacity size over_effects (overflow_owes code capacity) (at n n 0 0) xs
+        push_name (pushing capacity (pushes.TheVariants.StoresWrite n n)) d
+        (record { word = 0; op = Store (after_position n) }) (omega arith) refl tt (at (n + 1) n 0 0)
+        answers.PoppedNone (Published 0 it ∷ Acted 0 push_name answers.PoppedNone ∷ [])
         (ap (λ k. at k n 0 0) next_is) (push_ends code capacity n apart) (push_tells code capacity n apart d.u.world) (refl, (refl, tt)) in
         subst (λ zs. Here (at (n + 1) n 0 0) zs None) (append_assoc es (Begun 0 push_name ∷ []) told_of_push) e
 
@@ -208,37 +258,75 @@ module _ {T : Type 0} (code : Coding T) (law : IsCoding code) (capacity : ℕ) (
     then = at (n + 1) n 0 0
 
     -- nobody's push waits beside it
-    none_beside : (xs : List (Event T)) (flight : Flight T) → (h : Here then xs (Some (pop_name, flight))) → (o : Option (ℕ × ℕ)) → beside_of h.u.world.words h.u.world.kept h.u.world.latest 0 ≡ o → o ≡ None
+    none_beside : (xs : List (Event T)) (flight : Flight T) → (h : Here then xs (Some (pop_name, flight)))
+        → (o : Option (ℕ × ℕ)) → beside_of h.u.world.words h.u.world.kept h.u.world.latest 0 ≡ o → o ≡ None
     none_beside xs flight h None e = refl
     none_beside xs flight h (Some push) e =
         let t = h.u in
         let s = sound_of code capacity Overflow t h.between.run in
-        let waits = beside_waits code capacity t t.world.coding t.world.capacity s t.world.kept 0 push.0 push.1 e (kept_is t.world.kept t.world.words s.state s.fit).0 in
-        ⊎_elim (λ (mine : push.0 ≡ 0). (let no : pop_name ≡ Queues (PushIndex push.1) = ap name_in (sym h.there ∙ (ap (call_in t.world) (sym mine) ∙ waits.there)) in absurd (cc)))
+        let waits =
+        beside_waits code capacity t t.world.coding t.world.capacity s t.world.kept 0 push.0 push.1 e
+        (kept_is t.world.kept t.world.words s.state s.fit).0 in
+        ⊎_elim (λ (mine : push.0 ≡ 0).
+        (let no : pop_name ≡ Queues (PushIndex push.1) = ap name_in (sym h.there ∙ (ap (call_in t.world) (sym mine) ∙ waits.there)) in
+        absurd (cc)))
         (λ (other : push.0 ≢ 0). (let one : 1 ≤ push.0 = omega arith in let no = sym (h.between.further push.0 other one) ∙ waits.there in absurd (cc)))
         (cases_eq push.0 0)
 
-    wrote_then : (xs : List (Event T)) → (h : Here then xs (Some (pop_name, popping capacity (pops.TheVariants.MovesRead n)))) → over_effects h.u.world 0 (popping capacity (pops.TheVariants.MovesRead n)) n ≡ HandedOut 0 it ∷ Acted 0 pop_name (answers.PoppedIndex 0) ∷ []
+    wrote_then : (xs : List (Event T))
+        → (h : Here then xs (Some (pop_name, popping capacity (pops.TheVariants.MovesRead n))))
+        → over_effects h.u.world 0 (popping capacity (pops.TheVariants.MovesRead n)) n
+        ≡ HandedOut 0 it ∷ Acted 0 pop_name (answers.PoppedIndex 0) ∷ []
     wrote_then xs h =
         let w = h.u.world in
         let long = (overflow_owes code capacity).size h.u h.between.run in
         let low = cell_low in
-        let words : slice_index w.words cell ≡ 0 = sym (ap (λ ws. slice_index ws cell) h.between.words ∙ get_left w.words (0 ∷ []) cell (omega arith)) ∙ zero_there (n + 1) n in
-        pop_tells code capacity n (same_number n) w words (none_beside xs (popping capacity (pops.TheVariants.MovesRead n)) h (beside_of w.words w.kept w.latest 0) refl)
+        let words : slice_index w.words cell ≡ 0 =
+        sym (ap (λ ws. slice_index ws cell) h.between.words ∙ get_left w.words (0 ∷ []) cell (omega arith)) ∙ zero_there (n + 1) n in
+        pop_tells code capacity n (same_number n) w words
+        (none_beside xs (popping capacity (pops.TheVariants.MovesRead n)) h (beside_of w.words w.kept w.latest 0) refl)
 
     popped : HasRole Consumer es → Here then es None → Here (at (n + 1) (n + 1) 0 0) (es ++ popped_once it) None
     popped role h =
         let xs = es ++ Begun 0 pop_name ∷ [] in
         let apart = one_apart n in
         let equal = same_number n in
-        let a₀ = alone.begins code kinds.Overflow capacity size over_effects (overflow_owes code capacity) pops_over (first_pop capacity) (record { 0 = 0 }) then es h
-        (role_starts code Overflow (maker es) pops_over Pop (first_pop capacity) (record { 0 = 0 }) refl (λ kept. refl) Consumer (λ o p. tt) (λ roles p is. holds_it roles.consumer p is) role h.u same_seat 0 h.between.run refl refl (sums then es h)) in
-        let a : Here then xs (Some (pop_name, popping capacity pops.TheVariants.LoadsRead)) = subst (λ f. Here then xs (Some (pop_name, f))) (first_popping capacity some) a₀ in
-        let b = step then xs pop_name (popping capacity pops.TheVariants.LoadsRead) (popping capacity (pops.TheVariants.LoadsWrite n)) (record { word = 1; op = Load }) a (omega arith) refl tt then refl refl (λ w. refl) in
-        let c = step then xs pop_name (popping capacity (pops.TheVariants.LoadsWrite n)) (popping capacity (pops.TheVariants.LoadsCell n)) (record { word = 0; op = Load }) b (omega arith) refl tt then refl (pop_loads_write code capacity n (n + 1) apart) (pop_quiet code capacity n (n + 1) apart) in
-        let d₀ = step then xs pop_name (popping capacity (pops.TheVariants.LoadsCell n)) (flights.TheVariants.Queues (flying.TheVariants.Overflow (overflows.TheVariants.Pop (record { call = at_pop (first_pop capacity) (pops.TheVariants.MovesRead n); given = tt; room = record { 0 = slice_index then cell } })))) (record { word = cell; op = Load }) c cell_low refl tt then (set_same then cell) refl (λ w. refl) in
-        let d : Here then xs (Some (pop_name, popping capacity (pops.TheVariants.MovesRead n))) = subst (λ u. Here then xs (Some (pop_name, flights.TheVariants.Queues (flying.TheVariants.Overflow (overflows.TheVariants.Pop (record { call = at_pop (first_pop capacity) (pops.TheVariants.MovesRead n); given = tt; room = record { 0 = u } })))))) (zero_there (n + 1) n) d₀ in
-        let e = alone.ends code kinds.Overflow capacity size over_effects (overflow_owes code capacity) then xs pop_name (popping capacity (pops.TheVariants.MovesRead n)) d (record { word = 1; op = Exchange n (after_position n) }) (omega arith) refl tt (at (n + 1) (n + 1) 0 0) (answers.PoppedIndex 0) (HandedOut 0 it ∷ Acted 0 pop_name (answers.PoppedIndex 0) ∷ [])
+        let a₀ =
+        alone.begins code kinds.Overflow capacity size over_effects (overflow_owes code capacity) pops_over
+        (first_pop capacity) (record { 0 = 0 }) then es h
+        (role_starts code Overflow (maker es) pops_over Pop (first_pop capacity) (record { 0 = 0 }) refl
+        (λ kept. refl) Consumer (λ o p. tt) (λ roles p is. holds_it roles.consumer p is) role h.u same_seat 0
+        h.between.run refl refl (sums then es h)) in
+        let a : Here then xs (Some (pop_name, popping capacity pops.TheVariants.LoadsRead)) =
+        subst (λ f. Here then xs (Some (pop_name, f))) (first_popping capacity some) a₀ in
+        let b =
+        step then xs pop_name (popping capacity pops.TheVariants.LoadsRead)
+        (popping capacity (pops.TheVariants.LoadsWrite n)) (record { word = 1; op = Load }) a (omega arith) refl tt
+        then refl refl (λ w. refl) in
+        let c =
+        step then xs pop_name (popping capacity (pops.TheVariants.LoadsWrite n))
+        (popping capacity (pops.TheVariants.LoadsCell n)) (record { word = 0; op = Load }) b (omega arith) refl tt
+        then refl (pop_loads_write code capacity n (n + 1) apart) (pop_quiet code capacity n (n + 1) apart) in
+        let d₀ =
+        step then xs pop_name (popping capacity (pops.TheVariants.LoadsCell n))
+        (flights.TheVariants.Queues (flying.TheVariants.Overflow (overflows.TheVariants.Pop (record {
+          call = at_pop (first_pop capacity) (pops.TheVariants.MovesRead n);
+          given = tt;
+          room = record { 0 = slice_index then cell };
+        })))) (record { word = cell; op = Load }) c cell_low refl tt then (set_same then cell) refl (λ w. refl) in
+        let d : Here then xs (Some (pop_name, popping capacity (pops.TheVariants.MovesRead n))) =
+        subst (λ u. Here then xs (Some (
+          pop_name,
+          flights.TheVariants.Queues
+              (flying.TheVariants.Overflow
+              (overflows.TheVariants.Pop
+              (record { call = at_pop (first_pop capacity) (pops.TheVariants.MovesRead n); given = tt; room = record { 0 = u } }))),
+        ))) (zero_there (n + 1) n) d₀ in
+        let e =
+        alone.ends code kinds.Overflow capacity size over_effects (overflow_owes code capacity) then xs pop_name
+        (popping capacity (pops.TheVariants.MovesRead n)) d
+        (record { word = 1; op = Exchange n (after_position n) }) (omega arith) refl tt (at (n + 1) (n + 1) 0 0)
+        (answers.PoppedIndex 0) (HandedOut 0 it ∷ Acted 0 pop_name (answers.PoppedIndex 0) ∷ [])
         (ap (λ k. at (n + 1) k 0 0) (moved_on n (after_position n) equal ∙ next_is)) (pop_ends code capacity n equal) (wrote_then xs d) (refl, (refl, tt)) in
         subst (λ zs. Here (at (n + 1) (n + 1) 0 0) zs None) (append_assoc es (Begun 0 pop_name ∷ []) told_of_pop) e
 
@@ -251,28 +339,46 @@ module _ {T : Type 0} (code : Coding T) (law : IsCoding code) (capacity : ℕ) (
   has_role n role = has_it answers.PoppedNone quiet_none it n role
 
   driven : (n : ℕ) → 0 < capacity → n < 2 ^ 64 → Here (at n n 0 0) (turns n) None
-  driven zero room low = takes_both code Overflow capacity size over_effects (overflow_owes code capacity) (omega arith) quiet_roles 0 0 (replicate (capacity + 1) 0 ++ 0 ∷ []) starts
+  driven zero room low =
+      takes_both code Overflow capacity size over_effects (overflow_owes code capacity) (omega arith) quiet_roles 0 0
+      (replicate (capacity + 1) 0 ++ 0 ∷ []) starts
   driven (suc n) room low =
       let h = driven n room (omega arith) in
       let a = pushed room n (omega arith) (turns n) (has_role n Producer) h in
-      let b = popped room n (omega arith) (turns n ++ pushed_once answers.PoppedNone it) (after_push answers.PoppedNone quiet_none Consumer it (turns n) (has_role n Consumer)) a in
+      let b =
+      popped room n (omega arith) (turns n ++ pushed_once answers.PoppedNone it)
+      (after_push answers.PoppedNone quiet_none Consumer it (turns n) (has_role n Consumer)) a in
       let same : n + 1 ≡ suc n = omega arith in
-      subst (λ k. Here (at k k 0 0) (turns (suc n)) None) same (subst (λ zs. Here (at (n + 1) (n + 1) 0 0) zs None) (append_assoc (turns n) (pushed_once answers.PoppedNone it) (popped_once it)) b)
+      subst (λ k. Here (at k k 0 0) (turns (suc n)) None) same
+      (subst (λ zs. Here (at (n + 1) (n + 1) 0 0) zs None)
+      (append_assoc (turns n) (pushed_once answers.PoppedNone it) (popped_once it)) b)
 
   opens : (n : ℕ) → 0 < capacity → n < 2 ^ 64 → IsMachine code kinds.Overflow capacity (opening (at n n 1 1) [] (maker (opened answers.PoppedNone it n)))
   opens zero room low = alone.opens_so code kinds.Overflow capacity size over_effects (overflow_owes code capacity) (at 0 0 1 1) [] starts
   opens (suc n) room low =
       let k = suc n in
-      alone.opens_so code kinds.Overflow capacity size over_effects (overflow_owes code capacity) (at k k 1 1) (opened answers.PoppedNone it k) (gives_both code Overflow capacity size over_effects (overflow_owes code capacity) (omega arith) quiet_roles k k (replicate (capacity + 1) 0 ++ 0 ∷ []) (turns k) (has_role k) (driven k room low))
+      alone.opens_so code kinds.Overflow capacity size over_effects (overflow_owes code capacity) (at k k 1 1)
+      (opened answers.PoppedNone it k)
+      (gives_both code Overflow capacity size over_effects (overflow_owes code capacity) (omega arith) quiet_roles k
+      k (replicate (capacity + 1) 0 ++ 0 ∷ []) (turns k) (has_role k) (driven k room low))
 
   -- an overflowing queue opens so, at any position
-  pub over_opens : (position : ℕ) → position < 2 ^ 64 → (words : List ℕ) → words ≡ at (position_at capacity position) (position_at capacity position) 1 1 → IsMachine code kinds.Overflow capacity (opening words [] (over_opened_view capacity position))
-  over_opens position low words same = subst (λ ys. IsMachine code kinds.Overflow capacity (opening ys [] (over_opened_view capacity position))) (sym same) (go capacity refl)
+  pub over_opens : (position : ℕ) → position < 2 ^ 64 → (words : List ℕ)
+      → words ≡ at (position_at capacity position) (position_at capacity position) 1 1
+      → IsMachine code kinds.Overflow capacity (opening words [] (over_opened_view capacity position))
+  over_opens position low words same =
+      subst (λ ys. IsMachine code kinds.Overflow capacity (opening ys [] (over_opened_view capacity position)))
+      (sym same) (go capacity refl)
     where
-      go : (c : ℕ) → c ≡ capacity → IsMachine code kinds.Overflow capacity (opening (at (position_at capacity position) (position_at capacity position) 1 1) [] (over_opened_view capacity position))
+      go : (c : ℕ) → c ≡ capacity
+          → IsMachine code kinds.Overflow capacity
+          (opening (at (position_at capacity position) (position_at capacity position) 1 1) [] (over_opened_view capacity position))
       go zero e =
           let start : position_at capacity position ≡ 0 = ap (λ c. position_at c position) (sym e) in
-          subst (λ p. IsMachine code kinds.Overflow capacity (opening (at p p 1 1) [] (maker (opened answers.PoppedNone it p)))) (sym start) (alone.opens_so code kinds.Overflow capacity size over_effects (overflow_owes code capacity) (at 0 0 1 1) [] starts)
+          subst (λ p. IsMachine code kinds.Overflow capacity (opening (at p p 1 1) [] (maker (opened answers.PoppedNone it p))))
+          (sym start)
+          (alone.opens_so code kinds.Overflow capacity size over_effects (overflow_owes code capacity) (at 0 0 1 1) [] starts)
       go (suc less) e =
           let start : position_at capacity position ≡ position = ap (λ c. position_at c position) (sym e) in
-          subst (λ p. IsMachine code kinds.Overflow capacity (opening (at p p 1 1) [] (maker (opened answers.PoppedNone it p)))) (sym start) (opens position (omega arith) low)
+          subst (λ p. IsMachine code kinds.Overflow capacity (opening (at p p 1 1) [] (maker (opened answers.PoppedNone it p))))
+          (sym start) (opens position (omega arith) low)

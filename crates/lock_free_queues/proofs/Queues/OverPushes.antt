@@ -32,7 +32,8 @@ use Rattle.history.proofs.Queues.{role_starts}
 use Rattle.lock_free_queues.specs.Queues.Overflowing.{HasActed, pushes_told}
 
 -- it ends as a call where it is not left out
-acts : (c : Push) (e : PushEnd) (n : ℕ) (stage : pushes.PushStage) → HasPushWord stage → over_push_skips stage n ≡ false → push_takes c stage n ≡ Done e → HasActed e
+acts : (c : Push) (e : PushEnd) (n : ℕ) (stage : pushes.PushStage) → HasPushWord stage
+    → over_push_skips stage n ≡ false → push_takes c stage n ≡ Done e → HasActed e
 acts c e n pushes.TheVariants.HandsBack h skip ends = absurd h
 acts c e n pushes.TheVariants.LoadsWrite h skip ends = (let no : GoOn (at_push c (pushes.TheVariants.LoadsRead n)) ≡ Done e = rw skip at ends in absurd (cc))
 acts c e n (pushes.TheVariants.LoadsRead write) h skip ends = absurd (cc)
@@ -50,9 +51,11 @@ acts c e n (pushes.TheVariants.MovesRead at) h skip ends = go (n == at) ends
 acts c e n (pushes.TheVariants.LoadsCell at) h skip ends = (let same : Oldest ≡ e = cc in subst HasActed same tt)
 
 -- it is left out where its first load finds the last position
-pub over_ends_at : (capacity value n : ℕ) (a : Ask) (stage : pushes.PushStage) → over_push_skips stage n ≡ true → push_asks capacity stage value ≡ wants.Ask a → (a.word ≡ 0) × (n ≡ 2 ^ 64 - 1)
+pub over_ends_at : (capacity value n : ℕ) (a : Ask) (stage : pushes.PushStage) → over_push_skips stage n ≡ true
+    → push_asks capacity stage value ≡ wants.Ask a → (a.word ≡ 0) × (n ≡ 2 ^ 64 - 1)
 over_ends_at capacity value n a pushes.TheVariants.HandsBack t e = absurd (cc)
-over_ends_at capacity value n a pushes.TheVariants.LoadsWrite t e = (let is : record { word = 0; op = Load } ≡ a = cc in (ap (λ (z : Ask). z.word) (sym is), grind (arith, nat_tests)))
+over_ends_at capacity value n a pushes.TheVariants.LoadsWrite t e =
+    (let is : record { word = 0; op = Load } ≡ a = cc in (ap (λ (z : Ask). z.word) (sym is), grind (arith, nat_tests)))
 over_ends_at capacity value n a (pushes.TheVariants.LoadsRead write) t e = absurd (cc)
 over_ends_at capacity value n a (pushes.TheVariants.StoresCell write read) t e = absurd (cc)
 over_ends_at capacity value n a (pushes.TheVariants.StoresWrite write read) t e = absurd (cc)
@@ -80,13 +83,21 @@ module _ {T : Type 0} (code : Coding T) (value : ℕ) where
         finds = h.finds;
         leaves = h.leaves;
         tells = h.tells;
-        tells_all = λ capacity p from c e m n es late t stands skip wrote waits met is still. (acts c e n c.stage stands.2 skip is, h.tells_all capacity p from c e m n es late t stands skip wrote waits met is still);
+        tells_all =
+            λ capacity p from c e m n es late t stands skip wrote waits met is still.
+            (acts c e n c.stage stands.2 skip is, h.tells_all capacity p from c e m n es late t stands skip wrote waits met is still);
       }
 
-  pub told_keeps : KeepsRule (λ (z : View T). z.capacity) (At code kinds.Overflow pushing) (Over code kinds.Overflow pushing) (λ key. 4 + (key + 1) + 1) (λ key. key) (λ key. IsMachine code kinds.Overflow key) (λ c. push_want c value) push_after push_kept
-  told_keeps = keeps_in code kinds.Overflow over_effects (λ capacity. 4 + (capacity + 1)) (overflow_owes code) (λ c. push_want c value) push_after push_kept pushing told_is_call
+  pub told_keeps : KeepsRule (λ (z : View T). z.capacity) (At code kinds.Overflow pushing)
+      (Over code kinds.Overflow pushing) (λ key. 4 + (key + 1) + 1) (λ key. key)
+      (λ key. IsMachine code kinds.Overflow key) (λ c. push_want c value) push_after push_kept
+  told_keeps =
+      keeps_in code kinds.Overflow over_effects (λ capacity. 4 + (capacity + 1)) (overflow_owes code)
+      (λ c. push_want c value) push_after push_kept pushing told_is_call
 
-  pub told_first : (x : View T) → x.going ≡ None → x.other ≡ [] → 0 < x.share.part → 0 < x.capacity → x.capacity < 2 ^ 32 → HasRole Producer x.made → At code kinds.Overflow pushing x x (first_push x.capacity) (record { 0 = 0 })
+  pub told_first : (x : View T) → x.going ≡ None → x.other ≡ [] → 0 < x.share.part → 0 < x.capacity
+      → x.capacity < 2 ^ 32 → HasRole Producer x.made
+      → At code kinds.Overflow pushing x x (first_push x.capacity) (record { 0 = 0 })
   told_first x idle alone any has_cells small has =
       let some : (x.capacity == 0) ≡ false = grind (arith, nat_tests) in
       inl (record {
@@ -96,6 +107,8 @@ module _ {T : Type 0} (code : Coding T) (value : ℕ) where
         standing = (small, refl, rw some tt);
         some = any;
         first = refl;
-        starts = role_starts code Overflow x pushing (PushIndex value) (first_push x.capacity) (record { 0 = 0 }) refl (λ kept. refl) Producer (λ o p. tt) (λ roles p is. holds_it roles.producer p is) has;
+        starts =
+            role_starts code Overflow x pushing (PushIndex value) (first_push x.capacity) (record { 0 = 0 }) refl
+            (λ kept. refl) Producer (λ o p. tt) (λ roles p is. holds_it roles.producer p is) has;
         wrote = λ p. (refl, tt);
       })

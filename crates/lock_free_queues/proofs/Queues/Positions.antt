@@ -1,5 +1,6 @@
 -- The laws of positions.
-use Rattle.std.proofs.Common.{◌≡◌, ℕ, zero, suc, ◌+◌, ◌<◌, ◌≤◌, Some, List, [], ◌∷◌, ◌++◌, length, drop, slice_get, refl, sym, ap, ◌∙◌, append_assoc, false, arith}
+use Rattle.std.proofs.Common.{◌≡◌, ℕ, zero, suc, ◌+◌, ◌<◌, ◌≤◌, Some, List, [], ◌∷◌, ◌++◌, length, drop, slice_get}
+use Rattle.std.proofs.Common.{refl, sym, ap, ◌∙◌, append_assoc, false, arith}
 use Rattle.std.specs.List.{flat_map}
 use Rattle.std.proofs.lemmas.List.{length-append, length-drop}
 use Rattle.std.proofs.lemmas.Grind.{flat_map-append}
@@ -33,7 +34,8 @@ module _ {T A : Type 0} (hit : Event T → List A) where
   hits events = flat_map hit events
 
   -- two events of the same rank are one
-  same_place : (b1 b2 a1 a2 : List (Event T)) (e1 e2 : Event T) (x1 x2 : A) → hit e1 ≡ x1 ∷ [] → hit e2 ≡ x2 ∷ [] → b1 ++ e1 ∷ a1 ≡ b2 ++ e2 ∷ a2 → length (hits b1) ≡ length (hits b2) → e1 ≡ e2
+  same_place : (b1 b2 a1 a2 : List (Event T)) (e1 e2 : Event T) (x1 x2 : A) → hit e1 ≡ x1 ∷ [] → hit e2 ≡ x2 ∷ []
+      → b1 ++ e1 ∷ a1 ≡ b2 ++ e2 ∷ a2 → length (hits b1) ≡ length (hits b2) → e1 ≡ e2
   same_place [] [] a1 a2 e1 e2 x1 x2 h1 h2 same ranks = cc
   same_place [] (c ∷ b2) a1 a2 e1 e2 x1 x2 h1 h2 same ranks =
       let first : e1 ≡ c = cc in
@@ -60,9 +62,11 @@ module _ {T A : Type 0} (hit : Event T → List A) where
       ∙ get_here (hits before) (hits after) x
 
   -- the rank of what stands is below their number
-  rank_low : (events before after : List (Event T)) (e : Event T) (x : A) → hit e ≡ x ∷ [] → events ≡ before ++ e ∷ after → length (hits before) < length (hits events)
+  rank_low : (events before after : List (Event T)) (e : Event T) (x : A) → hit e ≡ x ∷ []
+      → events ≡ before ++ e ∷ after → length (hits before) < length (hits events)
   rank_low events before after e x h is =
-      let whole : length (hits events) ≡ length (hits before ++ hits (e ∷ after)) = ap (λ es. length (hits es)) is ∙ ap length (flat_map-append hit before (e ∷ after)) in
+      let whole : length (hits events) ≡ length (hits before ++ hits (e ∷ after)) =
+      ap (λ es. length (hits es)) is ∙ ap length (flat_map-append hit before (e ∷ after)) in
       let long = length-append (hits before) (hits (e ∷ after)) in
       let one : length (hit e) ≡ 1 = ap length h in
       let last = length-append (hit e) (hits after) in
@@ -85,29 +89,52 @@ module _ {T : Type 0} (events : List (Event T)) (q j : ℕ) (y : Item T) where
 module _ {T : Type 0} (p q i : ℕ) (x y : Item T) (events : List (Event T)) where
   pub published_once : IsPublished p i x events → IsPublished q i y events → (p ≡ q) × (x ≡ y)
   published_once a b =
-      let same : ◌≡◌ {A = Event T} (Published p x) (Published q y) = same_place publishes a.before b.before a.after b.after (Published p x) (Published q y) x y refl refl (sym a.is ∙ b.is) (sym a.rank ∙ b.rank) in
+      let same : ◌≡◌ {A = Event T} (Published p x) (Published q y) =
+      same_place publishes a.before b.before a.after b.after (Published p x) (Published q y) x y refl refl
+      (sym a.is ∙ b.is) (sym a.rank ∙ b.rank) in
       (let l : p ≡ q = cc in l, let r : x ≡ y = cc in r)
 
   pub taken_once : IsTaken p i x events → IsTaken q i y events → (p ≡ q) × (x ≡ y)
   taken_once a b =
-      let same : ◌≡◌ {A = Event T} (HandedOut p x) (HandedOut q y) = same_place hands_out a.before b.before a.after b.after (HandedOut p x) (HandedOut q y) x y refl refl (sym a.is ∙ b.is) (sym a.rank ∙ b.rank) in
+      let same : ◌≡◌ {A = Event T} (HandedOut p x) (HandedOut q y) =
+      same_place hands_out a.before b.before a.after b.after (HandedOut p x) (HandedOut q y) x y refl refl
+      (sym a.is ∙ b.is) (sym a.rank ∙ b.rank) in
       (let l : p ≡ q = cc in l, let r : x ≡ y = cc in r)
 
   pub values_agree : published events ≡ handed_out events ++ waiting events → IsPublished p i x events → IsTaken q i y events → x ≡ y
   values_agree book a b =
-      let one : slice_get (published events) i ≡ Some x = ap (λ es. slice_get (published es) i) a.is ∙ (ap (slice_get (published (a.before ++ Published p x ∷ a.after))) a.rank ∙ at_rank publishes a.before a.after (Published p x) x refl) in
-      let two : slice_get (handed_out events) i ≡ Some y = ap (λ es. slice_get (handed_out es) i) b.is ∙ (ap (slice_get (handed_out (b.before ++ HandedOut q y ∷ b.after))) b.rank ∙ at_rank hands_out b.before b.after (HandedOut q y) y refl) in
+      let one : slice_get (published events) i ≡ Some x =
+      ap (λ es. slice_get (published es) i) a.is
+      ∙ (ap (slice_get (published (a.before ++ Published p x ∷ a.after))) a.rank
+      ∙ at_rank publishes a.before a.after (Published p x) x refl) in
+      let two : slice_get (handed_out events) i ≡ Some y =
+      ap (λ es. slice_get (handed_out es) i) b.is
+      ∙ (ap (slice_get (handed_out (b.before ++ HandedOut q y ∷ b.after))) b.rank
+      ∙ at_rank hands_out b.before b.after (HandedOut q y) y refl) in
       let both : Some x ≡ Some y = sym one ∙ (ap (λ xs. slice_get xs i) book ∙ get_left (handed_out events) (waiting events) i y two) in
       cc
 
   -- what stands in a beginning stands in the whole
   pub still_published : (more : List (Event T)) → IsBeginning events more → IsPublished p i x events → IsPublished p i x more
-  still_published more h a = record { before = a.before; after = a.after ++ h.rest; is = h.is ∙ (ap (λ es. es ++ h.rest) a.is ∙ append_assoc a.before (Published p x ∷ a.after) h.rest); rank = a.rank }
+  still_published more h a =
+      record {
+        before = a.before;
+        after = a.after ++ h.rest;
+        is = h.is ∙ (ap (λ es. es ++ h.rest) a.is ∙ append_assoc a.before (Published p x ∷ a.after) h.rest);
+        rank = a.rank;
+      }
 
   pub still_taken : (more : List (Event T)) → IsBeginning events more → IsTaken p i x events → IsTaken p i x more
-  still_taken more h a = record { before = a.before; after = a.after ++ h.rest; is = h.is ∙ (ap (λ es. es ++ h.rest) a.is ∙ append_assoc a.before (HandedOut p x ∷ a.after) h.rest); rank = a.rank }
+  still_taken more h a =
+      record {
+        before = a.before;
+        after = a.after ++ h.rest;
+        is = h.is ∙ (ap (λ es. es ++ h.rest) a.is ∙ append_assoc a.before (HandedOut p x ∷ a.after) h.rest);
+        rank = a.rank;
+      }
 
-pub sound_history : {T : Type 0} (code : Coding T) (r : Ring) (capacity : ℕ) (events : List (Event T)) → IsHistory code (machine_kind (kind_of r)) capacity events → IsSound capacity events
+pub sound_history : {T : Type 0} (code : Coding T) (r : Ring) (capacity : ℕ) (events : List (Event T))
+    → IsHistory code (machine_kind (kind_of r)) capacity events → IsSound capacity events
 sound_history code r capacity events h =
     record {
       book = λ part rest is. (always_listed capacity code r events h part rest is).book;
@@ -142,7 +169,8 @@ module _ {T : Type 0} (old new : View T) where
   none_later h q j y a = found_later (record { by = h.by; before = h.before; after = h.after; is = h.is; since = h.since; empty = h.empty }) q j y a
 
   -- where a push found the queue full, each position that was known to be taken lies more than the capacity below
-  pub full_below : (capacity : ℕ) (item : Item T) → (h : WasFull capacity item old new) → IsSound capacity new.seen → (q j : ℕ) (y : Item T) → IsTaken q j y old.seen → j + capacity < length (published h.before)
+  pub full_below : (capacity : ℕ) (item : Item T) → (h : WasFull capacity item old new) → IsSound capacity new.seen
+      → (q j : ℕ) (y : Item T) → IsTaken q j y old.seen → j + capacity < length (published h.before)
   full_below capacity item h sound q j y a =
       let low = rank_low hands_out old.seen a.before a.after (HandedOut q y) y refl a.is in
       let grown = hits_grow hands_out old.seen h.before h.since in

@@ -32,15 +32,25 @@ module _ {T : Type 0} (code : Coding T) where
   abbrev IsSeen : QueueKind → ℕ → List (Event T) → Type 0
   IsSeen kind capacity events = IsHistory code (machine_of kind) capacity events
 
-  linearized : (kind : QueueKind) (capacity : ℕ) (events : List (Event T)) → (h : IsHistory code (machine_kind kind) capacity events) → IsLinearized (machine_kind kind) h.trace
+  linearized : (kind : QueueKind) (capacity : ℕ) (events : List (Event T))
+      → (h : IsHistory code (machine_kind kind) capacity events) → IsLinearized (machine_kind kind) h.trace
   linearized kind capacity events h =
       (let t = h.trace in let r = h.run in let on = queue_run code capacity kind t r in subst (λ k. IsLinearized k t) r.of_kind
       (run_linearizable t (kept_on kind t r.of_kind on.reached.coded on.reached.admitted on.fresh)))
 
   pub linearizable : (kind : QueueKind) (capacity : ℕ) (v : View T) → IsSeen kind capacity v.seen → IsLinearizable (as_list kind capacity) v.seen
-  linearizable queues.TheVariants.IndexQueue capacity v h = subst (λ es. IsLinearizable (as_list queues.TheVariants.IndexQueue capacity) es) (sym h.is) (subst (λ n. IsLinearizable (as_list queues.TheVariants.IndexQueue n) h.trace.events) h.run.sized (linearized queues.TheVariants.IndexQueue capacity v.seen h))
-  linearizable queues.TheVariants.Overflow capacity v h = subst (λ es. IsLinearizable (as_list queues.TheVariants.Overflow capacity) es) (sym h.is) (subst (λ n. IsLinearizable (as_list queues.TheVariants.Overflow n) h.trace.events) h.run.sized (linearized queues.TheVariants.Overflow capacity v.seen h))
-  linearizable queues.TheVariants.Queue capacity v h = subst (λ es. IsLinearizable (as_list queues.TheVariants.Queue capacity) es) (sym h.is) (subst (λ n. IsLinearizable (as_list queues.TheVariants.Queue n) h.trace.events) h.run.sized (linearized queues.TheVariants.Queue capacity v.seen h))
+  linearizable queues.TheVariants.IndexQueue capacity v h =
+      subst (λ es. IsLinearizable (as_list queues.TheVariants.IndexQueue capacity) es) (sym h.is)
+      (subst (λ n. IsLinearizable (as_list queues.TheVariants.IndexQueue n) h.trace.events) h.run.sized
+      (linearized queues.TheVariants.IndexQueue capacity v.seen h))
+  linearizable queues.TheVariants.Overflow capacity v h =
+      subst (λ es. IsLinearizable (as_list queues.TheVariants.Overflow capacity) es) (sym h.is)
+      (subst (λ n. IsLinearizable (as_list queues.TheVariants.Overflow n) h.trace.events) h.run.sized
+      (linearized queues.TheVariants.Overflow capacity v.seen h))
+  linearizable queues.TheVariants.Queue capacity v h =
+      subst (λ es. IsLinearizable (as_list queues.TheVariants.Queue capacity) es) (sym h.is)
+      (subst (λ n. IsLinearizable (as_list queues.TheVariants.Queue n) h.trace.events) h.run.sized
+      (linearized queues.TheVariants.Queue capacity v.seen h))
 
   guaranteed : (kind : QueueKind) (capacity : ℕ) (v : View T) → (h : IsHistory code (machine_kind kind) capacity v.seen) → KeepsGuarantees h.trace
   guaranteed kind capacity v h =
@@ -57,7 +67,8 @@ module _ {T : Type 0} (code : Coding T) where
   sound queues.TheVariants.Overflow capacity v b h = absurd b
   sound queues.TheVariants.Queue capacity v b h = sound_history code of_values capacity v.seen h
 
-  pub agree : (kind : QueueKind) (capacity p q i : ℕ) (x y : Item T) (v : View T) → IsSeen kind capacity v.seen → IsPublished p i x v.seen → IsTaken q i y v.seen → x ≡ y
+  pub agree : (kind : QueueKind) (capacity p q i : ℕ) (x y : Item T) (v : View T) → IsSeen kind capacity v.seen
+      → IsPublished p i x v.seen → IsTaken q i y v.seen → x ≡ y
   agree kind capacity p q i x y v h a b = values_agree p q i x y v.seen (listed_always code capacity v.seen kind h v.seen [] (sym (append-nil v.seen))).book a b
 
   pub over_sound : (capacity : ℕ) (v : View T) → IsSeen queues.TheVariants.Overflow capacity v.seen → IsOverSound capacity v.seen
@@ -84,11 +95,21 @@ module _ {T : Type 0} (old new : View T) where
   pub none_later_than : WasEmpty old new → (q j : ℕ) (y : Item T) → IsPublished q j y old.seen → j < length (handed_out old.seen)
   none_later_than h q j y a = subst (λ n. j < n) (ap length h.next) (none_later old new h q j y a)
 
-  pub full_above : (capacity : ℕ) (item : Item T) → IsSound capacity new.seen → WasFull capacity item old new → (q j : ℕ) (y : Item T) → IsTaken q j y old.seen → j + capacity < length (published old.seen)
+  pub full_above : (capacity : ℕ) (item : Item T) → IsSound capacity new.seen → WasFull capacity item old new
+      → (q j : ℕ) (y : Item T) → IsTaken q j y old.seen → j + capacity < length (published old.seen)
   full_above capacity item all h q j y a = subst (λ n. j + capacity < n) (ap length h.next) (full_below old new capacity item h all q j y a)
 
   pub taken_first : (item : Item T) → HasTakenFirst item old new → (p i : ℕ) × IsTaken p i item new.seen × (length (handed_out old.seen) ≤ i)
-  taken_first item h = (h.by, length (handed_out h.before), record { before = h.before; after = h.after; is = h.is; rank = refl }, hits_grow hands_out old.seen h.before h.since)
+  taken_first item h = (
+    h.by,
+    length (handed_out h.before),
+    record { before = h.before; after = h.after; is = h.is; rank = refl },
+    hits_grow hands_out old.seen h.before h.since,
+  )
 
   pub none_waited : FoundNone old new → (q j : ℕ) (y : Item T) → IsPublished q j y old.seen → (i : ℕ) × (j < i) × (i ≤ length (handed_out new.seen))
-  none_waited h q j y a = (length (handed_out h.before), found_later old new h q j y a, hits_grow hands_out h.before new.seen (record { rest = Acted h.by (Queues Pop) PoppedNone ∷ h.after; is = h.is }))
+  none_waited h q j y a = (
+    length (handed_out h.before),
+    found_later old new h q j y a,
+    hits_grow hands_out h.before new.seen (record { rest = Acted h.by (Queues Pop) PoppedNone ∷ h.after; is = h.is }),
+  )

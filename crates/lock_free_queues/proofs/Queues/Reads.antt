@@ -1,5 +1,7 @@
 -- What one load of a queue's word tells, and what the loads of all words tell together.
-use Rattle.std.proofs.Common.{◌≡◌, ⊎_elim, ℕ, None, ◌+◌, ◌<◌, ◌≤◌, ◌^◌, List, [], ◌∷◌, ◌++◌, length, max, set, slice_index, refl, sym, ap, subst, ◌∙◌, append_assoc, append-nil, length-set, length-append, get_or-set_same, get_or-set_other, arith}
+use Rattle.std.proofs.Common.{◌≡◌, ⊎_elim, ℕ, None, ◌+◌, ◌<◌, ◌≤◌, ◌^◌, List, [], ◌∷◌, ◌++◌, length, max, set}
+use Rattle.std.proofs.Common.{slice_index, refl, sym, ap, subst, ◌∙◌, append_assoc, append-nil, length-set}
+use Rattle.std.proofs.Common.{length-append, get_or-set_same, get_or-set_other, arith}
 use Rattle.std.proofs.lemmas.Bool.{cases_lt}
 use Rattle.std.proofs.lemmas.List.{get_or_append_left}
 use Rattle.std.proofs.Math.Seq.{get_or-append_seam}
@@ -13,7 +15,7 @@ use Rattle.queue_laws.proofs.Queues.Invariant.{machine_kind}
 use Rattle.history.specs.declared.view.View.{View}
 use Rattle.history.specs.History.{IsBeginning, IsMachine, IsRun}
 use Rattle.history.specs.Views.{Looks, LooksAt}
-use Rattle.history.proofs.Passes.{looks_word}
+use Rattle.history.proofs.PassLooks.{looks_word}
 use Rattle.lock_free_queues.specs.Queues.Kinds.{words_in_cells}
 use Rattle.lock_free_queues.specs.Queues.Told.{HasLooked}
 use Rattle.lock_free_queues.proofs.Queues.Kinds.{told_idle, words_long}
@@ -31,10 +33,19 @@ module _ {T : Type 0} where
   begins_nothing (x ∷ xs) h = (let no : [] ≡ x ∷ (xs ++ h.rest) = h.is in absurd (cc))
 
   pub then_read : (v w x : View T) → HasRead v w → HasRead w x → HasRead v x
-  then_read v w x a b = record { share = b.share ∙ a.share; since = begins_further v.seen w.seen x.seen a.since b.since; made = b.made ∙ a.made; whole = λ all. b.whole (subst IsAll (sym a.share) all) ∙ a.whole all; all = b.all }
+  then_read v w x a b =
+      record {
+        share = b.share ∙ a.share;
+        since = begins_further v.seen w.seen x.seen a.since b.since;
+        made = b.made ∙ a.made;
+        whole = λ all. b.whole (subst IsAll (sym a.share) all) ∙ a.whole all;
+        all = b.all;
+      }
 
 module _ {T : Type 0} (code : Coding T) (kd : QueueKind) where
-  module _ (capacity word found : ℕ) (v w : View T) (same : v.capacity ≡ capacity) (low : word < 4 + words_in_cells code.size kd capacity) (l : LooksAt code (machine_kind kd) v.capacity word v found w) where
+  module _ (capacity word found : ℕ) (v w : View T) (same : v.capacity ≡ capacity)
+      (low : word < 4 + words_in_cells code.size kd capacity)
+      (l : LooksAt code (machine_kind kd) v.capacity word v found w) where
     run : IsRun code (machine_kind kd) capacity l.trace
     run = subst (λ n. IsRun code (machine_kind kd) n l.trace) same l.run
 
@@ -48,7 +59,14 @@ module _ {T : Type 0} (code : Coding T) (kd : QueueKind) where
     was_read = record { trace = l.trace; run = run; since = subst (IsBeginning v.seen) l.seen l.looks.mine; until = ends_there; found_is = has_word }
 
     pub was_read_last : WasRead code (machine_kind kd) capacity w w word found
-    was_read_last = record { trace = l.trace; run = run; since = subst (IsBeginning w.seen) l.seen (begins_itself w.seen); until = ends_there; found_is = has_word }
+    was_read_last =
+        record {
+          trace = l.trace;
+          run = run;
+          since = subst (IsBeginning w.seen) l.seen (begins_itself w.seen);
+          until = ends_there;
+          found_is = has_word;
+        }
 
     pub has_read : v.other ≡ [] → HasRead v w
     has_read alone =
@@ -57,36 +75,62 @@ module _ {T : Type 0} (code : Coding T) (kd : QueueKind) where
           since = l.looks.mine;
           made = l.looks.made;
           all = λ all. l.looks.all (subst IsAll l.looks.share all);
-          whole = λ all. ⊎_elim (λ e. e) (λ e. (let none : w.seen ≡ [] = e ∙ alone in none ∙ sym (begins_nothing v.seen (subst (IsBeginning v.seen) none l.looks.mine)))) (l.looks.whole all);
+          whole =
+              λ all. ⊎_elim (λ e. e) (λ e.
+              (let none : w.seen ≡ [] = e ∙ alone in none ∙ sym (begins_nothing v.seen (subst (IsBeginning v.seen) none l.looks.mine))))
+              (l.looks.whole all);
         }
 
 module _ {T : Type 0} (code : Coding T) (kd : QueueKind) where
   -- what a look owes, where the seat knows this
   abbrev pub Owed : ℕ → ℕ → ℕ → ℕ → Me (Unit {0}) (View T) → Type 0
-  Owed key slots id word me = Allows (IsMachine code (machine_kind kd) key) slots id me word (λ n. n) (λ found new. LooksAt code (machine_kind kd) me.0.capacity word me.0 found new.0 × (new.1 ≡ []))
+  Owed key slots id word me =
+      Allows (IsMachine code (machine_kind kd) key) slots id me word (λ n. n)
+      (λ found new. LooksAt code (machine_kind kd) me.0.capacity word me.0 found new.0 × (new.1 ≡ []))
 
-  pub owed : (key slots id word : ℕ) (v : View T) (me : Me (Unit {0}) (View T)) → me ≡ (v, []) → v.capacity ≡ key → v.going ≡ None → 0 < v.share.part → Owed key slots id word me
+  pub owed : (key slots id word : ℕ) (v : View T) (me : Me (Unit {0}) (View T)) → me ≡ (v, []) → v.capacity ≡ key
+      → v.going ≡ None → 0 < v.share.part → Owed key slots id word me
   owed key slots id word v me same size idle some =
       subst (Owed key slots id word) (sym same)
       (subst (λ k. Owed k slots id word (v, [])) size
       (λ s holds many at low.
-      let r = looks_word code (machine_kind kd) v.capacity slots id word v some s holds many at low in (r.0, r.1, r.2, r.3, (told_idle kd v.going _ idle r.4.0, r.4.1))))
+      let r = looks_word code (machine_kind kd) v.capacity slots id word v some s holds many at low in
+      (r.0, r.1, r.2, r.3, (told_idle kd v.going _ idle r.4.0, r.4.1))))
 
 module _ {T : Type 0} (code : Coding T) (kind : Kind) where
   pub has_looked : (v w : View T) → v.other ≡ [] → Looks code kind v.capacity v w → HasLooked v w
   has_looked v w alone looks =
       record {
         made = looks.made;
-        whole = λ all. ⊎_elim (λ e. e) (λ e. (let none : w.seen ≡ [] = e ∙ alone in none ∙ sym (begins_nothing v.seen (subst (IsBeginning v.seen) none looks.mine)))) (looks.whole all);
+        whole =
+            λ all. ⊎_elim (λ e. e)
+            (λ e. (let none : w.seen ≡ [] = e ∙ alone in none ∙ sym (begins_nothing v.seen (subst (IsBeginning v.seen) none looks.mine))))
+            (looks.whole all);
       }
 
   -- ---- one load after another
 
-  pub read_since : (capacity word found : ℕ) (v w x : View T) → HasRead v w → WasRead code kind capacity w x word found → WasRead code kind capacity v x word found
-  read_since capacity word found v w x a r = record { trace = r.trace; run = r.run; since = begins_further v.seen w.seen r.trace.events a.since r.since; until = r.until; found_is = r.found_is }
+  pub read_since : (capacity word found : ℕ) (v w x : View T) → HasRead v w
+      → WasRead code kind capacity w x word found → WasRead code kind capacity v x word found
+  read_since capacity word found v w x a r =
+      record {
+        trace = r.trace;
+        run = r.run;
+        since = begins_further v.seen w.seen r.trace.events a.since r.since;
+        until = r.until;
+        found_is = r.found_is;
+      }
 
-  pub read_until : (capacity word found : ℕ) (v w x : View T) → WasRead code kind capacity v w word found → HasRead w x → WasRead code kind capacity v x word found
-  read_until capacity word found v w x r b = record { trace = r.trace; run = r.run; since = r.since; until = begins_further r.trace.events w.seen x.seen r.until b.since; found_is = r.found_is }
+  pub read_until : (capacity word found : ℕ) (v w x : View T) → WasRead code kind capacity v w word found
+      → HasRead w x → WasRead code kind capacity v x word found
+  read_until capacity word found v w x r b =
+      record {
+        trace = r.trace;
+        run = r.run;
+        since = r.since;
+        until = begins_further r.trace.events w.seen x.seen r.until b.since;
+        found_is = r.found_is;
+      }
 
   module _ (capacity : ℕ) (v w : View T) where
     pub no_cells : (words : List ℕ) → length words ≡ 4 → CellsRead code kind capacity v w words
@@ -95,10 +139,12 @@ module _ {T : Type 0} (code : Coding T) (kind : Kind) where
     pub cells_until : (x : View T) (words : List ℕ) → CellsRead code kind capacity v w words → HasRead w x → CellsRead code kind capacity v x words
     cells_until x words cells b word high low = read_until capacity word (slice_index words word) v w x (cells word high low) b
 
-    pub one_cell_more : (words : List ℕ) (at found : ℕ) → length words ≡ at → CellsRead code kind capacity v w words → WasRead code kind capacity v w at found → CellsRead code kind capacity v w (words ++ found ∷ [])
+    pub one_cell_more : (words : List ℕ) (at found : ℕ) → length words ≡ at → CellsRead code kind capacity v w words
+        → WasRead code kind capacity v w at found → CellsRead code kind capacity v w (words ++ found ∷ [])
     one_cell_more words at found long cells r word high low =
         let more = length-append words (found ∷ []) in
-        ⊎_elim (λ (before : word < length words). subst (WasRead code kind capacity v w word) (sym (get_or_append_left words (found ∷ []) 0 word before)) (cells word high before))
+        ⊎_elim (λ (before : word < length words). subst (WasRead code kind capacity v w word)
+        (sym (get_or_append_left words (found ∷ []) 0 word before)) (cells word high before))
         (λ (last : length words ≤ word).
         let here : word ≡ length words = omega arith in
         let is : slice_index (words ++ found ∷ []) word ≡ found = ap (λ k. slice_index (words ++ found ∷ []) k) here ∙ get_or-append_seam words found [] 0 in
@@ -108,7 +154,9 @@ module _ {T : Type 0} (code : Coding T) (kind : Kind) where
 
     -- the words, with the positions of the list
     pub last_words : (wide : ℕ) (words : List ℕ) (write taken : ℕ) → capacity < 2 ^ 32 → HasRead v w → length words ≡ 4 + wide → write < 2 ^ 64 → taken < 2 ^ 64
-        → WasRead code kind capacity v w 0 write → CellsRead code kind capacity v w words → WasRead code kind capacity w w 1 taken → LastWords code kind wide capacity v (set (set words 0 (max write taken)) 1 taken)
+        → WasRead code kind capacity v w 0 write → CellsRead code kind capacity v w words
+        → WasRead code kind capacity w w 1 taken
+        → LastWords code kind wide capacity v (set (set words 0 (max write taken)) 1 taken)
     last_words wide words write taken small read long fits taken_fits first cells last =
         let a : List ℕ = set words 0 (max write taken) in
         let la = length-set words 0 (max write taken) in
@@ -124,7 +172,9 @@ module _ {T : Type 0} (code : Coding T) (kind : Kind) where
           taken_fits = taken_fits;
           first_read = first;
           cells = λ word high low. (
-              let same : slice_index (set a 1 taken) word ≡ slice_index words word = get_or-set_other a 1 word taken 0 (λ e. absurd (omega arith)) ∙ get_or-set_other words 0 word (max write taken) 0 (λ e. absurd (omega arith)) in
+              let same : slice_index (set a 1 taken) word ≡ slice_index words word =
+              get_or-set_other a 1 word taken 0 (λ e. absurd (omega arith))
+              ∙ get_or-set_other words 0 word (max write taken) 0 (λ e. absurd (omega arith)) in
               subst (WasRead code kind capacity v w word) (sym same) (cells word high (omega arith)));
           last_read = last;
           last = get_or-set_other a 1 0 taken 0 (λ e. absurd (omega arith)) ∙ get_or-set_same words 0 (max write taken) 0 (omega arith);

@@ -32,7 +32,10 @@ QuietRoles {T} effects =
     → ((w : World T) (n : ℕ) → effects w 0 ((takes_role role).flight (record { word = role_word role }) tt) n ≡ [])
     × ((w : World T) (n : ℕ) → effects w 0 ((gives_role role).flight (record { word = role_word role }) tt) n ≡ [])
 
-module _ {T : Type 0} (code : Coding T) (kd : QueueKind) (capacity size : ℕ) (effects : World T → ℕ → Flight T → ℕ → List (Event T)) (laws : MachineLaws code (machine_kind kd) capacity size effects) (wide : 4 ≤ size) (quiet : QuietRoles effects) where
+module _ {T : Type 0} (code : Coding T) (kd : QueueKind) (capacity size : ℕ)
+    (effects : World T → ℕ → Flight T → ℕ → List (Event T))
+    (laws : MachineLaws code (machine_kind kd) capacity size effects) (wide : 4 ≤ size)
+    (quiet : QuietRoles effects) where
   abbrev Now : List ℕ → List (Event T) → Type 0
   Now words es = Here code (machine_kind kd) capacity size effects laws words es None
 
@@ -52,8 +55,17 @@ module _ {T : Type 0} (code : Coding T) (kd : QueueKind) (capacity size : ℕ) (
         let start = Queues (acquire_start role) in
         let xs = es ++ Begun 0 start ∷ [] in
         let a = begins code (machine_kind kd) capacity size effects laws (takes_role role) (record { word = role_word role }) tt words es h
-        (plain_starts code kd (maker code (machine_kind kd) capacity size effects laws es) (takes_role role) (acquire_start role) (record { word = role_word role }) tt refl (λ kept. acquire_named code capacity kd role kept) (λ o p is. is) (λ roles p. acquire_lacks code capacity role roles p) h.u same_seat 0 h.between.run refl refl (sums code (machine_kind kd) capacity size effects laws words es None h)) in
-        let b = ends code (machine_kind kd) capacity size effects laws words xs start ((takes_role role).flight (record { word = role_word role }) tt) a (record { word = role_word role; op = Exchange 1 0 }) (role_low role) refl tt words' (Truth true) [] (ap (λ k. slice_set words (role_word role) (written (Exchange 1 0) k)) free ∙ same) (ap (λ k. Done (Truth (k == 1))) free) ((quiet role).0 a.u.world (slice_index words (role_word role))) tt in
+        (plain_starts code kd (maker code (machine_kind kd) capacity size effects laws es) (takes_role role)
+        (acquire_start role) (record { word = role_word role }) tt refl
+        (λ kept. acquire_named code capacity kd role kept) (λ o p is. is)
+        (λ roles p. acquire_lacks code capacity role roles p) h.u same_seat 0 h.between.run refl refl
+        (sums code (machine_kind kd) capacity size effects laws words es None h)) in
+        let b =
+        ends code (machine_kind kd) capacity size effects laws words xs start
+        ((takes_role role).flight (record { word = role_word role }) tt) a
+        (record { word = role_word role; op = Exchange 1 0 }) (role_low role) refl tt words' (Truth true) []
+        (ap (λ k. slice_set words (role_word role) (written (Exchange 1 0) k)) free ∙ same)
+        (ap (λ k. Done (Truth (k == 1))) free) ((quiet role).0 a.u.world (slice_index words (role_word role))) tt in
         subst (λ zs. Now words' zs) (append_assoc es (Begun 0 start ∷ []) (Finished 0 start (Truth true) ∷ [])) b
 
     role_given : HasRole role es → slice_set words (role_word role) 1 ≡ words' → Now words' (es ++ released)
@@ -61,8 +73,16 @@ module _ {T : Type 0} (code : Coding T) (kd : QueueKind) (capacity size : ℕ) (
         let start = Queues (release_start role) in
         let xs = es ++ Begun 0 start ∷ [] in
         let a = begins code (machine_kind kd) capacity size effects laws (gives_role role) (record { word = role_word role }) tt words es h
-        (role_starts code kd (maker code (machine_kind kd) capacity size effects laws es) (gives_role role) (release_start role) (record { word = role_word role }) tt refl (λ kept. release_named code capacity kd role kept) role (λ o p. tt) (λ roles p is. release_lacks code capacity role roles p is) has h.u same_seat 0 h.between.run refl refl (sums code (machine_kind kd) capacity size effects laws words es None h)) in
-        let b = ends code (machine_kind kd) capacity size effects laws words xs start ((gives_role role).flight (record { word = role_word role }) tt) a (record { word = role_word role; op = Store 1 }) (role_low role) refl tt words' answers.Done [] same refl ((quiet role).1 a.u.world (slice_index words (role_word role))) tt in
+        (role_starts code kd (maker code (machine_kind kd) capacity size effects laws es) (gives_role role)
+        (release_start role) (record { word = role_word role }) tt refl
+        (λ kept. release_named code capacity kd role kept) role (λ o p. tt)
+        (λ roles p is. release_lacks code capacity role roles p is) has h.u same_seat 0 h.between.run refl refl
+        (sums code (machine_kind kd) capacity size effects laws words es None h)) in
+        let b =
+        ends code (machine_kind kd) capacity size effects laws words xs start
+        ((gives_role role).flight (record { word = role_word role }) tt) a
+        (record { word = role_word role; op = Store 1 }) (role_low role) refl tt words' answers.Done [] same refl
+        ((quiet role).1 a.u.world (slice_index words (role_word role))) tt in
         subst (λ zs. Now words' zs) (append_assoc es (Begun 0 start ∷ []) (Finished 0 start answers.Done ∷ [])) b
 
   -- two positions, and what stands in the cells
@@ -71,7 +91,9 @@ module _ {T : Type 0} (code : Coding T) (kd : QueueKind) (capacity size : ℕ) (
     now producer consumer = write ∷ read ∷ producer ∷ consumer ∷ cells
 
     pub takes_both : Now (now 1 1) [] → Now (now 0 0) taken_roles
-    takes_both h = role_taken Consumer (now 0 1) (now 0 0) (acquired Producer (now 1 1) (now 0 1) [] h) (role_taken Producer (now 1 1) (now 0 1) [] h refl refl) refl refl
+    takes_both h =
+        role_taken Consumer (now 0 1) (now 0 0) (acquired Producer (now 1 1) (now 0 1) [] h)
+        (role_taken Producer (now 1 1) (now 0 1) [] h refl refl) refl refl
 
     pub gives_both : (es : List (Event T)) → ((role : Role) → HasRole role es) → Now (now 0 0) es → Now (now 1 1) (es ++ given_roles)
     gives_both es has h =

@@ -1,5 +1,6 @@
 -- A push and a pop of either kind, step by step, by a party that is alone.
-use Rattle.std.proofs.Common.{◌≡◌, ℕ, ◌+◌, ◌*◌, ◌-◌, ◌^◌, ◌<◌, ◌≤◌, ◌==◌, nat_lt, true, false, Option, Some, None, List, [], ◌∷◌, ◌++◌, length, replicate, refl, ap, arith}
+use Rattle.std.proofs.Common.{◌≡◌, ℕ, ◌+◌, ◌*◌, ◌-◌, ◌^◌, ◌<◌, ◌≤◌, ◌==◌, nat_lt, true, false, Option, Some, None}
+use Rattle.std.proofs.Common.{List, [], ◌∷◌, ◌++◌, length, replicate, refl, ap, arith}
 use Rattle.std.proofs.lemmas.Bool.Decides.{nat_tests}
 use Rattle.std.proofs.lemmas.List.{length-replicate}
 use Rattle.steps.specs.Queues.Ring.{first_push, first_pop, at_push, at_pop, push_asks, pop_asks, cell_word, distance}
@@ -46,10 +47,14 @@ fresh of_values = fresh_cell
 
 module _ {T : Type 0} where
   abbrev pub pushing : (r : Ring) → Val T (kind_of r) → ℕ → pushes.PushStage → Flight T
-  pushing r v capacity stage = flights.TheVariants.Queues (flight r (rings.TheVariants.Push (record { call = at_push (first_push capacity) stage; given = v; room = tt })))
+  pushing r v capacity stage =
+      flights.TheVariants.Queues
+      (flight r (rings.TheVariants.Push (record { call = at_push (first_push capacity) stage; given = v; room = tt })))
 
   abbrev pub popping : (r : Ring) → ℕ → pops.PopStage → Room r → Flight T
-  popping r capacity stage room = flights.TheVariants.Queues (flight {T = T} r (rings.TheVariants.Pop (record { call = at_pop (first_pop capacity) stage; given = tt; room = room })))
+  popping r capacity stage room =
+      flights.TheVariants.Queues
+      (flight {T = T} r (rings.TheVariants.Pop (record { call = at_pop (first_pop capacity) stage; given = tt; room = room })))
 
 module _ {T : Type 0} (code : Coding T) (capacity : ℕ) where
   -- how many words a cell has
@@ -58,15 +63,19 @@ module _ {T : Type 0} (code : Coding T) (capacity : ℕ) where
 
   -- ---- the push
 
-  pub push_named : (r : Ring) (v : Val T (kind_of r)) (kept : Kept T) → first_of (machine_kind (kind_of r)) capacity (Queues (push_of (item (kind_of r) v))) kept ≡ Some (pushing r v capacity pushes.TheVariants.LoadsWrite)
+  pub push_named : (r : Ring) (v : Val T (kind_of r)) (kept : Kept T)
+      → first_of (machine_kind (kind_of r)) capacity (Queues (push_of (item (kind_of r) v))) kept
+      ≡ Some (pushing r v capacity pushes.TheVariants.LoadsWrite)
   push_named of_indices v kept = refl
   push_named of_values v kept = refl
 
-  pub push_lacks : (r : Ring) (v : Val T (kind_of r)) (roles : Roles) (p : ℕ) → roles.producer ≡ Some p → lacks_role roles p (push_of {T = T} (item (kind_of r) v)) ≡ false
+  pub push_lacks : (r : Ring) (v : Val T (kind_of r)) (roles : Roles) (p : ℕ) → roles.producer ≡ Some p
+      → lacks_role roles p (push_of {T = T} (item (kind_of r) v)) ≡ false
   push_lacks of_indices v roles p is = holds_it roles.producer p is
   push_lacks of_values v roles p is = holds_it roles.producer p is
 
-  pub push_wants : (r : Ring) (v : Val T (kind_of r)) (stage : pushes.PushStage) → want_of code (pushing r v capacity stage) ≡ push_asks (encoded code (kind_of r)).words_of stage v
+  pub push_wants : (r : Ring) (v : Val T (kind_of r)) (stage : pushes.PushStage)
+      → want_of code (pushing r v capacity stage) ≡ push_asks (encoded code (kind_of r)).words_of stage v
   push_wants of_indices v stage = refl
   push_wants of_values v stage = refl
 
@@ -79,12 +88,14 @@ module _ {T : Type 0} (code : Coding T) (capacity : ℕ) where
     pub comes : after_of code before found ≡ GoOn after
     pub quiet : queue_effects code 0 before found ≡ []
 
-  pub push_loads_write : (r : Ring) (v : Val T (kind_of r)) (n : ℕ) → (n == 2 ^ 64 - 1) ≡ false → GoesOn (pushing r v capacity pushes.TheVariants.LoadsWrite) (pushing r v capacity (pushes.TheVariants.LoadsRead n)) n
+  pub push_loads_write : (r : Ring) (v : Val T (kind_of r)) (n : ℕ) → (n == 2 ^ 64 - 1) ≡ false
+      → GoesOn (pushing r v capacity pushes.TheVariants.LoadsWrite) (pushing r v capacity (pushes.TheVariants.LoadsRead n)) n
   push_loads_write of_indices v n t = record { comes = rw t refl; quiet = refl }
   push_loads_write of_values v n t = record { comes = rw t refl; quiet = refl }
 
   pub push_loads_read : (r : Ring) (v : Val T (kind_of r)) (n : ℕ) → (capacity == 0) ≡ false → (distance n n == capacity) ≡ false
-      → GoesOn (pushing r v capacity (pushes.TheVariants.LoadsRead n)) (pushing r v capacity (pushes.TheVariants.StoresCell n (cell_word capacity (wide r) n) 0)) n
+      → GoesOn (pushing r v capacity (pushes.TheVariants.LoadsRead n))
+      (pushing r v capacity (pushes.TheVariants.StoresCell n (cell_word capacity (wide r) n) 0)) n
   push_loads_read of_indices v n s t = record { comes = rw (s, t) refl; quiet = rw (s, t) refl }
   push_loads_read of_values v n s t = record { comes = rw (s, t) refl; quiet = rw (s, t) refl }
 
@@ -98,7 +109,8 @@ module _ {T : Type 0} (code : Coding T) (capacity : ℕ) where
   push_stores_last of_indices v n cell at found t = record { comes = rw t refl; quiet = refl }
   push_stores_last of_values v n cell at found t = record { comes = rw t refl; quiet = refl }
 
-  pub push_ends : (r : Ring) (v : Val T (kind_of r)) (n found : ℕ) → after_of code (pushing r v capacity (pushes.TheVariants.StoresWrite n)) found ≡ Done (Truth true)
+  pub push_ends : (r : Ring) (v : Val T (kind_of r)) (n found : ℕ)
+      → after_of code (pushing r v capacity (pushes.TheVariants.StoresWrite n)) found ≡ Done (Truth true)
   push_ends of_indices v n found = refl
   push_ends of_values v n found = refl
 
@@ -116,7 +128,8 @@ module _ {T : Type 0} (code : Coding T) (capacity : ℕ) where
 
   -- ---- the pop
 
-  pub pop_named : (r : Ring) (kept : Kept T) → first_of (machine_kind (kind_of r)) capacity (Queues Pop) kept ≡ Some (popping r capacity pops.TheVariants.LoadsRead (fresh r))
+  pub pop_named : (r : Ring) (kept : Kept T)
+      → first_of (machine_kind (kind_of r)) capacity (Queues Pop) kept ≡ Some (popping r capacity pops.TheVariants.LoadsRead (fresh r))
   pop_named of_indices kept = refl
   pop_named of_values kept = refl
 
@@ -128,27 +141,32 @@ module _ {T : Type 0} (code : Coding T) (capacity : ℕ) where
   pop_fresh of_indices n stage room = tt
   pop_fresh of_values n stage room = tt
 
-  pub pop_loads_read : (r : Ring) (n : ℕ) (room : Room r) → GoesOn (popping r capacity pops.TheVariants.LoadsRead room) (popping r capacity (pops.TheVariants.LoadsWrite n) room) n
+  pub pop_loads_read : (r : Ring) (n : ℕ) (room : Room r)
+      → GoesOn (popping r capacity pops.TheVariants.LoadsRead room) (popping r capacity (pops.TheVariants.LoadsWrite n) room) n
   pop_loads_read of_indices n room = record { comes = refl; quiet = refl }
   pop_loads_read of_values n room = record { comes = refl; quiet = refl }
 
   pub pop_loads_write : (r : Ring) (n found : ℕ) (room : Room r) → (capacity == 0) ≡ false → (found == n) ≡ false
-      → GoesOn (popping r capacity (pops.TheVariants.LoadsWrite n) room) (popping r capacity (pops.TheVariants.LoadsCell n (cell_word capacity (wide r) n) 0) room) found
+      → GoesOn (popping r capacity (pops.TheVariants.LoadsWrite n) room)
+      (popping r capacity (pops.TheVariants.LoadsCell n (cell_word capacity (wide r) n) 0) room) found
   pop_loads_write of_indices n found room s t = record { comes = rw (s, t) refl; quiet = rw (s, t) refl }
   pop_loads_write of_values n found room s t = record { comes = rw (s, t) refl; quiet = rw (s, t) refl }
 
   pub pop_loads_cell : (r : Ring) (n cell at found : ℕ) (room : Room r) → nat_lt (at + 1) (wide r) ≡ true
-      → GoesOn (popping r capacity (pops.TheVariants.LoadsCell n cell at) room) (popping r capacity (pops.TheVariants.LoadsCell n cell (at + 1)) (with_word r room at found)) found
+      → GoesOn (popping r capacity (pops.TheVariants.LoadsCell n cell at) room)
+      (popping r capacity (pops.TheVariants.LoadsCell n cell (at + 1)) (with_word r room at found)) found
   pop_loads_cell of_indices n cell at found room t = record { comes = rw t refl; quiet = refl }
   pop_loads_cell of_values n cell at found room t = record { comes = rw t refl; quiet = refl }
 
   pub pop_loads_last : (r : Ring) (n cell at found : ℕ) (room : Room r) → nat_lt (at + 1) (wide r) ≡ false
-      → GoesOn (popping r capacity (pops.TheVariants.LoadsCell n cell at) room) (popping r capacity (pops.TheVariants.StoresRead n) (with_word r room at found)) found
+      → GoesOn (popping r capacity (pops.TheVariants.LoadsCell n cell at) room)
+      (popping r capacity (pops.TheVariants.StoresRead n) (with_word r room at found)) found
   pop_loads_last of_indices n cell at found room t = record { comes = rw t refl; quiet = refl }
   pop_loads_last of_values n cell at found room t = record { comes = rw t refl; quiet = refl }
 
   -- what it read is this value
-  pub pop_ends : (r : Ring) (v : Val T (kind_of r)) (n found : ℕ) (room : Room r) → read_in code r room ≡ v → after_of code (popping r capacity (pops.TheVariants.StoresRead n) room) found ≡ Done (popped_item (Some (item (kind_of r) v)))
+  pub pop_ends : (r : Ring) (v : Val T (kind_of r)) (n found : ℕ) (room : Room r) → read_in code r room ≡ v
+      → after_of code (popping r capacity (pops.TheVariants.StoresRead n) room) found ≡ Done (popped_item (Some (item (kind_of r) v)))
   pop_ends of_indices v n found room is = ap (λ x. Done (answers.PoppedIndex x)) is
   pop_ends of_values v n found room is = ap (λ x. Done (answers.Popped x)) is
 
@@ -170,10 +188,18 @@ module _ {T : Type 0} (code : Coding T) (capacity : ℕ) where
   opens_with of_values = refl
 
   pub admits : (r : Ring) → capacity < 2 ^ 32 → capacity_error (machine_kind (kind_of r)) capacity ≡ None
-  admits of_indices small = (let most : nat_lt (2 ^ 32 - 1) capacity ≡ false = grind (arith, nat_tests) in let least : nat_lt capacity 0 ≡ false = grind (arith, nat_tests) in rw (most, least) refl)
-  admits of_values small = (let most : nat_lt (2 ^ 32 - 1) capacity ≡ false = grind (arith, nat_tests) in let least : nat_lt capacity 0 ≡ false = grind (arith, nat_tests) in rw (most, least) refl)
+  admits of_indices small =
+      (let most : nat_lt (2 ^ 32 - 1) capacity ≡ false = grind (arith, nat_tests) in
+      let least : nat_lt capacity 0 ≡ false = grind (arith, nat_tests) in
+      rw (most, least) refl)
+  admits of_values small =
+      (let most : nat_lt (2 ^ 32 - 1) capacity ≡ false = grind (arith, nat_tests) in
+      let least : nat_lt capacity 0 ≡ false = grind (arith, nat_tests) in
+      rw (most, least) refl)
 
-  pub acquire_named : (kd : QueueKind) (role : Role) (kept : Kept T) → ◌≡◌ {A = Option (Flight T)} (first_of (machine_kind kd) capacity (Queues (acquire_start role)) kept) (Some ((takes_role role).flight (record { word = role_word role }) tt))
+  pub acquire_named : (kd : QueueKind) (role : Role) (kept : Kept T)
+      → ◌≡◌ {A = Option (Flight T)} (first_of (machine_kind kd) capacity (Queues (acquire_start role)) kept)
+      (Some ((takes_role role).flight (record { word = role_word role }) tt))
   acquire_named IndexQueue Producer kept = refl
   acquire_named IndexQueue Consumer kept = refl
   acquire_named Overflow Producer kept = refl
@@ -181,7 +207,9 @@ module _ {T : Type 0} (code : Coding T) (capacity : ℕ) where
   acquire_named Queue Producer kept = refl
   acquire_named Queue Consumer kept = refl
 
-  pub release_named : (kd : QueueKind) (role : Role) (kept : Kept T) → ◌≡◌ {A = Option (Flight T)} (first_of (machine_kind kd) capacity (Queues (release_start role)) kept) (Some ((gives_role role).flight (record { word = role_word role }) tt))
+  pub release_named : (kd : QueueKind) (role : Role) (kept : Kept T)
+      → ◌≡◌ {A = Option (Flight T)} (first_of (machine_kind kd) capacity (Queues (release_start role)) kept)
+      (Some ((gives_role role).flight (record { word = role_word role }) tt))
   release_named IndexQueue Producer kept = refl
   release_named IndexQueue Consumer kept = refl
   release_named Overflow Producer kept = refl

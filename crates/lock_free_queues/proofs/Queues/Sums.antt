@@ -1,6 +1,7 @@
 -- What each call adds to how much its pass has published and taken out itself, what that says to who has the whole, and
 -- which roles a call moves.
-use Rattle.std.proofs.Common.{◌≡◌, ◌⊎◌, inl, inr, ℕ, ◌+◌, Bool, true, false, Some, None, List, [], ◌∷◌, ◌++◌, length, refl, sym, ap, subst, ◌∙◌, length-append, sum_by, arith}
+use Rattle.std.proofs.Common.{◌≡◌, ◌⊎◌, inl, inr, ℕ, ◌+◌, Bool, true, false, Some, None, List, [], ◌∷◌, ◌++◌, length}
+use Rattle.std.proofs.Common.{refl, sym, ap, subst, ◌∙◌, length-append, sum_by, arith}
 use Rattle.std.proofs.lemmas.List.Sums.{sum_by-append}
 use Rattle.steps.specs.declared.queues.roles.Role.{Role}
 use Rattle.steps.specs.declared.queues.roles.Role.TheVariants.{Producer, Consumer}
@@ -46,7 +47,10 @@ module _ {T : Type 0} where
 
     -- a push that was refused, or a look
     pub done_refused : (item : Item T) (taken : Bool) → taken ≡ false → HasPushed item taken old new ⊎ (taken ≡ false) × WasAtEnd old new → HasDone 0 0 old new
-    done_refused item taken is (inl h) = (let it : HasPushed item false old new = subst (λ b. HasPushed item b old new) is h in let d = done it.by _ _ _ old new it.called in record { puts_more = d.puts_more; gets_more = d.gets_more })
+    done_refused item taken is (inl h) =
+        (let it : HasPushed item false old new = subst (λ b. HasPushed item b old new) is h in
+        let d = done it.by _ _ _ old new it.called in
+        record { puts_more = d.puts_more; gets_more = d.gets_more })
     done_refused item taken is (inr h) = same_made h.1.made
       where
         same_made : new.made ≡ old.made → HasDone 0 0 old new
@@ -75,18 +79,37 @@ module _ {T : Type 0} where
 
     -- ---- what it moves of the roles
 
-    moves : (p : ℕ) (start : Start T) (answer : Answer T) → Called p start answer [] old new → (q : Role) (n m : ℕ) → takes q (Begun p start) ≡ 0 → gives q (Begun p start) ≡ 0
+    moves : (p : ℕ) (start : Start T) (answer : Answer T) → Called p start answer [] old new → (q : Role) (n m : ℕ)
+        → takes q (Begun p start) ≡ 0 → gives q (Begun p start) ≡ 0
         → takes q (Finished p start answer) ≡ n → gives q (Finished p start answer) ≡ m → Moved q n m old.made new.made
     moves p start answer call q n m a b c d =
         let t : sum_by (takes q) new.made ≡ sum_by (takes q) old.made + (0 + n) = made_more p start answer [] old new call (takes q) a n c in
         let g : sum_by (gives q) new.made ≡ sum_by (gives q) old.made + (0 + m) = made_more p start answer [] old new call (gives q) b m d in
         record { takes = omega arith; gives = omega arith }
 
-    pub acquired_moves : (role : Role) (taken : Bool) → HasAcquired role taken old new → (taken ≡ true → Moved role 1 0 old.made new.made) × (taken ≡ false → Moved role 0 0 old.made new.made) × Moved (other_role role) 0 0 old.made new.made
-    acquired_moves Producer true h = (λ is. moves h.by _ _ h.called Producer 1 0 refl refl refl refl, λ is. absurd (cc), moves h.by _ _ h.called Consumer 0 0 refl refl refl refl)
-    acquired_moves Producer false h = (λ is. absurd (cc), λ is. moves h.by _ _ h.called Producer 0 0 refl refl refl refl, moves h.by _ _ h.called Consumer 0 0 refl refl refl refl)
-    acquired_moves Consumer true h = (λ is. moves h.by _ _ h.called Consumer 1 0 refl refl refl refl, λ is. absurd (cc), moves h.by _ _ h.called Producer 0 0 refl refl refl refl)
-    acquired_moves Consumer false h = (λ is. absurd (cc), λ is. moves h.by _ _ h.called Consumer 0 0 refl refl refl refl, moves h.by _ _ h.called Producer 0 0 refl refl refl refl)
+    pub acquired_moves : (role : Role) (taken : Bool) → HasAcquired role taken old new
+        → (taken ≡ true → Moved role 1 0 old.made new.made) × (taken ≡ false → Moved role 0 0 old.made new.made)
+        × Moved (other_role role) 0 0 old.made new.made
+    acquired_moves Producer true h = (
+      λ is. moves h.by _ _ h.called Producer 1 0 refl refl refl refl,
+      λ is. absurd (cc),
+      moves h.by _ _ h.called Consumer 0 0 refl refl refl refl,
+    )
+    acquired_moves Producer false h = (
+      λ is. absurd (cc),
+      λ is. moves h.by _ _ h.called Producer 0 0 refl refl refl refl,
+      moves h.by _ _ h.called Consumer 0 0 refl refl refl refl,
+    )
+    acquired_moves Consumer true h = (
+      λ is. moves h.by _ _ h.called Consumer 1 0 refl refl refl refl,
+      λ is. absurd (cc),
+      moves h.by _ _ h.called Producer 0 0 refl refl refl refl,
+    )
+    acquired_moves Consumer false h = (
+      λ is. absurd (cc),
+      λ is. moves h.by _ _ h.called Consumer 0 0 refl refl refl refl,
+      moves h.by _ _ h.called Producer 0 0 refl refl refl refl,
+    )
 
     pub released_moves : (role : Role) → HasReleased role old new → Moved role 0 1 old.made new.made × Moved (other_role role) 0 0 old.made new.made
     released_moves Producer h = (moves h.by _ _ h.called Producer 0 1 refl refl refl refl, moves h.by _ _ h.called Consumer 0 0 refl refl refl refl)
@@ -105,7 +128,12 @@ module _ {T : Type 0} where
 
   pub all_puts : (events : List (Event T)) → sum_by puts events ≡ length (published events)
   all_puts [] = refl
-  all_puts (e ∷ es) = (let first = sum_first puts e es in let rest = all_puts es in let both = length-append (publishes e) (published es) in let one = put_once e in omega arith)
+  all_puts (e ∷ es) =
+      (let first = sum_first puts e es in
+      let rest = all_puts es in
+      let both = length-append (publishes e) (published es) in
+      let one = put_once e in
+      omega arith)
     where
       put_once : (x : Event T) → puts x ≡ length (publishes x)
       put_once (Published p item) = refl
@@ -113,12 +141,18 @@ module _ {T : Type 0} where
 
   pub all_gets : (events : List (Event T)) → sum_by gets events ≡ length (handed_out events)
   all_gets [] = refl
-  all_gets (e ∷ es) = (let first = sum_first gets e es in let rest = all_gets es in let both = length-append (hands_out e) (handed_out es) in let one = got_once e in omega arith)
+  all_gets (e ∷ es) =
+      (let first = sum_first gets e es in
+      let rest = all_gets es in
+      let both = length-append (hands_out e) (handed_out es) in
+      let one = got_once e in
+      omega arith)
     where
       got_once : (x : Event T) → gets x ≡ length (hands_out x)
       got_once (HandedOut p item) = refl
       got_once x = refl
 
   -- who has the whole share knows how much was published and taken out
-  pub whole_counted : (v : View T) → IsAll v.share → MissesNothing v → (length (published v.seen) ≡ sum_by puts v.made) × (length (handed_out v.seen) ≡ sum_by gets v.made)
+  pub whole_counted : (v : View T) → IsAll v.share → MissesNothing v
+      → (length (published v.seen) ≡ sum_by puts v.made) × (length (handed_out v.seen) ≡ sum_by gets v.made)
   whole_counted v all missing = (sym (all_puts v.seen) ∙ missing all puts, sym (all_gets v.seen) ∙ missing all gets)

@@ -35,7 +35,9 @@ module _ {T : Type 0} (m : Event T → List (Item T)) where
   counted (e ∷ es) = (let first = sum_first counts e es in let rest = counted es in let both = length-append (m e) (flat_map m es) in omega arith)
 
   -- who has the whole share has seen no more than it made
-  module _ (code : Coding T) (kind : Kind) (capacity : ℕ) (old new : View T) (es : List (Event T)) (all : IsAll old.share) (before : MissesNothing old) (goes : Goes code kind capacity old new) (made : new.made ≡ old.made ++ es) where
+  module _ (code : Coding T) (kind : Kind) (capacity : ℕ) (old new : View T) (es : List (Event T))
+      (all : IsAll old.share) (before : MissesNothing old) (goes : Goes code kind capacity old new)
+      (made : new.made ≡ old.made ++ es) where
     as_many : length (flat_map m new.seen) ≡ length (flat_map m old.seen) + length (flat_map m es)
     as_many =
         let was = before all counts in
@@ -51,25 +53,32 @@ module _ {T : Type 0} (m : Event T → List (Item T)) where
     nothing_more none =
         let long : length (flat_map m es) ≡ 0 = ap length none in
         let many = as_many in
-        none_more (flat_map m old.seen) (flat_map m goes.since.rest) (flat_map m new.seen) (ap (flat_map m) goes.since.is ∙ flat_map-append m old.seen goes.since.rest) (omega arith)
+        none_more (flat_map m old.seen) (flat_map m goes.since.rest) (flat_map m new.seen)
+        (ap (flat_map m) goes.since.is ∙ flat_map-append m old.seen goes.since.rest) (omega arith)
 
 -- where a pop finds nothing, all that was published was taken
-pub all_taken : {T : Type 0} (code : Coding T) (kd : QueueKind) (capacity : ℕ) (old new : View T) → IsAll old.share → MissesNothing old → Goes code (machine_kind kd) capacity old new → HasPopped None old new → (published new.seen ≡ published old.seen) × (handed_out new.seen ≡ published new.seen)
+pub all_taken : {T : Type 0} (code : Coding T) (kd : QueueKind) (capacity : ℕ) (old new : View T) → IsAll old.share
+    → MissesNothing old → Goes code (machine_kind kd) capacity old new → HasPopped None old new
+    → (published new.seen ≡ published old.seen) × (handed_out new.seen ≡ published new.seen)
 all_taken {T} code kd capacity old new all before goes popping =
     let p = popping.by in
     let es : List (Event T) = Begun p (Queues Pop) ∷ Acted p (Queues Pop) PoppedNone ∷ Finished p (Queues Pop) PoppedNone ∷ [] in
-    let out : published new.seen ≡ published old.seen = nothing_more publishes code (machine_kind kd) capacity old new es all before goes popping.called.made refl in
-    let took : handed_out new.seen ≡ handed_out old.seen = nothing_more hands_out code (machine_kind kd) capacity old new es all before goes popping.called.made refl in
+    let out : published new.seen ≡ published old.seen =
+    nothing_more publishes code (machine_kind kd) capacity old new es all before goes popping.called.made refl in
+    let took : handed_out new.seen ≡ handed_out old.seen =
+    nothing_more hands_out code (machine_kind kd) capacity old new es all before goes popping.called.made refl in
     let empty : FoundNone old new = found_none code kd capacity old new goes.history popping in
     let after : List (Event T) = Acted empty.by (Queues Pop) PoppedNone ∷ empty.after in
     let book = (listed_always code capacity new.seen kd goes.history empty.before after empty.is).book in
     let same : published empty.before ≡ published old.seen = between publishes empty.before after old new empty.since empty.is out in
     let taken : handed_out empty.before ≡ handed_out old.seen = between hands_out empty.before after old new empty.since empty.is took in
-    let rest : published empty.before ≡ handed_out empty.before = book ∙ (ap (λ xs. handed_out empty.before ++ xs) empty.empty ∙ append-nil (handed_out empty.before)) in
+    let rest : published empty.before ≡ handed_out empty.before =
+    book ∙ (ap (λ xs. handed_out empty.before ++ xs) empty.empty ∙ append-nil (handed_out empty.before)) in
     (out, took ∙ (sym taken ∙ (sym rest ∙ (same ∙ sym out))))
   where
     -- what stands between two that tell the same
-    between : (m : Event T → List (Item T)) (xs ys : List (Event T)) (v w : View T) → IsBeginning v.seen xs → w.seen ≡ xs ++ ys → flat_map m w.seen ≡ flat_map m v.seen → flat_map m xs ≡ flat_map m v.seen
+    between : (m : Event T → List (Item T)) (xs ys : List (Event T)) (v w : View T) → IsBeginning v.seen xs
+        → w.seen ≡ xs ++ ys → flat_map m w.seen ≡ flat_map m v.seen → flat_map m xs ≡ flat_map m v.seen
     between m xs ys v w low is same =
         let longer : flat_map m xs ≡ flat_map m v.seen ++ flat_map m low.rest = ap (flat_map m) low.is ∙ flat_map-append m v.seen low.rest in
         let whole : flat_map m w.seen ≡ flat_map m xs ++ flat_map m ys = ap (flat_map m) is ∙ flat_map-append m xs ys in

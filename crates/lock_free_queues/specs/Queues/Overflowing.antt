@@ -18,7 +18,9 @@ use Rattle.history.specs.History.{Called, IsHistory}
 use Rattle.history.specs.Overflow.{over_push_wrote, pushes_over}
 use Rattle.history.specs.Stages.{Calling}
 use Rattle.lock_free_queues.specs.Queues.Told.{WasAtEnd}
-pub use Rattle.lock_free_queues.specs.Queues.Rings.{Goes, MissesNothing, QueueId, queue_id, capacity_of, inner, token_queue, token_view, queue_of, producer_queue, consumer_queue, view, producer_view, consumer_view, IsPassOf, IsSameQueue}
+pub use Rattle.lock_free_queues.specs.Queues.Rings.{Goes, MissesNothing, QueueId, queue_id, capacity_of, inner}
+pub use Rattle.lock_free_queues.specs.Queues.Rings.{token_queue, token_view, queue_of, producer_queue, consumer_queue}
+pub use Rattle.lock_free_queues.specs.Queues.Rings.{view, producer_view, consumer_view, IsPassOf, IsSameQueue}
 
 -- it has seen a history of a queue of this capacity
 abbrev pub HasHistory : ℕ → View ℕ → Type 0

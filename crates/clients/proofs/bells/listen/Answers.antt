@@ -13,7 +13,8 @@ loop-preserved g c =
     let items : c.push.new.self.items ≡ c.loop.heard.items ++ c.in-Some.bell ∷ [] = grind (arith, common_steps) in (
       c.reset_next.ensures.goes_on.set ∙ c.loop.invariant.0,
       c.reset_next.ensures.goes_on.share ∙ c.loop.invariant.1,
-      hears [] c.loop.heard.items c.push.new.self.items c.in-Some.bell (made c.args.pass) (view c.loop.pass) (view c.reset_next.new.pass) c.in-Some.ensures.cleared items c.loop.invariant.2,
+      hears [] c.loop.heard.items c.push.new.self.items c.in-Some.bell (made c.args.pass) (view c.loop.pass)
+          (view c.reset_next.new.pass) c.in-Some.ensures.cleared items c.loop.invariant.2,
     )
 
 pub loop-preserved-in-None : goal.loop-preserved-in-None

@@ -8,7 +8,13 @@ use Rattle.clients.proofs.Rings.{rings, rings_again, none_rung, rang_on}
 use Rattle.clients.proofs.bells.ring.Goals as goal
 
 pub loop-at-init : goal.loop-at-init
-loop-at-init g c = (search rules, refl, refl, subst (λ z. HasRung z (made c.args.pass)) (sym c.new-rung.ensures.items) (none_rung (made c.args.pass) c.requires.1), All-nil (λ bell. 1 ≤ sets bell (history c.args.pass)))
+loop-at-init g c = (
+  search rules,
+  refl,
+  refl,
+  subst (λ z. HasRung z (made c.args.pass)) (sym c.new-rung.ensures.items) (none_rung (made c.args.pass) c.requires.1),
+  All-nil (λ bell. 1 ≤ sets bell (history c.args.pass)),
+)
 
 pub loop-at-preserved : goal.loop-at-preserved
 loop-at-preserved g c =
@@ -38,4 +44,7 @@ loop-at-preserved-then-not-set g c =
     )
 
 pub returns-clause-all : goal.returns-clause-all
-returns-clause-all g c = subst (λ xs. WereSet xs (history c.loop-at.pass)) (take_all c.loop-at.at c.args.bells.now (let e = c.loop-at.invariant.0 in let past = c.loop-at-test.false in omega arith)) c.loop-at.invariant.4
+returns-clause-all g c =
+    subst (λ xs. WereSet xs (history c.loop-at.pass))
+    (take_all c.loop-at.at c.args.bells.now (let e = c.loop-at.invariant.0 in let past = c.loop-at-test.false in omega arith))
+    c.loop-at.invariant.4

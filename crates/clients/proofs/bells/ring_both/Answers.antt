@@ -10,7 +10,8 @@ returns-clause-rung g c =
     let two = c.in_ok-further in
     let h : HasRung one.rung.items (made one.pass) = search rules in
     let k : HasRung two.also.items (made two.further) = search rules in
-    subst (BothRung one.rung.items two.also.items) (sym c.join.ensures.joined.made) (both_rung one.rung.items two.also.items (made one.pass) (made two.further) h k)
+    subst (BothRung one.rung.items two.also.items) (sym c.join.ensures.joined.made)
+    (both_rung one.rung.items two.also.items (made one.pass) (made two.further) h k)
 
 pub returns-clause-all : goal.returns-clause-all
 returns-clause-all g c =

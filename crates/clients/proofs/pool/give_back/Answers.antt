@@ -14,7 +14,8 @@ release_raw_index-requires-clause-held c =
     let xs = c.args.indices.now in
     let at = c.loop-at.at in
     let inv = c.loop-at.invariant in
-    held_first (get_or xs at 0) (drop (at + 1) xs) (view c.loop-at.pass) inv.3 (subst (λ ys. HeldBy ys (made c.loop-at.pass)) (next xs at c.loop-at-test.true) inv.4)
+    held_first (get_or xs at 0) (drop (at + 1) xs) (view c.loop-at.pass) inv.3
+    (subst (λ ys. HeldBy ys (made c.loop-at.pass)) (next xs at c.loop-at-test.true) inv.4)
 
 pub loop-at-preserved : goal.loop-at-preserved
 loop-at-preserved c =
@@ -26,7 +27,8 @@ loop-at-preserved c =
       gave.ensures.goes_on.set ∙ inv.1,
       gave.ensures.goes_on.share ∙ inv.2,
       gave.ensures.goes_on.sound,
-      held_given (view c.loop-at.pass) (view gave.new.pass) (drop (at + 1) xs) (get_or xs at 0) gave.result (subst (λ ys. HeldBy ys (made c.loop-at.pass)) (next xs at c.loop-at-test.true) inv.4) gave.ensures.given,
+      held_given (view c.loop-at.pass) (view gave.new.pass) (drop (at + 1) xs) (get_or xs at 0) gave.result
+          (subst (λ ys. HeldBy ys (made c.loop-at.pass)) (next xs at c.loop-at-test.true) inv.4) gave.ensures.given,
     )
 
 pub returns-clause-held : goal.returns-clause-held

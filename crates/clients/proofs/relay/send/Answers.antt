@@ -13,12 +13,24 @@ loop-init g c =
     (told.0, omega arith, sent_none _ c.args.numbers.now roles.Producer _ _ told.1 told.2)
 
 pub loop-preserved-then-push : goal.loop-preserved-then-push
-loop-preserved-then-push g c =
-    (search rules, omega arith, sends _ c.args.numbers.now c.loop.next _ _ (view c.args.pass) (producer_view c.loop.producer) (producer_view c.push.new.self) c.if-next-numbers.false refl c.loop.invariant.2 c.push.ensures.goes c.if-push.true c.push.ensures.called (c.push.ensures.pushed c.if-push.true))
+loop-preserved-then-push g c = (
+  search rules,
+  omega arith,
+  sends _ c.args.numbers.now c.loop.next _ _ (view c.args.pass) (producer_view c.loop.producer)
+      (producer_view c.push.new.self) c.if-next-numbers.false refl c.loop.invariant.2 c.push.ensures.goes
+      c.if-push.true c.push.ensures.called (c.push.ensures.pushed c.if-push.true),
+)
 
 pub loop-preserved : goal.loop-preserved
-loop-preserved g c =
-    (search rules, search rules, sends_none _ _ _ _ (view c.args.pass) (producer_view c.loop.producer) (producer_view c.push.new.self) c.loop.invariant.2 c.push.ensures.goes c.if-push.false c.push.ensures.called (c.push.ensures.full c.if-push.false))
+loop-preserved g c = (
+  search rules,
+  search rules,
+  sends_none _ _ _ _ (view c.args.pass) (producer_view c.loop.producer) (producer_view c.push.new.self)
+      c.loop.invariant.2 c.push.ensures.goes c.if-push.false c.push.ensures.called
+      (c.push.ensures.full c.if-push.false),
+)
 
 pub returns-then-next-numbers-clause-sent : goal.returns-then-next-numbers-clause-sent
-returns-then-next-numbers-clause-sent g c = sent_all _ c.args.numbers.now c.loop.next roles.Producer (view c.args.pass) (producer_view c.loop.producer) _ c.if-next-numbers.true c.loop.invariant.2 c.release.ensures.goes c.release.ensures.released c.release.ensures.list
+returns-then-next-numbers-clause-sent g c =
+    sent_all _ c.args.numbers.now c.loop.next roles.Producer (view c.args.pass) (producer_view c.loop.producer) _
+    c.if-next-numbers.true c.loop.invariant.2 c.release.ensures.goes c.release.ensures.released c.release.ensures.list

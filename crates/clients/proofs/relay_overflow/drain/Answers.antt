@@ -4,7 +4,7 @@ use Rattle.std.specs.Option.{option_map}
 use Rattle.lock_free.specs.Queues.Item.TheVariants.{Index}
 use Rattle.lock_free.specs.Queues.Overflowing.{consumer_view, consumer_queue, QueueId}
 use Rattle.lock_free.specs.Queues.Told.{HasPopped}
-use Rattle.clients.proofs.Merging.{takes_here, takes_one, drained}
+use Rattle.clients.proofs.TakenOut.{takes_here, takes_one, drained}
 use Rattle.clients.proofs.relay_overflow.drain.Goals as goal
 
 pub loop-init : goal.loop-init
@@ -19,7 +19,9 @@ loop-preserved g c =
       c.loop.invariant.1 ++ c.in-Some-pop.number ∷ [],
       items ∙ (ap (λ z. z ++ c.in-Some-pop.number ∷ []) c.loop.invariant.2 ∙ append_assoc _ c.loop.invariant.1 (c.in-Some-pop.number ∷ [])),
       λ some. (let wide : 0 < (consumer_queue c.loop.consumer).capacity = subst (λ n. 0 < n) (sym same) some in
-          takes_one _ _ _ _ _ _ (c.loop.invariant.3 some) (c.pop.ensures.goes wide) (subst (λ o. HasPopped (option_map Index o) (consumer_view c.loop.consumer) (consumer_view c.pop.new.self)) is (c.pop.ensures.called wide))),
+          takes_one _ _ _ _ _ _ (c.loop.invariant.3 some) (c.pop.ensures.goes wide)
+          (subst (λ o. HasPopped (option_map Index o) (consumer_view c.loop.consumer) (consumer_view c.pop.new.self))
+          is (c.pop.ensures.called wide))),
     )
 
 pub returns-in-None-pop-clause-drained : goal.returns-in-None-pop-clause-drained
@@ -27,4 +29,6 @@ returns-in-None-pop-clause-drained g c some =
     let same = ap (λ (q : QueueId). q.capacity) c.loop.invariant.0 in
     let wide : 0 < (consumer_queue c.loop.consumer).capacity = subst (λ n. 0 < n) (sym same) some in
     let is : c.pop.result ≡ None = first_of (search rules, grind (arith, common_steps)) in
-    drained _ _ _ c.loop.invariant.1 _ _ _ c.loop.invariant.2 (c.loop.invariant.3 some) (c.pop.ensures.goes wide) (subst (λ o. HasPopped (option_map Index o) (consumer_view c.loop.consumer) (consumer_view c.pop.new.self)) is (c.pop.ensures.called wide))
+    drained _ _ _ c.loop.invariant.1 _ _ _ c.loop.invariant.2 (c.loop.invariant.3 some) (c.pop.ensures.goes wide)
+    (subst (λ o. HasPopped (option_map Index o) (consumer_view c.loop.consumer) (consumer_view c.pop.new.self)) is
+    (c.pop.ensures.called wide))

@@ -21,7 +21,11 @@ returns g c =
     let pop : 0 < (queue_of c.in_ok-other.other).capacity → HasTaken came (view c.in_ok-other.other) (view c.in_ok-further.further) = search rules in
     let pushed : HasPushedUpTo all back (view c.split.new.self) (view c.in_ok-pass.pass) = push (first_of (search rules, grind (arith, common_steps))) in
     let popped : HasTaken came (view c.in_ok-other.other) (view c.in_ok-further.further) = pop (first_of (search rules, grind (arith, common_steps))) in
-    let drains : 0 < (consumer_queue c.in-Ok.consumer).capacity → HasDrained came c.drain.new.numbers.items (consumer_view c.in-Ok.consumer) (consumer_view c.drain.new.consumer) = search rules in
-    let drain : HasDrained came c.drain.new.numbers.items (consumer_view c.in-Ok.consumer) (consumer_view c.drain.new.consumer) = drains (first_of (search rules, grind (arith, common_steps))) in
+    let drains : 0 < (consumer_queue c.in-Ok.consumer).capacity
+    → HasDrained came c.drain.new.numbers.items (consumer_view c.in-Ok.consumer) (consumer_view c.drain.new.consumer) =
+    search rules in
+    let drain : HasDrained came c.drain.new.numbers.items (consumer_view c.in-Ok.consumer) (consumer_view c.drain.new.consumer) =
+    drains (first_of (search rules, grind (arith, common_steps))) in
     let fits : length all < 2 ^ 64 - 1 = first_of (search rules, grind (arith, common_steps)) in
-    overflowed _ 4 roles.Consumer all back came c.drain.new.numbers.items _ _ _ _ _ _ _ _ fits first cut pushed popped c.join.ensures.joined c.join.ensures.all c.in-Ok.ensures.acquired.1 c.in-Ok.ensures.acquired.2 drain
+    overflowed _ 4 roles.Consumer all back came c.drain.new.numbers.items _ _ _ _ _ _ _ _ fits first cut pushed
+    popped c.join.ensures.joined c.join.ensures.all c.in-Ok.ensures.acquired.1 c.in-Ok.ensures.acquired.2 drain

@@ -12,9 +12,17 @@ loop-next-init c =
     (told.0, refl, written_none c.args.readings.now _ _ told.1 told.2)
 
 pub loop-next-preserved : goal.loop-next-preserved
-loop-next-preserved c =
-    (search rules, search rules, writes c.args.readings.now c.loop-next.next _ _ (view c.args.pass) (producer_view c.loop-next.producer) (producer_view c.store.new.self) (let e = c.loop-next.invariant.1 in let lt = c.loop-next-test.true in omega arith) refl c.loop-next.invariant.2 c.store.ensures.goes (c.store.ensures.stored (search rules)))
+loop-next-preserved c = (
+  search rules,
+  search rules,
+  writes c.args.readings.now c.loop-next.next _ _ (view c.args.pass) (producer_view c.loop-next.producer)
+      (producer_view c.store.new.self)
+      (let e = c.loop-next.invariant.1 in let lt = c.loop-next-test.true in omega arith) refl c.loop-next.invariant.2
+      c.store.ensures.goes (c.store.ensures.stored (search rules)),
+)
 
 pub returns-clause-written : goal.returns-clause-written
 returns-clause-written c =
-    written_all c.args.readings.now c.loop-next.next (view c.args.pass) (producer_view c.loop-next.producer) (view c.release.result) (let e = c.loop-next.invariant.1 in let past = c.loop-next-test.false in omega arith) c.loop-next.invariant.2 c.release.ensures.goes c.release.ensures.released
+    written_all c.args.readings.now c.loop-next.next (view c.args.pass) (producer_view c.loop-next.producer)
+    (view c.release.result) (let e = c.loop-next.invariant.1 in let past = c.loop-next-test.false in omega arith)
+    c.loop-next.invariant.2 c.release.ensures.goes c.release.ensures.released

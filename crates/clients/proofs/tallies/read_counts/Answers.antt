@@ -36,5 +36,6 @@ loop-bell-preserved c =
       push_length c.push.new.self.items c.loop-bell.read.items c.set-count.result bell items inv.3,
       λ b. (count_adds (view old) (view new) bell c.set-count.result counted b).1 ∙ inv.4 b,
       before,
-      read_on (λ b. (counts b (made c.args.pass.now) - takes b (made c.args.pass.now)) % 2 ^ 64) c.push.new.self.items c.loop-bell.read.items c.set-count.result bell items inv.3 inv.6 here,
+      read_on (λ b. (counts b (made c.args.pass.now) - takes b (made c.args.pass.now)) % 2 ^ 64)
+          c.push.new.self.items c.loop-bell.read.items c.set-count.result bell items inv.3 inv.6 here,
     )

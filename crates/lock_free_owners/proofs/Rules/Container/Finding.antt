@@ -1,5 +1,6 @@
 -- What the closure of a find on a container was called with so far.
-use Rattle.std.proofs.Common.{◌≡◌, ℕ, ◌+◌, ◌^◌, ◌<◌, ◌≤◌, ◌==◌, nat_lt, Bool, true, false, inl, inr, List, [], ◌∷◌, ◌++◌, length, refl, sym, ap, subst, ◌∙◌, arith, length-append}
+use Rattle.std.proofs.Common.{◌≡◌, ℕ, ◌+◌, ◌^◌, ◌<◌, ◌≤◌, ◌==◌, nat_lt, Bool, true, false, inl, inr, List, [], ◌∷◌}
+use Rattle.std.proofs.Common.{◌++◌, length, refl, sym, ap, subst, ◌∙◌, arith, length-append}
 use Rattle.std.specs.Prelude.{Contains}
 use Rattle.std.specs.List.{All, FoldsTo}
 use Rattle.std.proofs.lemmas.Fn.{FoldsTo-push}
@@ -227,11 +228,14 @@ module _ {T F : Type 0} (step : F → T → ContainerHandle → CallbackProgress
         pub quietly : cap < 2 ^ 32 → (stage : finds.FindStage) → IsQuiet stage → FindStage size cap stage → (copies : List (ℕ × T)) (room : R) (p : F) (k : ℕ)
             → SoFar stage copies (value_of room) p → StepsOnward stage copies room k p
         quietly small (finds.TheVariants.LoadsCell index found) still at copies room p k so =
-            by_eq (λ a. Onward a copies (value_of room) p) k owner (GoOn (at_find c (finds.TheVariants.LoadsCount index (one_more found)))) (find_comes_to c (index + 1) found)
+            by_eq (λ a. Onward a copies (value_of room) p) k owner
+            (GoOn (at_find c (finds.TheVariants.LoadsCount index (one_more found))))
+            (find_comes_to c (index + 1) found)
             (λ e. (found, (let l = at.0 in let few = at.1 in omega arith), so))
             (λ ne. comes (index + 1) found copies (value_of room) p (came_on index found (told copies) p so))
         quietly small (finds.TheVariants.LoadsCount index found) still at copies room p k so =
-            by_test (λ a. Onward a copies (value_of room) p) (is_even k) (find_comes_to c (index + 1) found) (GoOn (at_find c (finds.TheVariants.LoadsWord index found k 0)))
+            by_test (λ a. Onward a copies (value_of room) p) (is_even k) (find_comes_to c (index + 1) found)
+            (GoOn (at_find c (finds.TheVariants.LoadsWord index found k 0)))
             (λ t. passes index found copies (value_of room) p at.0 so)
             (λ t. so)
         quietly small (finds.TheVariants.LoadsWord index found count place) still at copies room p k so =

@@ -1,5 +1,7 @@
 -- What the closure of a recovery on a container was asked so far.
-use Rattle.std.proofs.Common.{◌≡◌, ℕ, ◌+◌, ◌<◌, ◌≤◌, nat_lt, Bool, true, false, true≢false, ◌==◌, Some, None, List, [], ◌∷◌, ◌++◌, length, append-nil, refl, sym, ap, ◌∙◌, subst, arith, if◌then◌else◌, length-append}
+use Rattle.std.proofs.Common.{◌≡◌, ℕ, ◌+◌, ◌<◌, ◌≤◌, nat_lt, Bool, true, false, true≢false, ◌==◌, Some, None, List, []}
+use Rattle.std.proofs.Common.{◌∷◌, ◌++◌, length, append-nil, refl, sym, ap, ◌∙◌, subst, arith, if◌then◌else◌}
+use Rattle.std.proofs.Common.{length-append}
 use Rattle.std.specs.List.{All, FoldsTo}
 use Rattle.std.proofs.lemmas.Fn.{FoldsTo-push}
 use Rattle.std.proofs.lemmas.List.Elements.{All-nil, All-push, All-weaker}
@@ -18,8 +20,10 @@ use Rattle.steps.specs.declared.container.recover.DeadOwner.{DeadOwner}
 use Rattle.steps.specs.declared.container.recover.RecoverStage as recovers
 use Rattle.steps.specs.Indices.Robust.Parts.{locked, raise_after, first_lock, lock_after}
 use Rattle.steps.specs.Container.Layout.{is_even}
-use Rattle.steps.specs.Container.Recover.{goes_to, recover_comes_to, recover_sees, recover_ends, recover_raised, recover_locked, recover_raises, recover_keeps, recover_takes}
-use Rattle.history.specs.ContainerRecovery.{RecoverIn, Came, HasFound, HasFreed, MayCome, with_last, told, freed, hides, came_locked, seen_under, visits_after, IsToFree, IsFreed}
+use Rattle.steps.specs.Container.Recover.{goes_to, recover_comes_to, recover_sees, recover_ends, recover_raised}
+use Rattle.steps.specs.Container.Recover.{recover_locked, recover_raises, recover_keeps, recover_takes}
+use Rattle.history.specs.ContainerRecovery.{RecoverIn, Came, HasFound, HasFreed, MayCome, with_last, told, freed}
+use Rattle.history.specs.ContainerRecovery.{hides, came_locked, seen_under, visits_after, IsToFree, IsFreed}
 use Rattle.history.specs.ContainerRecovery as came
 use Rattle.history.proofs.CallsIn.{by_bool}
 use Rattle.lock_free_owners.specs.Container.Questions.{Answered, AnswersAscend, asks, TakesValues}
@@ -225,7 +229,8 @@ module _ {T F : Type 0} (step : F → T → Bool → F → Type 0) (cap : ℕ) (
       module _ (value_of : R → T) (with_word : R → ℕ → ℕ → R) where
         abbrev pub StepsOnward : recovers.RecoverStage → Visits → R → ℕ → F → Type 0
         StepsOnward stage visits room k p =
-            Onward (recover_takes size c stage given k) (visits_after given.owner stage k (value_of room) visits) (value_of (recover_keeps with_word stage room k)) p
+            Onward (recover_takes size c stage given k) (visits_after given.owner stage k (value_of room) visits)
+            (value_of (recover_keeps with_word stage room k)) p
 
         pub quietly : (stage : recovers.RecoverStage) → IsQuiet stage → RecoverIn size cap given.mode stage → (visits : Visits) (room : R) (p : F) (k : ℕ)
             → SoFar stage visits (value_of room) p → StepsOnward stage visits room k p
@@ -287,7 +292,10 @@ module _ {T F : Type 0} (step : F → T → Bool → F → Type 0) (cap : ℕ) (
             by_bool (k == counter)
             (λ e. so_then (value_of room) p (recover_takes size c (recovers.TheVariants.Locks index (locks.TheVariants.ExchangesCounter counter)) given k)
             (recover_comes_to c (index + 1))
-            (visits_after given.owner (recovers.TheVariants.Locks index (locks.TheVariants.ExchangesCounter counter)) k (value_of room) visits) ((index, next) ∷ before)
+            (visits_after given.owner
+            (recovers.TheVariants.Locks index (locks.TheVariants.ExchangesCounter counter)) k (value_of room)
+            visits)
+            ((index, next) ∷ before)
             (rw e refl) (rw e (ap (with_last came_locked) so.0.3))
             (comes (index + 1) ((index, next) ∷ before) (value_of room) p (omega arith)
             (further index (HasFreed found hid false) next before p refl (so.0.4, (λ t. at.0)) (subst (λ vs. Asked (index + 1) vs p) so.0.3 so.1))))

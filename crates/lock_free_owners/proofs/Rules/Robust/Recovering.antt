@@ -1,6 +1,7 @@
 -- What the closures of a recovery were called with so far.
 use mathlib.Core.List.{map-append}
-use Rattle.std.proofs.Common.{◌≡◌, ℕ, ◌+◌, ◌<◌, ◌≤◌, ◌==◌, nat_lt, Bool, true, false, List, [], ◌∷◌, ◌++◌, map, filter, append-nil, refl, sym, ap, ◌∙◌, subst, arith}
+use Rattle.std.proofs.Common.{◌≡◌, ℕ, ◌+◌, ◌<◌, ◌≤◌, ◌==◌, nat_lt, Bool, true, false, List, [], ◌∷◌, ◌++◌, map, filter}
+use Rattle.std.proofs.Common.{append-nil, refl, sym, ap, ◌∙◌, subst, arith}
 use Rattle.std.specs.List.{All, FoldsTo}
 use Rattle.std.proofs.lemmas.Fn.{FoldsTo-push}
 use Rattle.std.proofs.lemmas.List.{length-map, get_or-map}
@@ -20,9 +21,12 @@ use Rattle.steps.specs.declared.indices.robust.recover.RecoverStage as recovers
 use Rattle.steps.specs.Indices.Robust.Parts.{empty, locked, raise_after, lock_after}
 use Rattle.steps.specs.Indices.Robust.Recover.{at_recover, recover_comes_to, recover_raised, recover_locked, recover_takes}
 use Rattle.model.specs.Turns.{number_of}
-use Rattle.history.specs.Robust.{Came, HasAsked, WasTold, HasFreed, HasLocked, Visit, visit, came_to, HasCome, VisitsAt, visits_locked, visits_taken, visits_after}
+use Rattle.history.specs.Robust.{Came, HasAsked, WasTold, HasFreed, HasLocked, Visit, visit, came_to, HasCome}
+use Rattle.history.specs.Robust.{VisitsAt, visits_locked, visits_taken, visits_after}
 use Rattle.history.proofs.RobustVisits.{came_last}
-use Rattle.lock_free_owners.specs.Robust.Callable.{Owned, Asked, IsOwned, TheyAscend, QuestionsAscend, WasAgreed, asks, tells, TakesQuestions, TakesFreed, was_freed, owned_at, question_at, questions_of, freed_of}
+use Rattle.lock_free_owners.specs.Robust.Callable.{Owned, Asked, IsOwned, TheyAscend, QuestionsAscend, WasAgreed, asks}
+use Rattle.lock_free_owners.specs.Robust.Callable.{tells, TakesQuestions, TakesFreed, was_freed, owned_at, question_at}
+use Rattle.lock_free_owners.specs.Robust.Callable.{questions_of, freed_of}
 use Rattle.lock_free_owners.specs.Robust.Stages.{RecoverAsks, RecoverMoves, GoesQuietly, HasPassedTo, HasPassed, PassesCells, LooksAgain, has_freed}
 
 -- what is known of the lock and of the index where a closure may be called
@@ -360,8 +364,11 @@ module _ {F S : Type 0} (step : F → ℕ → ℕ → Bool → F → Type 0) (te
 
 -- ---- the closures at an equal capacity
 
-pub questions_at : {F : Type 0} {pre : F → ℕ → ℕ → Type 0} {step : F → ℕ → ℕ → Bool → F → Type 0} {a b : ℕ} {f : F} → a ≡ b → TakesQuestions pre step a f → TakesQuestions pre step b f
+pub questions_at : {F : Type 0} {pre : F → ℕ → ℕ → Type 0} {step : F → ℕ → ℕ → Bool → F → Type 0} {a b : ℕ} {f : F}
+    → a ≡ b → TakesQuestions pre step a f → TakesQuestions pre step b f
 questions_at {F} {pre} {step} {a} {b} {f} e h = subst (λ z. TakesQuestions pre step z f) e h
 
-pub freed_at : {F S : Type 0} {step : F → ℕ → ℕ → Bool → F → Type 0} {pre : S → ℕ → ℕ → Type 0} {tell : S → ℕ → ℕ → S → Type 0} {a b : ℕ} {f : F} {s : S} → a ≡ b → TakesFreed step pre tell a f s → TakesFreed step pre tell b f s
+pub freed_at : {F S : Type 0} {step : F → ℕ → ℕ → Bool → F → Type 0} {pre : S → ℕ → ℕ → Type 0}
+    {tell : S → ℕ → ℕ → S → Type 0} {a b : ℕ} {f : F} {s : S}
+    → a ≡ b → TakesFreed step pre tell a f s → TakesFreed step pre tell b f s
 freed_at {F} {S} {step} {pre} {tell} {a} {b} {f} {s} e h = subst (λ z. TakesFreed step pre tell z f s) e h

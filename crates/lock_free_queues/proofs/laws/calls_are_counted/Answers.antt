@@ -1,4 +1,5 @@
-use Rattle.lock_free_queues.proofs.Queues.Sums.{done_pushed, done_refused, done_added, done_replaced, done_popped, done_none, done_acquired, done_released, done_measured}
+use Rattle.lock_free_queues.proofs.Queues.Sums.{done_pushed, done_refused, done_added, done_replaced, done_popped}
+use Rattle.lock_free_queues.proofs.Queues.Sums.{done_none, done_acquired, done_released, done_measured}
 use Rattle.lock_free_queues.proofs.laws.calls_are_counted.Goals as goal
 
 pub returns-clause-pushed : goal.returns-clause-pushed

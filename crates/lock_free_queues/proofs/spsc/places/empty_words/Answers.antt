@@ -7,7 +7,8 @@ use Rattle.lock_free_queues.proofs.spsc.places.empty_words.Goals as goal
 abbrev written_over : List ℕ → ℕ → List ℕ
 written_over words start = set (set (set (set words 0 start) 1 start) 2 1) 3 1
 
-empty : (cells start : ℕ) (words : List ℕ) → words ≡ replicate (4 + cells + 1) 0 → written_over words start ≡ start ∷ start ∷ 1 ∷ 1 ∷ (replicate cells 0 ++ 0 ∷ [])
+empty : (cells start : ℕ) (words : List ℕ) → words ≡ replicate (4 + cells + 1) 0
+    → written_over words start ≡ start ∷ start ∷ 1 ∷ 1 ∷ (replicate cells 0 ++ 0 ∷ [])
 empty cells start words same =
     let long : 4 + cells + 1 ≡ suc (suc (suc (suc (cells + 1)))) = omega arith in
     ap (λ ws. written_over ws start) same ∙ (ap (λ n. written_over (replicate n 0) start) long ∙ ap (λ zs. start ∷ start ∷ 1 ∷ 1 ∷ zs) (one_more cells))

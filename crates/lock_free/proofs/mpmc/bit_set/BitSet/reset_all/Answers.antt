@@ -15,11 +15,13 @@ returns-then-capacity-eq0-clause-stood g c =
     let mine = c.args.pass.now in
     let same = ap (λ (z : SetId). z.capacity) c.requires.pass in
     subst (λ n. MissedNoPlace n (seen c.clear_none.new.seated)) same
-    (missed_none (λ p x q. given.F-step g p x tt q) mine.capacity c.args.visit (seen mine.seated) (seen c.clear_none.new.seated) mine.known c.clear_none.ensures.done c.clear_none.ensures.cleared)
+    (missed_none (λ p x q. given.F-step g p x tt q) mine.capacity c.args.visit (seen mine.seated)
+    (seen c.clear_none.new.seated) mine.known c.clear_none.ensures.done c.clear_none.ensures.cleared)
 
 pub returns-else-capacity-eq0-clause-stood : goal.returns-else-capacity-eq0-clause-stood
 returns-else-capacity-eq0-clause-stood g c =
     let mine = c.args.pass.now in
     let same = ap (λ (z : SetId). z.capacity) c.requires.pass in
     subst (λ n. MissedNoPlace n (seen c.clear_all.new.seated)) same
-    (missed_none (λ p x q. given.F-step g p x tt q) mine.capacity c.args.visit (seen mine.seated) (seen c.clear_all.new.seated) mine.known c.clear_all.ensures.done c.clear_all.ensures.cleared)
+    (missed_none (λ p x q. given.F-step g p x tt q) mine.capacity c.args.visit (seen mine.seated)
+    (seen c.clear_all.new.seated) mine.known c.clear_all.ensures.done c.clear_all.ensures.cleared)

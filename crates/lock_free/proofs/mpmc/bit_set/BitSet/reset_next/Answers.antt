@@ -25,4 +25,6 @@ returns-in-None-clause-clear g c none =
     let mine = c.args.pass.now in
     let base = seen mine.seated in
     let w = seen c.drive_on-end.new.self in
-    subst (λ n. AllClearOnce n w) (mine.known ∙ ap (λ (z : SetId). z.capacity) c.requires) (all_clear base w c.drive_on-end.result c.drive_on-end.new.room mine.idle c.drive_on-end.ensures.end (sym c.answer.ensures ∙ c.in-None.is))
+    subst (λ n. AllClearOnce n w) (mine.known ∙ ap (λ (z : SetId). z.capacity) c.requires)
+    (all_clear base w c.drive_on-end.result c.drive_on-end.new.room mine.idle c.drive_on-end.ensures.end
+    (sym c.answer.ensures ∙ c.in-None.is))

@@ -18,7 +18,8 @@ drive_on-end-requires-clause-at g c =
     let mine = c.args.pass.now in
     let v = seen mine.seated in
     subst (λ call. At one_word kinds.Bits (sets_place c.args.id) v v call _) (sym c.new.ensures)
-    (set_first c.args.id v _ (record { known = refl; idle = mine.idle; alone = mine.alone; some = mine.some.0 }) (subst (λ n. c.args.id < n) (sym (mine.known ∙ ap (λ (z : SetId). z.capacity) c.requires.pass)) c.requires.place))
+    (set_first c.args.id v _ (record { known = refl; idle = mine.idle; alone = mine.alone; some = mine.some.0 })
+    (subst (λ n. c.args.id < n) (sym (mine.known ∙ ap (λ (z : SetId). z.capacity) c.requires.pass)) c.requires.place))
 
 pub returns-clause-goes_on : goal.returns-clause-goes_on
 returns-clause-goes_on g c =
@@ -34,7 +35,8 @@ pub returns-clause-added : goal.returns-clause-added
 returns-clause-added g c =
     let base = seen c.args.pass.now.seated in
     let w = seen c.drive_on-end.new.self in
-    subst (λ b. HasSet c.args.id b base w) (sym c.answer.ensures) (added c.args.id base w c.drive_on-end.result c.drive_on-end.new.room c.args.pass.now.idle c.drive_on-end.ensures.end)
+    subst (λ b. HasSet c.args.id b base w) (sym c.answer.ensures)
+    (added c.args.id base w c.drive_on-end.result c.drive_on-end.new.room c.args.pass.now.idle c.drive_on-end.ensures.end)
 
 pub returns-clause-stood : goal.returns-clause-stood
 returns-clause-stood g c not =

@@ -7,7 +7,8 @@ use Rattle.history.specs.declared.view.View.{View}
 use Rattle.history.specs.History.{IsMachine}
 use Rattle.history.specs.Views.{joined_view, Looks}
 use Rattle.lock_free_sp.proofs.Shares.{positive}
-use Rattle.history.proofs.Passes.{joins, looks}
+use Rattle.history.proofs.Passes.{joins}
+use Rattle.history.proofs.PassLooks.{looks}
 use Rattle.lock_free.proofs.mpmc.bit_set.Pass.join.Goals as goal
 
 pub join_seat-requires : goal.join_seat-requires
@@ -18,12 +19,15 @@ join_seat-requires c =
       search rules,
       search rules,
       subst (λ (t : TableId). 0 < t.words) at (let size = mine.sized in omega arith),
-      joins one_word kinds.Bits _ mine.seated.seat.id c.args.other.seated.seat.id mine.seated.seat.me.0 c.args.other.seated.seat.me.0 mine.some.0 c.args.other.some.0 c.args.other.idle mine.alone c.args.other.alone,
+      joins one_word kinds.Bits _ mine.seated.seat.id c.args.other.seated.seat.id mine.seated.seat.me.0
+          c.args.other.seated.seat.me.0 mine.some.0 c.args.other.some.0 c.args.other.idle mine.alone c.args.other.alone,
     )
 
 -- what a look owes, where the seat knows this
 abbrev Owed : ℕ → ℕ → ℕ → ℕ → Me (Unit {0}) (View ℕ) → Type 0
-Owed key slots id word me = Allows (IsMachine one_word kinds.Bits key) slots id me word (λ n. n) (λ found new. Looks one_word kinds.Bits me.0.capacity me.0 new.0 × (new.1 ≡ []))
+Owed key slots id word me =
+    Allows (IsMachine one_word kinds.Bits key) slots id me word (λ n. n)
+    (λ found new. Looks one_word kinds.Bits me.0.capacity me.0 new.0 × (new.1 ≡ []))
 
 pub load-requires : goal.load-requires
 load-requires c =
@@ -34,8 +38,16 @@ load-requires c =
     let at : c.join_seat.new.seat.table_id ≡ c.deref-2.result.now.shared.table_id = search rules in
     let size : w.capacity ≡ c.deref-2.result.now.shared.key = search rules in
     let me : c.join_seat.new.seat.me ≡ (w, []) = search rules in
-    let owed : Owed w.capacity slots id (1 + c.elements.result) (w, []) = looks one_word kinds.Bits w.capacity slots id (1 + c.elements.result) w (let more = positive mine.seated.seat.me.0.share.part c.args.other.seated.seat.me.0.share.parts mine.some.0 c.args.other.some.1 in omega arith) in (
+    let owed : Owed w.capacity slots id (1 + c.elements.result) (w, []) =
+    looks one_word kinds.Bits w.capacity slots id (1 + c.elements.result) w
+    (let more = positive mine.seated.seat.me.0.share.part c.args.other.seated.seat.me.0.share.parts mine.some.0 c.args.other.some.1 in
+    omega arith) in (
       at,
-      (let wide = mine.sized in let e = c.elements.ensures in let old : c.join_seat.new.seat.table_id ≡ mine.seated.seat.table_id = search rules in let same = ap (λ (t : TableId). t.words) (sym at ∙ old) in omega arith),
-      subst (λ (m : Me (Unit {0}) (View ℕ)). Owed c.deref-2.result.now.shared.key slots id (1 + c.elements.result) m) (sym me) (subst (λ k. Owed k slots id (1 + c.elements.result) (w, [])) size owed),
+      (let wide = mine.sized in
+          let e = c.elements.ensures in
+          let old : c.join_seat.new.seat.table_id ≡ mine.seated.seat.table_id = search rules in
+          let same = ap (λ (t : TableId). t.words) (sym at ∙ old) in
+          omega arith),
+      subst (λ (m : Me (Unit {0}) (View ℕ)). Owed c.deref-2.result.now.shared.key slots id (1 + c.elements.result) m)
+          (sym me) (subst (λ k. Owed k slots id (1 + c.elements.result) (w, [])) size owed),
     )

@@ -14,23 +14,49 @@ step-after-requires-clause-at g c = (seen c.args.seated.now, c.loop-next.invaria
 
 pub visit_word-visit-requires-clause-visits : goal.visit_word-visit-requires-clause-visits
 visit_word-visit-requires-clause-visits g c n now few stood visited =
-    may_visit (λ p x q. given.F-step g p x tt q) c.args.capacity c.args.visit (seen c.args.seated.now) (seen c.loop-next.seated) (seen c.step-after.new.self) c.loop-next.call c.loop-next.room c.step-after.new.room c.step-after.ensures.taken.0 c.loop-next.visit c.requires.idle.idle c.loop-next.invariant.2 c.step-after.ensures.taken.2 c.step-after.result (sym c.step-after.ensures.taken.1)
+    may_visit (λ p x q. given.F-step g p x tt q) c.args.capacity c.args.visit (seen c.args.seated.now)
+    (seen c.loop-next.seated) (seen c.step-after.new.self) c.loop-next.call c.loop-next.room c.step-after.new.room
+    c.step-after.ensures.taken.0 c.loop-next.visit c.requires.idle.idle c.loop-next.invariant.2
+    c.step-after.ensures.taken.2 c.step-after.result (sym c.step-after.ensures.taken.1)
     c.step-after.ensures.told c.requires.visits n now few stood visited
 
 pub loop-next-init : goal.loop-next-init
 loop-next-init g c =
-    let start = first_so_far (λ p x q. given.F-step g p x tt q) c.args.capacity c.args.visit (seen c.args.seated.now) c.requires.idle c.requires.places in
-    ((refl, refl, refl), refl, subst (λ call. SoFar (λ p x q. given.F-step g p x tt q) c.args.capacity c.args.visit (seen c.args.seated.now) (seen c.args.seated.now) call fresh c.args.visit) (sym c.bits-call.ensures) start)
+    let start = first_so_far (λ p x q. given.F-step g p x tt q) c.args.capacity c.args.visit (seen c.args.seated.now) c.requires.idle c.requires.places in (
+      (refl, refl, refl),
+      refl,
+      subst (λ call. SoFar (λ p x q. given.F-step g p x tt q) c.args.capacity c.args.visit (seen c.args.seated.now)
+          (seen c.args.seated.now) call fresh c.args.visit)
+          (sym c.bits-call.ensures) start,
+    )
 
 pub loop-next-preserved : goal.loop-next-preserved
 loop-next-preserved g c = (
-  (c.step-after.ensures.same.0 ∙ c.loop-next.invariant.0.0, c.step-after.ensures.same.1 ∙ c.loop-next.invariant.0.1, c.step-after.ensures.same.2 ∙ c.loop-next.invariant.0.2),
+  (
+    c.step-after.ensures.same.0 ∙ c.loop-next.invariant.0.0,
+    c.step-after.ensures.same.1 ∙ c.loop-next.invariant.0.1,
+    c.step-after.ensures.same.2 ∙ c.loop-next.invariant.0.2,
+  ),
   c.step-after.ensures.capacity ∙ c.loop-next.invariant.1,
-  so_far_on (λ p x q. given.F-step g p x tt q) c.args.capacity c.args.visit (seen c.args.seated.now) (seen c.loop-next.seated) (seen c.step-after.new.self) c.loop-next.call c.loop-next.room c.step-after.new.room c.step-after.ensures.taken.0 c.loop-next.visit c.requires.idle.idle c.loop-next.invariant.2 c.step-after.ensures.taken.2 c.step-after.result (sym c.step-after.ensures.taken.1) c.step-after.ensures.told c.visit_word-visit.result c.visit_word-visit.ensures c.in-GoOn.next c.in-GoOn.is,
+  so_far_on (λ p x q. given.F-step g p x tt q) c.args.capacity c.args.visit (seen c.args.seated.now)
+      (seen c.loop-next.seated) (seen c.step-after.new.self) c.loop-next.call c.loop-next.room c.step-after.new.room
+      c.step-after.ensures.taken.0 c.loop-next.visit c.requires.idle.idle c.loop-next.invariant.2
+      c.step-after.ensures.taken.2 c.step-after.result (sym c.step-after.ensures.taken.1) c.step-after.ensures.told
+      c.visit_word-visit.result c.visit_word-visit.ensures c.in-GoOn.next c.in-GoOn.is,
 )
 
 pub returns-in-Done-clause-done : goal.returns-in-Done-clause-done
-returns-in-Done-clause-done g c = (cleared_all (λ p x q. given.F-step g p x tt q) c.args.capacity c.args.visit (seen c.args.seated.now) (seen c.loop-next.seated) (seen c.step-after.new.self) c.loop-next.call c.loop-next.room c.step-after.new.room c.step-after.ensures.taken.0 c.loop-next.visit c.requires.idle.idle c.loop-next.invariant.2 c.step-after.ensures.taken.2 c.step-after.result (sym c.step-after.ensures.taken.1) c.step-after.ensures.told c.visit_word-visit.result c.visit_word-visit.ensures c.in-Done.is).1
+returns-in-Done-clause-done g c =
+    (cleared_all (λ p x q. given.F-step g p x tt q) c.args.capacity c.args.visit (seen c.args.seated.now)
+    (seen c.loop-next.seated) (seen c.step-after.new.self) c.loop-next.call c.loop-next.room c.step-after.new.room
+    c.step-after.ensures.taken.0 c.loop-next.visit c.requires.idle.idle c.loop-next.invariant.2
+    c.step-after.ensures.taken.2 c.step-after.result (sym c.step-after.ensures.taken.1) c.step-after.ensures.told
+    c.visit_word-visit.result c.visit_word-visit.ensures c.in-Done.is).1
 
 pub returns-in-Done-clause-cleared : goal.returns-in-Done-clause-cleared
-returns-in-Done-clause-cleared g c = (cleared_all (λ p x q. given.F-step g p x tt q) c.args.capacity c.args.visit (seen c.args.seated.now) (seen c.loop-next.seated) (seen c.step-after.new.self) c.loop-next.call c.loop-next.room c.step-after.new.room c.step-after.ensures.taken.0 c.loop-next.visit c.requires.idle.idle c.loop-next.invariant.2 c.step-after.ensures.taken.2 c.step-after.result (sym c.step-after.ensures.taken.1) c.step-after.ensures.told c.visit_word-visit.result c.visit_word-visit.ensures c.in-Done.is).0
+returns-in-Done-clause-cleared g c =
+    (cleared_all (λ p x q. given.F-step g p x tt q) c.args.capacity c.args.visit (seen c.args.seated.now)
+    (seen c.loop-next.seated) (seen c.step-after.new.self) c.loop-next.call c.loop-next.room c.step-after.new.room
+    c.step-after.ensures.taken.0 c.loop-next.visit c.requires.idle.idle c.loop-next.invariant.2
+    c.step-after.ensures.taken.2 c.step-after.result (sym c.step-after.ensures.taken.1) c.step-after.ensures.told
+    c.visit_word-visit.result c.visit_word-visit.ensures c.in-Done.is).0

@@ -18,7 +18,9 @@ use Rattle.lock_free.proofs.mpmc.bit_set.calls.clear_none.Given as given
 
 -- what one look owes, where the seat knows this
 abbrev Owed : ℕ → ℕ → ℕ → Me (Unit {0}) (View ℕ) → Type 0
-Owed key slots id me = Allows (IsMachine one_word kinds.Bits key) slots id me 0 (λ n. n) (λ found new. Ends one_word kinds.Bits (empties_none clearing) me.0 tt (record { 0 = 0 }) new.0 × (new.1 ≡ []))
+Owed key slots id me =
+    Allows (IsMachine one_word kinds.Bits key) slots id me 0 (λ n. n)
+    (λ found new. Ends one_word kinds.Bits (empties_none clearing) me.0 tt (record { 0 = 0 }) new.0 × (new.1 ≡ []))
 
 pub load-requires : goal.load-requires
 load-requires g c =
@@ -28,16 +30,23 @@ load-requires g c =
     let size : v.capacity ≡ table.key = search rules in
     let none : v.capacity ≡ 0 = c.requires.idle.known ∙ c.requires.places in
     let me : t.seat.me ≡ (v, []) = λ i. (v, t.bare i) in
-    let owed : Owed v.capacity table.table_id.slots t.seat.id (v, []) = clear_none v table.table_id.slots t.seat.id 0 (record { known = refl; idle = c.requires.idle.idle; alone = c.requires.idle.alone; some = c.requires.idle.some }) none in (
+    let owed : Owed v.capacity table.table_id.slots t.seat.id (v, []) =
+    clear_none v table.table_id.slots t.seat.id 0
+    (record { known = refl; idle = c.requires.idle.idle; alone = c.requires.idle.alone; some = c.requires.idle.some })
+    none in (
       search rules,
       (let wide = c.requires.table.0 in let at : t.seat.table_id ≡ table.table_id = search rules in subst (λ (z : TableId). 0 < z.words) at (omega arith)),
-      subst (λ (m : Me (Unit {0}) (View ℕ)). Owed table.key table.table_id.slots t.seat.id m) (sym me) (subst (λ k. Owed k table.table_id.slots t.seat.id (v, [])) size owed),
+      subst (λ (m : Me (Unit {0}) (View ℕ)). Owed table.key table.table_id.slots t.seat.id m) (sym me)
+          (subst (λ k. Owed k table.table_id.slots t.seat.id (v, [])) size owed),
     )
 
 pub returns-clause-done : goal.returns-clause-done
-returns-clause-done g c = done kinds.Bits (empties_none clearing) (λ o p h. h) (seen c.args.seated.now) c.load.new.seat.me.0 tt (record { 0 = 0 }) c.load.ensures.2.0
+returns-clause-done g c =
+    done kinds.Bits (empties_none clearing) (λ o p h. h) (seen c.args.seated.now) c.load.new.seat.me.0 tt
+    (record { 0 = 0 }) c.load.ensures.2.0
 
 pub returns-clause-cleared : goal.returns-clause-cleared
 returns-clause-cleared g c =
     subst (λ n. HasCleanedOut (λ p x q. given.F-step g p x tt q) n c.args.visit (seen c.args.seated.now) c.load.new.seat.me.0) (sym c.requires.places)
-    (cleared_none (λ p x q. given.F-step g p x tt q) c.args.visit (seen c.args.seated.now) c.load.new.seat.me.0 (record { 0 = 0 }) c.requires.idle.idle c.load.ensures.2.0)
+    (cleared_none (λ p x q. given.F-step g p x tt q) c.args.visit (seen c.args.seated.now) c.load.new.seat.me.0
+    (record { 0 = 0 }) c.requires.idle.idle c.load.ensures.2.0)

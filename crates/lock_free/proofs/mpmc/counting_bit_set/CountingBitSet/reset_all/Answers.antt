@@ -15,11 +15,13 @@ returns-then-capacity-eq0-clause-stood g c =
     let mine = c.args.pass.now in
     let same = ap (λ (z : SetId). z.capacity) c.requires.pass in
     subst (λ n. MissedNoCount n (seen c.take_none.new.seated)) same
-    (missed_none (λ p x q. given.F-step g p x tt q) mine.capacity c.args.visit (seen mine.seated) (seen c.take_none.new.seated) mine.known c.take_none.ensures.done c.take_none.ensures.taken)
+    (missed_none (λ p x q. given.F-step g p x tt q) mine.capacity c.args.visit (seen mine.seated)
+    (seen c.take_none.new.seated) mine.known c.take_none.ensures.done c.take_none.ensures.taken)
 
 pub returns-else-capacity-eq0-clause-stood : goal.returns-else-capacity-eq0-clause-stood
 returns-else-capacity-eq0-clause-stood g c =
     let mine = c.args.pass.now in
     let same = ap (λ (z : SetId). z.capacity) c.requires.pass in
     subst (λ n. MissedNoCount n (seen c.take_all.new.seated)) same
-    (missed_none (λ p x q. given.F-step g p x tt q) mine.capacity c.args.visit (seen mine.seated) (seen c.take_all.new.seated) mine.known c.take_all.ensures.done c.take_all.ensures.taken)
+    (missed_none (λ p x q. given.F-step g p x tt q) mine.capacity c.args.visit (seen mine.seated)
+    (seen c.take_all.new.seated) mine.known c.take_all.ensures.done c.take_all.ensures.taken)

@@ -14,7 +14,9 @@ drive-old-requires-clause-rule c = count_keeps c.args.id
 pub drive-old-requires-clause-at : goal.drive-old-requires-clause-at
 drive-old-requires-clause-at c =
     let mine = c.args.pass.now in
-    count_first c.args.id (seen mine.seated) _ _ (record { known = refl; idle = mine.idle; alone = mine.alone; some = mine.some.0 }) (subst (λ n. c.args.id < n) (sym (mine.known ∙ ap (λ (z : SetId). z.capacity) c.requires.pass)) c.requires.place)
+    count_first c.args.id (seen mine.seated) _ _
+    (record { known = refl; idle = mine.idle; alone = mine.alone; some = mine.some.0 })
+    (subst (λ n. c.args.id < n) (sym (mine.known ∙ ap (λ (z : SetId). z.capacity) c.requires.pass)) c.requires.place)
 
 pub returns-clause-goes_on : goal.returns-clause-goes_on
 returns-clause-goes_on c =
@@ -30,10 +32,12 @@ pub returns-clause-counted : goal.returns-clause-counted
 returns-clause-counted c =
     let base = seen c.args.pass.now.seated in
     let w = seen c.drive-old.new.self in
-    subst (λ n. HasCounted c.args.id n base w) (sym c.answer.ensures) (counted c.args.id base w c.drive-old.result c.drive-old.new.room c.args.pass.now.idle c.drive-old.ensures.end)
+    subst (λ n. HasCounted c.args.id n base w) (sym c.answer.ensures)
+    (counted c.args.id base w c.drive-old.result c.drive-old.new.room c.args.pass.now.idle c.drive-old.ensures.end)
 
 pub returns-clause-answers : goal.returns-clause-answers
 returns-clause-answers c =
     let base = seen c.args.pass.now.seated in
     let w = seen c.drive-old.new.self in
-    subst (λ n. AnswersCount c.args.id n w) (sym c.answer.ensures) (answers c.args.id base w c.drive-old.result c.drive-old.new.room c.args.pass.now.idle c.drive-old.ensures.end)
+    subst (λ n. AnswersCount c.args.id n w) (sym c.answer.ensures)
+    (answers c.args.id base w c.drive-old.result c.drive-old.new.room c.args.pass.now.idle c.drive-old.ensures.end)

@@ -11,5 +11,8 @@ invariant_of-self c =
     record {
       table = ap (λ (z : SetId). z.table) set ∙ mine.table;
       size = ap (λ (z : SetId). z.capacity) set ∙ mine.size;
-      held = subst (Holds mine.index) (sym c.join.ensures.joined.made) (holds_joined mine.index mine.pass.seated.seat.me.0 c.args.other.seated.seat.me.0 c.args.other.sound c.join.ensures.apart mine.held);
+      held =
+          subst (Holds mine.index) (sym c.join.ensures.joined.made)
+          (holds_joined mine.index mine.pass.seated.seat.me.0 c.args.other.seated.seat.me.0 c.args.other.sound
+          c.join.ensures.apart mine.held);
     }

@@ -20,10 +20,14 @@ drive_on-requires-clause-at g c =
     let mine = c.args.pass.now in
     let v = seen mine.seated in
     let size = mine.known ∙ ap (λ (z : SetId). z.capacity) c.requires in
-    subst (λ call. At one_word kinds.Indices takes_index v v call tt) (ap first_acquire size ∙ sym c.new-call.ensures) (acquire_first one_word v tt mine.idle mine.alone mine.some.0 (subst (λ n. 0 < n) (sym mine.known) mine.places))
+    subst (λ call. At one_word kinds.Indices takes_index v v call tt)
+    (ap first_acquire size ∙ sym c.new-call.ensures)
+    (acquire_first one_word v tt mine.idle mine.alone mine.some.0 (subst (λ n. 0 < n) (sym mine.known) mine.places))
 
 pub invariant_of-pass-clause-sound : goal.invariant_of-pass-clause-sound
-invariant_of-pass-clause-sound g c = sound (seen c.args.pass.now.seated).capacity (seen c.drive_on.new.self) c.drive_on.ensures.end.capacity c.drive_on.ensures.end.history c.drive_on.ensures.end.parties
+invariant_of-pass-clause-sound g c =
+    sound (seen c.args.pass.now.seated).capacity (seen c.drive_on.new.self) c.drive_on.ensures.end.capacity
+    c.drive_on.ensures.end.history c.drive_on.ensures.end.parties
 
 pub returns-clause-goes_on : goal.returns-clause-goes_on
 returns-clause-goes_on g c =
@@ -31,12 +35,16 @@ returns-clause-goes_on g c =
       set = search rules;
       share = search rules;
       history = subst (λ n. IsHistory one_word kinds.Indices n (seen c.drive_on.new.self).seen) c.args.pass.now.known c.drive_on.ensures.end.history;
-      sound = sound (seen c.args.pass.now.seated).capacity (seen c.drive_on.new.self) c.drive_on.ensures.end.capacity c.drive_on.ensures.end.history c.drive_on.ensures.end.parties;
+      sound =
+          sound (seen c.args.pass.now.seated).capacity (seen c.drive_on.new.self) c.drive_on.ensures.end.capacity
+          c.drive_on.ensures.end.history c.drive_on.ensures.end.parties;
       all = search rules;
     }
 
 pub returns-clause-within : goal.returns-clause-within
-returns-clause-within g c = within_if (seen c.args.pass.now.seated) (seen c.drive_on.new.self) tt c.args.pass.now.idle c.drive_on.result c.drive_on.ensures.end c.args.self.now.capacity (c.args.pass.now.known ∙ ap (λ (z : SetId). z.capacity) c.requires)
+returns-clause-within g c =
+    within_if (seen c.args.pass.now.seated) (seen c.drive_on.new.self) tt c.args.pass.now.idle c.drive_on.result
+    c.drive_on.ensures.end c.args.self.now.capacity (c.args.pass.now.known ∙ ap (λ (z : SetId). z.capacity) c.requires)
 
 pub invariant_of-pass-clause-done : goal.invariant_of-pass-clause-done
 invariant_of-pass-clause-done g c =
@@ -45,7 +53,11 @@ invariant_of-pass-clause-done g c =
     taken_done v w c.drive_on.result (taken v w tt c.args.pass.now.idle c.drive_on.result c.drive_on.ensures.end) c.args.pass.now.done
 
 pub returns-clause-acquired : goal.returns-clause-acquired
-returns-clause-acquired g c = acquired_if (seen c.args.pass.now.seated) (seen c.drive_on.new.self) tt c.args.pass.now.idle c.drive_on.result c.drive_on.ensures.end c.args.pass.now.sound
+returns-clause-acquired g c =
+    acquired_if (seen c.args.pass.now.seated) (seen c.drive_on.new.self) tt c.args.pass.now.idle c.drive_on.result
+    c.drive_on.ensures.end c.args.pass.now.sound
 
 pub returns-clause-refused : goal.returns-clause-refused
-returns-clause-refused g c = refused_if (seen c.args.pass.now.seated) (seen c.drive_on.new.self) tt c.args.pass.now.idle c.drive_on.result c.drive_on.ensures.end c.args.pass.now.done
+returns-clause-refused g c =
+    refused_if (seen c.args.pass.now.seated) (seen c.drive_on.new.self) tt c.args.pass.now.idle c.drive_on.result
+    c.drive_on.ensures.end c.args.pass.now.done

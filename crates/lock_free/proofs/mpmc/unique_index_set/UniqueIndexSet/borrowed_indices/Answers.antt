@@ -19,7 +19,9 @@ drive-requires-clause-at c =
     count_first one_word v _ tt mine.idle mine.alone mine.some.0
 
 pub invariant_of-pass-clause-sound : goal.invariant_of-pass-clause-sound
-invariant_of-pass-clause-sound c = sound (seen c.args.pass.now.seated).capacity (seen c.drive.new.self) c.drive.ensures.end.capacity c.drive.ensures.end.history c.drive.ensures.end.parties
+invariant_of-pass-clause-sound c =
+    sound (seen c.args.pass.now.seated).capacity (seen c.drive.new.self) c.drive.ensures.end.capacity
+    c.drive.ensures.end.history c.drive.ensures.end.parties
 
 pub returns-clause-goes_on : goal.returns-clause-goes_on
 returns-clause-goes_on c =
@@ -27,7 +29,9 @@ returns-clause-goes_on c =
       set = search rules;
       share = search rules;
       history = subst (λ n. IsHistory one_word kinds.Indices n (seen c.drive.new.self).seen) c.args.pass.now.known c.drive.ensures.end.history;
-      sound = sound (seen c.args.pass.now.seated).capacity (seen c.drive.new.self) c.drive.ensures.end.capacity c.drive.ensures.end.history c.drive.ensures.end.parties;
+      sound =
+          sound (seen c.args.pass.now.seated).capacity (seen c.drive.new.self) c.drive.ensures.end.capacity
+          c.drive.ensures.end.history c.drive.ensures.end.parties;
       all = search rules;
     }
 
@@ -38,7 +42,9 @@ pub returns-clause-answered : goal.returns-clause-answered
 returns-clause-answered c = counted_answered (seen c.args.pass.now.seated) (seen c.drive.new.self) tt c.args.pass.now.idle c.drive.result c.drive.ensures.end
 
 pub returns-clause-most : goal.returns-clause-most
-returns-clause-most c = subst (λ n. c.drive.result ≤ n) (c.args.pass.now.known ∙ ap (λ (z : SetId). z.capacity) c.requires) (counted_most (seen c.args.pass.now.seated) (seen c.drive.new.self) tt c.args.pass.now.idle c.drive.result c.drive.ensures.end)
+returns-clause-most c =
+    subst (λ n. c.drive.result ≤ n) (c.args.pass.now.known ∙ ap (λ (z : SetId). z.capacity) c.requires)
+    (counted_most (seen c.args.pass.now.seated) (seen c.drive.new.self) tt c.args.pass.now.idle c.drive.result c.drive.ensures.end)
 
 pub invariant_of-pass-clause-done : goal.invariant_of-pass-clause-done
 invariant_of-pass-clause-done c =
@@ -50,4 +56,6 @@ pub returns-clause-least : goal.returns-clause-least
 returns-clause-least c = counted_least (seen c.args.pass.now.seated) (seen c.drive.new.self) tt c.args.pass.now.idle c.drive.result c.drive.ensures.end
 
 pub returns-clause-whole : goal.returns-clause-whole
-returns-clause-whole c = counted_whole (seen c.args.pass.now.seated) (seen c.drive.new.self) tt c.args.pass.now.idle c.drive.result c.drive.ensures.end c.args.pass.now.done
+returns-clause-whole c =
+    counted_whole (seen c.args.pass.now.seated) (seen c.drive.new.self) tt c.args.pass.now.idle c.drive.result
+    c.drive.ensures.end c.args.pass.now.done

@@ -18,7 +18,9 @@ drive-requires-clause-at c =
     look_first one_word v _ tt mine.idle mine.alone mine.some.0
 
 pub invariant_of-pass-clause-sound : goal.invariant_of-pass-clause-sound
-invariant_of-pass-clause-sound c = sound (seen c.args.pass.now.seated).capacity (seen c.drive.new.self) c.drive.ensures.end.capacity c.drive.ensures.end.history c.drive.ensures.end.parties
+invariant_of-pass-clause-sound c =
+    sound (seen c.args.pass.now.seated).capacity (seen c.drive.new.self) c.drive.ensures.end.capacity
+    c.drive.ensures.end.history c.drive.ensures.end.parties
 
 pub returns-clause-goes_on : goal.returns-clause-goes_on
 returns-clause-goes_on c =
@@ -26,7 +28,9 @@ returns-clause-goes_on c =
       set = search rules;
       share = search rules;
       history = subst (λ n. IsHistory one_word kinds.Indices n (seen c.drive.new.self).seen) c.args.pass.now.known c.drive.ensures.end.history;
-      sound = sound (seen c.args.pass.now.seated).capacity (seen c.drive.new.self) c.drive.ensures.end.capacity c.drive.ensures.end.history c.drive.ensures.end.parties;
+      sound =
+          sound (seen c.args.pass.now.seated).capacity (seen c.drive.new.self) c.drive.ensures.end.capacity
+          c.drive.ensures.end.history c.drive.ensures.end.parties;
       all = search rules;
     }
 

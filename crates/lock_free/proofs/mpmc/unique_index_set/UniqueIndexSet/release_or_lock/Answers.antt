@@ -20,10 +20,15 @@ drive_on-requires-clause-at g c =
     let mine = c.args.pass.now in
     let v = seen mine.seated in
     let size = mine.known ∙ ap (λ (z : SetId). z.capacity) c.requires.pass in
-    subst (λ call. At one_word kinds.Indices (gives_or_locks c.args.index) v v call tt) (ap first_release size ∙ sym c.new-call.ensures) (lock_first one_word c.args.index v tt mine.idle mine.alone mine.some.0 (mine.sound.within c.args.index c.requires.held) c.requires.held)
+    subst (λ call. At one_word kinds.Indices (gives_or_locks c.args.index) v v call tt)
+    (ap first_release size ∙ sym c.new-call.ensures)
+    (lock_first one_word c.args.index v tt mine.idle mine.alone mine.some.0
+    (mine.sound.within c.args.index c.requires.held) c.requires.held)
 
 pub invariant_of-pass-clause-sound : goal.invariant_of-pass-clause-sound
-invariant_of-pass-clause-sound g c = sound (seen c.args.pass.now.seated).capacity (seen c.drive_on.new.self) c.drive_on.ensures.end.capacity c.drive_on.ensures.end.history c.drive_on.ensures.end.parties
+invariant_of-pass-clause-sound g c =
+    sound (seen c.args.pass.now.seated).capacity (seen c.drive_on.new.self) c.drive_on.ensures.end.capacity
+    c.drive_on.ensures.end.history c.drive_on.ensures.end.parties
 
 pub returns-clause-goes_on : goal.returns-clause-goes_on
 returns-clause-goes_on g c =
@@ -31,24 +36,36 @@ returns-clause-goes_on g c =
       set = search rules;
       share = search rules;
       history = subst (λ n. IsHistory one_word kinds.Indices n (seen c.drive_on.new.self).seen) c.args.pass.now.known c.drive_on.ensures.end.history;
-      sound = sound (seen c.args.pass.now.seated).capacity (seen c.drive_on.new.self) c.drive_on.ensures.end.capacity c.drive_on.ensures.end.history c.drive_on.ensures.end.parties;
+      sound =
+          sound (seen c.args.pass.now.seated).capacity (seen c.drive_on.new.self) c.drive_on.ensures.end.capacity
+          c.drive_on.ensures.end.history c.drive_on.ensures.end.parties;
       all = search rules;
     }
 
 pub returns-clause-given : goal.returns-clause-given
-returns-clause-given g c = given_or_locked (seen c.args.pass.now.seated) (seen c.drive_on.new.self) tt c.args.pass.now.idle c.args.index c.drive_on.result c.drive_on.ensures.end
+returns-clause-given g c =
+    given_or_locked (seen c.args.pass.now.seated) (seen c.drive_on.new.self) tt c.args.pass.now.idle c.args.index
+    c.drive_on.result c.drive_on.ensures.end
 
 pub returns-clause-answered : goal.returns-clause-answered
-returns-clause-answered g c = locked_answered (seen c.args.pass.now.seated) (seen c.drive_on.new.self) tt c.args.pass.now.idle c.args.index c.drive_on.result c.drive_on.ensures.end
+returns-clause-answered g c =
+    locked_answered (seen c.args.pass.now.seated) (seen c.drive_on.new.self) tt c.args.pass.now.idle c.args.index
+    c.drive_on.result c.drive_on.ensures.end
 
 pub invariant_of-pass-clause-done : goal.invariant_of-pass-clause-done
 invariant_of-pass-clause-done g c =
     let v = seen c.args.pass.now.seated in
     let w = seen c.drive_on.new.self in
-    locked_done v w c.args.index c.drive_on.result (given_or_locked v w tt c.args.pass.now.idle c.args.index c.drive_on.result c.drive_on.ensures.end) c.args.pass.now.done
+    locked_done v w c.args.index c.drive_on.result
+    (given_or_locked v w tt c.args.pass.now.idle c.args.index c.drive_on.result c.drive_on.ensures.end)
+    c.args.pass.now.done
 
 pub returns-clause-nothing : goal.returns-clause-nothing
-returns-clause-nothing g c = locked_nothing (seen c.args.pass.now.seated) (seen c.drive_on.new.self) tt c.args.pass.now.idle c.args.index c.drive_on.result c.drive_on.ensures.end
+returns-clause-nothing g c =
+    locked_nothing (seen c.args.pass.now.seated) (seen c.drive_on.new.self) tt c.args.pass.now.idle c.args.index
+    c.drive_on.result c.drive_on.ensures.end
 
 pub returns-clause-whole : goal.returns-clause-whole
-returns-clause-whole g c = locked_whole (seen c.args.pass.now.seated) (seen c.drive_on.new.self) tt c.args.pass.now.idle c.args.index c.drive_on.result c.drive_on.ensures.end c.args.pass.now.done
+returns-clause-whole g c =
+    locked_whole (seen c.args.pass.now.seated) (seen c.drive_on.new.self) tt c.args.pass.now.idle c.args.index
+    c.drive_on.result c.drive_on.ensures.end c.args.pass.now.done

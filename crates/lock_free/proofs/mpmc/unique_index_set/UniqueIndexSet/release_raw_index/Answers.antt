@@ -20,10 +20,15 @@ drive-requires-clause-at c =
     let mine = c.args.pass.now in
     let v = seen mine.seated in
     let size = mine.known ∙ ap (λ (z : SetId). z.capacity) c.requires.pass in
-    subst (λ call. At one_word kinds.Indices (gives_index c.args.index) v v call tt) (ap first_release size ∙ sym c.new-call.ensures) (release_first one_word c.args.index v tt mine.idle mine.alone mine.some.0 (mine.sound.within c.args.index c.requires.held) c.requires.held)
+    subst (λ call. At one_word kinds.Indices (gives_index c.args.index) v v call tt)
+    (ap first_release size ∙ sym c.new-call.ensures)
+    (release_first one_word c.args.index v tt mine.idle mine.alone mine.some.0
+    (mine.sound.within c.args.index c.requires.held) c.requires.held)
 
 pub invariant_of-pass-clause-sound : goal.invariant_of-pass-clause-sound
-invariant_of-pass-clause-sound c = sound (seen c.args.pass.now.seated).capacity (seen c.drive.new.self) c.drive.ensures.end.capacity c.drive.ensures.end.history c.drive.ensures.end.parties
+invariant_of-pass-clause-sound c =
+    sound (seen c.args.pass.now.seated).capacity (seen c.drive.new.self) c.drive.ensures.end.capacity
+    c.drive.ensures.end.history c.drive.ensures.end.parties
 
 pub returns-clause-goes_on : goal.returns-clause-goes_on
 returns-clause-goes_on c =
@@ -31,7 +36,9 @@ returns-clause-goes_on c =
       set = search rules;
       share = search rules;
       history = subst (λ n. IsHistory one_word kinds.Indices n (seen c.drive.new.self).seen) c.args.pass.now.known c.drive.ensures.end.history;
-      sound = sound (seen c.args.pass.now.seated).capacity (seen c.drive.new.self) c.drive.ensures.end.capacity c.drive.ensures.end.history c.drive.ensures.end.parties;
+      sound =
+          sound (seen c.args.pass.now.seated).capacity (seen c.drive.new.self) c.drive.ensures.end.capacity
+          c.drive.ensures.end.history c.drive.ensures.end.parties;
       all = search rules;
     }
 
@@ -39,7 +46,8 @@ pub returns-clause-given : goal.returns-clause-given
 returns-clause-given c = given (seen c.args.pass.now.seated) (seen c.drive.new.self) tt c.args.pass.now.idle c.args.index c.drive.result c.drive.ensures.end
 
 pub returns-clause-unlocked : goal.returns-clause-unlocked
-returns-clause-unlocked c = unlocked (seen c.args.pass.now.seated) (seen c.drive.new.self) tt c.args.pass.now.idle c.args.index c.drive.result c.drive.ensures.end
+returns-clause-unlocked c =
+    unlocked (seen c.args.pass.now.seated) (seen c.drive.new.self) tt c.args.pass.now.idle c.args.index c.drive.result c.drive.ensures.end
 
 pub invariant_of-pass-clause-done : goal.invariant_of-pass-clause-done
 invariant_of-pass-clause-done c =

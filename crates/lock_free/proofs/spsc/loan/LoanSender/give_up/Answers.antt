@@ -11,4 +11,6 @@ pub invariant_of-self-clause-book : goal.invariant_of-self-clause-book
 invariant_of-self-clause-book c =
     let mine = c.args.self.now in
     let now = c.release_raw_index.new.pass in
-    is_freed mine.book c.args.index _ _ (ap is_out c.requires) (now.known ∙ (ap (λ (z : SetId). z.capacity) c.release_raw_index.ensures.goes_on.set ∙ sym mine.pass.known)) c.release_raw_index.ensures.given
+    is_freed mine.book c.args.index _ _ (ap is_out c.requires)
+    (now.known ∙ (ap (λ (z : SetId). z.capacity) c.release_raw_index.ensures.goes_on.set ∙ sym mine.pass.known))
+    c.release_raw_index.ensures.given

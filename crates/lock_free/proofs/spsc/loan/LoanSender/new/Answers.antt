@@ -10,5 +10,7 @@ invariant_of-result c =
     let all : c.in-Ok.places.items ≡ replicate c.capacity.result Free = search rules in
     record {
       of = c.requires.pass;
-      book = subst (IsBookOf (view c.args.pass)) (sym all) (book_opens (view c.args.pass) c.capacity.result (c.capacity.ensures ∙ sym c.sizes.ensures) c.requires.nothing);
+      book =
+          subst (IsBookOf (view c.args.pass)) (sym all)
+          (book_opens (view c.args.pass) c.capacity.result (c.capacity.ensures ∙ sym c.sizes.ensures) c.requires.nothing);
     }

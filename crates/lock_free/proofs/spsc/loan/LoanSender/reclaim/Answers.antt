@@ -17,8 +17,14 @@ loop-index-preserved g c =
     elim c.if-has_sent.branch [
       | then-has_sent w ↦
           let sent : is_sent (place_at (places_of c.loop-index.self) i) ≡ true = sym c.has_sent.ensures ∙ w.if-has_sent.true in
-          let step = sent_step ps (places_of c.loop-index.self) i e lt sent in
-          (ap places_of w.self-is ∙ (w.free.ensures.places ∙ step.0), (let m = step.1 in let k = w.number-is in omega arith), search rules, search rules, search rules, search rules)
+          let step = sent_step ps (places_of c.loop-index.self) i e lt sent in (
+            ap places_of w.self-is ∙ (w.free.ensures.places ∙ step.0),
+            (let m = step.1 in let k = w.number-is in omega arith),
+            search rules,
+            search rules,
+            search rules,
+            search rules,
+          )
       | else-has_sent w ↦
           let sent : is_sent (place_at (places_of c.loop-index.self) i) ≡ false = sym c.has_sent.ensures ∙ w.if-has_sent.false in
           let step = other_step ps (places_of c.loop-index.self) i e lt sent in

@@ -46,4 +46,5 @@ returns-clause-lock g c =
 
 pub returns-clause-keeps : goal.returns-clause-keeps
 returns-clause-keeps g c =
-    lock_leaves (coding_of g.T.Words.WORDS g.T.Words.words_of g.T.Words.value_of) (seen c.args.pass.now.token.seated) (seen c.drive.new.self) c.drive.result c.drive.ensures.end
+    lock_leaves (coding_of g.T.Words.WORDS g.T.Words.words_of g.T.Words.value_of)
+    (seen c.args.pass.now.token.seated) (seen c.drive.new.self) c.drive.result c.drive.ensures.end

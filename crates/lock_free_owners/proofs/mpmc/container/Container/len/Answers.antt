@@ -56,4 +56,6 @@ returns-clause-lock g c locked =
 
 pub returns-clause-keeps : goal.returns-clause-keeps
 returns-clause-keeps g c =
-    count_leaves (coding_of g.T.Words.WORDS g.T.Words.words_of g.T.Words.value_of) (seen c.args.pass.now.token.seated) (seen c.count_all.new.seat) counts.Len c.count_all.result c.count_all.ensures.ends
+    count_leaves (coding_of g.T.Words.WORDS g.T.Words.words_of g.T.Words.value_of)
+    (seen c.args.pass.now.token.seated) (seen c.count_all.new.seat) counts.Len c.count_all.result
+    c.count_all.ensures.ends

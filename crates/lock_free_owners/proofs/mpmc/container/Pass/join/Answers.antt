@@ -9,7 +9,8 @@ use Rattle.history.specs.History.{IsMachine, IsHistory}
 use Rattle.history.specs.Settled.{SettledFrom}
 use Rattle.history.specs.Views.{joined_view, Looks}
 use Rattle.lock_free_sp.proofs.Shares.{positive}
-use Rattle.history.proofs.Passes.{joins, looks}
+use Rattle.history.proofs.Passes.{joins}
+use Rattle.history.proofs.PassLooks.{looks}
 use Rattle.lock_free_owners.proofs.ContainerSet.Begins.{settles_or_stays}
 use Rattle.lock_free_owners.proofs.ContainerSet.Passes.{settled}
 use Rattle.lock_free_owners.proofs.mpmc.container.Pass.join.Goals as goal

@@ -40,7 +40,8 @@ drive_on-requires-clause-at g c =
     let told = c.step-after.ensures.told v at in
     let taken = c.step-after.ensures.taken in
     let is = taken.1 ∙ ap (λ call. look_after g.T.Words.WORDS call state.seen taken.0) c.new-first.ensures in (
-      goes_from code law b.which b.from b.shown state.seen v (seen c.step-after.new.self) c.step-after.result c.step-after.new.room c.in-GoOn.call c.in-GoOn.is told,
+      goes_from code law b.which b.from b.shown state.seen v (seen c.step-after.new.self) c.step-after.result
+          c.step-after.new.room c.in-GoOn.call c.in-GoOn.is told,
       past_from code law b.which b.from b.shown state.seen c.step-after.result c.in-GoOn.call c.in-GoOn.is
           (first_leads code law b.which b.from b.shown state.seen c.args.capacity c.step-after.result taken.0 c.requires.some is),
     )

@@ -22,12 +22,14 @@ step_telling-requires-clause-owes g c =
     let call = c.args.call in
     let room = c.args.room.now in
     let given = c.args.given in
-    let told : View g.row.T.Denot → ℕ → View g.row.T.Denot → Type 0 = Told (λ (z : View g.row.T.Denot). z.capacity) (RecoverAt code given) (RecoverEnds code given)
+    let told : View g.row.T.Denot → ℕ → View g.row.T.Denot → Type 0 =
+    Told (λ (z : View g.row.T.Denot). z.capacity) (RecoverAt code given) (RecoverEnds code given)
     (recover_goes code given) (recover_visiting code given) call (room, at.1) in
     let more : View g.row.T.Denot → ℕ → View g.row.T.Denot → Type 0 = λ v n w. (w.capacity ≡ v.capacity) × RecoverTells code given call room v n w in
     subst (λ (xs : List (ℕ × Unit {0})). Owes (IsMachine code kinds.Container (key_of s)) (table_of s).words (table_of s).slots s.seat.id more
     (recover_want code.size call given) (seen s, xs)) (sym s.bare)
-    (weaker_owes (IsMachine code kinds.Container (key_of s)) (table_of s).words (table_of s).slots s.seat.id told more (recover_want code.size call given) (seen s, [])
+    (weaker_owes (IsMachine code kinds.Container (key_of s)) (table_of s).words (table_of s).slots s.seat.id told
+    more (recover_want code.size call given) (seen s, [])
     (λ n w h. recover_tells code law given at.0 (seen s) call room at.1 at.2 n w h)
     (recover_keeps code law given at.0 (seen s) call (room, at.1) (key_of s) (table_of s).words (table_of s).slots s.seat.id
     (c.requires.board.0 ∙ ap (λ k. total_words k code.size + 1) (sym c.requires.board.1)) (sym c.requires.board.1) at.2))

@@ -21,7 +21,8 @@ step_telling-requires-clause-owes g c =
     let at = c.requires.at in
     let call = c.args.call in
     let room = c.args.room.now in
-    let told : View g.row.T.Denot → ℕ → View g.row.T.Denot → Type 0 = Told (λ (z : View g.row.T.Denot). z.capacity) (FindAt code c.args.owner) (FindEnds code c.args.owner)
+    let told : View g.row.T.Denot → ℕ → View g.row.T.Denot → Type 0 =
+    Told (λ (z : View g.row.T.Denot). z.capacity) (FindAt code c.args.owner) (FindEnds code c.args.owner)
     (find_goes code c.args.owner) (find_copying code c.args.owner) call (room, at.1) in
     let more : View g.row.T.Denot → ℕ → View g.row.T.Denot → Type 0 = λ v n w. (w.capacity ≡ v.capacity) × FindTells code c.args.owner call room v n w in
     subst (λ (xs : List (ℕ × Unit {0})). Owes (IsMachine code kinds.Container (key_of s)) (table_of s).words (table_of s).slots s.seat.id more

@@ -7,7 +7,8 @@ use Rattle.history.specs.declared.view.View.{View}
 use Rattle.history.specs.History.{IsMachine}
 use Rattle.history.specs.Views.{joined_view, Looks}
 use Rattle.lock_free_sp.proofs.Shares.{positive}
-use Rattle.history.proofs.Passes.{joins, looks}
+use Rattle.history.proofs.Passes.{joins}
+use Rattle.history.proofs.PassLooks.{looks}
 use Rattle.lock_free_owners.proofs.mpmc.robust_unique_index_set.Pass.join.Goals as goal
 
 pub join_seat-requires : goal.join_seat-requires

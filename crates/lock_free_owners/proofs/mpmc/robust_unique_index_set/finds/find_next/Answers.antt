@@ -23,7 +23,9 @@ returns-in-Asks-clause-goes g c base f began =
     let fits : c.args.owner < empty = search rules in
     let v = seen c.args.seat.now in
     let heard_there = c.hear-answer.ensures in
-    let so_far = subst (λ (s : FindStage). SoFar (λ q x a r. given.F-step g q x a r) c.args.capacity c.args.owner base f s v c.args.visit) c.in-Asks.is began.so_far in
+    let so_far =
+    subst (λ (s : FindStage). SoFar (λ q x a r. given.F-step g q x a r) c.args.capacity c.args.owner base f s v c.args.visit)
+    c.in-Asks.is began.so_far in
     let taken = c.take.ensures.goes ∙ ap (λ (s : FindStage). find_takes c.args.call s c.args.owner c.hear-answer.result.0) c.in-Asks.is
     ∙ ap (λ k. find_takes c.args.call (finds.Asks c.in-Asks.index c.in-Asks.found) c.args.owner k) heard_there.2 in
     subst (λ (a : After Find ℕ). Onward (λ q x a r. given.F-step g q x a r) c.args.capacity c.args.owner base f a v c.hear-answer.result.1) (sym taken)

@@ -7,7 +7,7 @@ use Rattle.lock_free_sp.specs.Seats.{seen}
 use Rattle.history.specs.declared.view.View.{View}
 use Rattle.history.specs.History.{IsMachine}
 use Rattle.history.specs.Views.{LooksAt}
-use Rattle.history.proofs.Passes.{looks_word}
+use Rattle.history.proofs.PassLooks.{looks_word}
 use Rattle.lock_free_owners.proofs.mpmc.robust_unique_index_set.finds.look_at.Goals as goal
 
 -- what the load owes, where the seat knows this

@@ -74,7 +74,9 @@ cells-preserved g c =
     let next = c.next_cell-cell.ensures.next in
     let inside = c.if-cell-capacity.false in
     let here = at_cell c.args.capacity c.args.so_many c.cells.cell in
-    let after = c.next_cell-cell.ensures.after (omega arith) c.args.so_many c.args.owner look.result (λ e. c.if-stands-value.false (e ∙ sym c.value.ensures.number)) in (
+    let after =
+    c.next_cell-cell.ensures.after (omega arith) c.args.so_many c.args.owner look.result
+    (λ e. c.if-stands-value.false (e ∙ sym c.value.ensures.number)) in (
       (look.ensures.same.0 ∙ so_far.0.0, look.ensures.same.1 ∙ so_far.0.1, look.ensures.same.2 ∙ so_far.0.2),
       look.ensures.board,
       λ base f p began. let searching = so_far.2 base f p began in

@@ -27,7 +27,9 @@ returns-then-found-clause-goes c base visits idle at =
     let mode = c.args.mode in
     let found = c.load_cell-found in
     let taken = c.take.ensures.goes ∙ ap (λ (d : Recover). recover_after d mode found.result) c.at_cell-here.ensures in
-    subst (λ (a : After Recover ReleaseState). Next (λ (z : View ℕ). z.capacity) (RecoverAt mode) (RecoverEnds mode) base a visits (seen found.new.seat)) (sym taken)
+    subst (λ (a : After Recover ReleaseState). Next (λ (z : View ℕ). z.capacity) (RecoverAt mode) (RecoverEnds mode) base
+    a visits (seen found.new.seat))
+    (sym taken)
     (found.ensures.goes base visits idle (c.cells.invariant.2 base visits idle at))
 
 pub returns-then-cell-capacity-clause-goes : goal.returns-then-cell-capacity-clause-goes
@@ -40,7 +42,9 @@ returns-then-cell-capacity-clause-goes c base visits idle at =
     let last : c.args.capacity - 1 ≡ c.cells.cell = omega arith in
     let taken = c.take-then-cell-capacity.ensures.goes
     ∙ ap (λ (d : Recover). recover_after d mode found.result) (c.at_cell-last.ensures ∙ ap (passes c.args.capacity) last) in
-    subst (λ (a : After Recover ReleaseState). Next (λ (z : View ℕ). z.capacity) (RecoverAt mode) (RecoverEnds mode) base a visits (seen found.new.seat)) (sym taken)
+    subst (λ (a : After Recover ReleaseState). Next (λ (z : View ℕ). z.capacity) (RecoverAt mode) (RecoverEnds mode) base
+    a visits (seen found.new.seat))
+    (sym taken)
     (found.ensures.goes base visits idle (c.cells.invariant.2 base visits idle at))
 
 pub cells-preserved : goal.cells-preserved

@@ -34,8 +34,12 @@ returns-in-Done-pass_first-clause-ends g c =
     stays_end (λ p o i b q. given.F-step g p o i b q) (λ s o i t. given.S-step g s o i tt t) c.args.capacity
     c.args.mode base c.requires.idle c.requires.known c.args.predicate c.args.recovered
     (seen c.step_recover.new.seat) (seen c.pass_first.new.seat) c.in-GoOn.next c.pass_first.result c.pass_first.ensures.goes
-    c.args.predicate c.args.recovered one (passes_on (λ p o i b q. given.F-step g p o i b q) (λ s o i t. given.S-step g s o i tt t) c.args.capacity (is_locked base.seen) c.args.predicate c.args.recovered
-    c.in-GoOn.next one.0 c.args.predicate c.args.recovered c.pass_first.result c.in-GoOn.next.stage refl c.pass_first.ensures.passed one.2) c.in-Done-pass_first.state c.in-Done-pass_first.is
+    c.args.predicate c.args.recovered one
+    (passes_on (λ p o i b q. given.F-step g p o i b q) (λ s o i t. given.S-step g s o i tt t) c.args.capacity
+    (is_locked base.seen) c.args.predicate c.args.recovered
+    c.in-GoOn.next one.0 c.args.predicate c.args.recovered c.pass_first.result c.in-GoOn.next.stage refl
+    c.pass_first.ensures.passed one.2)
+    c.in-Done-pass_first.state c.in-Done-pass_first.is
 
 pub returns-in-Done-look_again-clause-ends : goal.returns-in-Done-look_again-clause-ends
 returns-in-Done-look_again-clause-ends g c =
@@ -52,12 +56,18 @@ returns-in-Done-look_again-clause-ends g c =
     let two = stays_on (λ p o i b q. given.F-step g p o i b q) (λ s o i t. given.S-step g s o i tt t) c.args.capacity
     c.args.mode base c.requires.idle c.requires.known c.args.predicate c.args.recovered
     (seen c.step_recover.new.seat) (seen c.pass_first.new.seat) c.in-GoOn.next c.pass_first.result c.pass_first.ensures.goes
-    c.args.predicate c.args.recovered one (passes_on (λ p o i b q. given.F-step g p o i b q) (λ s o i t. given.S-step g s o i tt t) c.args.capacity (is_locked base.seen) c.args.predicate c.args.recovered
-    c.in-GoOn.next one.0 c.args.predicate c.args.recovered c.pass_first.result c.in-GoOn.next.stage refl c.pass_first.ensures.passed one.2) c.in-GoOn-pass_first.next c.in-GoOn-pass_first.is in
+    c.args.predicate c.args.recovered one
+    (passes_on (λ p o i b q. given.F-step g p o i b q) (λ s o i t. given.S-step g s o i tt t) c.args.capacity
+    (is_locked base.seen) c.args.predicate c.args.recovered
+    c.in-GoOn.next one.0 c.args.predicate c.args.recovered c.pass_first.result c.in-GoOn.next.stage refl
+    c.pass_first.ensures.passed one.2)
+    c.in-GoOn-pass_first.next c.in-GoOn-pass_first.is in
     stays_end (λ p o i b q. given.F-step g p o i b q) (λ s o i t. given.S-step g s o i tt t) c.args.capacity
     c.args.mode base c.requires.idle c.requires.known c.args.predicate c.args.recovered
     (seen c.pass_first.new.seat) (seen c.look_again.new.seat) c.in-GoOn-pass_first.next c.look_again.result c.look_again.ensures.goes
-    c.args.predicate c.args.recovered two (looks_on (λ p o i b q. given.F-step g p o i b q) (λ s o i t. given.S-step g s o i tt t) c.args.capacity (is_locked base.seen) c.args.predicate c.args.recovered
+    c.args.predicate c.args.recovered two
+    (looks_on (λ p o i b q. given.F-step g p o i b q) (λ s o i t. given.S-step g s o i tt t) c.args.capacity
+    (is_locked base.seen) c.args.predicate c.args.recovered
     c.in-GoOn-pass_first.next c.args.mode two.0 c.args.predicate c.args.recovered c.look_again.result c.in-GoOn-pass_first.next.stage refl
     c.look_again.ensures.looked two.2) c.in-Done-look_again.state c.in-Done-look_again.is
 
@@ -106,8 +116,12 @@ look_again-requires-clause-at g c =
     let two = stays_on (λ p o i b q. given.F-step g p o i b q) (λ s o i t. given.S-step g s o i tt t) c.args.capacity
     c.args.mode base c.requires.idle c.requires.known c.args.predicate c.args.recovered
     (seen c.step_recover.new.seat) (seen c.pass_first.new.seat) c.in-GoOn.next c.pass_first.result c.pass_first.ensures.goes
-    c.args.predicate c.args.recovered one (passes_on (λ p o i b q. given.F-step g p o i b q) (λ s o i t. given.S-step g s o i tt t) c.args.capacity (is_locked base.seen) c.args.predicate c.args.recovered
-    c.in-GoOn.next one.0 c.args.predicate c.args.recovered c.pass_first.result c.in-GoOn.next.stage refl c.pass_first.ensures.passed one.2) c.in-GoOn-pass_first.next c.in-GoOn-pass_first.is in
+    c.args.predicate c.args.recovered one
+    (passes_on (λ p o i b q. given.F-step g p o i b q) (λ s o i t. given.S-step g s o i tt t) c.args.capacity
+    (is_locked base.seen) c.args.predicate c.args.recovered
+    c.in-GoOn.next one.0 c.args.predicate c.args.recovered c.pass_first.result c.in-GoOn.next.stage refl
+    c.pass_first.ensures.passed one.2)
+    c.in-GoOn-pass_first.next c.in-GoOn-pass_first.is in
     (base, two.0, c.requires.idle, two.1)
 
 pub loop-init : goal.loop-init
@@ -125,12 +139,18 @@ loop-init g c =
     let two = stays_on (λ p o i b q. given.F-step g p o i b q) (λ s o i t. given.S-step g s o i tt t) c.args.capacity
     c.args.mode base c.requires.idle c.requires.known c.args.predicate c.args.recovered
     (seen c.step_recover.new.seat) (seen c.pass_first.new.seat) c.in-GoOn.next c.pass_first.result c.pass_first.ensures.goes
-    c.args.predicate c.args.recovered one (passes_on (λ p o i b q. given.F-step g p o i b q) (λ s o i t. given.S-step g s o i tt t) c.args.capacity (is_locked base.seen) c.args.predicate c.args.recovered
-    c.in-GoOn.next one.0 c.args.predicate c.args.recovered c.pass_first.result c.in-GoOn.next.stage refl c.pass_first.ensures.passed one.2) c.in-GoOn-pass_first.next c.in-GoOn-pass_first.is in
+    c.args.predicate c.args.recovered one
+    (passes_on (λ p o i b q. given.F-step g p o i b q) (λ s o i t. given.S-step g s o i tt t) c.args.capacity
+    (is_locked base.seen) c.args.predicate c.args.recovered
+    c.in-GoOn.next one.0 c.args.predicate c.args.recovered c.pass_first.result c.in-GoOn.next.stage refl
+    c.pass_first.ensures.passed one.2)
+    c.in-GoOn-pass_first.next c.in-GoOn-pass_first.is in
     let three = stays_on (λ p o i b q. given.F-step g p o i b q) (λ s o i t. given.S-step g s o i tt t) c.args.capacity
     c.args.mode base c.requires.idle c.requires.known c.args.predicate c.args.recovered
     (seen c.pass_first.new.seat) (seen c.look_again.new.seat) c.in-GoOn-pass_first.next c.look_again.result c.look_again.ensures.goes
-    c.args.predicate c.args.recovered two (looks_on (λ p o i b q. given.F-step g p o i b q) (λ s o i t. given.S-step g s o i tt t) c.args.capacity (is_locked base.seen) c.args.predicate c.args.recovered
+    c.args.predicate c.args.recovered two
+    (looks_on (λ p o i b q. given.F-step g p o i b q) (λ s o i t. given.S-step g s o i tt t) c.args.capacity
+    (is_locked base.seen) c.args.predicate c.args.recovered
     c.in-GoOn-pass_first.next c.args.mode two.0 c.args.predicate c.args.recovered c.look_again.result c.in-GoOn-pass_first.next.stage refl
     c.look_again.ensures.looked two.2) c.in-GoOn-look_again.next c.in-GoOn-look_again.is in
     let a = c.step_recover.ensures.same in

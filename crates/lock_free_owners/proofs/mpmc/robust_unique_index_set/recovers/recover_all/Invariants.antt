@@ -6,4 +6,5 @@ use Rattle.lock_free_owners.proofs.mpmc.robust_unique_index_set.recovers.recover
 abbrev pub invariant-loop : goal.invariant-loop
 invariant-loop g l =
     IsSame l.fn.seat l.seat × IsBoard l.seat
-    × StandsSo (λ p o i b q. goal.F-step g p o i b q) (λ s o i t. goal.S-step g s o i tt t) l.fn.capacity l.fn.mode (seen l.fn.seat) l.fn.predicate l.fn.recovered (seen l.seat) l.call l.predicate l.recovered
+    × StandsSo (λ p o i b q. goal.F-step g p o i b q) (λ s o i t. goal.S-step g s o i tt t) l.fn.capacity l.fn.mode
+    (seen l.fn.seat) l.fn.predicate l.fn.recovered (seen l.seat) l.call l.predicate l.recovered

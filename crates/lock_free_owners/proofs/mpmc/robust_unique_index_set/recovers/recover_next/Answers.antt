@@ -41,7 +41,8 @@ returns-after-yes-clause-goes g c =
       λ base visits idle at. subst (λ (a : After Recover ReleaseState). Next (λ (z : View ℕ). z.capacity) (RecoverAt c.args.mode)
           (RecoverEnds c.args.mode) base a (visits_after c.args.call visits k) (seen c.args.seat.now)) (sym goes)
           (said_goes c.args.mode base (seen c.args.seat.now) c.args.call visits c.in-Asks.index c.in-Asks.owner c.in-Asks.is c.ask-yes.result.0 at),
-      subst (λ (stage : RecoverStage). RecoverMoves (λ p o i b q. given.F-step g p o i b q) (λ s o i t. given.S-step g s o i tt t) c.args.call c.args.mode stage k
+      subst (λ (stage : RecoverStage). RecoverMoves (λ p o i b q. given.F-step g p o i b q)
+          (λ s o i t. given.S-step g s o i tt t) c.args.call c.args.mode stage k
           c.args.predicate c.args.recovered c.take-after.result c.ask-yes.result.1 c.args.recovered) (sym c.in-Asks.is)
           (named, refl, (c.ask-yes.result.0, asked, refl), goes),
     )
@@ -66,6 +67,7 @@ returns-in-LoadsCell-clause-goes g c =
           over.result (visits_taken stage visits 0) (seen over.new.seat)) (sym c.in-LoadsCell.is)
           (over.ensures.goes base visits idle
           (subst (λ (stage : RecoverStage). RecoverAt c.args.mode base (seen c.args.seat.now) (at_recover c.args.call stage) visits) c.in-LoadsCell.is at)),
-      subst (λ (stage : RecoverStage). RecoverMoves (λ p o i b q. given.F-step g p o i b q) (λ s o i t. given.S-step g s o i tt t) c.args.call c.args.mode stage 0
+      subst (λ (stage : RecoverStage). RecoverMoves (λ p o i b q. given.F-step g p o i b q)
+          (λ s o i t. given.S-step g s o i tt t) c.args.call c.args.mode stage 0
           c.args.predicate c.args.recovered over.result c.args.predicate c.args.recovered) (sym c.in-LoadsCell.is) (refl, refl, over.ensures.passed),
     )

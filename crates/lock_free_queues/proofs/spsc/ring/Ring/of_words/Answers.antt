@@ -13,7 +13,8 @@ pub of_words-requires : goal.of_words-requires
 of_words-requires g c =
     let code : Coding g.row.T.Denot = coding_of g.T.Words.WORDS g.T.Words.words_of g.T.Words.value_of in
     let kind = g.E.Kind.KIND in
-    subst (λ ws. IsMachine code (machine_of kind) c.args.capacity (opening ws [] (opened_by code kind c.args.capacity c.args.position))) (sym c.as_slice.ensures.value) c.requires.opens
+    subst (λ ws. IsMachine code (machine_of kind) c.args.capacity (opening ws [] (opened_by code kind c.args.capacity c.args.position)))
+    (sym c.as_slice.ensures.value) c.requires.opens
 
 pub invariant_of-result : goal.invariant_of-result
 invariant_of-result g c =

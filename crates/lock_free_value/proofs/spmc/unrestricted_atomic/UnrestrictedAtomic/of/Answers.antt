@@ -21,7 +21,8 @@ loop-at-init g c =
       refl,
       search rules,
       ap (λ n. 2 + n) size,
-      ap (λ zs. slice_set (slice_set zs 0 c.opening_version.result) 1 1) zeros ∙ (ap (λ n. slice_set (slice_set (replicate (code.size * 2 + 2 + 1) 0) 0 n) 1 1) first ∙ begins code law c.args.value v),
+      ap (λ zs. slice_set (slice_set zs 0 c.opening_version.result) 1 1) zeros
+          ∙ (ap (λ n. slice_set (slice_set (replicate (code.size * 2 + 2 + 1) 0) 0 n) 1 1) first ∙ begins code law c.args.value v),
     )
 
 pub loop-at-preserved : goal.loop-at-preserved
@@ -37,7 +38,8 @@ loop-at-preserved g c =
       inv.1,
       inv.2,
       inv.3,
-      turns code law c.args.value c.args.version c.loop-at.at c.WORDS-second_cell.result c.word-word.result c.first_word.result c.loop-at.words.items below inv.4 (omega arith) c.word-word.ensures c.first_word.ensures,
+      turns code law c.args.value c.args.version c.loop-at.at c.WORDS-second_cell.result c.word-word.result
+          c.first_word.result c.loop-at.words.items below inv.4 (omega arith) c.word-word.ensures c.first_word.ensures,
     )
 
 pub of_words-requires : goal.of_words-requires

@@ -19,7 +19,9 @@ words-preserved g c =
       (called.ensures.same.0 ∙ so_far.0.0, called.ensures.same.1 ∙ so_far.0.1, called.ensures.same.2 ∙ so_far.0.2),
       called.ensures.board,
       λ base at. subst (λ (s : LoadStage). LoadAt code g.R.Room.words_in base (seen called.new.seat) (at_load first_load s) called.new.room) c.in-LoadsCell.is
-          (subst (λ (a : After (Load g.row.T.Denot g.row.R.Denot) (Unit {0})). LoadNext code g.R.Room.words_in base a called.new.room (seen called.new.seat)) c.in-GoOn.is
+          (subst (λ (a : After (Load g.row.T.Denot g.row.R.Denot) (Unit {0})). LoadNext code g.R.Room.words_in base a
+          called.new.room (seen called.new.seat))
+          c.in-GoOn.is
           (called.ensures.goes base (so_far.2 base at))),
     )
 
@@ -27,5 +29,7 @@ pub returns-in_default-clause-goes : goal.returns-in_default-clause-goes
 returns-in_default-clause-goes g c base at =
     let called = c.step_load in
     let code : Coding g.row.T.Denot = coding_of g.T.Words.WORDS g.T.Words.words_of g.T.Words.value_of in
-    subst (λ (a : After (Load g.row.T.Denot g.row.R.Denot) (Unit {0})). LoadNext code g.R.Room.words_in base a called.new.room (seen called.new.seat)) c.in-GoOn.is
+    subst (λ (a : After (Load g.row.T.Denot g.row.R.Denot) (Unit {0})). LoadNext code g.R.Room.words_in base a
+    called.new.room (seen called.new.seat))
+    c.in-GoOn.is
     (called.ensures.goes base (c.words.invariant.2 base at))

@@ -11,8 +11,11 @@ use Rattle.lock_free_value.proofs.spmc.unrestricted_atomic.loads.copy_words.Give
 abbrev pub invariant-words : goal.invariant-words
 invariant-words g l =
     IsSame l.fn.seat l.seat × IsBoard g.T.Words.WORDS l.seat
-    × ((base : View g.row.T.Denot) → LoadAt (coding_of g.T.Words.WORDS g.T.Words.words_of g.T.Words.value_of) g.R.Room.words_in base (seen l.fn.seat) (at_load first_load (stages.LoadsCell l.fn.version l.fn.cell l.fn.first)) l.fn.room
-    → LoadAt (coding_of g.T.Words.WORDS g.T.Words.words_of g.T.Words.value_of) g.R.Room.words_in base (seen l.seat) (at_load first_load (stages.LoadsCell l.of l.start l.place)) l.room)
+    × ((base : View g.row.T.Denot)
+    → LoadAt (coding_of g.T.Words.WORDS g.T.Words.words_of g.T.Words.value_of) g.R.Room.words_in base
+    (seen l.fn.seat) (at_load first_load (stages.LoadsCell l.fn.version l.fn.cell l.fn.first)) l.fn.room
+    → LoadAt (coding_of g.T.Words.WORDS g.T.Words.words_of g.T.Words.value_of) g.R.Room.words_in base (seen l.seat)
+    (at_load first_load (stages.LoadsCell l.of l.start l.place)) l.room)
 
 abbrev pub decreases-words : goal.decreases-words
 decreases-words g l = g.T.Words.WORDS - l.place

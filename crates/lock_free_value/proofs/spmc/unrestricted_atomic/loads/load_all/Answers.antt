@@ -14,7 +14,9 @@ loop-preserved g c =
     let code : Coding g.row.T.Denot = coding_of g.T.Words.WORDS g.T.Words.words_of g.T.Words.value_of in (
       (called.ensures.same.0 ∙ so_far.0.0, called.ensures.same.1 ∙ so_far.0.1, called.ensures.same.2 ∙ so_far.0.2),
       called.ensures.board,
-      subst (λ (a : After (Load g.row.T.Denot g.row.R.Denot) (Unit {0})). LoadNext code g.R.Room.words_in base a called.new.room (seen called.new.seat)) c.in-GoOn.is
+      subst (λ (a : After (Load g.row.T.Denot g.row.R.Denot) (Unit {0})). LoadNext code g.R.Room.words_in base a
+          called.new.room (seen called.new.seat))
+          c.in-GoOn.is
           (called.ensures.goes base so_far.2),
     )
 
@@ -22,5 +24,7 @@ pub returns-in-Done-clause-ends : goal.returns-in-Done-clause-ends
 returns-in-Done-clause-ends g c =
     let called = c.load_next in
     let code : Coding g.row.T.Denot = coding_of g.T.Words.WORDS g.T.Words.words_of g.T.Words.value_of in
-    subst (λ (a : After (Load g.row.T.Denot g.row.R.Denot) (Unit {0})). LoadNext code g.R.Room.words_in (seen c.args.seat.now) a called.new.room (seen called.new.seat)) c.in-Done.is
+    subst (λ (a : After (Load g.row.T.Denot g.row.R.Denot) (Unit {0})). LoadNext code g.R.Room.words_in
+    (seen c.args.seat.now) a called.new.room (seen called.new.seat))
+    c.in-Done.is
     (called.ensures.goes (seen c.args.seat.now) c.loop.invariant.2)

@@ -22,14 +22,18 @@ pub drive-end-requires-clause-at : goal.drive-end-requires-clause-at
 drive-end-requires-clause-at c =
     let mine = c.args.self.now in
     let v = seen mine.seated in
-    subst (λ call. At one_word kinds.IndexQueue pops_index v v call (record { 0 = 0 })) (ap first_pop mine.known ∙ sym c.new-call.ensures) (pop_first one_word v mine.idle mine.alone mine.some.0 (subst (λ n. n < 2 ^ 32) (sym mine.known) mine.small) c.requires)
+    subst (λ call. At one_word kinds.IndexQueue pops_index v v call (record { 0 = 0 }))
+    (ap first_pop mine.known ∙ sym c.new-call.ensures)
+    (pop_first one_word v mine.idle mine.alone mine.some.0 (subst (λ n. n < 2 ^ 32) (sym mine.known) mine.small) c.requires)
 
 pub returns-clause-popped : goal.returns-clause-popped
 returns-clause-popped c =
     let mine = c.args.self.now in
     let x = seen mine.seated in
     let w = seen c.drive-end.new.self in
-    subst (λ z. HasPopped (option_map index_of z) x w) (sym c.answer.ensures) (has_popped one_word IndexQueue x w mine.idle index_of in_room pops_index index_pop c.drive-end.result c.drive-end.new.room c.drive-end.ensures.end)
+    subst (λ z. HasPopped (option_map index_of z) x w) (sym c.answer.ensures)
+    (has_popped one_word IndexQueue x w mine.idle index_of in_room pops_index index_pop c.drive-end.result
+    c.drive-end.new.room c.drive-end.ensures.end)
 
 pub returns-clause-empty : goal.returns-clause-empty
 returns-clause-empty c =
@@ -38,7 +42,9 @@ returns-clause-empty c =
     let w = seen c.drive-end.new.self in
     let ends = c.drive-end.ensures.end in
     let o = pop_answer c.drive-end.new.room.0 c.drive-end.result in
-    subst (λ z. IfNone z (WasEmpty x w)) (sym c.answer.ensures) (empty_if one_word of_indices index_of x.capacity x w ends.history o (has_popped one_word IndexQueue x w mine.idle index_of in_room pops_index index_pop c.drive-end.result c.drive-end.new.room ends))
+    subst (λ z. IfNone z (WasEmpty x w)) (sym c.answer.ensures)
+    (empty_if one_word of_indices index_of x.capacity x w ends.history o
+    (has_popped one_word IndexQueue x w mine.idle index_of in_room pops_index index_pop c.drive-end.result c.drive-end.new.room ends))
 
 pub returns-clause-taken : goal.returns-clause-taken
 returns-clause-taken c =
@@ -47,4 +53,6 @@ returns-clause-taken c =
     let w = seen c.drive-end.new.self in
     let ends = c.drive-end.ensures.end in
     let o = pop_answer c.drive-end.new.room.0 c.drive-end.result in
-    subst (λ z. IfSome z (λ k. HasTakenOut (Index k) x w)) (sym c.answer.ensures) (taken_if one_word of_indices index_of x.capacity x w ends.history o (has_popped one_word IndexQueue x w mine.idle index_of in_room pops_index index_pop c.drive-end.result c.drive-end.new.room ends))
+    subst (λ z. IfSome z (λ k. HasTakenOut (Index k) x w)) (sym c.answer.ensures)
+    (taken_if one_word of_indices index_of x.capacity x w ends.history o
+    (has_popped one_word IndexQueue x w mine.idle index_of in_room pops_index index_pop c.drive-end.result c.drive-end.new.room ends))

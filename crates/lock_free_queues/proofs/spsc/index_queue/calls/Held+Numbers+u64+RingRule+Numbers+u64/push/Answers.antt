@@ -20,7 +20,10 @@ pub drive-end-requires-clause-at : goal.drive-end-requires-clause-at
 drive-end-requires-clause-at c =
     let mine = c.args.self.now in
     let v = seen mine.seated in
-    subst (λ call. At one_word kinds.IndexQueue (pushes_index c.args.value) v v call tt) (ap first_push mine.known ∙ sym c.new-call.ensures) (push_first one_word c.args.value v tt mine.idle mine.alone mine.some.0 (subst (λ n. n < 2 ^ 32) (sym mine.known) mine.small) c.requires)
+    subst (λ call. At one_word kinds.IndexQueue (pushes_index c.args.value) v v call tt)
+    (ap first_push mine.known ∙ sym c.new-call.ensures)
+    (push_first one_word c.args.value v tt mine.idle mine.alone mine.some.0
+    (subst (λ n. n < 2 ^ 32) (sym mine.known) mine.small) c.requires)
 
 pub returns-clause-full : goal.returns-clause-full
 returns-clause-full c is =
@@ -28,13 +31,17 @@ returns-clause-full c is =
     let v = c.args.value in
     let x = seen mine.seated in
     let w = seen c.drive-end.new.self in
-    subst (λ n. WasFull n (Index v) x w ⊎ WasAtEnd x w) mine.known (full one_word of_indices x w mine.idle (Index v) (pushes_index v) (index_push v) mine.alone mine.some.0 c.requires c.drive-end.result tt c.drive-end.ensures.end (sym c.answer.ensures ∙ is))
+    subst (λ n. WasFull n (Index v) x w ⊎ WasAtEnd x w) mine.known
+    (full one_word of_indices x w mine.idle (Index v) (pushes_index v) (index_push v) mine.alone mine.some.0
+    c.requires c.drive-end.result tt c.drive-end.ensures.end (sym c.answer.ensures ∙ is))
 
 pub returns-clause-published : goal.returns-clause-published
 returns-clause-published c is =
     let mine = c.args.self.now in
     let v = c.args.value in
-    published_if one_word of_indices (seen mine.seated) (seen c.drive-end.new.self) mine.idle (Index v) (pushes_index v) (index_push v) mine.alone mine.some.0 c.requires c.drive-end.result tt c.drive-end.ensures.end (sym c.answer.ensures ∙ is)
+    published_if one_word of_indices (seen mine.seated) (seen c.drive-end.new.self) mine.idle (Index v)
+    (pushes_index v) (index_push v) mine.alone mine.some.0 c.requires c.drive-end.result tt c.drive-end.ensures.end
+    (sym c.answer.ensures ∙ is)
 
 pub returns-clause-pushed : goal.returns-clause-pushed
 returns-clause-pushed c =
@@ -42,4 +49,6 @@ returns-clause-pushed c =
     let v = c.args.value in
     let x = seen mine.seated in
     let w = seen c.drive-end.new.self in
-    subst (λ b. HasPushed (Index v) b x w ⊎ (b ≡ false) × WasAtEnd x w) (sym c.answer.ensures) (pushed one_word of_indices x w mine.idle (Index v) (pushes_index v) (index_push v) mine.alone mine.some.0 c.requires c.drive-end.result tt c.drive-end.ensures.end)
+    subst (λ b. HasPushed (Index v) b x w ⊎ (b ≡ false) × WasAtEnd x w) (sym c.answer.ensures)
+    (pushed one_word of_indices x w mine.idle (Index v) (pushes_index v) (index_push v) mine.alone mine.some.0
+    c.requires c.drive-end.result tt c.drive-end.ensures.end)

@@ -30,7 +30,9 @@ drive-end-requires-clause-at g c =
     let code : Coding g.row.T.Denot = coding_of g.T.Words.WORDS g.T.Words.words_of g.T.Words.value_of in
     let law : IsCoding code = record { some = met.some; few = met.few; sized = met.sized; given_back = met.given_back } in
     let x = c.args.value.now in
-    subst (λ call. At code kinds.Queue (pushes_value code x) v v call tt) (ap first_push mine.known ∙ sym c.new-call.ensures) (value_push_first code law x v tt mine.idle mine.alone mine.some.0 (subst (λ n. n < 2 ^ 32) (sym mine.known) mine.small) c.requires)
+    subst (λ call. At code kinds.Queue (pushes_value code x) v v call tt)
+    (ap first_push mine.known ∙ sym c.new-call.ensures)
+    (value_push_first code law x v tt mine.idle mine.alone mine.some.0 (subst (λ n. n < 2 ^ 32) (sym mine.known) mine.small) c.requires)
 
 pub returns-clause-full : goal.returns-clause-full
 returns-clause-full g c is =
@@ -39,14 +41,18 @@ returns-clause-full g c is =
     let v = c.args.value.now in
     let x = token_view mine in
     let w = c.drive-end.new.self.seat.me.0 in
-    subst (λ n. WasFull n (Value v) x w ⊎ WasAtEnd x w) mine.known (full code of_values x w mine.idle (Value v) (pushes_value code v) (value_push code v) mine.alone mine.some.0 c.requires c.drive-end.result tt c.drive-end.ensures.end (sym c.answer.ensures ∙ is))
+    subst (λ n. WasFull n (Value v) x w ⊎ WasAtEnd x w) mine.known
+    (full code of_values x w mine.idle (Value v) (pushes_value code v) (value_push code v) mine.alone mine.some.0
+    c.requires c.drive-end.result tt c.drive-end.ensures.end (sym c.answer.ensures ∙ is))
 
 pub returns-clause-published : goal.returns-clause-published
 returns-clause-published g c is =
     let mine = c.args.self.now in
     let code : Coding g.row.T.Denot = coding_of g.T.Words.WORDS g.T.Words.words_of g.T.Words.value_of in
     let v = c.args.value.now in
-    published_if code of_values (token_view mine) c.drive-end.new.self.seat.me.0 mine.idle (Value v) (pushes_value code v) (value_push code v) mine.alone mine.some.0 c.requires c.drive-end.result tt c.drive-end.ensures.end (sym c.answer.ensures ∙ is)
+    published_if code of_values (token_view mine) c.drive-end.new.self.seat.me.0 mine.idle (Value v)
+    (pushes_value code v) (value_push code v) mine.alone mine.some.0 c.requires c.drive-end.result tt
+    c.drive-end.ensures.end (sym c.answer.ensures ∙ is)
 
 pub returns-clause-pushed : goal.returns-clause-pushed
 returns-clause-pushed g c =
@@ -55,7 +61,9 @@ returns-clause-pushed g c =
     let v = c.args.value.now in
     let x = token_view mine in
     let w = c.drive-end.new.self.seat.me.0 in
-    subst (λ b. HasPushed (Value v) b x w ⊎ (b ≡ false) × WasAtEnd x w) (sym c.answer.ensures) (pushed code of_values x w mine.idle (Value v) (pushes_value code v) (value_push code v) mine.alone mine.some.0 c.requires c.drive-end.result tt c.drive-end.ensures.end)
+    subst (λ b. HasPushed (Value v) b x w ⊎ (b ≡ false) × WasAtEnd x w) (sym c.answer.ensures)
+    (pushed code of_values x w mine.idle (Value v) (pushes_value code v) (value_push code v) mine.alone mine.some.0
+    c.requires c.drive-end.result tt c.drive-end.ensures.end)
 
 pub returns-clause-same : goal.returns-clause-same
 returns-clause-same g c =
@@ -65,5 +73,7 @@ returns-clause-same g c =
     let w = c.drive-end.new.self.seat.me.0 in
     record {
       queue = search rules;
-      goes = subst (λ n. Goes code kinds.Queue n v w) mine.known (goes_over code kinds.Queue (pushes_value code c.args.value.now) v w c.drive-end.result tt c.drive-end.ensures.end);
+      goes =
+          subst (λ n. Goes code kinds.Queue n v w) mine.known
+          (goes_over code kinds.Queue (pushes_value code c.args.value.now) v w c.drive-end.result tt c.drive-end.ensures.end);
     }

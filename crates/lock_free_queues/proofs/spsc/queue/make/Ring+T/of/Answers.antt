@@ -18,7 +18,11 @@ loop-at-init g c =
       c.of_zeros-value.ensures,
       omega arith,
       ap (λ n. n * c.cells_used.result) same ∙ ap (λ n. size * n) c.cells_used.ensures,
-      c.in_ok-words.ensures ∙ (ap (λ n. n ∷ n ∷ 1 ∷ 1 ∷ (replicate (c.WORDS-size.result * capacity) 0 ++ 0 ∷ [])) c.start_at-start.ensures ∙ ap (λ n. position_at capacity c.args.position ∷ position_at capacity c.args.position ∷ 1 ∷ 1 ∷ (replicate (n * capacity) 0 ++ 0 ∷ [])) same),
+      c.in_ok-words.ensures
+          ∙ (ap (λ n. n ∷ n ∷ 1 ∷ 1 ∷ (replicate (c.WORDS-size.result * capacity) 0 ++ 0 ∷ [])) c.start_at-start.ensures
+          ∙ ap (λ n. position_at capacity c.args.position ∷ position_at capacity c.args.position ∷ 1 ∷ 1
+          ∷ (replicate (n * capacity) 0 ++ 0 ∷ []))
+          same),
     )
 
 pub loop-at-preserved : goal.loop-at-preserved
@@ -39,7 +43,8 @@ loop-at-preserved g c =
       inv.3,
       omega arith,
       inv.5,
-      ap (λ zs. set zs (4 + at) c.word-word.result) inv.6 ∙ fills_more (g.T.Words.words_of value) size capacity start start 1 1 at c.word-word.result (omega arith) word,
+      ap (λ zs. set zs (4 + at) c.word-word.result) inv.6
+          ∙ fills_more (g.T.Words.words_of value) size capacity start start 1 1 at c.word-word.result (omega arith) word,
     )
 
 pub of_words-requires-clause-opens : goal.of_words-requires-clause-opens
@@ -56,4 +61,5 @@ of_words-requires-clause-opens g c =
     let done : c.loop-at.at ≡ code.size * min c.args.position capacity = omega arith in
     let value = code.value_of (replicate code.size 0) in
     queue_opens code law of_values value capacity c.ranges.capacity.fits c.args.position c.ranges.position.fits c.loop-at.words.items
-    (inv.6 ∙ (ap (λ x. start ∷ start ∷ 1 ∷ 1 ∷ (filled (code.words_of x) code.size capacity c.loop-at.at ++ 0 ∷ [])) inv.3 ∙ ap (λ n. start ∷ start ∷ 1 ∷ 1 ∷ (filled (code.words_of value) code.size capacity n ++ 0 ∷ [])) done))
+    (inv.6 ∙ (ap (λ x. start ∷ start ∷ 1 ∷ 1 ∷ (filled (code.words_of x) code.size capacity c.loop-at.at ++ 0 ∷ [])) inv.3
+    ∙ ap (λ n. start ∷ start ∷ 1 ∷ 1 ∷ (filled (code.words_of value) code.size capacity n ++ 0 ∷ [])) done))

@@ -11,4 +11,5 @@ invariant-loop-at g l =
     × (l.value ≡ g.T.Words.value_of (replicate g.T.Words.WORDS 0))
     × (l.at ≤ l.used)
     × (l.used ≡ g.T.Words.WORDS * min l.fn.position l.fn.capacity)
-    × (l.words.items ≡ position_at l.fn.capacity l.fn.position ∷ position_at l.fn.capacity l.fn.position ∷ 1 ∷ 1 ∷ (filled (g.T.Words.words_of l.value) g.T.Words.WORDS l.fn.capacity l.at ++ 0 ∷ []))
+    × (l.words.items ≡ position_at l.fn.capacity l.fn.position ∷ position_at l.fn.capacity l.fn.position ∷ 1 ∷ 1
+    ∷ (filled (g.T.Words.words_of l.value) g.T.Words.WORDS l.fn.capacity l.at ++ 0 ∷ []))

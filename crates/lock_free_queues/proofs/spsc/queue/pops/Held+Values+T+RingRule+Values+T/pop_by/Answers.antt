@@ -33,7 +33,10 @@ drive-end-requires-clause-at g c =
     let law : IsCoding code = record { some = met.some; few = met.few; sized = met.sized; given_back = met.given_back } in
     let room = c.requires.room in
     let zeros = ap (room_of code.size) room.3 ∙ room_fresh code.size room.0 room.1 room.2 in
-    subst (λ call. At code kinds.Queue (pops_value code g.R.Room.words_in) v v call c.args.room) (ap first_pop mine.known ∙ sym c.new-call.ensures) (value_pop_first code law g.R.Room.words_in g.R.Room.with_word g.met.R.Room.put_in v c.args.room zeros mine.idle mine.alone mine.some.0 (subst (λ n. n < 2 ^ 32) (sym mine.known) mine.small) c.requires.role)
+    subst (λ call. At code kinds.Queue (pops_value code g.R.Room.words_in) v v call c.args.room)
+    (ap first_pop mine.known ∙ sym c.new-call.ensures)
+    (value_pop_first code law g.R.Room.words_in g.R.Room.with_word g.met.R.Room.put_in v c.args.room zeros mine.idle
+    mine.alone mine.some.0 (subst (λ n. n < 2 ^ 32) (sym mine.known) mine.small) c.requires.role)
 
 pub returns-clause-popped : goal.returns-clause-popped
 returns-clause-popped g c =
@@ -41,7 +44,10 @@ returns-clause-popped g c =
     let code : Coding g.row.T.Denot = coding_of g.T.Words.WORDS g.T.Words.words_of g.T.Words.value_of in
     let x = token_view mine in
     let w = c.drive-end.new.self.seat.me.0 in
-    subst (λ z. HasPopped (option_map (value_of code) z) x w) (sym c.answer.ensures) (has_popped code Queue x w mine.idle (value_of code) (value_there code g.R.Room.words_in) (pops_value code g.R.Room.words_in) (value_pop code g.R.Room.words_in) c.drive-end.result c.drive-end.new.room c.drive-end.ensures.end)
+    subst (λ z. HasPopped (option_map (value_of code) z) x w) (sym c.answer.ensures)
+    (has_popped code Queue x w mine.idle (value_of code) (value_there code g.R.Room.words_in)
+    (pops_value code g.R.Room.words_in) (value_pop code g.R.Room.words_in) c.drive-end.result c.drive-end.new.room
+    c.drive-end.ensures.end)
 
 pub returns-clause-empty : goal.returns-clause-empty
 returns-clause-empty g c =
@@ -51,7 +57,11 @@ returns-clause-empty g c =
     let w = c.drive-end.new.self.seat.me.0 in
     let ends = c.drive-end.ensures.end in
     let o = pop_answer (value_there code g.R.Room.words_in c.drive-end.new.room) c.drive-end.result in
-    subst (λ z. IfNone z (WasEmpty x w)) (sym c.answer.ensures) (empty_if code of_values (value_of code) x.capacity x w ends.history o (has_popped code Queue x w mine.idle (value_of code) (value_there code g.R.Room.words_in) (pops_value code g.R.Room.words_in) (value_pop code g.R.Room.words_in) c.drive-end.result c.drive-end.new.room ends))
+    subst (λ z. IfNone z (WasEmpty x w)) (sym c.answer.ensures)
+    (empty_if code of_values (value_of code) x.capacity x w ends.history o
+    (has_popped code Queue x w mine.idle (value_of code) (value_there code g.R.Room.words_in)
+    (pops_value code g.R.Room.words_in) (value_pop code g.R.Room.words_in) c.drive-end.result c.drive-end.new.room
+    ends))
 
 pub returns-clause-taken : goal.returns-clause-taken
 returns-clause-taken g c =
@@ -61,4 +71,8 @@ returns-clause-taken g c =
     let w = c.drive-end.new.self.seat.me.0 in
     let ends = c.drive-end.ensures.end in
     let o = pop_answer (value_there code g.R.Room.words_in c.drive-end.new.room) c.drive-end.result in
-    subst (λ z. IfSome z (λ k. HasTakenOut (Value k) x w)) (sym c.answer.ensures) (taken_if code of_values (value_of code) x.capacity x w ends.history o (has_popped code Queue x w mine.idle (value_of code) (value_there code g.R.Room.words_in) (pops_value code g.R.Room.words_in) (value_pop code g.R.Room.words_in) c.drive-end.result c.drive-end.new.room ends))
+    subst (λ z. IfSome z (λ k. HasTakenOut (Value k) x w)) (sym c.answer.ensures)
+    (taken_if code of_values (value_of code) x.capacity x w ends.history o
+    (has_popped code Queue x w mine.idle (value_of code) (value_there code g.R.Room.words_in)
+    (pops_value code g.R.Room.words_in) (value_pop code g.R.Room.words_in) c.drive-end.result c.drive-end.new.room
+    ends))

@@ -22,17 +22,21 @@ drive-requires-clause-at g c =
     let mine = c.args.self.now in
     let v = token_view mine in
     let code : Coding g.row.T.Denot = coding_of g.T.Words.WORDS g.T.Words.words_of g.T.Words.value_of in
-    subst (λ n. At code (machine_of g.E.Kind.KIND) (gives_role g.R.Side.ROLE) v v (record { word = n }) tt) (sym (c.WORD.ensures ∙ g.R.Side.there)) (release_first_on code g.E.Kind.KIND v tt mine.idle mine.alone mine.some.0 g.R.Side.ROLE c.requires)
+    subst (λ n. At code (machine_of g.E.Kind.KIND) (gives_role g.R.Side.ROLE) v v (record { word = n }) tt)
+    (sym (c.WORD.ensures ∙ g.R.Side.there))
+    (release_first_on code g.E.Kind.KIND v tt mine.idle mine.alone mine.some.0 g.R.Side.ROLE c.requires)
 
 pub returns-clause-left : goal.returns-clause-left
 returns-clause-left g c =
     let mine = c.args.self.now in
-    released (coding_of g.T.Words.WORDS g.T.Words.words_of g.T.Words.value_of) g.E.Kind.KIND (token_view mine) c.drive.new.self.seat.me.0 mine.idle g.R.Side.ROLE c.drive.result tt c.drive.ensures.end
+    released (coding_of g.T.Words.WORDS g.T.Words.words_of g.T.Words.value_of) g.E.Kind.KIND (token_view mine)
+    c.drive.new.self.seat.me.0 mine.idle g.R.Side.ROLE c.drive.result tt c.drive.ensures.end
 
 pub returns-clause-list : goal.returns-clause-list
 returns-clause-list g c =
     let mine = c.args.self.now in
-    left_marked (coding_of g.T.Words.WORDS g.T.Words.words_of g.T.Words.value_of) (token_view mine) c.drive.new.self.seat.me.0 mine.idle c.drive.result tt g.E.Kind.KIND g.R.Side.ROLE c.drive.ensures.end
+    left_marked (coding_of g.T.Words.WORDS g.T.Words.words_of g.T.Words.value_of) (token_view mine)
+    c.drive.new.self.seat.me.0 mine.idle c.drive.result tt g.E.Kind.KIND g.R.Side.ROLE c.drive.ensures.end
 
 pub returns-clause-mine : goal.returns-clause-mine
 returns-clause-mine g c = (released_moves (token_view c.args.self.now) c.drive.new.self.seat.me.0 g.R.Side.ROLE (returns-clause-left g c)).0

@@ -22,18 +22,23 @@ drive-requires-clause-at g c =
     let mine = c.args.self.now in
     let v = token_view mine in
     let code : Coding g.row.T.Denot = coding_of g.T.Words.WORDS g.T.Words.words_of g.T.Words.value_of in
-    subst (λ n. At code (machine_of g.E.Kind.KIND) (takes_role g.R.Side.ROLE) v v (record { word = n }) tt) (sym (c.WORD.ensures ∙ g.R.Side.there)) (acquire_first_on code g.E.Kind.KIND v tt mine.idle mine.alone mine.some.0 g.R.Side.ROLE)
+    subst (λ n. At code (machine_of g.E.Kind.KIND) (takes_role g.R.Side.ROLE) v v (record { word = n }) tt)
+    (sym (c.WORD.ensures ∙ g.R.Side.there))
+    (acquire_first_on code g.E.Kind.KIND v tt mine.idle mine.alone mine.some.0 g.R.Side.ROLE)
 
 pub returns-clause-acquired : goal.returns-clause-acquired
 returns-clause-acquired g c =
     let mine = c.args.self.now in
-    acquired (coding_of g.T.Words.WORDS g.T.Words.words_of g.T.Words.value_of) g.E.Kind.KIND (token_view mine) c.drive.new.self.seat.me.0 mine.idle g.R.Side.ROLE c.drive.result tt c.drive.ensures.end
+    acquired (coding_of g.T.Words.WORDS g.T.Words.words_of g.T.Words.value_of) g.E.Kind.KIND (token_view mine)
+    c.drive.new.self.seat.me.0 mine.idle g.R.Side.ROLE c.drive.result tt c.drive.ensures.end
 
 pub returns-clause-taken : goal.returns-clause-taken
-returns-clause-taken g c is = (acquired_moves (token_view c.args.self.now) c.drive.new.self.seat.me.0 g.R.Side.ROLE c.drive.result (returns-clause-acquired g c)).0 is
+returns-clause-taken g c is =
+    (acquired_moves (token_view c.args.self.now) c.drive.new.self.seat.me.0 g.R.Side.ROLE c.drive.result (returns-clause-acquired g c)).0 is
 
 pub returns-clause-refused : goal.returns-clause-refused
-returns-clause-refused g c is = (acquired_moves (token_view c.args.self.now) c.drive.new.self.seat.me.0 g.R.Side.ROLE c.drive.result (returns-clause-acquired g c)).1 is
+returns-clause-refused g c is =
+    (acquired_moves (token_view c.args.self.now) c.drive.new.self.seat.me.0 g.R.Side.ROLE c.drive.result (returns-clause-acquired g c)).1 is
 
 pub returns-clause-other : goal.returns-clause-other
 returns-clause-other g c = (acquired_moves (token_view c.args.self.now) c.drive.new.self.seat.me.0 g.R.Side.ROLE c.drive.result (returns-clause-acquired g c)).2

@@ -27,16 +27,23 @@ drive_on-requires-clause-at g c =
     let met = g.met.T.Words in
     let code : Coding g.row.T.Denot = coding_of g.T.Words.WORDS g.T.Words.words_of g.T.Words.value_of in
     let law : IsCoding code = record { some = met.some; few = met.few; sized = met.sized; given_back = met.given_back } in
-    subst (λ call. At code (machine_of g.E.Kind.KIND) (counts_waiting g.W.Measure.WHICH v.capacity) v v call tt) (ap first_len mine.known ∙ sym c.new-call.ensures) (len_first_on code g.E.Kind.KIND v tt mine.idle mine.alone mine.some.0 g.W.Measure.WHICH v.capacity refl)
+    subst (λ call. At code (machine_of g.E.Kind.KIND) (counts_waiting g.W.Measure.WHICH v.capacity) v v call tt)
+    (ap first_len mine.known ∙ sym c.new-call.ensures)
+    (len_first_on code g.E.Kind.KIND v tt mine.idle mine.alone mine.some.0 g.W.Measure.WHICH v.capacity refl)
 
 pub returns-clause-measured : goal.returns-clause-measured
 returns-clause-measured g c =
     let mine = c.args.self.now in
     let v = token_view mine in
     let w = c.drive_on.new.self.seat.me.0 in
-    subst (λ n. HasMeasured g.W.Measure.WHICH n (length_answer g.W.Measure.WHICH n c.drive_on.result) v w) mine.known (measured (coding_of g.T.Words.WORDS g.T.Words.words_of g.T.Words.value_of) g.E.Kind.KIND v w mine.idle g.W.Measure.WHICH c.drive_on.result tt c.drive_on.ensures.end)
+    subst (λ n. HasMeasured g.W.Measure.WHICH n (length_answer g.W.Measure.WHICH n c.drive_on.result) v w)
+    mine.known
+    (measured (coding_of g.T.Words.WORDS g.T.Words.words_of g.T.Words.value_of) g.E.Kind.KIND v w mine.idle
+    g.W.Measure.WHICH c.drive_on.result tt c.drive_on.ensures.end)
 
 pub returns-clause-few : goal.returns-clause-few
 returns-clause-few g c is =
     let mine = c.args.self.now in
-    subst (λ n. c.drive_on.result ≤ most_waiting g.E.Kind.KIND n) mine.known (few (coding_of g.T.Words.WORDS g.T.Words.words_of g.T.Words.value_of) g.E.Kind.KIND (token_view mine) c.drive_on.new.self.seat.me.0 mine.idle g.W.Measure.WHICH is c.drive_on.result tt c.drive_on.ensures.end)
+    subst (λ n. c.drive_on.result ≤ most_waiting g.E.Kind.KIND n) mine.known
+    (few (coding_of g.T.Words.WORDS g.T.Words.words_of g.T.Words.value_of) g.E.Kind.KIND (token_view mine)
+    c.drive_on.new.self.seat.me.0 mine.idle g.W.Measure.WHICH is c.drive_on.result tt c.drive_on.ensures.end)

@@ -5,4 +5,5 @@ use Rattle.lock_free_queues.proofs.spsc.ring.make.Ring+E+u64.of_numbers.Goals as
 pub of_words-requires-clause-opens : goal.of_words-requires-clause-opens
 of_words-requires-clause-opens g c =
     let small : c.args.capacity < 2 ^ 32 = search rules in
-    numbers_open c.args.capacity small c.args.position c.ranges.position.fits g.E.Kind.KIND _ _ c.in-Ok.words.items c.requires.cells c.start_at-start.ensures c.in-Ok.ensures
+    numbers_open c.args.capacity small c.args.position c.ranges.position.fits g.E.Kind.KIND _ _ c.in-Ok.words.items
+    c.requires.cells c.start_at-start.ensures c.in-Ok.ensures

@@ -16,7 +16,9 @@ join_seat-requires g c =
       search rules,
       search rules,
       subst (λ (t : TableId). 0 < t.words) at (let size = mine.sized in omega arith),
-      joins (coding_of g.T.Words.WORDS g.T.Words.words_of g.T.Words.value_of) (machine_of g.E.Kind.KIND) _ mine.seated.seat.id c.args.other.seated.seat.id mine.seated.seat.me.0 c.args.other.seated.seat.me.0 mine.some.0 c.args.other.some.0 c.args.other.idle mine.alone c.args.other.alone,
+      joins (coding_of g.T.Words.WORDS g.T.Words.words_of g.T.Words.value_of) (machine_of g.E.Kind.KIND) _
+          mine.seated.seat.id c.args.other.seated.seat.id mine.seated.seat.me.0 c.args.other.seated.seat.me.0
+          mine.some.0 c.args.other.some.0 c.args.other.idle mine.alone c.args.other.alone,
     )
 
 pub load-requires : goal.load-requires
@@ -31,5 +33,7 @@ load-requires g c =
     let some = positive v.share.part w.share.parts mine.some.0 c.args.other.some.1 in (
       at,
       subst (λ (t : TableId). 0 < t.words) (sym old ∙ at) (let wide = mine.sized in omega arith),
-      owed (coding_of g.T.Words.WORDS g.T.Words.words_of g.T.Words.value_of) g.E.Kind.KIND key c.deref-2.result.now.shared.table_id.slots c.join_seat.new.seat.id 0 (joined_view v w) c.join_seat.new.seat.me (search rules) size mine.idle (omega arith),
+      owed (coding_of g.T.Words.WORDS g.T.Words.words_of g.T.Words.value_of) g.E.Kind.KIND key
+          c.deref-2.result.now.shared.table_id.slots c.join_seat.new.seat.id 0 (joined_view v w) c.join_seat.new.seat.me
+          (search rules) size mine.idle (omega arith),
     )

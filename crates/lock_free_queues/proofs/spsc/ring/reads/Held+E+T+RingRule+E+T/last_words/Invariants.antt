@@ -10,8 +10,10 @@ abbrev pub invariant-loop-at : goal.invariant-loop-at
 invariant-loop-at g l =
     (token_queue l.self ≡ token_queue l.fn.self)
     × HasRead (token_view l.fn.self) (token_view l.self)
-    × WasRead (coding_of g.T.Words.WORDS g.T.Words.words_of g.T.Words.value_of) (machine_of g.E.Kind.KIND) l.fn.self.capacity (token_view l.fn.self) (token_view l.self) 0 l.write
-    × CellsRead (coding_of g.T.Words.WORDS g.T.Words.words_of g.T.Words.value_of) (machine_of g.E.Kind.KIND) l.fn.self.capacity (token_view l.fn.self) (token_view l.self) l.words.items
+    × WasRead (coding_of g.T.Words.WORDS g.T.Words.words_of g.T.Words.value_of) (machine_of g.E.Kind.KIND)
+    l.fn.self.capacity (token_view l.fn.self) (token_view l.self) 0 l.write
+    × CellsRead (coding_of g.T.Words.WORDS g.T.Words.words_of g.T.Words.value_of) (machine_of g.E.Kind.KIND)
+    l.fn.self.capacity (token_view l.fn.self) (token_view l.self) l.words.items
     × (vec_len l.words ≡ l.at)
     × (4 ≤ l.at)
     × (l.at ≤ l.fn.count)

@@ -20,14 +20,17 @@ drive_on-end-requires-clause-at g c =
     let mine = c.args.self.now in
     let v = token_view mine in
     subst (λ call. At one_word kinds.Overflow pops_over v v call (record { 0 = 0 })) (ap first_pop mine.known ∙ sym c.new-call.ensures)
-    (over_pop_first one_word v mine.idle mine.alone mine.some.0 (subst (λ n. 0 < n) (sym mine.known) c.requires.some) (subst (λ n. n < 2 ^ 32) (sym mine.known) mine.small) c.requires.role)
+    (over_pop_first one_word v mine.idle mine.alone mine.some.0
+    (subst (λ n. 0 < n) (sym mine.known) c.requires.some) (subst (λ n. n < 2 ^ 32) (sym mine.known) mine.small)
+    c.requires.role)
 
 pub returns-clause-popped : goal.returns-clause-popped
 returns-clause-popped g c =
     let mine = c.args.self.now in
     let x = token_view mine in
     let w = c.drive_on-end.new.self.seat.me.0 in
-    subst (λ z. HasPopped (option_map Index z) x w) (sym c.answer.ensures) (over_popped one_word x w mine.idle c.drive_on-end.result c.drive_on-end.new.room c.drive_on-end.ensures.end)
+    subst (λ z. HasPopped (option_map Index z) x w) (sym c.answer.ensures)
+    (over_popped one_word x w mine.idle c.drive_on-end.result c.drive_on-end.new.room c.drive_on-end.ensures.end)
 
 pub returns-clause-taken : goal.returns-clause-taken
 returns-clause-taken g c =
@@ -36,7 +39,8 @@ returns-clause-taken g c =
     let w = c.drive_on-end.new.self.seat.me.0 in
     let ends = c.drive_on-end.ensures.end in
     let o = pop_answer c.drive_on-end.new.room.0 c.drive_on-end.result in
-    subst (λ z. IfSome z (λ k. HasTakenFirst (Index k) x w)) (sym c.answer.ensures) (over_taken_if one_word x w ends.history o (over_popped one_word x w mine.idle c.drive_on-end.result c.drive_on-end.new.room ends))
+    subst (λ z. IfSome z (λ k. HasTakenFirst (Index k) x w)) (sym c.answer.ensures)
+    (over_taken_if one_word x w ends.history o (over_popped one_word x w mine.idle c.drive_on-end.result c.drive_on-end.new.room ends))
 
 pub returns-clause-empty : goal.returns-clause-empty
 returns-clause-empty g c =
@@ -45,4 +49,5 @@ returns-clause-empty g c =
     let w = c.drive_on-end.new.self.seat.me.0 in
     let ends = c.drive_on-end.ensures.end in
     let o = pop_answer c.drive_on-end.new.room.0 c.drive_on-end.result in
-    subst (λ z. IfNone z (FoundNone x w)) (sym c.answer.ensures) (over_empty_if one_word x w ends.history o (over_popped one_word x w mine.idle c.drive_on-end.result c.drive_on-end.new.room ends))
+    subst (λ z. IfNone z (FoundNone x w)) (sym c.answer.ensures)
+    (over_empty_if one_word x w ends.history o (over_popped one_word x w mine.idle c.drive_on-end.result c.drive_on-end.new.room ends))

@@ -20,7 +20,9 @@ drive-end-requires-clause-at c =
     let mine = c.args.self.now in
     let v = token_view mine in
     subst (λ call. At one_word kinds.Overflow (pushes_told c.args.value) v v call (record { 0 = 0 })) (ap first_push mine.known ∙ sym c.new-call.ensures)
-    (told_first one_word c.args.value v mine.idle mine.alone mine.some.0 (subst (λ n. 0 < n) (sym mine.known) c.requires.some) (subst (λ n. n < 2 ^ 32) (sym mine.known) mine.small) c.requires.role)
+    (told_first one_word c.args.value v mine.idle mine.alone mine.some.0
+    (subst (λ n. 0 < n) (sym mine.known) c.requires.some) (subst (λ n. n < 2 ^ 32) (sym mine.known) mine.small)
+    c.requires.role)
 
 pub returns-clause-called : goal.returns-clause-called
 returns-clause-called c =
@@ -28,7 +30,9 @@ returns-clause-called c =
     let v = c.args.value in
     let x = token_view mine in
     let w = c.drive-end.new.self.seat.me.0 in
-    subst (λ o. HasOverflowed v o x w ⊎ (o ≡ Some v) × WasAtEnd x w) (sym c.answer.ensures) (over_pushed one_word x w mine.idle v mine.alone mine.some.0 c.requires.role c.drive-end.result c.drive-end.new.room c.drive-end.ensures.end)
+    subst (λ o. HasOverflowed v o x w ⊎ (o ≡ Some v) × WasAtEnd x w) (sym c.answer.ensures)
+    (over_pushed one_word x w mine.idle v mine.alone mine.some.0 c.requires.role c.drive-end.result
+    c.drive-end.new.room c.drive-end.ensures.end)
 
 pub returns-clause-same : goal.returns-clause-same
 returns-clause-same c =
@@ -37,7 +41,10 @@ returns-clause-same c =
     let w = c.drive-end.new.self.seat.me.0 in
     record {
       queue = search rules;
-      goes = subst (λ n. Goes one_word kinds.Overflow n v w) mine.known (goes_over one_word kinds.Overflow (pushes_told c.args.value) v w c.drive-end.result c.drive-end.new.room c.drive-end.ensures.end);
+      goes =
+          subst (λ n. Goes one_word kinds.Overflow n v w) mine.known
+          (goes_over one_word kinds.Overflow (pushes_told c.args.value) v w c.drive-end.result c.drive-end.new.room
+          c.drive-end.ensures.end);
     }
 
 pub returns-clause-published : goal.returns-clause-published
@@ -48,7 +55,10 @@ returns-clause-published c =
     let w = c.drive-end.new.self.seat.me.0 in
     let o = push_answer v c.drive-end.new.room.0 c.drive-end.result in
     let goes = goes_over one_word kinds.Overflow (pushes_told v) x w c.drive-end.result c.drive-end.new.room c.drive-end.ensures.end in
-    subst (λ z. IfNone z (HasPublished (Index v) x w)) (sym c.answer.ensures) (over_none one_word x w mine.idle v goes.history o (over_pushed one_word x w mine.idle v mine.alone mine.some.0 c.requires.role c.drive-end.result c.drive-end.new.room c.drive-end.ensures.end))
+    subst (λ z. IfNone z (HasPublished (Index v) x w)) (sym c.answer.ensures)
+    (over_none one_word x w mine.idle v goes.history o
+    (over_pushed one_word x w mine.idle v mine.alone mine.some.0 c.requires.role c.drive-end.result
+    c.drive-end.new.room c.drive-end.ensures.end))
 
 pub returns-clause-handed_back : goal.returns-clause-handed_back
 returns-clause-handed_back c =
@@ -58,4 +68,8 @@ returns-clause-handed_back c =
     let w = c.drive-end.new.self.seat.me.0 in
     let o = push_answer v c.drive-end.new.room.0 c.drive-end.result in
     let goes = goes_over one_word kinds.Overflow (pushes_told v) x w c.drive-end.result c.drive-end.new.room c.drive-end.ensures.end in
-    subst (λ z. IfSome z (λ y. HasPublished (Index v) x w × HasTakenFirst (Index y) x w ⊎ (y ≡ v) × WasAtEnd x w)) (sym c.answer.ensures) (over_some one_word x w mine.idle v goes.history o (over_pushed one_word x w mine.idle v mine.alone mine.some.0 c.requires.role c.drive-end.result c.drive-end.new.room c.drive-end.ensures.end))
+    subst (λ z. IfSome z (λ y. HasPublished (Index v) x w × HasTakenFirst (Index y) x w ⊎ (y ≡ v) × WasAtEnd x w))
+    (sym c.answer.ensures)
+    (over_some one_word x w mine.idle v goes.history o
+    (over_pushed one_word x w mine.idle v mine.alone mine.some.0 c.requires.role c.drive-end.result
+    c.drive-end.new.room c.drive-end.ensures.end))

@@ -12,7 +12,8 @@ of_words-requires c =
     let words = c.in_ok-words.words.items in
     let oldest : c.saturating_sub-oldest.result ≡ slice_index words 0 - size = search rules in
     let later : c.max.result ≡ max (slice_index words 1) c.saturating_sub-oldest.result = search rules in
-    subst (λ n. Fits size (set words 1 n)) (sym (later ∙ ap (λ n. max (slice_index words 1) n) oldest)) (over_fits size (view c.args.pass) words c.in_ok-words.ensures.words c.args.pass.none.0)
+    subst (λ n. Fits size (set words 1 n)) (sym (later ∙ ap (λ n. max (slice_index words 1) n) oldest))
+    (over_fits size (view c.args.pass) words c.in_ok-words.ensures.words c.args.pass.none.0)
 
 pub returns-clause-list : goal.returns-clause-list
 returns-clause-list c =
@@ -22,4 +23,6 @@ returns-clause-list c =
     let oldest : c.saturating_sub-oldest.result ≡ slice_index words 0 - size = search rules in
     let later : c.max.result ≡ max (slice_index words 1) c.saturating_sub-oldest.result = search rules in
     subst (Closes Index size v) (sym c.of_words.ensures)
-    (subst (λ n. Closes Index size v (list_in size (set words 1 n))) (sym (later ∙ ap (λ n. max (slice_index words 1) n) oldest)) (over_closes size v words c.in_ok-words.ensures.words c.args.pass.none.0))
+    (subst (λ n. Closes Index size v (list_in size (set words 1 n)))
+    (sym (later ∙ ap (λ n. max (slice_index words 1) n) oldest))
+    (over_closes size v words c.in_ok-words.ensures.words c.args.pass.none.0))

@@ -15,4 +15,5 @@ drive-requires-clause-at g c =
 pub returns-clause-left : goal.returns-clause-left
 returns-clause-left g c =
     let mine = c.args.self.now in
-    released (coding_of g.T.Words.WORDS g.T.Words.words_of g.T.Words.value_of) (seen mine) c.drive.new.self.seat.me.0 mine.idle mine.known c.drive.result tt c.drive.ensures.end
+    released (coding_of g.T.Words.WORDS g.T.Words.words_of g.T.Words.value_of) (seen mine)
+    c.drive.new.self.seat.me.0 mine.idle mine.known c.drive.result tt c.drive.ensures.end

@@ -11,7 +11,8 @@ use Rattle.lock_free_value.proofs.spmc.unrestricted_atomic.calls.Held+T+ValueRul
 pub drive-end-requires-clause-rule : goal.drive-end-requires-clause-rule
 drive-end-requires-clause-rule g c base v call m key =
     let met = g.met.T.Words in
-    let law : IsCoding (coding_of g.T.Words.WORDS g.T.Words.words_of g.T.Words.value_of) = record { some = met.some; few = met.few; sized = met.sized; given_back = met.given_back } in
+    let law : IsCoding (coding_of g.T.Words.WORDS g.T.Words.words_of g.T.Words.value_of) =
+    record { some = met.some; few = met.few; sized = met.sized; given_back = met.given_back } in
     store_keeps (coding_of g.T.Words.WORDS g.T.Words.words_of g.T.Words.value_of) law c.args.value.now base v call m 1
 
 pub drive-end-requires-clause-at : goal.drive-end-requires-clause-at
@@ -21,17 +22,22 @@ drive-end-requires-clause-at g c =
     let code : Coding g.row.T.Denot = coding_of g.T.Words.WORDS g.T.Words.words_of g.T.Words.value_of in
     let law : IsCoding code = record { some = met.some; few = met.few; sized = met.sized; given_back = met.given_back } in
     let x = c.args.value.now in
-    subst (λ call. At code kinds.Atomic (stores_value code x) (seen mine) (seen mine) call tt) (sym c.new.ensures) (store_first code law x (seen mine) tt mine.idle mine.alone mine.some.0 c.requires)
+    subst (λ call. At code kinds.Atomic (stores_value code x) (seen mine) (seen mine) call tt) (sym c.new.ensures)
+    (store_first code law x (seen mine) tt mine.idle mine.alone mine.some.0 c.requires)
 
 pub returns-clause-stored : goal.returns-clause-stored
 returns-clause-stored g c is =
     let mine = c.args.self.now in
-    stored_if (coding_of g.T.Words.WORDS g.T.Words.words_of g.T.Words.value_of) (seen mine) c.drive-end.new.self.seat.me.0 mine.idle mine.known c.args.value.now c.drive-end.result tt c.drive-end.ensures.end (sym c.answer.ensures ∙ is)
+    stored_if (coding_of g.T.Words.WORDS g.T.Words.words_of g.T.Words.value_of) (seen mine)
+    c.drive-end.new.self.seat.me.0 mine.idle mine.known c.args.value.now c.drive-end.result tt
+    c.drive-end.ensures.end (sym c.answer.ensures ∙ is)
 
 pub returns-clause-end : goal.returns-clause-end
 returns-clause-end g c is =
     let mine = c.args.self.now in
-    at_end_if (coding_of g.T.Words.WORDS g.T.Words.words_of g.T.Words.value_of) (seen mine) c.drive-end.new.self.seat.me.0 mine.idle mine.known c.args.value.now mine.alone mine.some.0 c.requires c.drive-end.result tt c.drive-end.ensures.end (sym c.answer.ensures ∙ is)
+    at_end_if (coding_of g.T.Words.WORDS g.T.Words.words_of g.T.Words.value_of) (seen mine)
+    c.drive-end.new.self.seat.me.0 mine.idle mine.known c.args.value.now mine.alone mine.some.0 c.requires
+    c.drive-end.result tt c.drive-end.ensures.end (sym c.answer.ensures ∙ is)
 
 pub returns-clause-same : goal.returns-clause-same
 returns-clause-same g c =
@@ -39,5 +45,7 @@ returns-clause-same g c =
     let code : Coding g.row.T.Denot = coding_of g.T.Words.WORDS g.T.Words.words_of g.T.Words.value_of in
     record {
       table = search rules;
-      goes = (leaves code (seen mine) c.drive-end.new.self.seat.me.0 mine.idle mine.known (stores_value code c.args.value.now) c.drive-end.result tt c.drive-end.ensures.end).goes;
+      goes =
+          (leaves code (seen mine) c.drive-end.new.self.seat.me.0 mine.idle mine.known
+          (stores_value code c.args.value.now) c.drive-end.result tt c.drive-end.ensures.end).goes;
     }

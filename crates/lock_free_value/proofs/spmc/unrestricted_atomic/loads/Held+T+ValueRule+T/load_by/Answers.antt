@@ -23,4 +23,6 @@ returns-clause-loaded g c =
     let mine = c.args.self.now in
     let code : Coding g.row.T.Denot = coding_of g.T.Words.WORDS g.T.Words.words_of g.T.Words.value_of in
     let w = c.load_all-end.new.seat.seat.me.0 in
-    subst (λ x. HasLoaded x (seen mine) w) (sym c.answer.ensures) (has_loaded code (seen mine) w mine.idle mine.known g.R.Room.words_in mine.begun c.load_all-end.result c.load_all-end.new.room c.load_all-end.ensures.ends)
+    subst (λ x. HasLoaded x (seen mine) w) (sym c.answer.ensures)
+    (has_loaded code (seen mine) w mine.idle mine.known g.R.Room.words_in mine.begun c.load_all-end.result
+    c.load_all-end.new.room c.load_all-end.ensures.ends)

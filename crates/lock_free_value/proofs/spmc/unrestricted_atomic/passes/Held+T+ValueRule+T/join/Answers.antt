@@ -7,7 +7,8 @@ use Rattle.history.specs.declared.view.View.{View}
 use Rattle.history.specs.History.{IsMachine}
 use Rattle.history.specs.Views.{joined_view, Looks}
 use Rattle.lock_free_sp.proofs.Shares.{positive}
-use Rattle.history.proofs.Passes.{joins, looks}
+use Rattle.history.proofs.Passes.{joins}
+use Rattle.history.proofs.PassLooks.{looks}
 use Rattle.lock_free_value.proofs.spmc.unrestricted_atomic.passes.Held+T+ValueRule+T.join.Goals as goal
 
 pub join_seat-requires : goal.join_seat-requires
@@ -18,7 +19,9 @@ join_seat-requires g c =
       search rules,
       search rules,
       subst (λ (t : TableId). 0 < t.words) at (let size = mine.sized in omega arith),
-      joins (coding_of g.T.Words.WORDS g.T.Words.words_of g.T.Words.value_of) kinds.Atomic 1 mine.seated.seat.id c.args.other.seated.seat.id mine.seated.seat.me.0 c.args.other.seated.seat.me.0 mine.some.0 c.args.other.some.0 c.args.other.idle mine.alone c.args.other.alone,
+      joins (coding_of g.T.Words.WORDS g.T.Words.words_of g.T.Words.value_of) kinds.Atomic 1 mine.seated.seat.id
+          c.args.other.seated.seat.id mine.seated.seat.me.0 c.args.other.seated.seat.me.0 mine.some.0
+          c.args.other.some.0 c.args.other.idle mine.alone c.args.other.alone,
     )
 
 -- what a look owes, where the seat knows this
@@ -34,8 +37,14 @@ load-requires g c =
     let id = c.join_seat.new.seat.id in
     let at : c.join_seat.new.seat.table_id ≡ c.deref-2.result.now.shared.table_id = search rules in
     let me : c.join_seat.new.seat.me ≡ (w, []) = search rules in
-    let owed : Owed code slots id 0 (w, []) = looks code kinds.Atomic 1 slots id 0 w (let more = positive mine.seated.seat.me.0.share.part c.args.other.seated.seat.me.0.share.parts mine.some.0 c.args.other.some.1 in omega arith) in (
+    let owed : Owed code slots id 0 (w, []) =
+    looks code kinds.Atomic 1 slots id 0 w
+    (let more = positive mine.seated.seat.me.0.share.part c.args.other.seated.seat.me.0.share.parts mine.some.0 c.args.other.some.1 in
+    omega arith) in (
       at,
-      (let wide = mine.sized in let old : c.join_seat.new.seat.table_id ≡ mine.seated.seat.table_id = search rules in let same = ap (λ (t : TableId). t.words) (sym at ∙ old) in omega arith),
+      (let wide = mine.sized in
+          let old : c.join_seat.new.seat.table_id ≡ mine.seated.seat.table_id = search rules in
+          let same = ap (λ (t : TableId). t.words) (sym at ∙ old) in
+          omega arith),
       subst (λ (m : Me (Unit {0}) (View g.row.T.Denot)). Owed code slots id 0 m) (sym me) owed,
     )

@@ -6,7 +6,7 @@ use Rattle.model.specs.Coding.{Coding, coding_of}
 use Rattle.history.specs.declared.view.View.{View}
 use Rattle.history.specs.History.{IsMachine}
 use Rattle.history.specs.Views.{Looks}
-use Rattle.history.proofs.Passes.{looks}
+use Rattle.history.proofs.PassLooks.{looks}
 use Rattle.lock_free_value.proofs.spmc.unrestricted_atomic.passes.Held+T+ValueRule+T.look.Goals as goal
 
 -- what a look owes, where the seat knows this

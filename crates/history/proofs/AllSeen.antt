@@ -1,0 +1,286 @@
+-- Who has seen all of the history, and that the seats have made all of it together.
+use Rattle.std.proofs.Common.{◌≡◌, ◌≢◌, inl, inr, ⊎_elim, ℕ, zero, suc, ◌+◌, ◌<◌, Option, Some, None, List, [], ◌∷◌}
+use Rattle.std.proofs.Common.{◌++◌, length, set, refl, sym, ap, subst, ◌∙◌, arith, sum_by, ◌==◌, true, ◌≤◌, ◌⊎◌}
+use Rattle.std.proofs.lemmas.Bool.{cases_eq}
+use Rattle.std.proofs.lemmas.Bool.Decides.{nat_tests}
+use mathlib.Core.Option.{some, some-injective, some-ne-none}
+use lib.ListN.{get_elem?}
+use Rattle.atomic_table.proofs.Lists.{at_longer, set_here, set_else}
+use Rattle.lock_free_sp.specs.Shares.{Shares, IsAll, all_shares}
+use Rattle.lock_free_sp.proofs.Shares.{shares_alone, shares_stay, shares_split, shares_join, others_none, positive}
+use Rattle.model.specs.declared.event.Event.{Event}
+use Rattle.model.specs.Reading.{whose}
+use Rattle.model.specs.World.{Trace}
+use Rattle.history.specs.declared.view.View.{View}
+use Rattle.history.specs.Views.{right_view, left_view, joined_view, spent_view}
+use Rattle.history.specs.History.{IsBeginning, Fits, IsLate}
+use Rattle.history.specs.Known.{HasSeen, Known, own_of, events_by, owned, if_owned, of_none}
+use Rattle.history.proofs.Known.{nat_cases, within, nil_left, nil_right, own_mine, sum_first, late_none}
+
+there_is : {A : Type 0} → (xs : List A) (j : ℕ) → j < length xs → (x : A) × (get_elem? xs j ≡ some x)
+there_is [] j low = absurd (omega arith)
+there_is (x ∷ xs) zero low = (x, refl)
+there_is (x ∷ xs) (suc j) low = there_is xs j (omega arith)
+
+module _ {T : Type 0} where
+  -- ---- who made all
+
+  abbrev one : Event T → ℕ
+  one e = 1
+
+  -- every event is of a party of this seat, where those of the others did nothing
+  pub all_owned : (owner : ℕ → ℕ) (id n : ℕ) (f : Event T → ℕ) (es : List (Event T))
+      → ((q : ℕ) → q < n → owner q < n) → ((j : ℕ) → j ≢ id → j < n → sum_by (owned owner j one) es ≡ 0)
+      → ((q : ℕ) → owner q ≢ id → n ≤ q → events_by q es ≡ []) → sum_by (λ e. of_none (whose e)) es ≡ 0
+      → sum_by f es ≡ sum_by (owned owner id f) es
+  all_owned owner id n f [] inside none beyond someone = refl
+  all_owned owner id n f (e ∷ es) inside none beyond someone =
+      let here = first (whose e) refl in
+      let sum_none = sum_first (λ x. of_none (whose x)) e es in
+      let more =
+      all_owned owner id n f es inside
+      (λ j ne low. (let z = none j ne low in let s = sum_first (owned owner j one) e es in omega arith))
+      (λ q ne past. nil_right (own_of q e) (events_by q es) (beyond q ne past)) (omega arith) in
+      let a = sum_first f e es in
+      let b = sum_first (owned owner id f) e es in
+      omega arith
+    where
+      first : (o : Option ℕ) → whose e ≡ o → f e ≡ owned owner id f e
+      first None is = (let s = sum_first (λ x. of_none (whose x)) e es in let k : of_none (whose e) ≡ 1 = ap of_none is in absurd (omega arith))
+      first (Some q) is = ⊎_elim mine other (cases_eq (owner q) id)
+        where
+          mine : owner q ≡ id → f e ≡ owned owner id f e
+          mine h = (let t : (owner q == id) ≡ true = grind (arith, nat_tests) in sym (ap (λ o. if_owned owner id o (f e)) is ∙ rw t refl))
+
+          other : owner q ≢ id → f e ≡ owned owner id f e
+          other ne =
+              ⊎_elim (λ (past : n ≤ q).
+              (let no : e ∷ [] ≡ [] = sym (own_mine q e is) ∙ nil_left (own_of q e) (events_by q es) (beyond q ne past) in absurd (cc)))
+              (λ (low : q < n). (
+              let z = none (owner q) ne (inside q low) in
+              let s = sum_first (owned owner (owner q) one) e es in
+              let t : (owner q == owner q) ≡ true = grind (arith, nat_tests) in
+              let k : owned owner (owner q) one e ≡ 1 = ap (λ o. if_owned owner (owner q) o 1) is ∙ rw t refl in
+              absurd (omega arith))) (nat_cases n q)
+
+  -- a seat that is spent has no party that did something
+  pub spent_owned : (owner : ℕ → ℕ) (t : Trace T) (j : ℕ) (v : View T) (f : Event T → ℕ) → Fits owner t j v
+      → v.made ≡ [] → v.going ≡ None → sum_by (owned owner j f) t.events ≡ 0
+  spent_owned owner t j v f h none idle =
+      let m = h.made f in
+      let a : sum_by f v.made ≡ 0 = ap (sum_by f) none in
+      let b : sum_by f h.late ≡ 0 = ap (sum_by f) (late_none t.world.kind h.late (subst (λ o. IsLate t.world.kind o h.late) idle h.waits)) in
+      omega arith
+
+  -- ---- what all seats know
+
+  abbrev share_of : View T → Rattle.lock_free_sp.specs.declared.share.Share.Share
+  share_of v = v.share
+
+  abbrev SpentIn : List (View T) → Type 0
+  SpentIn views = (j : ℕ) (u : View T) → get_elem? views j ≡ some u → u.share.part ≡ 0 → (u.made ≡ []) × (u.going ≡ None)
+
+  pub known_alone : (v : View T) → v.share ≡ all_shares → v.seen ≡ [] → Known (v ∷ []) []
+  known_alone v all seen =
+      record {
+        shares = shares_alone share_of v all;
+        by = 0;
+        last = v;
+        at = refl;
+        any = (let is = ap (λ s. s.part) all in omega arith);
+        all = inl seen;
+        someone = refl;
+        spent = spent;
+      }
+    where
+      spent : SpentIn (v ∷ [])
+      spent zero u at part =
+          (let is = ap (λ (z : View T). z.share.part) (some-injective v u at) in
+          let some_part = ap (λ s. s.part) all in
+          absurd (omega arith))
+      spent (suc j) u at part = absurd (some-ne-none u (sym at))
+
+  spent_set : (views : List (View T)) (id : ℕ) (w : View T) → SpentIn views → (w.share.part ≡ 0 → (w.made ≡ []) × (w.going ≡ None)) → SpentIn (set views id w)
+  spent_set views id w spent own j u at part =
+      ⊎_elim (λ (e : (j ≡ id) × (w ≡ u)). subst (λ (z : View T). (z.made ≡ []) × (z.going ≡ None)) e.1
+      (own (ap (λ (z : View T). z.share.part) e.1 ∙ part)))
+      (λ (e : (j ≢ id) × (get_elem? views j ≡ some u)). spent j u e.1 part)
+      (Rattle.atomic_table.proofs.Lists.at_set views id j w u at)
+
+  -- a seat with a share that has seen all now
+  pub known_step : (views : List (View T)) (events : List (Event T)) (id : ℕ) (v w : View T) → id < length views
+      → get_elem? views id ≡ some v → w.share ≡ v.share → 0 < v.share.part → w.seen ≡ events
+      → sum_by (λ e. of_none (whose e)) events ≡ 0 → SpentIn views → Shares share_of views
+      → Known (set views id w) events
+  known_step views events id v w low at same part seen someone spent shares =
+      record {
+        shares = shares_stay share_of views id v w at same shares;
+        by = id;
+        last = w;
+        at = set_here views id w low;
+        any = (let is = ap (λ s. s.part) same in omega arith);
+        all = inl seen;
+        someone = someone;
+        spent = spent_set views id w spent (λ none. (let is = ap (λ s. s.part) same in absurd (omega arith)));
+      }
+
+  -- only the seat with the whole has a share
+  pub known_whole : (views : List (View T)) (events : List (Event T)) (id : ℕ) (v : View T)
+      → get_elem? views id ≡ some v → IsAll v.share → Known views events → HasSeen v events
+  known_whole views events id v at whole k = ⊎_elim mine theirs (cases_eq k.by id)
+    where
+      mine : k.by ≡ id → HasSeen v events
+      mine e =
+          let there : some k.last ≡ some v = sym k.at ∙ (ap (get_elem? views) e ∙ at) in
+          subst (λ z. HasSeen z events) (some-injective k.last v there) k.all
+
+      theirs : k.by ≢ id → HasSeen v events
+      theirs ne =
+          let none = others_none share_of views id v at k.shares whole k.by k.last ne k.at in
+          let any = k.any in
+          absurd (omega arith)
+
+  -- and its parties did all
+  pub owned_whole : (owner : ℕ → ℕ) (t : Trace T) (views : List (View T)) (id : ℕ) (v : View T)
+      → get_elem? views id ≡ some v → IsAll v.share → Shares share_of views → SpentIn views
+      → ((j : ℕ) (u : View T) → j ≢ id → get_elem? views j ≡ some u → Fits owner t j u)
+      → ((q : ℕ) → q < length views → owner q < length views)
+      → ((q : ℕ) → owner q ≢ id → length views ≤ q → events_by q t.events ≡ [])
+      → sum_by (λ e. of_none (whose e)) t.events ≡ 0
+      → (f : Event T → ℕ) → sum_by f t.events ≡ sum_by (owned owner id f) t.events
+  owned_whole owner t views id v at whole shares spent fits inside beyond someone f = all_owned owner id (length views) f t.events inside none beyond someone
+    where
+      none : (j : ℕ) → j ≢ id → j < length views → sum_by (owned owner j one) t.events ≡ 0
+      none j ne low =
+          let u = there_is views j low in
+          let gone = spent j u.0 u.1 (others_none share_of views id v at shares whole j u.0 ne u.1) in
+          spent_owned owner t j u.0 one (fits j u.0 ne u.1) gone.0 gone.1
+
+  pub known_split : (views : List (View T)) (events : List (Event T)) (id : ℕ) (v : View T) → id < length views
+      → get_elem? views id ≡ some v → Known views events
+      → Known (set views id (left_view v) ++ right_view v ∷ []) events
+  known_split views events id v low at k = ⊎_elim mine theirs (cases_eq k.by id)
+    where
+      cut : List (View T)
+      cut = set views id (left_view v) ++ right_view v ∷ []
+
+      spent : SpentIn cut
+      spent = spent_end (set views id (left_view v)) (right_view v) (spent_set views id (left_view v) k.spent (λ none. k.spent id v at none)) refl refl
+        where
+          spent_end : (xs : List (View T)) (w : View T) → SpentIn xs → w.made ≡ [] → w.going ≡ None → SpentIn (xs ++ w ∷ [])
+          spent_end [] w h none idle zero u e part = subst (λ (z : View T). (z.made ≡ []) × (z.going ≡ None)) (some-injective w u e) (none, idle)
+          spent_end [] w h none idle (suc j) u e part = absurd (some-ne-none u (sym e))
+          spent_end (x ∷ xs) w h none idle zero u e part = h zero u e part
+          spent_end (x ∷ xs) w h none idle (suc j) u e part = spent_end xs w (λ i z. h (suc i) z) none idle j u e part
+
+      mine : k.by ≡ id → Known cut events
+      mine e =
+          let there : some k.last ≡ some v = sym k.at ∙ (ap (get_elem? views) e ∙ at) in
+          let same : k.last ≡ v = some-injective k.last v there in
+          let any : 0 < v.share.part = subst (λ (z : View T). 0 < z.share.part) same k.any in
+          let all : HasSeen v events = subst (λ z. HasSeen z events) same k.all in
+          record {
+            shares = shares_split share_of views id v (left_view v) (right_view v) at refl refl k.shares;
+            by = id;
+            last = left_view v;
+            at = at_longer (set views id (left_view v)) (right_view v ∷ []) id (left_view v) (set_here views id (left_view v) low);
+            any = any;
+            all = all;
+            someone = k.someone;
+            spent = spent;
+          }
+
+      theirs : k.by ≢ id → Known cut events
+      theirs ne =
+          record {
+            shares = shares_split share_of views id v (left_view v) (right_view v) at refl refl k.shares;
+            by = k.by;
+            last = k.last;
+            at = at_longer (set views id (left_view v)) (right_view v ∷ []) k.by k.last (set_else views id k.by (left_view v) ne ∙ k.at);
+            any = k.any;
+            all = k.all;
+            someone = k.someone;
+            spent = spent;
+          }
+
+  pub known_join : (views : List (View T)) (events : List (Event T)) (id other : ℕ) (v w : View T)
+      → get_elem? views id ≡ some v → ¬ (other ≡ id) → get_elem? views other ≡ some w → 0 < v.share.part
+      → IsBeginning v.seen events → v.other ≡ [] → w.other ≡ [] → Known views events
+      → Known (set (set views id (joined_view v w)) other spent_view) events
+  known_join views events id other v w at apart at' part mine_seen alone alone' k =
+      ⊎_elim mine (λ ne. ⊎_elim theirs (third ne) (cases_eq k.by other)) (cases_eq k.by id)
+    where
+      both : List (View T)
+      both = set (set views id (joined_view v w)) other spent_view
+
+      shares : Shares share_of both
+      shares = shares_join share_of views id other v w (joined_view v w) spent_view at apart at' refl refl k.shares
+
+      there : get_elem? both id ≡ some (joined_view v w)
+      there = set_else (set views id (joined_view v w)) other id spent_view (λ e. apart (sym e)) ∙ set_here views id (joined_view v w) (within views id v at)
+
+      more : 0 < v.share.part → 0 < (joined_view v w).share.part
+      more any = let h = positive v.share.part w.share.parts any (k.shares.fits other w at').0 in omega arith
+
+      spent : SpentIn both
+      spent =
+          spent_set (set views id (joined_view v w)) other spent_view
+          (spent_set views id (joined_view v w) k.spent (λ none. (let h = more part in absurd (omega arith))))
+          (λ none. (refl, refl))
+
+      none_left : (xs rest : List (Event T)) → [] ≡ xs ++ rest → xs ≡ []
+      none_left [] rest e = refl
+      none_left (x ∷ xs) rest e = absurd (cc)
+
+      -- where nothing has happened all have seen all
+      early : events ≡ [] → v.seen ≡ events
+      early e = none_left v.seen mine_seen.rest (sym e ∙ mine_seen.is) ∙ sym e
+
+      mine : k.by ≡ id → Known both events
+      mine e =
+          let same : k.last ≡ v = some-injective k.last v (sym k.at ∙ (ap (get_elem? views) e ∙ at)) in
+          record {
+            shares = shares;
+            by = id;
+            last = joined_view v w;
+            at = there;
+            any = more part;
+            all = seen (subst (λ z. HasSeen z events) same k.all);
+            someone = k.someone;
+            spent = spent;
+          }
+        where
+          seen : HasSeen v events → HasSeen (joined_view v w) events
+          seen (inl h) = inl h
+          seen (inr h) = inl (early (sym h ∙ alone))
+
+      theirs : k.by ≡ other → Known both events
+      theirs e =
+          let same : k.last ≡ w = some-injective k.last w (sym k.at ∙ (ap (get_elem? views) e ∙ at')) in
+          record {
+            shares = shares;
+            by = id;
+            last = joined_view v w;
+            at = there;
+            any = more part;
+            all = seen (subst (λ z. HasSeen z events) same k.all);
+            someone = k.someone;
+            spent = spent;
+          }
+        where
+          seen : HasSeen w events → HasSeen (joined_view v w) events
+          seen (inl h) = inr h
+          seen (inr h) = inl (early (sym h ∙ alone'))
+
+      third : k.by ≢ id → k.by ≢ other → Known both events
+      third ne ne' =
+          record {
+            shares = shares;
+            by = k.by;
+            last = k.last;
+            at = set_else (set views id (joined_view v w)) other k.by spent_view ne' ∙ (set_else views id k.by (joined_view v w) ne ∙ k.at);
+            any = k.any;
+            all = k.all;
+            someone = k.someone;
+            spent = spent;
+          }

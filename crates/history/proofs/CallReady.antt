@@ -1,0 +1,294 @@
+-- The machine before a step of a call: what the view says there, as which party the call goes on, and what is written.
+use Rattle.std.proofs.Common.{◌≡◌, inl, inr, ⊎_elim, ℕ, ◌<◌, Option, Some, None, IfSome, List, [], ◌∷◌, ◌++◌, refl}
+use Rattle.std.proofs.Common.{sym, ap, subst, ◌∙◌, append_assoc, append-nil, arith, sum_by}
+use mathlib.Core.Option.{some, some-injective}
+use lib.ListN.{get_elem?}
+use Rattle.atomic_table.specs.Table.{State}
+use Rattle.model.specs.declared.event.Event.{Event}
+use Rattle.model.specs.declared.event.Event.TheVariants.{Begun}
+use Rattle.model.specs.declared.event.Start.{Start}
+use Rattle.model.specs.declared.families.Flight.{Flight}
+use Rattle.model.specs.declared.families.Kept.{Kept}
+use Rattle.model.specs.declared.turn.Kind.{Kind}
+use Rattle.model.specs.declared.turn.Turn.TheVariants.{Begin}
+use Rattle.model.specs.Coding.{Coding}
+use Rattle.model.specs.Families.{first_of, kept_after_begin}
+use Rattle.model.specs.Families.Container.Looks.{state_in}
+use Rattle.model.specs.Rows.{first_row}
+use Rattle.model.specs.Turns.{after_turn}
+use Rattle.model.specs.World.{World, Trace}
+use Rattle.lock_free_sp.specs.Shares.{IsAll}
+use Rattle.history.specs.declared.view.View.{View}
+use Rattle.history.specs.Known.{events_by, by_party, owned}
+use Rattle.history.specs.History.{IsRun, IsMachine, Fits, IsLate, call_in}
+use Rattle.history.specs.Stages.{Calling, LeavesState, Since, opened, Starts, At, rows_as}
+use Rattle.history.proofs.Known.{by_more, nil_right, idle_seat, late_none, none_late}
+use Rattle.history.proofs.AllSeen.{known_whole}
+use Rattle.history.proofs.Calls.{begins_no_look}
+use Rattle.history.proofs.Turns.{KeptLaws, Between, at_first, begun, begun_at, begun_kept, begins_free}
+use Rattle.history.proofs.CallsIn.{no_rest, same_rest, none_after, Prior}
+
+module _ {T C M E : Type 0} (code : Coding T) (kind : Kind) (effects : World T → ℕ → Flight T → ℕ → List (Event T))
+    (size_of : ℕ → ℕ) (laws : (capacity : ℕ) → KeptLaws code kind capacity (size_of capacity) effects)
+    (call : Calling T C M E) where
+  abbrev Stage : View T → View T → C → M → Type 0
+  Stage base v c m = At code kind call base v c m
+
+  pub same_capacity : (base v : View T) (c : C) (m : M) → Stage base v c m → v.capacity ≡ base.capacity
+  same_capacity base v c m (inl first) = ap (λ (z : View T). z.capacity) first.is
+  same_capacity base v c m (inr under) = under.capacity
+
+  pub same_share : (base v : View T) (c : C) (m : M) → Stage base v c m → v.share ≡ base.share
+  same_share base v c m (inl first) = ap (λ (z : View T). z.share) first.is
+  same_share base v c m (inr under) = under.share
+
+  pub some_share : (base v : View T) (c : C) (m : M) → Stage base v c m → 0 < v.share.part
+  some_share base v c m (inl first) = subst (λ (z : View T). 0 < z.share.part) (sym first.is) first.some
+  some_share base v c m (inr under) = under.some
+
+  pub still_stands : (base v : View T) (c : C) (m : M) → Stage base v c m → call.stands base.capacity c
+  still_stands base v c m (inl first) = first.standing
+  still_stands base v c m (inr under) = under.standing
+
+  -- ---- the machine, before the step
+
+  -- what it wrote, as far as the seat had seen it, and what another wrote for it since
+  pub record Told_by (p : ℕ) (c : C) (m : M) (base : View T) (events made : List (Event T)) : Type 0 where
+    pub wrote : List (Event T)
+    pub tells : call.wrote base.capacity p base.going c m wrote
+    pub late : List (Event T)
+    pub waits : IsLate kind (Some (call.start, call.flight c m)) late
+    pub prior : Prior p call.start (wrote ++ late) base events made
+
+  -- what is kept where it has just begun
+  pub record Began (key p : ℕ) (v : View T) (now : Kept T) : Type 0 where
+    pub t : Trace T
+    pub run : IsRun code kind key t
+    pub kept : now ≡ kept_after_begin code key call.start p t.world.kept
+    pub stated : v.party ≡ Some p → state_in t.world.kept p ≡ v.state
+
+  -- the seat goes on as this one of its parties
+  pub record Ready (s : State (Unit {0}) (View T)) (v : View T) (key id : ℕ) (c : C) (m : M) : Type 0 where
+    pub p : ℕ
+    pub owner : ℕ → ℕ
+    pub gained : List (Event T)
+    pub u : Trace T
+    pub between : Between code kind key owner s id p gained u
+    pub there : call_in u.world p ≡ Some (call.start, call.flight c m)
+    pub by : (base : View T) → Stage base v c m → call.by base.party p
+    pub prior : (base : View T) → Stage base v c m → Told_by p c m base u.events (v.made ++ gained)
+    pub began : v.going ≡ None → Began key p v u.world.kept
+    pub held : v.going ≡ Some (call.start, call.flight c m) → state_in u.world.kept p ≡ v.state
+    pub as_party : v.going ≡ Some (call.start, call.flight c m) → v.party ≡ Some p
+    pub state : LeavesState call → v.party ≡ Some p → state_in u.world.kept p ≡ v.state
+
+  module _ (s : State (Unit {0}) (View T)) (v : View T) (key id : ℕ) (c : C) (m : M) (r : IsMachine code kind key s)
+      (at : get_elem? s.views id ≡ some v) (known : v.capacity ≡ key) where
+    here : Fits r.owner r.trace id v
+    here = r.seats id v at
+
+    -- who has the whole has seen all
+    nothing_else : IsAll v.share → v.other ≡ [] → here.seen.rest ≡ []
+    nothing_else all alone =
+        ⊎_elim (λ (e : v.seen ≡ r.trace.events). no_rest v.seen here.seen.rest (e ∙ here.seen.is))
+        (λ (e : v.other ≡ r.trace.events). none_after v.seen here.seen.rest (sym (sym here.seen.is ∙ (sym e ∙ alone))))
+        (known_whole s.views r.trace.events id v at all r.known)
+
+    -- who has a share has seen all of its own, but for what another wrote for it
+    not_seen : (p : ℕ) → events_by p v.seen ++ events_by p here.late ≡ events_by p r.trace.events → events_by p here.seen.rest ≡ events_by p here.late
+    not_seen p e =
+        same_rest (events_by p v.seen) (events_by p here.seen.rest) (events_by p here.late)
+        (sym (e ∙ (ap (events_by p) here.seen.is ∙ by_more p v.seen here.seen.rest)))
+
+    nothing_own : 0 < v.share.part → v.other ≡ [] → here.late ≡ [] → (p : ℕ) → r.owner p ≡ id → events_by p here.seen.rest ≡ []
+    nothing_own any alone none p of_id =
+        ⊎_elim (λ (e : events_by p v.seen ++ events_by p here.late ≡ events_by p r.trace.events). not_seen p e ∙ ap (events_by p) none)
+        (λ (h : (call_in r.trace.world p ≡ None) × (events_by p v.other ≡ events_by p r.trace.events)). nil_right
+        (events_by p v.seen) (events_by p here.seen.rest)
+        (sym (by_more p v.seen here.seen.rest) ∙ (sym (ap (events_by p) here.seen.is) ∙ (sym h.1 ∙ ap (events_by p) alone))))
+        (here.own any p of_id)
+
+    late_here : IsLate kind v.going here.late
+    late_here = subst (λ k. IsLate k v.going here.late) r.run.of_kind here.waits
+
+    none_late_here : v.going ≡ None → here.late ≡ []
+    none_late_here none = late_none kind here.late (subst (λ o. IsLate kind o here.late) none late_here)
+
+    first_prior : (p : ℕ) → r.owner p ≡ id → (base : View T) → v.going ≡ None → Stage base v c m
+        → Told_by p c m base (r.trace.events ++ Begun p call.start ∷ []) (v.made ++ Begun p call.start ∷ [])
+    first_prior p of_id base none (inl first) =
+        let opens : opened p call.start base.going ≡ Begun p call.start ∷ [] = ap (opened p call.start) first.idle in
+        let fresh : v.other ≡ [] = ap (λ (z : View T). z.other) first.is ∙ first.fresh in
+        record {
+          wrote = [];
+          tells = subst (λ (o : Option (Start T × Flight T)). call.wrote base.capacity p o c m []) (sym first.idle) (first.wrote p);
+          late = [];
+          waits = none_late kind (Some (call.start, call.flight c m));
+          prior =
+              record {
+                others = here.seen.rest;
+                during = [];
+                is =
+                    ap (λ es. es ++ Begun p call.start ∷ []) (here.seen.is ∙ ap (λ (z : View T). z.seen ++ here.seen.rest) first.is)
+                    ∙ ap (λ es. (base.seen ++ here.seen.rest) ++ es) (sym (append-nil (opened p call.start base.going) ∙ opens));
+                alone = λ all. nothing_else (subst (λ (z : View T). IsAll z.share) (sym first.is) all) fresh;
+                others_own = nothing_own (some_share base v c m (inl first)) fresh (none_late_here none) p of_id;
+                during_own = refl;
+                made_is =
+                    ap (λ (z : View T). z.made ++ Begun p call.start ∷ []) first.is
+                    ∙ ap (λ es. base.made ++ es) (sym (append-nil (opened p call.start base.going) ∙ opens));
+              };
+        }
+    first_prior p of_id base none (inr under) =
+        let no : ◌≡◌ {A = Option (Start T × Flight T)} None (Some (call.start, call.flight c m)) = sym none ∙ under.going in
+        absurd (cc)
+
+    -- the party of a call under way has seen all of its own, but what is late
+    late_own : (p : ℕ) → r.owner p ≡ id → v.party ≡ Some p → v.going ≡ Some (call.start, call.flight c m)
+        → 0 < v.share.part → events_by p here.seen.rest ≡ here.late
+    late_own p of_id is_p has any =
+        ⊎_elim (λ (e : events_by p v.seen ++ events_by p here.late ≡ events_by p r.trace.events). not_seen p e
+        ∙ subst (λ (o : Option ℕ). by_party o here.late ≡ here.late) is_p here.of_party)
+        (λ (h : (call_in r.trace.world p ≡ None) × (events_by p v.other ≡ events_by p r.trace.events)).
+        (let no : ◌≡◌ {A = Option (Start T × Flight T)} None (Some (call.start, call.flight c m)) =
+        sym h.0 ∙ (here.going p of_id is_p ∙ has) in
+        absurd (cc)))
+        (here.own any p of_id)
+
+    later_prior : (p : ℕ) → r.owner p ≡ id → v.party ≡ Some p → (base : View T)
+        → v.going ≡ Some (call.start, call.flight c m) → Stage base v c m
+        → Told_by p c m base r.trace.events (v.made ++ here.late)
+    later_prior p of_id is_p base has (inl first) =
+        let no : ◌≡◌ {A = Option (Start T × Flight T)} None (Some (call.start, call.flight c m)) =
+        sym first.idle ∙ (ap (λ (z : View T). z.going) (sym first.is) ∙ has) in
+        absurd (cc)
+    later_prior p of_id is_p base has (inr under) =
+        let both : ◌≡◌ {A = Option ℕ} (Some under.party) (Some p) = sym under.mine ∙ is_p in
+        let same : under.party ≡ p = cc in
+        let since : Since p call.start under.wrote [] base v = subst (λ z. Since z call.start under.wrote [] base v) same under.since in
+        let rest = here.seen.rest in
+        record {
+          wrote = under.wrote;
+          tells = subst (λ z. call.wrote base.capacity z base.going c m under.wrote) same under.tells;
+          late = here.late;
+          waits = subst (λ o. IsLate kind o here.late) has late_here;
+          prior =
+              record {
+                others = since.others;
+                during = since.during ++ rest;
+                is =
+                    here.seen.is
+                    ∙ (ap (λ es. es ++ rest) since.is
+                    ∙ (ap (λ zs. ((base.seen ++ since.others) ++ (opened p call.start base.going ++ zs)) ++ rest) (append-nil since.during)
+                    ∙ (append_assoc (base.seen ++ since.others) (opened p call.start base.going ++ since.during) rest
+                    ∙ ap (λ zs. (base.seen ++ since.others) ++ zs) (append_assoc (opened p call.start base.going) since.during rest))));
+                alone = since.alone;
+                others_own = since.others_own;
+                during_own =
+                    by_more p since.during rest
+                    ∙ (ap (λ zs. events_by p since.during ++ zs) (late_own p of_id is_p has under.some)
+                    ∙ ap (λ zs. zs ++ here.late) since.during_own);
+                made_is =
+                    ap (λ es. es ++ here.late) (since.made ∙ ap (λ zs. base.made ++ (opened p call.start base.going ++ zs)) (append-nil under.wrote))
+                    ∙ (append_assoc base.made (opened p call.start base.going ++ under.wrote) here.late
+                    ∙ ap (λ zs. base.made ++ zs) (append_assoc (opened p call.start base.going) under.wrote here.late));
+              };
+        }
+
+    -- as which party the call began
+    first_by : (p : ℕ) → call.by v.party p → (base : View T) → v.going ≡ None → Stage base v c m → call.by base.party p
+    first_by p by base none (inl first) = subst (λ (z : View T). call.by z.party p) first.is by
+    first_by p by base none (inr under) =
+        let no : ◌≡◌ {A = Option (Start T × Flight T)} None (Some (call.start, call.flight c m)) = sym none ∙ under.going in
+        absurd (cc)
+
+    later_by : (p : ℕ) → v.party ≡ Some p → (base : View T) → v.going ≡ Some (call.start, call.flight c m) → Stage base v c m → call.by base.party p
+    later_by p is_p base has (inl first) =
+        let no : ◌≡◌ {A = Option (Start T × Flight T)} None (Some (call.start, call.flight c m)) =
+        sym first.idle ∙ (ap (λ (z : View T). z.going) (sym first.is) ∙ has) in
+        absurd (cc)
+    later_by p is_p base has (inr under) =
+        let both : ◌≡◌ {A = Option ℕ} (Some under.party) (Some p) = sym under.mine ∙ is_p in
+        let same : under.party ≡ p = cc in
+        subst (λ q. call.by base.party q) same under.same
+
+    pub ready : (base : View T) → Stage base v c m → Ready s v key id c m
+    ready base (inl first) =
+        let none : v.going ≡ None = ap (λ (z : View T). z.going) first.is ∙ first.idle in
+        let size : base.capacity ≡ key = ap (λ (z : View T). z.capacity) (sym first.is) ∙ known in
+        let self : r.owner id ≡ id = here.self (some_share base v c m (inl first)) in
+        let own_made : (f : Event T → ℕ) → sum_by f v.made ≡ sum_by (owned r.owner id f) r.trace.events =
+        λ f. (let all = here.made f in let no : sum_by f here.late ≡ 0 = ap (sum_by f) (none_late_here none) in omega arith) in
+        let run : IsRun code kind base.capacity r.trace = subst (λ n. IsRun code kind n r.trace) (sym size) r.run in
+        let parties : IfSome base.party (λ p. r.owner p ≡ id) = subst (λ (z : View T). IfSome z.party (λ p. r.owner p ≡ id)) first.is here.party in
+        let sums : (f : Event T → ℕ) → sum_by f base.made ≡ sum_by (owned r.owner id f) r.trace.events =
+        subst (λ (z : View T). (f : Event T → ℕ) → sum_by f z.made ≡ sum_by (owned r.owner id f) r.trace.events) first.is own_made in
+        let starts : Starts code kind call base c m r.trace r.owner id = first.starts r.trace r.owner id run self parties sums in
+        let p = starts.party in
+        let idle : (q : ℕ) → r.owner q ≡ id → call_in r.trace.world q ≡ None = idle_seat r.owner r.trace id v none here in
+        let is_first : first_of kind key call.start r.trace.world.kept ≡ Some (call.flight c m) =
+        subst (λ n. first_of kind n call.start r.trace.world.kept ≡ Some (call.flight c m)) size starts.first in
+        let may : first_row (rows_as kind key r.trace.world.kept p call.start) ≡ None =
+        subst (λ n. first_row (rows_as kind n r.trace.world.kept p call.start) ≡ None) size starts.may in
+        let before : Between code kind key r.owner s id p [] r.trace =
+        at_first code kind key s id p r [] starts.mine self (λ q of_id ne. idle q of_id)
+        (λ u there f.
+        (let same : sum_by f u.made ≡ sum_by f v.made = ap (λ (z : View T). sum_by f z.made) (some-injective u v (sym there ∙ at)) in
+        let all = own_made f in
+        omega arith)) in
+        record {
+          p = p;
+          owner = r.owner;
+          gained = [] ++ Begun p call.start ∷ [];
+          u = after_turn r.trace (Begin p call.start);
+          between =
+              begun code kind key (size_of key) effects (laws key) r.owner s id p [] r.trace before call.start
+              (call.flight c m) (idle p starts.mine) is_first may;
+          there =
+              begun_at code kind key (size_of key) effects (laws key) r.owner s id p [] r.trace before call.start
+              (call.flight c m) (idle p starts.mine) is_first may;
+          by = λ base' stage. first_by p (subst (λ (z : View T). call.by z.party p) (sym first.is) starts.by) base' none stage;
+          prior = λ base' stage. first_prior p starts.mine base' none stage;
+          began = λ none'. record {
+            t = r.trace;
+            run = r.run;
+            kept =
+                begun_kept code kind key (size_of key) effects (laws key) r.owner s id p [] r.trace before call.start
+                (call.flight c m) (idle p starts.mine) is_first may;
+            stated = λ is. here.stated p starts.mine is;
+          };
+          held = λ has. (let no : ◌≡◌ {A = Option (Start T × Flight T)} None (Some (call.start, call.flight c m)) = sym none ∙ has in absurd (cc));
+          as_party = λ has. (let no : ◌≡◌ {A = Option (Start T × Flight T)} None (Some (call.start, call.flight c m)) = sym none ∙ has in absurd (cc));
+          state = λ leaves is.
+              (laws key).states r.trace (Begin p call.start) r.run
+              (begun code kind key (size_of key) effects (laws key) r.owner s id p [] r.trace before call.start
+              (call.flight c m) (idle p starts.mine) is_first may).run
+              (begins_free code kind key (size_of key) effects (laws key) r.owner s id p [] r.trace before
+              call.start (call.flight c m) (idle p starts.mine) is_first may)
+              p (begins_no_look r.trace.world p call.start leaves.start)
+              ∙ here.stated p starts.mine is;
+        }
+    ready base (inr under) =
+        let p = under.party in
+        let mine : r.owner p ≡ id = subst (λ (o : Option ℕ). IfSome o (λ q. r.owner q ≡ id)) under.mine here.party in
+        record {
+          p = p;
+          owner = r.owner;
+          gained = here.late;
+          u = r.trace;
+          between =
+              at_first code kind key s id p r here.late mine (here.self under.some)
+              (λ q of_id ne. here.idle q of_id
+              (λ e. (let both : ◌≡◌ {A = Option ℕ} (Some p) (Some q) = sym under.mine ∙ e in let same : p ≡ q = cc in ne (sym same))))
+              (λ x there f.
+              (let same : sum_by f x.made ≡ sum_by f v.made = ap (λ (z : View T). sum_by f z.made) (some-injective x v (sym there ∙ at)) in
+              let all = here.made f in
+              omega arith));
+          there = here.going p mine under.mine ∙ under.going;
+          by = λ base' stage. later_by p under.mine base' under.going stage;
+          prior = λ base' stage. later_prior p mine under.mine base' under.going stage;
+          began = λ none. (let no : ◌≡◌ {A = Option (Start T × Flight T)} None (Some (call.start, call.flight c m)) = sym none ∙ under.going in absurd (cc));
+          held = λ has. here.stated p mine under.mine;
+          as_party = λ has. under.mine;
+          state = λ leaves is. here.stated p mine is;
+        }

@@ -1,0 +1,228 @@
+-- A look of a pass at the whole history, under the rule of a machine.
+use Rattle.std.proofs.Common.{◌≡◌, ◌≢◌, ◌⊎◌, inl, inr, ⊎_elim, ℕ, zero, suc, ◌+◌, ◌<◌, Option, Some, None, List, []}
+use Rattle.std.proofs.Common.{◌∷◌, ◌++◌, length, set, slice_index, slice_set, refl, sym, ap, subst, ◌∙◌, append-nil}
+use Rattle.std.proofs.Common.{arith, length-set, sum_by}
+use mathlib.Core.Option.{some, some-injective}
+use lib.ListN.{get_elem?}
+use Rattle.atomic_table.specs.Table.{State, Allows}
+use Rattle.atomic_table.specs.Table as table
+use Rattle.atomic_table.proofs.Lists.{at_set}
+use Rattle.model.specs.declared.event.Event.{Event}
+use Rattle.model.specs.declared.turn.Kind.{Kind}
+use Rattle.model.specs.declared.turn.Kind.TheVariants as kinds
+use Rattle.model.specs.Coding.{Coding}
+use Rattle.model.specs.World.{Trace}
+use Rattle.history.specs.declared.view.View.{View}
+use Rattle.model.specs.declared.event.Start.{Start}
+use Rattle.model.specs.declared.families.Flight.{Flight}
+use Rattle.history.specs.History.{IsBeginning, IsMachine, Fits, HasSeenOf, IsLate}
+use Rattle.history.specs.Views.{Looks, LooksAt, WhenIdle}
+use Rattle.history.specs.Known.{Known, owned, events_by}
+use Rattle.history.proofs.Calls.{get_left}
+use Rattle.history.proofs.Known.{by_more, nil_right, within, none_late, by_nothing}
+use Rattle.history.proofs.AllSeen.{known_step, known_whole, owned_whole}
+use Rattle.history.proofs.Passes.{nothing, set_same}
+
+-- what was not seen has nothing of a party of which all was seen
+nothing_left : {A : Type 0} → (xs rest : List A) → xs ≡ xs ++ rest → rest ≡ []
+nothing_left [] rest e = sym e
+nothing_left (x ∷ xs) rest e = let same : xs ≡ xs ++ rest = cc in nothing_left xs rest same
+
+rest_apart : {T : Type 0} (v : View T) (t : Trace T) (late : List (Event T)) (seen : IsBeginning v.seen t.events) (p : ℕ)
+    → v.other ≡ [] → late ≡ [] → HasSeenOf p v late t → events_by p seen.rest ≡ []
+rest_apart v t late seen p alone none (inl e) =
+    nothing_left (events_by p v.seen) (events_by p seen.rest)
+    (sym (append-nil (events_by p v.seen))
+    ∙ (ap (λ es. events_by p v.seen ++ events_by p es) (sym none) ∙ (e ∙ (ap (events_by p) seen.is ∙ by_more p v.seen seen.rest))))
+rest_apart v t late seen p alone none (inr h) =
+    nil_right (events_by p v.seen) (events_by p seen.rest)
+    (sym (by_more p v.seen seen.rest) ∙ (sym (ap (events_by p) seen.is) ∙ (sym h.1 ∙ ap (events_by p) alone)))
+
+set_again : {A : Type 0} → (xs : List A) (i : ℕ) (x : A) → get_elem? xs i ≡ some x → set xs i x ≡ xs
+set_again [] i x e = refl
+set_again (y ∷ ys) zero x e = ap (λ z. z ∷ ys) (sym (some-injective y x e))
+set_again (y ∷ ys) (suc i) x e = ap (λ zs. y ∷ zs) (set_again ys i x e)
+
+-- a look may be told of, or a call is under way for which another may write
+calm_or_not : {T : Type 0} → (k : Kind) (o : Option (Start T × Flight T))
+    → ((late : List (Event T)) → IsLate k o late → late ≡ []) ⊎ ((k ≡ kinds.Overflow) × (o ≢ None))
+calm_or_not kinds.Overflow None = inl (λ late h. h)
+calm_or_not kinds.Overflow (Some c) = inr (refl, λ e. absurd (cc))
+calm_or_not k o = inl (λ late h. h)
+
+told_when : {T : Type 0} → (k : Kind) (o : Option (Start T × Flight T)) (Told : Type 0) → Told → WhenIdle k o Told
+told_when kinds.Overflow o Told x = λ e. x
+told_when k o Told x = x
+
+told_of : {T : Type 0} → (k : Kind) (o : Option (Start T × Flight T)) (Told Less : Type 0) → (Told → Less) → WhenIdle k o Told → WhenIdle k o Less
+told_of kinds.Overflow o Told Less f x = λ e. f (x e)
+told_of k o Told Less f x = f x
+
+told_never : {T : Type 0} → (k : Kind) (o : Option (Start T × Flight T)) (Told : Type 0) → (k ≡ kinds.Overflow) × (o ≢ None) → WhenIdle k o Told
+told_never k o Told h = subst (λ z. WhenIdle z o Told) (sym h.0) (λ e. absurd (h.1 e))
+
+module _ {T : Type 0} (code : Coding T) (kind : Kind) (capacity : ℕ) where
+  abbrev Holds : State (Unit {0}) (View T) → Type 0
+  Holds s = IsMachine code kind capacity s
+
+  all_of : (es : List (Event T)) → IsBeginning es es
+  all_of es = record { rest = []; is = sym (append-nil es) }
+
+  -- a seat may know otherwise what fits
+  pub reseat : (words : List ℕ) (s : State (Unit {0}) (View T)) (m : Holds s) (id : ℕ) (v w : View T)
+      → words ≡ s.words → get_elem? s.views id ≡ some v → Fits m.owner m.trace id w
+      → Known (set s.views id w) m.trace.events
+      → Holds (record { words = words; homes = s.homes; views = set s.views id w })
+  reseat words s m id v w same at fits known =
+      record {
+        trace = m.trace;
+        run = m.run;
+        words = same ∙ m.words;
+        owner = m.owner;
+        seats =
+            λ j x found. ⊎_elim
+            (λ (e : (j ≡ id) × (w ≡ x)). subst (λ z. Fits m.owner m.trace j z) e.1 (subst (λ n. Fits m.owner m.trace n w) (sym e.0) fits))
+            (λ (e : (j ≢ id) × (get_elem? s.views j ≡ some x)). m.seats j x e.1) (at_set s.views id j w x found);
+        inside = λ p low. (let long = length-set s.views id w in let h = m.inside p (omega arith) in omega arith);
+        fresh = λ p past. (let long = length-set s.views id w in m.fresh p (omega arith));
+        further = λ j past. (let long = length-set s.views id w in m.further j (omega arith));
+        made_none = λ j past. (let long = length-set s.views id w in m.made_none j (omega arith));
+        known = known;
+      }
+
+  -- a look at this table, where nothing is late for the seat
+  pub looks_at : (slots id word : ℕ) (v : View T) → 0 < v.share.part
+      → ((late : List (Event T)) → IsLate kind v.going late → late ≡ []) → (s : State (Unit {0}) (View T))
+      → (m : Holds s) → length s.homes ≡ slots → get_elem? s.views id ≡ some v
+      → slice_index s.words word < 18446744073709551616
+      → (w : View T) × (a : table.Act (Unit {0})) × table.Valid s.homes [] a
+      × Holds (table.stepped s word (slice_index s.words word) id [] w a)
+      × (Looks code kind capacity v w × (table.carried_after [] a ≡ [])) × (w.seen ≡ m.trace.events)
+  looks_at slots id word v some_share calm s m long at small =
+      let t = m.trace in
+      let f = m.seats id v at in
+      let none : f.late ≡ [] = calm f.late (subst (λ k. IsLate k v.going f.late) m.run.of_kind f.waits) in
+      let made : (g : Event T → ℕ) → sum_by g v.made ≡ sum_by (owned m.owner id g) t.events =
+      λ g. (let is = f.made g in let no : sum_by g f.late ≡ 0 = ap (sum_by g) none in omega arith) in
+      let w : View T =
+      record {
+        capacity = v.capacity;
+        party = v.party;
+        share = v.share;
+        seen = t.events;
+        other = [];
+        made = v.made;
+        going = v.going;
+        state = v.state;
+      } in (
+        w,
+        table.keeps,
+        tt,
+        reseat (slice_set s.words word (slice_index s.words word)) s m id v w (set_same s.words word) at
+            (record {
+              seen = all_of t.events;
+              other = nothing t.events;
+              self = f.self;
+              going = f.going;
+              idle = f.idle;
+              stated = f.stated;
+              party = f.party;
+              late = [];
+              waits = none_late t.world.kind v.going;
+              of_party = by_nothing v.party;
+              own = λ any p of_id. inl (append-nil (events_by p t.events));
+              made = λ g. (let is = made g in omega arith);
+            })
+            (known_step s.views t.events id v w (within s.views id v at) at refl some_share refl m.known.someone m.known.spent m.known.shares),
+        (
+          record {
+            capacity = refl;
+            party = refl;
+            going = refl;
+            state = refl;
+            share = refl;
+            other = refl;
+            made = refl;
+            mine = f.seen;
+            theirs = f.other;
+            whole =
+                λ all. ⊎_elim (λ (e : v.seen ≡ t.events). inl (sym e)) (λ (e : v.other ≡ t.events). inr (sym e))
+                (known_whole s.views t.events id v at all m.known);
+            all =
+                λ all g. owned_whole m.owner t s.views id v at all m.known.shares m.known.spent
+                (λ j u ne there. m.seats j u there) m.inside (λ q ne past. m.made_none q past) m.known.someone g
+                ∙ sym (made g);
+            history = record { trace = t; run = m.run; is = refl };
+            parties = record { owner = m.owner; seat = id; sums = made };
+            apart = λ alone any p of_id. rest_apart v t f.late f.seen p alone none (f.own any p of_id);
+          },
+          refl,
+        ),
+        refl,
+      )
+
+  -- where something may be late the seat stays as it is, and nothing is told of the look
+  looks_when : (slots id word : ℕ) (v : View T) → 0 < v.share.part → (s : State (Unit {0}) (View T)) → (m : Holds s)
+      → length s.homes ≡ slots → get_elem? s.views id ≡ some v → slice_index s.words word < 18446744073709551616
+      → (w : View T) × (a : table.Act (Unit {0})) × table.Valid s.homes [] a
+      × Holds (table.stepped s word (slice_index s.words word) id [] w a) × (table.carried_after [] a ≡ [])
+      × WhenIdle kind v.going (Looks code kind capacity v w × (w.seen ≡ m.trace.events))
+  looks_when slots id word v some_share s m long at small = ⊎_elim told untold (calm_or_not kind v.going)
+    where
+      told : ((late : List (Event T)) → IsLate kind v.going late → late ≡ [])
+          → (w : View T) × (a : table.Act (Unit {0})) × table.Valid s.homes [] a
+          × Holds (table.stepped s word (slice_index s.words word) id [] w a) × (table.carried_after [] a ≡ [])
+          × WhenIdle kind v.going (Looks code kind capacity v w × (w.seen ≡ m.trace.events))
+      told calm =
+          (let x = looks_at slots id word v some_share calm s m long at small in
+          (x.0, x.1, x.2, x.3, x.4.1, told_when kind v.going (Looks code kind capacity v x.0 × (x.0.seen ≡ m.trace.events)) (x.4.0, x.5)))
+
+      untold : (kind ≡ kinds.Overflow) × (v.going ≢ None)
+          → (w : View T) × (a : table.Act (Unit {0})) × table.Valid s.homes [] a
+          × Holds (table.stepped s word (slice_index s.words word) id [] w a) × (table.carried_after [] a ≡ [])
+          × WhenIdle kind v.going (Looks code kind capacity v w × (w.seen ≡ m.trace.events))
+      untold h = (
+        v,
+        table.keeps,
+        tt,
+        reseat (slice_set s.words word (slice_index s.words word)) s m id v v (set_same s.words word) at
+            (m.seats id v at) (subst (λ views. Known views m.trace.events) (sym (set_again s.views id v at)) m.known),
+        refl,
+        told_never kind v.going (Looks code kind capacity v v × (v.seen ≡ m.trace.events)) h,
+      )
+
+  pub looks : (slots id word : ℕ) (v : View T) → 0 < v.share.part
+      → Allows Holds slots id (v, []) word (λ n. n) (λ found me. WhenIdle kind v.going (Looks code kind capacity v me.0) × (me.1 ≡ []))
+  looks slots id word v some_share s m long at small =
+      (let x = looks_when slots id word v some_share s m long at small in (
+        x.0,
+        x.1,
+        x.2,
+        x.3,
+        (
+          told_of kind v.going (Looks code kind capacity v x.0 × (x.0.seen ≡ m.trace.events)) (Looks code kind capacity v x.0) (λ h. h.0) x.5,
+          x.4,
+        ),
+      ))
+
+  pub looks_word : (slots id word : ℕ) (v : View T) → 0 < v.share.part
+      → Allows Holds slots id (v, []) word (λ n. n)
+      (λ found me. WhenIdle kind v.going (LooksAt code kind capacity word v found me.0) × (me.1 ≡ []))
+  looks_word slots id word v some_share s m long at small =
+      let x = looks_when slots id word v some_share s m long at small in (
+        x.0,
+        x.1,
+        x.2,
+        x.3,
+        (
+          told_of kind v.going (Looks code kind capacity v x.0 × (x.0.seen ≡ m.trace.events))
+              (LooksAt code kind capacity word v (slice_index s.words word) x.0) (λ h. record {
+                looks = h.0;
+                trace = m.trace;
+                run = m.run;
+                seen = h.1;
+                word_is = λ below. ap (λ ws. slice_index ws word) m.words ∙ get_left m.trace.world.words (0 ∷ []) word below;
+              }) x.5,
+          x.4,
+        ),
+      )

@@ -1,0 +1,260 @@
+-- The calls on the roles and the lengths of the index queue as calls of the model.
+use Rattle.std.proofs.Common.{inl, if◌then◌else◌, ◌≡◌, ℕ, ◌+◌, ◌<◌, ◌==◌, Bool, true, false, Option, Some, None, []}
+use Rattle.std.proofs.Common.{◌++◌, refl, sym, ap, subst, ◌∙◌, arith}
+use Rattle.steps.specs.declared.ask.Ask.{Ask}
+use Rattle.steps.specs.declared.ask.Op.TheVariants.{Load, Store, Exchange}
+use Rattle.steps.specs.declared.ask.After.{After}
+use Rattle.steps.specs.declared.ask.After.TheVariants.{GoOn, Done}
+use Rattle.steps.specs.declared.ask.Want.TheVariants as wants
+use Rattle.model.specs.declared.event.Start.TheVariants.{Queues}
+use Rattle.model.specs.declared.families.Flight.{Flight}
+use Rattle.model.specs.Coding.{Coding}
+use Rattle.model.specs.Families.{after_of, first_of, opening_of}
+use Rattle.model.specs.Families.Queues.Calls.{length_answer}
+use Rattle.lock_free_sp.specs.Driver.{answered, KeepsRule}
+use Rattle.history.specs.Stages.{Calling, At, Ends}
+use Rattle.model.specs.declared.turn.Kind.TheVariants as kinds
+use Rattle.history.specs.declared.view.View.{View}
+use Rattle.history.specs.History.{IsMachine}
+use Rattle.history.specs.Roles.{role_word, holder, acquire_start, release_start, HasRole}
+use Rattle.steps.specs.Queues.Lengths.{number_waiting, first_len, at_len, len_asks, len_want, len_takes, len_after}
+use Rattle.steps.specs.Queues.Roles.{acquire_want, acquire_after, release_want, release_after}
+use Rattle.steps.specs.declared.queues.lengths.Len.{Len}
+use Rattle.steps.specs.declared.queues.lengths.LenStage as lengths
+use Rattle.steps.specs.declared.queues.roles.AcquireRole.{AcquireRole}
+use Rattle.steps.specs.declared.queues.roles.ReleaseRole.{ReleaseRole}
+use Rattle.steps.specs.declared.queues.roles.Role.{Role}
+use Rattle.steps.specs.declared.queues.roles.Role.TheVariants.{Producer, Consumer}
+use Rattle.model.specs.declared.families.Kept.{Kept}
+use Rattle.model.specs.declared.families.queues.QueueKind.TheVariants.{IndexQueue}
+use Rattle.model.specs.declared.families.queues.Roles.{Roles}
+use Rattle.model.specs.declared.families.queues.calls.LengthOf.{LengthOf}
+use Rattle.model.specs.declared.families.queues.calls.LengthOf as measures
+use Rattle.model.specs.Families.Queues.Opening.{lacks_role}
+use Rattle.history.specs.Queues.{takes_role, gives_role, length_start, counts_waiting}
+use Rattle.history.proofs.Drives.{IsCallOf, goes, keeps_all, keeps_sized}
+use Rattle.history.proofs.Queues.{queue_effects, index_owes, plain_starts, role_starts}
+use Rattle.history.proofs.QueueCalls.{holds_it}
+
+-- ---- roles
+
+word_low : (role : Role) (capacity : ℕ) → role_word role < 4 + capacity
+word_low Producer capacity = omega arith
+word_low Consumer capacity = omega arith
+
+module _ {T : Type 0} (code : Coding T) (role : Role) where
+  abbrev acquiring : Calling T AcquireRole (Unit {0}) Bool
+  acquiring = takes_role role
+
+  abbrev releasing : Calling T ReleaseRole (Unit {0}) (Unit {0})
+  releasing = gives_role role
+
+  pub acquire_is_call : IsCallOf code (queue_effects code) (λ capacity. 4 + capacity) acquire_want acquire_after (λ c m n. m) acquiring
+  acquire_is_call =
+      record {
+        same_want = λ c m. refl;
+        same_after = λ capacity c m n h. refl;
+        hears =
+            λ c m a n e. (let is : record { word = c.word; op = Exchange 1 0 } ≡ a = cc in
+            (ap (λ (z : Ask). acquire_after c (answered z.op n)) (sym is), refl));
+        stays = λ capacity c d n h e. absurd (cc);
+        asks = λ capacity c h. (record { word = c.word; op = Exchange 1 0 }, subst (λ w. w < 4 + capacity) (sym h) (word_low role capacity), refl);
+        past = λ capacity c d n k h e. refl;
+        finds = λ c m n small t. tt;
+        leaves = λ c a n t e. absurd (cc);
+        tells = λ capacity p from c d m n es h wrote e. absurd (cc);
+        tells_all = λ capacity p from c b m n es h skip wrote e still. ap (λ zs. zs ++ []) wrote;
+      }
+
+  pub acquire_keeps : KeepsRule (λ (z : View T). z.capacity) (At code kinds.IndexQueue acquiring)
+      (Ends code kinds.IndexQueue acquiring) (λ key. 4 + key + 1) (λ key. key)
+      (λ key. IsMachine code kinds.IndexQueue key) acquire_want acquire_after (λ c m n. m)
+  acquire_keeps =
+      keeps_all code kinds.IndexQueue (queue_effects code) (λ capacity. 4 + capacity) (index_owes code) acquire_want
+      acquire_after (λ c m n. m) acquiring acquire_is_call (λ c n. refl)
+
+  pub acquire_first : (x : View T) (m : Unit {0}) → x.going ≡ None → x.other ≡ [] → 0 < x.share.part
+      → At code kinds.IndexQueue acquiring x x (record { word = role_word role }) m
+  acquire_first x m idle alone any =
+      inl (record {
+        is = refl;
+        idle = idle;
+        fresh = alone;
+        standing = refl;
+        some = any;
+        first = first_is ((opening_of kinds.IndexQueue).kept x.capacity) role;
+        starts =
+            plain_starts code IndexQueue x acquiring (acquire_start role) (record { word = role_word role }) m refl
+            (λ kept. first_is kept role) (λ o p h. h) (λ roles p. none_lacks role roles p);
+        wrote = λ p. refl;
+      })
+    where
+      first_is : (kept : Kept T) (r : Role)
+          → ◌≡◌ {A = Option (Flight T)} (first_of kinds.IndexQueue x.capacity (Queues (acquire_start r)) kept)
+          (Some ((takes_role r).flight (record { word = role_word r }) m))
+      first_is kept Producer = refl
+      first_is kept Consumer = refl
+
+      none_lacks : (r : Role) (roles : Roles) (p : ℕ) → lacks_role {T = T} roles p (acquire_start r) ≡ false
+      none_lacks Producer roles p = refl
+      none_lacks Consumer roles p = refl
+
+  pub release_is_call : IsCallOf code (queue_effects code) (λ capacity. 4 + capacity) release_want release_after (λ c m n. m) releasing
+  release_is_call =
+      record {
+        same_want = λ c m. refl;
+        same_after = λ capacity c m n h. refl;
+        hears = λ c m a n e. (refl, refl);
+        stays = λ capacity c d n h e. absurd (cc);
+        asks = λ capacity c h. (record { word = c.word; op = Store 1 }, subst (λ w. w < 4 + capacity) (sym h) (word_low role capacity), refl);
+        past = λ capacity c d n k h e. refl;
+        finds = λ c m n small t. tt;
+        leaves = λ c a n t e. absurd (cc);
+        tells = λ capacity p from c d m n es h wrote e. absurd (cc);
+        tells_all = λ capacity p from c b m n es h skip wrote e still. ap (λ zs. zs ++ []) wrote;
+      }
+
+  pub release_keeps : KeepsRule (λ (z : View T). z.capacity) (At code kinds.IndexQueue releasing)
+      (Ends code kinds.IndexQueue releasing) (λ key. 4 + key + 1) (λ key. key)
+      (λ key. IsMachine code kinds.IndexQueue key) release_want release_after (λ c m n. m)
+  release_keeps =
+      keeps_all code kinds.IndexQueue (queue_effects code) (λ capacity. 4 + capacity) (index_owes code) release_want
+      release_after (λ c m n. m) releasing release_is_call (λ c n. refl)
+
+  pub release_first : (x : View T) (m : Unit {0}) → x.going ≡ None → x.other ≡ [] → 0 < x.share.part
+      → HasRole role x.made → At code kinds.IndexQueue releasing x x (record { word = role_word role }) m
+  release_first x m idle alone any has =
+      inl (record {
+        is = refl;
+        idle = idle;
+        fresh = alone;
+        standing = refl;
+        some = any;
+        first = first_is ((opening_of kinds.IndexQueue).kept x.capacity) role;
+        starts =
+            role_starts code IndexQueue x releasing (release_start role) (record { word = role_word role }) m refl
+            (λ kept. first_is kept role) role (λ o p. tt) (λ roles p is. free role roles p is) has;
+        wrote = λ p. refl;
+      })
+    where
+      first_is : (kept : Kept T) (r : Role)
+          → ◌≡◌ {A = Option (Flight T)} (first_of kinds.IndexQueue x.capacity (Queues (release_start r)) kept)
+          (Some ((gives_role r).flight (record { word = role_word r }) m))
+      first_is kept Producer = refl
+      first_is kept Consumer = refl
+
+      free : (r : Role) (roles : Roles) (p : ℕ) → holder r roles ≡ Some p → lacks_role {T = T} roles p (release_start r) ≡ false
+      free Producer roles p is = holds_it roles.producer p is
+      free Consumer roles p is = holds_it roles.consumer p is
+
+-- ---- how many wait
+
+module _ {T : Type 0} (code : Coding T) (which : LengthOf) (size : ℕ) where
+  abbrev counting : Calling T Len (Unit {0}) ℕ
+  counting = counts_waiting which size
+
+  len_same_after : (c : Len) (m : Unit {0}) (n : ℕ) → c.capacity ≡ size → after_of code (counting.flight c m) n ≡ goes counting (len_after c n) m
+  len_same_after c m n same = go (len_after c n) refl
+    where
+      go : (r : After Len ℕ) → len_after c n ≡ r → after_of code (counting.flight c m) n ≡ goes counting r m
+      go (GoOn d) e = rw e refl
+      go (Done b) e = rw e (ap (λ k. Done (length_answer which k b)) same)
+
+  len_stays : (n : ℕ) (c : Len) (k : ℕ) (d : Len) (stage : lengths.LenStage) → c.capacity ≡ n → len_takes c stage k ≡ GoOn d → d.capacity ≡ n
+  len_stays n c k d lengths.TheVariants.LoadsWrite same e =
+      (let is : at_len c (lengths.TheVariants.LoadsRead k) ≡ d = cc in ap (λ (z : Len). z.capacity) (sym is) ∙ same)
+  len_stays n c k d (lengths.TheVariants.LoadsRead write) same e =
+      (let is : at_len c (lengths.TheVariants.LoadsWriteAgain write k) ≡ d = cc in ap (λ (z : Len). z.capacity) (sym is) ∙ same)
+  len_stays n c k d (lengths.TheVariants.LoadsWriteAgain write read) same e = go (k == write) e
+    where
+      go : (t : Bool) → ◌≡◌ {A = After Len ℕ}
+          (if t then GoOn (at_len c (lengths.TheVariants.LoadsReadAgain write read)) else GoOn (first_len c.capacity))
+          (GoOn d)
+          → d.capacity ≡ n
+      go true h = (let is : at_len c (lengths.TheVariants.LoadsReadAgain write read) ≡ d = cc in ap (λ (z : Len). z.capacity) (sym is) ∙ same)
+      go false h = (let is : first_len c.capacity ≡ d = cc in ap (λ (z : Len). z.capacity) (sym is) ∙ same)
+  len_stays n c k d (lengths.TheVariants.LoadsReadAgain write read) same e = go (k == read) e
+    where
+      go : (t : Bool) → ◌≡◌ {A = After Len ℕ} (if t then Done (number_waiting c.capacity write read) else GoOn (first_len c.capacity)) (GoOn d) → d.capacity ≡ n
+      go true h = absurd (cc)
+      go false h = (let is : first_len c.capacity ≡ d = cc in ap (λ (z : Len). z.capacity) (sym is) ∙ same)
+
+  len_asks_for : (capacity : ℕ) (stage : lengths.LenStage) → (a : Ask) × (a.word < 4 + capacity) × (len_asks stage ≡ wants.Ask a)
+  len_asks_for capacity lengths.TheVariants.LoadsWrite = (record { word = 0; op = Load }, omega arith, refl)
+  len_asks_for capacity (lengths.TheVariants.LoadsRead write) = (record { word = 1; op = Load }, omega arith, refl)
+  len_asks_for capacity (lengths.TheVariants.LoadsWriteAgain write read) = (record { word = 0; op = Load }, omega arith, refl)
+  len_asks_for capacity (lengths.TheVariants.LoadsReadAgain write read) = (record { word = 1; op = Load }, omega arith, refl)
+
+  len_hears : (c : Len) (a : Ask) (n : ℕ) (stage : lengths.LenStage) → len_asks stage ≡ wants.Ask a → len_takes c stage (answered a.op n) ≡ len_takes c stage n
+  len_hears c a n lengths.TheVariants.LoadsWrite e =
+      (let is : record { word = 0; op = Load } ≡ a = cc in
+      ap (λ (z : Ask). len_takes c lengths.TheVariants.LoadsWrite (answered z.op n)) (sym is))
+  len_hears c a n (lengths.TheVariants.LoadsRead write) e =
+      (let is : record { word = 1; op = Load } ≡ a = cc in
+      ap (λ (z : Ask). len_takes c (lengths.TheVariants.LoadsRead write) (answered z.op n)) (sym is))
+  len_hears c a n (lengths.TheVariants.LoadsWriteAgain write read) e =
+      (let is : record { word = 0; op = Load } ≡ a = cc in
+      ap (λ (z : Ask). len_takes c (lengths.TheVariants.LoadsWriteAgain write read) (answered z.op n)) (sym is))
+  len_hears c a n (lengths.TheVariants.LoadsReadAgain write read) e =
+      (let is : record { word = 1; op = Load } ≡ a = cc in
+      ap (λ (z : Ask). len_takes c (lengths.TheVariants.LoadsReadAgain write read) (answered z.op n)) (sym is))
+
+  pub len_is_call : IsCallOf code (queue_effects code) (λ capacity. 4 + capacity) len_want len_after (λ c m n. m) counting
+  len_is_call =
+      record {
+        same_want = λ c m. refl;
+        same_after = λ capacity c m n h. len_same_after c m n h.1;
+        hears = λ c m a n e. (len_hears c a n c.stage e, refl);
+        stays = λ capacity c d n h e. (len_stays capacity c n d c.stage h.0 e, len_stays size c n d c.stage h.1 e);
+        asks = λ capacity c h. len_asks_for capacity c.stage;
+        past = λ capacity c d n k h e. refl;
+        finds = λ c m n small t. tt;
+        leaves = λ c a n t e. absurd (cc);
+        tells = λ capacity p from c d m n es h wrote e. ap (λ zs. zs ++ []) wrote;
+        tells_all = λ capacity p from c b m n es h skip wrote e still. ap (λ zs. zs ++ []) wrote;
+      }
+
+  pub len_keeps : KeepsRule (λ (z : View T). z.capacity) (At code kinds.IndexQueue counting)
+      (Ends code kinds.IndexQueue counting) (λ key. 4 + key + 1) (λ key. key)
+      (λ key. IsMachine code kinds.IndexQueue key) len_want len_after (λ c m n. m)
+  len_keeps =
+      keeps_all code kinds.IndexQueue (queue_effects code) (λ capacity. 4 + capacity) (index_owes code) len_want
+      len_after (λ c m n. m) counting len_is_call (λ c n. refl)
+
+  pub len_first : (x : View T) (m : Unit {0}) → x.capacity ≡ size → x.going ≡ None → x.other ≡ [] → 0 < x.share.part
+      → At code kinds.IndexQueue counting x x (first_len size) m
+  len_first x m same idle alone any =
+      inl (record {
+        is = refl;
+        idle = idle;
+        fresh = alone;
+        standing = (sym same, refl);
+        some = any;
+        first = first_is ((opening_of kinds.IndexQueue).kept x.capacity) which;
+        starts =
+            plain_starts code IndexQueue x counting (length_start which) (first_len size) m refl (λ kept. first_is kept which)
+            (λ o p h. h) (λ roles p. none_lacks which roles p);
+        wrote = λ p. refl;
+      })
+    where
+      first_is : (kept : Kept T) (k : LengthOf)
+          → ◌≡◌ {A = Option (Flight T)} (first_of kinds.IndexQueue x.capacity (Queues (length_start k)) kept)
+          (Some ((counts_waiting k size).flight (first_len size) m))
+      first_is kept measures.TheVariants.Len = rw same refl
+      first_is kept measures.TheVariants.IsEmpty = rw same refl
+      first_is kept measures.TheVariants.IsFull = rw same refl
+
+      none_lacks : (k : LengthOf) (roles : Roles) (p : ℕ) → lacks_role {T = T} roles p (length_start k) ≡ false
+      none_lacks measures.TheVariants.Len roles p = refl
+      none_lacks measures.TheVariants.IsEmpty roles p = refl
+      none_lacks measures.TheVariants.IsFull roles p = refl
+
+-- for any capacity
+pub lens_keep : {T : Type 0} (code : Coding T) (which : LengthOf)
+    → KeepsRule (λ (z : View T). z.capacity)
+    (λ (base : View T). At code kinds.IndexQueue (counts_waiting which base.capacity) base)
+    (λ (base : View T). Ends code kinds.IndexQueue (counts_waiting which base.capacity) base) (λ key. 4 + key + 1)
+    (λ key. key) (λ key. IsMachine code kinds.IndexQueue key) len_want len_after (λ c m n. m)
+lens_keep code which =
+    keeps_sized code kinds.IndexQueue (λ capacity. 4 + capacity) len_want len_after (λ c m n. m) (counts_waiting which)
+    (λ n. len_keeps code which n)
