@@ -39,7 +39,7 @@ use Rattle.model.specs.Families.Queues.Calls.{as_it_is, fresh_cell, kept_at, rea
 use Rattle.model.specs.Reading.{own_after, Open}
 use Rattle.model.specs.Step.{as_call}
 use Rattle.model.specs.Turns.{number_of}
-use Rattle.lock_free_sp.specs.Driver.{answered, KeepsRule}
+use Rattle.lock_free_sp.specs.Driver.{KeepsRule, Owes, Told, answered}
 use Rattle.history.specs.declared.view.View.{View}
 use Rattle.history.specs.ContainerFind.{FindIn, copies_of, copies_after, find_copies, finds_values}
 use Rattle.history.specs.History.{IsMachine}
@@ -49,7 +49,7 @@ use Rattle.history.specs.Value.{value_of_room}
 use Rattle.history.proofs.CallsIn.{goes, AsksFor, StepsOf}
 use Rattle.history.proofs.Containers.{container_effects, plain_effects, container_words, containers_owe, plain_acts}
 use Rattle.history.proofs.Containers.{goes_plain, container_first, container_starts}
-use Rattle.history.proofs.Decisions.{IsAskingIn, keeps_said, hears_said, ends_said}
+use Rattle.history.proofs.Decisions.{IsAskingIn, keeps_said, keeps_word, hears_said, ends_said}
 use Rattle.history.proofs.RobustParts.{found_of}
 use Rattle.history.proofs.Rooms.{room_set, room_read}
 use Rattle.history.proofs.Written.{same_written}
@@ -321,13 +321,23 @@ module _ {T R : Type 0} (code : Coding T) (law : IsCoding code) (words_in : R �
       keeps_said code kinds.Container tt container_effects (plain_effects code) (container_words code) (containers_owe code) want after kept finding
       (plain_acts code finding (λ c m. tt)) find_call FindOver ended_step rests_so
 
+  -- a step at a word ends it, where it does, for good
+  pub container_find_word : (base v : View T) (c : Finding T R) (m : Room) (key words slots id : ℕ) → is_question (want c) ≡ false
+      → words ≡ container_words code key + 1 → v.capacity ≡ key → AtAsked code kinds.Container after kept finding base v c m
+      → Owes (IsMachine code kinds.Container key) words slots id
+      (Told (λ (z : View T). z.capacity) (AtAsked code kinds.Container after kept finding) (Ends code kinds.Container finding) after kept c m) (want c) (v, [])
+  container_find_word base v c m key words slots id still wide known at =
+      keeps_word code kinds.Container tt container_effects (plain_effects code) (container_words code) (containers_owe code) want after kept finding
+      (plain_acts code finding (λ c m. tt)) find_call (Ends code kinds.Container finding) (λ base e m w h. h)
+      base v c m key words slots id wide known still at
+
   -- a find that has asked goes on from the answer
   pub container_find_hears : (base v : View T) (c d : Finding T R) (m : Room) (said : Bool) → is_question (want c) ≡ true
       → after c (number_of said) ≡ GoOn d → AtAsked code kinds.Container after kept finding base v c m
       → AtAsked code kinds.Container after kept finding base v d (kept c m (number_of said))
   container_find_hears =
       hears_said code kinds.Container tt container_effects (plain_effects code) (container_words code) (containers_owe code) want after kept finding
-      (plain_acts code finding (λ c m. tt)) find_call FindOver ended_step rests_so
+      (plain_acts code finding (λ c m. tt)) find_call FindOver ended_step
 
   -- or has ended with it
   pub container_find_ends : (base v : View T) (c : Finding T R) (m : Room) (said : Bool) (e : ℕ) → is_question (want c) ≡ true

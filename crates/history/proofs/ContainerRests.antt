@@ -35,7 +35,7 @@ use Rattle.history.specs.Settled.{IsResting, Settles, AtRested, EndsRested}
 use Rattle.history.specs.Stages.{Calling, At, Ends, AtAsked}
 use Rattle.history.proofs.CallsIn.{AsksFor}
 use Rattle.history.proofs.Containers.{container_effects, container_words, containers_owe}
-use Rattle.history.proofs.Settling.{keeps_rested, settles_at}
+use Rattle.history.proofs.Settling.{KeepsWhere, keeps_rested, keeps_rested_where, settles_at}
 
 pub clash : {A : Type 0} (b : Bool) → b ≡ true → b ≡ false → A
 clash b due still = (let both : true ≡ false = sym due ∙ still in absurd (cc))
@@ -159,6 +159,18 @@ module _ {T : Type 0} (code : Coding T) where
         rested_asks =
             keeps_rested code kinds.Container tt container_effects (container_words code) (containers_owe code) never_late (ends_quiet code) want after kept
             (AtAsked code kinds.Container after kept call) Over keeps Begins asks first (λ base v c m. apart_asked base v c m m)
+
+        -- of its steps at a word alone, where these end so
+        pub rested_words : (Ended : View T → E → M → View T → Type 0)
+            → KeepsWhere code kinds.Container (container_words code) (λ c. is_question (want c) ≡ false)
+            (AtAsked code kinds.Container after kept call) Ended want after kept
+            → KeepsWhere code kinds.Container (container_words code) (λ c. is_question (want c) ≡ false)
+            (AtRested code kinds.Container Begins (AtAsked code kinds.Container after kept call) Ended)
+            (EndsRested code kinds.Container Begins (AtAsked code kinds.Container after kept call) Ended) want after kept
+        rested_words Ended words =
+            keeps_rested_where code kinds.Container tt container_effects (container_words code) (containers_owe code) never_late (ends_quiet code)
+            want after kept (AtAsked code kinds.Container after kept call) Ended (λ c. is_question (want c) ≡ false) words Begins asks first
+            (λ base v c m. apart_asked base v c m m)
 
     -- and of one that puts none, whatever is in its room where it begins
     module _ (Begins : ℕ → C → Type 0) (asks : (capacity : ℕ) (c : C) → Begins capacity c → AsksFor (container_words code capacity) (want c))

@@ -55,9 +55,8 @@ module _ {T C M E : Type 0} (code : Coding T) (kind : Kind) (decides : MayDecide
     (own : ℕ → Flight T → ℕ → List (Event T)) (size_of : ℕ → ℕ) (laws : (capacity : ℕ) → KeptLaws code kind capacity (size_of capacity) effects)
     (want : C → Want (Unit {0})) (after : C → ℕ → After C E) (kept : C → M → ℕ → M) (call : Calling T C M E)
     (acts : ActsAlone code kind effects own call) (is_call : IsAskingIn code kind own size_of want after kept call)
-    (Finished : View T → E → M → View T → Type 0) (ended : (base : View T) (e : E) (m : M) (w : View T) → Ends code kind call base e m w → Finished base e m w)
-    (rested : (base v : View T) (c : C) (m : M) (said : Bool) (e : E) → is_question (want c) ≡ true → after c (number_of said) ≡ Done e
-    → IsUnderWay code kind call base v c m → Finished base e (kept c m (number_of said)) v) where
+    (Finished : View T → E → M → View T → Type 0)
+    (ended : (base : View T) (e : E) (m : M) (w : View T) → Ends code kind call base e m w → Finished base e m w) where
   open is_call use {steps as steps, same_call as same_call}
 
   abbrev Heard : View T → View T → C → M → Type 0
@@ -257,22 +256,6 @@ module _ {T C M E : Type 0} (code : Coding T) (kind : Kind) (decides : MayDecide
   hears_said base v c d m said due e (inr k) =
       clash (is_question (want c)) due (is_call.one k.asking c (number_of k.said) (ap is_question (sym (steps.same_want k.asking k.room)) ∙ k.asks) k.goes)
 
-  -- and where the answer ends its call, it has ended
-  pub ends_said : (base v : View T) (c : C) (m : M) (said : Bool) (e : E) → is_question (want c) ≡ true → after c (number_of said) ≡ Done e
-      → AtAsked code kind after kept call base v c m → Finished base e (kept c m (number_of said)) v
-  ends_said base v c m said end due e (inl (inl first)) = clash (is_question (want c)) due (is_call.first base.capacity c m first.first)
-  ends_said base v c m said end due e (inl (inr under)) = rested base v c m said end due e under
-  ends_said base v c m said end due e (inr k) =
-      clash (is_question (want c)) due (is_call.one k.asking c (number_of k.said) (ap is_question (sym (steps.same_want k.asking k.room)) ∙ k.asks) k.goes)
-
-  told_no : (v : View T) (c : C) (m : M) → is_question (want c) ≡ true → ToldAsked c m v 0 v
-  told_no v c m due = (refl, λ base stage. go base stage (after c 0) refl)
-    where
-      go : (base : View T) → AtAsked code kind after kept call base v c m → (a : After C E) → after c 0 ≡ a
-          → NextKnown (λ (z : View T). z.capacity) (AtAsked code kind after kept call) Finished base a (kept c m 0) v
-      go base stage (GoOn d) e = hears_said base v c d m false due e stage
-      go base stage (Done end) e = ends_said base v c m false end due e stage
-
   -- ---- each step keeps the rule
 
   with_asked : (base : View T) (a : After C E) (k : M) (w : View T) → NextKnown (λ (z : View T). z.capacity) (At code kind call)
@@ -355,26 +338,49 @@ module _ {T C M E : Type 0} (code : Coding T) (kind : Kind) (decides : MayDecide
         as_heard s r at base (inl stage) = never_both base base₀ v c m still stage h
         as_heard s r at base (inr k) = inr (lifted s v key id c m r at known base₀ h base k)
 
-  pub keeps_said : KeepsRule (λ (z : View T). z.capacity) (AtAsked code kind after kept call) Finished (λ key. size_of key + 1) (λ key. key)
-      (λ key. IsMachine code kind key) want after kept
-  keeps_said base₀ v c m key words slots id wide known at₀ = by_bool (is_question (want c)) (λ due. at_question (want c) refl due)
-      (λ still. at_its_word still (steps.asks key c stands_so still))
+  -- at a word, where its call can end by a step alone
+  pub keeps_word : (base₀ v : View T) (c : C) (m : M) (key words slots id : ℕ) → words ≡ size_of key + 1 → v.capacity ≡ key
+      → is_question (want c) ≡ false → AtAsked code kind after kept call base₀ v c m
+      → Owes (IsMachine code kind key) words slots id (ToldAsked c m) (want c) (v, [])
+  keeps_word base₀ v c m key words slots id wide known still at₀ = go_at (steps.asks key c stands_so still)
     where
       stands_so : call.stands key c
       stands_so = subst (λ i. call.stands i c) (sym (same_size base₀ v c m at₀) ∙ known) (standing base₀ v c m at₀)
 
-      at_question : (w : Want (Unit {0})) → want c ≡ w → is_question w ≡ true → Owes (IsMachine code kind key) words slots id (ToldAsked c m) w (v, [])
-      at_question (wants.Ask a) e due = absurd (cc)
-      at_question (wants.Question q) e due = told_no v c m (ap is_question e ∙ due)
-      at_question wants.Nothing e due = absurd (cc)
-
-      at_its_word : (still : is_question (want c) ≡ false) → AsksFor (size_of key) (want c)
-          → Owes (IsMachine code kind key) words slots id (ToldAsked c m) (want c) (v, [])
-      at_its_word still asked = subst (λ w. Owes (IsMachine code kind key) words slots id (ToldAsked c m) w (v, [])) (sym asked.2) (go at₀)
+      go_at : AsksFor (size_of key) (want c) → Owes (IsMachine code kind key) words slots id (ToldAsked c m) (want c) (v, [])
+      go_at asked = subst (λ w. Owes (IsMachine code kind key) words slots id (ToldAsked c m) w (v, [])) (sym asked.2) (go at₀)
         where
           go : AtAsked code kind after kept call base₀ v c m → OwedAt key words slots id c m wide still asked v ToldAsked
           go (inl stage) = at_once key words slots id c m wide still asked base₀ v known stage
           go (inr h) = once_heard key words slots id c m wide still asked base₀ v known h
+
+  module _ (rested : (base v : View T) (c : C) (m : M) (said : Bool) (e : E) → is_question (want c) ≡ true → after c (number_of said) ≡ Done e
+      → IsUnderWay code kind call base v c m → Finished base e (kept c m (number_of said)) v) where
+    -- and where the answer ends its call, it has ended
+    pub ends_said : (base v : View T) (c : C) (m : M) (said : Bool) (e : E) → is_question (want c) ≡ true → after c (number_of said) ≡ Done e
+        → AtAsked code kind after kept call base v c m → Finished base e (kept c m (number_of said)) v
+    ends_said base v c m said end due e (inl (inl first)) = clash (is_question (want c)) due (is_call.first base.capacity c m first.first)
+    ends_said base v c m said end due e (inl (inr under)) = rested base v c m said end due e under
+    ends_said base v c m said end due e (inr k) =
+        clash (is_question (want c)) due (is_call.one k.asking c (number_of k.said) (ap is_question (sym (steps.same_want k.asking k.room)) ∙ k.asks) k.goes)
+
+    told_no : (v : View T) (c : C) (m : M) → is_question (want c) ≡ true → ToldAsked c m v 0 v
+    told_no v c m due = (refl, λ base stage. go base stage (after c 0) refl)
+      where
+        go : (base : View T) → AtAsked code kind after kept call base v c m → (a : After C E) → after c 0 ≡ a
+            → NextKnown (λ (z : View T). z.capacity) (AtAsked code kind after kept call) Finished base a (kept c m 0) v
+        go base stage (GoOn d) e = hears_said base v c d m false due e stage
+        go base stage (Done end) e = ends_said base v c m false end due e stage
+
+    pub keeps_said : KeepsRule (λ (z : View T). z.capacity) (AtAsked code kind after kept call) Finished (λ key. size_of key + 1) (λ key. key)
+        (λ key. IsMachine code kind key) want after kept
+    keeps_said base₀ v c m key words slots id wide known at₀ = by_bool (is_question (want c)) (λ due. at_question (want c) refl due)
+        (λ still. keeps_word base₀ v c m key words slots id wide known still at₀)
+      where
+        at_question : (w : Want (Unit {0})) → want c ≡ w → is_question w ≡ true → Owes (IsMachine code kind key) words slots id (ToldAsked c m) w (v, [])
+        at_question (wants.Ask a) e due = absurd (cc)
+        at_question (wants.Question q) e due = told_no v c m (ap is_question e ∙ due)
+        at_question wants.Nothing e due = absurd (cc)
 
 -- ---- of a call that no answer ends
 
@@ -401,4 +407,4 @@ module _ {T C M E : Type 0} (code : Coding T) (kind : Kind) (decides : MayDecide
       → AtAsked code kind after kept call base v c m → AtAsked code kind after kept call base v d (kept c m (number_of said))
   hears_answer =
       hears_said code kind decides effects own size_of laws want after kept call acts is_call.asking
-      (Ends code kind call) (λ base e m w h. h) never_ends
+      (Ends code kind call) (λ base e m w h. h)

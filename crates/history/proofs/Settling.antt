@@ -39,6 +39,14 @@ use Rattle.history.proofs.Passes.{set_same}
 use Rattle.history.proofs.Steps.{view_after, settle}
 use Rattle.history.proofs.CallsIn.{AsksFor, no_rest, same_rest, none_after}
 
+-- each step of the call keeps the rule, where it stands so
+abbrev pub KeepsWhere : {T : Type 0} → Coding T → Kind → (ℕ → ℕ) → {C M E : Type 0} → (C → Type 0)
+    → (View T → View T → C → M → Type 0) → (View T → E → M → View T → Type 0)
+    → (C → Want (Unit {0})) → (C → ℕ → After C E) → (C → M → ℕ → M) → Type 0
+KeepsWhere {T} code kind size_of {C} {M} {E} may at ends want after kept =
+    (base v : View T) (c : C) (m : M) (key words slots id : ℕ) → may c → words ≡ size_of key + 1 → v.capacity ≡ key → at base v c m
+    → Owes (IsMachine code kind key) words slots id (Told (λ (z : View T). z.capacity) at ends after kept c m) (want c) (v, [])
+
 module _ {T : Type 0} (code : Coding T) (kind : Kind) (decides : MayDecide kind) (effects : World T → ℕ → Flight T → ℕ → List (Event T))
     (size_of : ℕ → ℕ) (laws : (capacity : ℕ) → KeptLaws code kind capacity (size_of capacity) effects)
     (alone : (going : Option (Start T × Flight T)) (late : List (Event T)) → IsLate kind going late → late ≡ [])
@@ -191,7 +199,7 @@ module _ {T : Type 0} (code : Coding T) (kind : Kind) (decides : MayDecide kind)
 
   module _ {C M E : Type 0} (want : C → Want (Unit {0})) (after : C → ℕ → After C E) (kept : C → M → ℕ → M)
       (Stage : View T → View T → C → M → Type 0) (Over : View T → E → M → View T → Type 0)
-      (keeps : KeepsRule (λ (z : View T). z.capacity) Stage Over (λ key. size_of key + 1) (λ key. key) (λ key. IsMachine code kind key) want after kept)
+      (may : C → Type 0) (keeps : KeepsWhere code kind size_of may Stage Over want after kept)
       (Begins : View T → C → M → Type 0) (asks : (v : View T) (c : C) (m : M) → Begins v c m → AsksFor (size_of v.capacity) (want c))
       (stays : (v w : View T) (c : C) (m : M) → Settles code kind v w → Begins v c m → Begins w c m)
       (first : (v : View T) (c : C) (m : M) → Begins v c m → v.going ≡ None → v.other ≡ [] → 0 < v.share.part → Stage v v c m)
@@ -237,7 +245,7 @@ module _ {T : Type 0} (code : Coding T) (kind : Kind) (decides : MayDecide kind)
 
     -- who has still to begin
     module _ (v : View T) (c : C) (m : M) (key words slots id : ℕ) (wide : words ≡ size_of key + 1) (known : v.capacity ≡ key) (h : IsResting code v)
-        (begins : Begins v c m) where
+        (begins : Begins v c m) (ok : may c) where
       word : AsksFor (size_of key) (want c)
       word = subst (λ n. AsksFor (size_of n) (want c)) known (asks v c m begins)
 
@@ -266,7 +274,7 @@ module _ {T : Type 0} (code : Coding T) (kind : Kind) (decides : MayDecide kind)
           → OwesAsk (IsMachine code kind key) words slots id (ToldStage c m) ask.word ask.op (view_settled s v key id r at known h, [])
       owed s r at =
           subst (λ w. Owes (IsMachine code kind key) words slots id (ToldStage c m) w (view_settled s v key id r at known h, [])) word.2
-          (keeps (view_settled s v key id r at known h) (view_settled s v key id r at known h) c m key words slots id wide known (first_then s r at))
+          (keeps (view_settled s v key id r at known h) (view_settled s v key id r at known h) c m key words slots id ok wide known (first_then s r at))
 
       below : ask.word < words
       below = (let low = word.1 in omega arith)
@@ -293,16 +301,15 @@ module _ {T : Type 0} (code : Coding T) (kind : Kind) (decides : MayDecide kind)
       )
 
     -- each step of a call that comes after one that rests keeps the rule
-    pub keeps_waiting : KeepsRule (λ (z : View T). z.capacity) Rested RestedOver (λ key. size_of key + 1)
-        (λ key. key) (λ key. IsMachine code kind key) want after kept
-    keeps_waiting base₀ v c m key words slots id wide known (inl x) =
-        begun_keeps x.from v c m key words slots id x.stage (want c) (keeps x.from v c m key words slots id wide known x.stage)
-    keeps_waiting base₀ v c m key words slots id wide known (inr waits) =
+    pub keeps_waiting_where : KeepsWhere code kind size_of may Rested RestedOver want after kept
+    keeps_waiting_where base₀ v c m key words slots id ok wide known (inl x) =
+        begun_keeps x.from v c m key words slots id x.stage (want c) (keeps x.from v c m key words slots id ok wide known x.stage)
+    keeps_waiting_where base₀ v c m key words slots id ok wide known (inr waits) =
         let resting = subst (λ z. IsResting code z) (sym waits.is) waits.resting in
         let begins = subst (λ (z : View T). Begins z c m) (sym waits.is) waits.first in
         subst (λ w. Owes (IsMachine code kind key) words slots id (ToldRested c m) w (v, []))
-        (sym (word v c m key words slots id wide known resting begins).2)
-        (first_keeps v c m key words slots id wide known resting begins)
+        (sym (word v c m key words slots id wide known resting begins ok).2)
+        (first_keeps v c m key words slots id wide known resting begins ok)
 
     -- it may begin on a pass with no call under way, or with one that rests
     pub begins_idle : (v : View T) (c : C) (m : M) → Begins v c m → v.going ≡ None → v.other ≡ [] → 0 < v.share.part → Rested v v c m
@@ -310,6 +317,20 @@ module _ {T : Type 0} (code : Coding T) (kind : Kind) (decides : MayDecide kind)
 
     pub begins_rested : (v : View T) (c : C) (m : M) → Begins v c m → IsResting code v → Rested v v c m
     begins_rested v c m begins resting = inr (record { is = refl; resting = resting; first = begins })
+
+  module _ {C M E : Type 0} (want : C → Want (Unit {0})) (after : C → ℕ → After C E) (kept : C → M → ℕ → M)
+      (Stage : View T → View T → C → M → Type 0) (Over : View T → E → M → View T → Type 0)
+      (keeps : KeepsRule (λ (z : View T). z.capacity) Stage Over (λ key. size_of key + 1) (λ key. key) (λ key. IsMachine code kind key) want after kept)
+      (Begins : View T → C → M → Type 0) (asks : (v : View T) (c : C) (m : M) → Begins v c m → AsksFor (size_of v.capacity) (want c))
+      (stays : (v w : View T) (c : C) (m : M) → Settles code kind v w → Begins v c m → Begins w c m)
+      (first : (v : View T) (c : C) (m : M) → Begins v c m → v.going ≡ None → v.other ≡ [] → 0 < v.share.part → Stage v v c m)
+      (apart : (base v : View T) (c : C) (m : M) → IsResting code v → Begins v c m → Stage base v c m → ⊥) where
+    pub keeps_waiting : KeepsRule (λ (z : View T). z.capacity) (AtWaiting code kind Begins Stage) (EndsSettled code kind Over) (λ key. size_of key + 1)
+        (λ key. key) (λ key. IsMachine code kind key) want after kept
+    keeps_waiting base₀ v c m key words slots id wide known at₀ =
+        keeps_waiting_where want after kept Stage Over (λ c. Unit {0})
+        (λ base v c m key words slots id ok wide known at. keeps base v c m key words slots id wide known at)
+        Begins asks stays first apart base₀ v c m key words slots id tt wide known at₀
 
   -- of one whose begin hangs on the capacity
   module _ {C M E : Type 0} (want : C → Want (Unit {0})) (after : C → ℕ → After C E) (kept : C → M → ℕ → M)
@@ -323,4 +344,15 @@ module _ {T : Type 0} (code : Coding T) (kind : Kind) (decides : MayDecide kind)
         (λ key. key) (λ key. IsMachine code kind key) want after kept
     keeps_rested =
         keeps_waiting want after kept Stage Over keeps (λ v. Begins v.capacity) (λ v. asks v.capacity)
+        (λ v w c m settled begins. subst (λ n. Begins n c m) (sym settled.capacity) begins) first apart
+
+  module _ {C M E : Type 0} (want : C → Want (Unit {0})) (after : C → ℕ → After C E) (kept : C → M → ℕ → M)
+      (Stage : View T → View T → C → M → Type 0) (Over : View T → E → M → View T → Type 0)
+      (may : C → Type 0) (keeps : KeepsWhere code kind size_of may Stage Over want after kept)
+      (Begins : ℕ → C → M → Type 0) (asks : (capacity : ℕ) (c : C) (m : M) → Begins capacity c m → AsksFor (size_of capacity) (want c))
+      (first : (v : View T) (c : C) (m : M) → Begins v.capacity c m → v.going ≡ None → v.other ≡ [] → 0 < v.share.part → Stage v v c m)
+      (apart : (base v : View T) (c : C) (m : M) → IsResting code v → Begins v.capacity c m → Stage base v c m → ⊥) where
+    pub keeps_rested_where : KeepsWhere code kind size_of may (AtRested code kind Begins Stage Over) (EndsRested code kind Begins Stage Over) want after kept
+    keeps_rested_where =
+        keeps_waiting_where want after kept Stage Over may keeps (λ v. Begins v.capacity) (λ v. asks v.capacity)
         (λ v w c m settled begins. subst (λ n. Begins n c m) (sym settled.capacity) begins) first apart

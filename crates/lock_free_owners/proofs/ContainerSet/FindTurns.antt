@@ -1,5 +1,5 @@
 -- A find of a container between two turns, as a call of the history.
-use Rattle.std.proofs.Common.{◌≡◌, ◌⊎◌, inl, inr, ⊎_elim, ℕ, ◌+◌, ◌<◌, ◌==◌, nat_lt, Bool, true, false, Option, Some}
+use Rattle.std.proofs.Common.{◌≡◌, ◌⊎◌, inl, inr, ℕ, ◌+◌, ◌<◌, ◌==◌, nat_lt, Bool, true, false, Option, Some}
 use Rattle.std.proofs.Common.{None, List, [], ◌∷◌, ◌++◌, slice_set, refl, sym, ap, subst, ◌∙◌, append-nil, arith}
 use Rattle.steps.specs.Container.Find.{first_find, find_asks, find_want, find_keeps as keeps_of, find_takes}
 use Rattle.steps.specs.Indices.Robust.Parts.{empty}
@@ -29,13 +29,15 @@ use Rattle.history.specs.Settled.{IsResting, SettledFrom, Waits, RestsAt}
 use Rattle.history.specs.Stages.{IsUnderWay, Ends}
 use Rattle.history.specs.Value.{value_of_room}
 use Rattle.history.proofs.CallsIn.{AsksFor}
-use Rattle.history.proofs.ContainerFinds.{find_call, container_find_keeps, container_find_hears, container_find_first, find_copied, find_rests_so}
+use Rattle.history.proofs.ContainerFinds.{find_call, container_find_keeps, container_find_word, container_find_hears}
+use Rattle.history.proofs.ContainerFinds.{container_find_first, find_copied, find_rests_so}
 use Rattle.history.proofs.Containers.{container_words}
-use Rattle.history.proofs.ContainerRests.{Keeps, rested_asks, apart_asked}
+use Rattle.history.proofs.ContainerRests.{rested_words, apart_asked}
+use Rattle.history.proofs.Settling.{KeepsWhere}
 use Rattle.history.proofs.Rooms.{room_fresh}
-use Rattle.lock_free_owners.specs.Container.FindTold.{copied, Rests, HasSearched}
+use Rattle.lock_free_owners.specs.Container.FindTold.{copied, Rests, HasSearched, below_question, asked_below}
 use Rattle.lock_free_owners.specs.Container.FindTurns.{words_in, Copying, BeginsFind, finding, find_goes, find_copying}
-use Rattle.lock_free_owners.specs.Container.FindTurns.{FindBegun, FindOver, FindAt, FindEnds, FindTells, IsLeft}
+use Rattle.lock_free_owners.specs.Container.FindTurns.{FindBegun, FindOver, FindAt, FindDone, FindTells, IsAtWord, IsLeft}
 use Rattle.lock_free_owners.specs.Container.Visits.{visits_of}
 use Rattle.lock_free_owners.specs.Container.Idle.{asks, may_rest, IsIdle}
 use Rattle.lock_free_owners.proofs.ContainerSet.Idle.{rests, idle_none}
@@ -93,11 +95,21 @@ module _ {T : Type 0} (code : Coding T) (law : IsCoding code) (owner : ℕ) wher
       let no : 0 ≡ later.0 + 1 = cc in
       omega arith
 
-  pub find_keeps : Keeps code (FindAt code owner) (FindEnds code owner) (λ c. find_want code.size c) (find_goes code owner) (find_copying code owner)
+  -- each step at a word
+  pub find_keeps : KeepsWhere code kinds.Container (container_words code) (λ (c : Find T (Kept 128)). is_question (find_want code.size c) ≡ false)
+      (FindAt code owner) (FindDone code owner) (λ c. find_want code.size c) (find_goes code owner) (find_copying code owner)
   find_keeps =
-      rested_asks code (finding code owner) (λ c. find_want code.size c) (λ c m. refl) (BeginsFind owner) begins_asks
+      rested_words code (finding code owner) (λ c. find_want code.size c) (λ c m. refl) (BeginsFind owner) begins_asks
       (find_goes code owner) (find_copying code owner) (FindOver code owner) never_first
-      (container_find_keeps code law words_in kept_at put_in owner) begins_first
+      (container_find_keeps code law words_in kept_at put_in owner) begins_first (Ends code kinds.Container (finding code owner))
+      (container_find_word code law words_in kept_at put_in owner)
+
+  pub at_its_word : (capacity : ℕ) (stage : FindStage) → IsAtWord stage → is_question (find_asks code.size capacity stage) ≡ false
+  at_its_word capacity (finds.LoadsCell index found) still = refl
+  at_its_word capacity (finds.LoadsCount index found) still = refl
+  at_its_word capacity (finds.LoadsWord index found count at) still = refl
+  at_its_word capacity (finds.ChecksCount index found count) still = refl
+  at_its_word capacity (finds.Asks index found) still = absurd still
 
   apart : (base v : View T) (c : Find T (Kept 128)) (m k : Copying T) → IsResting code v → BeginsFind owner v.capacity c k → FindBegun code owner base v c m → ⊥
   apart =
@@ -125,14 +137,14 @@ module _ {T : Type 0} (code : Coding T) (law : IsCoding code) (owner : ℕ) wher
 
   -- one step tells of all that it may have copied
   pub find_tells : (base v : View T) (c : Find T (Kept 128)) (room : Kept 128) (copies : List (ℕ × T)) → FindAt code owner base v c (room, copies)
-      → (n : ℕ) (w : View T) → Told (λ (z : View T). z.capacity) (FindAt code owner) (FindEnds code owner) (find_goes code owner)
+      → (n : ℕ) (w : View T) → Told (λ (z : View T). z.capacity) (FindAt code owner) (FindDone code owner) (find_goes code owner)
       (find_copying code owner) c (room, copies) v n w
       → (w.capacity ≡ v.capacity) × FindTells code owner c room v n w
   find_tells base v c room copies at n w h = (
     h.0,
     λ other more there. (
         let same : copies ≡ more = same_copies base other v c (room, copies) (room, more) at there in
-        subst (λ xs. Next (λ (z : View T). z.capacity) (FindAt code owner) (FindEnds code owner) other
+        subst (λ xs. Next (λ (z : View T). z.capacity) (FindAt code owner) (FindDone code owner) other
         (find_goes code owner c n) (find_copying code owner c (room, xs) n) w)
         same
         (h.1 other (subst (λ xs. FindAt code owner other v c (room, xs)) (sym same) there))),
@@ -198,7 +210,7 @@ module _ {T : Type 0} (code : Coding T) (law : IsCoding code) (owner : ℕ) wher
 
   -- ---- where it has ended, or rests
 
-  module _ (base w : View T) (from : View T) (settled : SettledFrom code kinds.Container base from) (e : ℕ) (m : Copying T) (id : ℕ) where
+  module _ (cap : ℕ) (base w : View T) (from : View T) (settled : SettledFrom code kinds.Container base from) (e : ℕ) (m : Copying T) (id : ℕ) where
     module _ (rest : RestsAt code kinds.Container (find_goes code owner) (find_copying code owner) (finding code owner) from w e m) where
       abbrev under : IsUnderWay code kinds.Container (finding code owner) from w rest.asking m
       under = rest.before
@@ -228,8 +240,15 @@ module _ {T : Type 0} (code : Coding T) (law : IsCoding code) (owner : ℕ) wher
             ends = so.3;
           }
 
-      pub rested_so : HasSearched code owner e (visits_of owner id m.1) base w
-      rested_so = record { from = from; settled = settled; by = under.party; mine = under.mine; over = inr rests_so }
+      pub rested_so : HasSearched code cap owner e (below_question rest.asking.stage) (visits_of owner id m.1) base w
+      rested_so =
+          record {
+            from = from;
+            settled = settled;
+            by = under.party;
+            mine = under.mine;
+            over = inr (rests_so, sym (ap asked_below under.going));
+          }
 
       at_question : (stage : FindStage) → is_question (find_asks code.size rest.asking.capacity stage) ≡ true → asks stage ≡ true
       at_question (finds.LoadsCell index found) due = absurd (cc)
@@ -253,7 +272,7 @@ module _ {T : Type 0} (code : Coding T) (law : IsCoding code) (owner : ℕ) wher
           }
 
     module _ (ends : Ends code kinds.Container (finding code owner) from e m w) where
-      ended_so : HasSearched code owner e (visits_of owner id m.1) base w
+      ended_so : HasSearched code cap owner e cap (visits_of owner id m.1) base w
       ended_so =
           record {
             from = from;
@@ -265,6 +284,7 @@ module _ {T : Type 0} (code : Coding T) (law : IsCoding code) (owner : ℕ) wher
                   (ends.tells (idle_from code base from settled) ∙ named_copies ends.party owner id m.1)
                   (ended_called code base from settled (finding code owner) w e m ends (starts.Find owner) refl (Number e) refl),
               ended_answered code base from settled (finding code owner) w e m ends (starts.Find owner) refl (Number e) refl,
+              refl,
             );
           }
 
@@ -279,17 +299,19 @@ module _ {T : Type 0} (code : Coding T) (law : IsCoding code) (owner : ℕ) wher
             keeps = ended_keeps code base from settled (finding code owner) w (record { start = refl; flight = λ c k. refl }) (λ was p by. by) e m ends;
           }
 
-  pub over_so : (base w : View T) (e : ℕ) (m : Copying T) (id : ℕ) → FindEnds code owner base e m w
-      → IsLeft code base w × HasSearched code owner e (visits_of owner id m.1) base w
-  over_so base w e m id x =
-      ⊎_elim (λ ends. (ended_left base w x.from x.settled e m id ends, ended_so base w x.from x.settled e m id ends))
-      (λ rest. (rested_left base w x.from x.settled e m id rest, rested_so base w x.from x.settled e m id rest)) x.over
+  pub over_so : (cap : ℕ) (base w : View T) (e : ℕ) (m : Copying T) (id : ℕ) → FindDone code owner base e m w
+      → IsLeft code base w × HasSearched code cap owner e cap (visits_of owner id m.1) base w
+  over_so cap base w e m id x = (ended_left cap base w x.from x.settled e m id x.over, ended_so cap base w x.from x.settled e m id x.over)
 
   -- the answer has ended it at its question
-  pub answer_over : (base v : View T) (c : Find T (Kept 128)) (m : Copying T) (index found : ℕ) → c.stage ≡ finds.Asks index found
+  pub answer_over : (cap : ℕ) (base v : View T) (c : Find T (Kept 128)) (m : Copying T) (index found : ℕ) → c.stage ≡ finds.Asks index found
       → FindAt code owner base v c m → (e id : ℕ) (said : Bool) → find_goes code owner c (number_of said) ≡ Done e
-      → IsLeft code base v × HasSearched code owner e (visits_of owner id m.1) base v
-  answer_over base v c m index found is at e id said goes =
+      → IsLeft code base v × HasSearched code cap owner e (index + 1) (visits_of owner id m.1) base v
+  unfolding rests_at
+  answer_over cap base v c m index found is at e id said goes =
       let x = asked_from base v c m index found is at in
-      let rest = rests_at base v c m index found is e said goes at in
-      (rested_left base v x.0 x.1 e m id rest, rested_so base v x.0 x.1 e m id rest)
+      let rest = rests_at base v c m index found is e said goes at in (
+        rested_left cap base v x.0 x.1 e m id rest,
+        subst (λ n. HasSearched code cap owner e n (visits_of owner id m.1) base v) (ap below_question is)
+            (rested_so cap base v x.0 x.1 e m id rest),
+      )

@@ -1,6 +1,8 @@
 -- A find of a container between two turns: where it stands on the history, and what its closure was called with.
-use Rattle.std.proofs.Common.{◌≡◌, ℕ, ◌^◌, ◌<◌, Bool, true, false, List, [], refl, sym, ap, subst, arith}
-use Rattle.steps.specs.Container.Find.{first_find, find_takes, find_kept}
+use Rattle.std.proofs.Common.{◌≡◌, ℕ, ◌+◌, ◌^◌, ◌<◌, ◌≤◌, nat_lt, if◌then◌else◌, true, false, List, [], refl, sym, ap, subst, ◌∙◌, arith}
+use Rattle.std.proofs.lemmas.Bool.Decides.{nat_tests}
+use Rattle.steps.specs.Container.Find.{first_find, at_find, find_comes_to, find_takes, find_kept}
+use Rattle.history.proofs.CallsIn.{by_bool}
 use Rattle.steps.specs.declared.ask.After.{After}
 use Rattle.steps.specs.declared.ask.After.TheVariants.{GoOn, Done}
 use Rattle.steps.specs.declared.container.find.Find.{Find}
@@ -12,14 +14,13 @@ use Rattle.steps.specs.declared.enums.CallbackProgression.{CallbackProgression}
 use Rattle.steps.specs.declared.enums.CallbackProgression.TheVariants.{Continue, Stop}
 use Rattle.model.specs.Coding.{Coding, IsCoding}
 use Rattle.model.specs.Families.Queues.Calls.{fresh_cell, kept_at}
-use Rattle.model.specs.Turns.{number_of}
 use Rattle.lock_free_sp.specs.Driver.{Next}
 use Rattle.history.specs.declared.view.View.{View}
 use Rattle.history.specs.Value.{value_of_room}
 use Rattle.lock_free_owners.specs.Robust.Stages.{says}
 use Rattle.lock_free_owners.specs.Container.Callable.{Visit, TakesVisits, HasFound}
 use Rattle.lock_free_owners.specs.Container.FindTold.{HasSearched}
-use Rattle.lock_free_owners.specs.Container.FindTurns.{words_in, find_goes, find_copying, FindAt, FindEnds, FindGoes, FindTurns, IsLeft}
+use Rattle.lock_free_owners.specs.Container.FindTurns.{words_in, find_goes, find_copying, FindAt, FindDone, FindGoes, FindTurns, IsLeft}
 use Rattle.lock_free_owners.specs.Container.Visits as visits
 use Rattle.lock_free_owners.specs.Container.Visits.{FindStands, FindAsks, FindMoves, IsNamed, visits_of}
 use Rattle.lock_free_owners.proofs.ContainerSet.FindTurns.{over_so, heard_on, answer_over}
@@ -39,17 +40,20 @@ module _ {T F : Type 0} (code : Coding T) (step : F → T → ContainerHandle �
 
   pub record Over (w : View T) (n : ℕ) (q : F) : Type 0 where
     pub left : IsLeft code base w
+    pub bound : ℕ
     pub visits : List (Visit T)
-    pub searched : HasSearched code owner n visits base w
-    pub found : HasFound step cap (IsNamed cap owner id) f n visits q
+    pub searched : HasSearched code cap owner n bound visits base w
+    pub found : HasFound step cap (IsNamed cap owner id) f n bound visits q
 
   abbrev pub Further : View T → After (Find T (Kept 128)) ℕ → Kept 128 → F → Type 0
   Further w (GoOn d) m q = Searching w d m q
   Further w (Done n) m q = Over w n q
 
-  whole : (w : View T) (n : ℕ) (q : F) (copies : List (ℕ × T)) → IsLeft code base w × HasSearched code owner n (visits_of owner id copies) base w
-      → HasFound step cap (IsNamed cap owner id) f n (visits_of owner id copies) q → Over w n q
-  whole w n q copies x found = record { left = x.0; visits = visits_of owner id copies; searched = x.1; found = found }
+  whole : (w : View T) (n bound : ℕ) (q : F) (copies : List (ℕ × T))
+      → IsLeft code base w × HasSearched code cap owner n bound (visits_of owner id copies) base w
+      → HasFound step cap (IsNamed cap owner id) f n bound (visits_of owner id copies) q → Over w n q
+  whole w n bound q copies x found =
+      record { left = x.0; bound = bound; visits = visits_of owner id copies; searched = x.1; found = found }
 
   module _ (law : IsCoding code) (small : cap < 2 ^ 32) (v : View T) (c : Find T (Kept 128)) (m : Kept 128) (p : F)
       (h : Searching v c m p) where
@@ -59,10 +63,10 @@ module _ {T F : Type 0} (code : Coding T) (step : F → T → ContainerHandle �
     -- ---- a step at a word
 
     stepped : (w : View T) (a : After (Find T (Kept 128)) ℕ) (left : Kept 128) (copies : List (ℕ × T)) → StillStands code.size cap a
-        → Next (λ (z : View T). z.capacity) (FindAt code owner) (FindEnds code owner) base a (left, copies) w
+        → Next (λ (z : View T). z.capacity) (FindAt code owner) (FindDone code owner) base a (left, copies) w
         → Onward step cap owner id f a copies (value_in_room left) p → Further w a left p
     stepped w (GoOn d) left copies stands at so = record { copies = copies; at = at; stands = stands; so_far = so }
-    stepped w (Done n) left copies stands ends found = whole w n p copies (over_so code law owner base w n (left, copies) id ends) found
+    stepped w (Done n) left copies stands ends found = whole w n cap p copies (over_so code law owner cap base w n (left, copies) id ends) found
 
     by_step : (stage : FindStage) → c.stage ≡ stage → (still : IsQuiet step cap owner id f stage)
         → (w : View T) (a : After (Find T (Kept 128)) ℕ) (left : Kept 128)
@@ -85,23 +89,41 @@ module _ {T F : Type 0} (code : Coding T) (step : F → T → ContainerHandle �
       within : index < cap
       within = (subst (visits.FindStage code.size cap) is h.stands.1).0
 
-      answered : (q : F) (said : Bool) (r : After (Find T (Kept 128)) ℕ) → find_goes code owner c (number_of said) ≡ r → StillStands code.size cap r
+      -- told to go on, it ends at the last index
+      last_is : (n : ℕ) → find_goes code owner c 1 ≡ Done n → index + 1 ≡ cap
+      last_is n goes =
+          let comes : find_comes_to c (index + 1) found ≡ Done n = sym (ap (λ z. find_takes code.size c z owner 1) is) ∙ goes in
+          let size : c.capacity ≡ cap = h.stands.0 in
+          by_bool (nat_lt (index + 1) c.capacity) (λ t. absurd (more n t comes)) (λ t. (let low = within in let no = not_less t in omega arith))
+        where
+          more : (n : ℕ) → nat_lt (index + 1) c.capacity ≡ true → find_comes_to c (index + 1) found ≡ Done n → ⊥
+          more n t e =
+              let on : After (Find T (Kept 128)) ℕ = GoOn (at_find c (finds.LoadsCell (index + 1) found)) in
+              let no : on ≡ Done n = subst (λ b. (if b then on else Done found) ≡ Done n) t e in
+              absurd (cc)
+
+          not_less : nat_lt (index + 1) c.capacity ≡ false → c.capacity ≤ index + 1
+          not_less t = grind (arith, nat_tests)
+
+      answered : (q : F) (r : After (Find T (Kept 128)) ℕ) → find_goes code owner c 1 ≡ r → StillStands code.size cap r
           → Onward step cap owner id f r h.copies (value_in_room m) q → Further v r m q
-      answered q said (GoOn d) goes stands so =
-          record { copies = h.copies; at = heard_on code law owner base v c (m, h.copies) index found is d said goes h.at; stands = stands; so_far = so }
-      answered q said (Done n) goes stands found_all =
-          whole v n q h.copies (answer_over code law owner base v c (m, h.copies) index found is h.at n id said goes) found_all
+      answered q (GoOn d) goes stands so =
+          record { copies = h.copies; at = heard_on code law owner base v c (m, h.copies) index found is d true goes h.at; stands = stands; so_far = so }
+      answered q (Done n) goes stands found_all =
+          let x = answer_over code law owner cap base v c (m, h.copies) index found is h.at n id true goes in
+          whole v n cap q h.copies
+          (x.0, subst (λ k. HasSearched code cap owner n k (visits_of owner id h.copies) base v) (last_is n goes) x.1) found_all
 
       by_answer : (q : F) (answer : CallbackProgression) → step p (value_in_room m) (visits.named index owner id) answer q
           → Further v (find_goes code owner c (says answer)) m q
       by_answer q Continue hit =
-          answered q true (find_goes code owner c 1) refl (stood 1)
+          answered q (find_goes code owner c 1) refl (stood 1)
           (subst (λ z. Onward step cap owner id f (find_takes code.size c z owner 1) h.copies (value_in_room m) q) (sym is)
           (told_on step cap owner id f code.size c index found h.copies (value_in_room m) p q within hit so_here))
       by_answer q Stop hit =
           let goes : find_goes code owner c 0 ≡ Done found = ap (λ z. find_takes code.size c z owner 0) is in
           subst (λ r. Further v r m q) (sym goes)
-          (whole v found q h.copies (answer_over code law owner base v c (m, h.copies) index found is h.at found id false goes)
+          (whole v found (index + 1) q h.copies (answer_over code law owner cap base v c (m, h.copies) index found is h.at found id false goes)
           (told_to_stop step cap owner id f index found h.copies (value_in_room m) p q within hit so_here))
 
     -- ---- a turn

@@ -1,5 +1,5 @@
 -- What the closure of a find of a container is called with. T is the type of its values.
-use Rattle.std.specs.Prelude.{◌≡◌, ℕ, ◌<◌, ◌≤◌, ◌⊎◌, List, [], ◌∷◌, ◌++◌, length, All, AllPairs, Contains}
+use Rattle.std.specs.Prelude.{◌≡◌, ℕ, ◌+◌, ◌<◌, ◌≤◌, ◌⊎◌, List, [], ◌∷◌, ◌++◌, length, All, AllPairs, Contains}
 use Rattle.std.specs.List.{FoldsTo}
 use Rattle.steps.specs.declared.enums.CallbackProgression.{CallbackProgression}
 use Rattle.steps.specs.declared.enums.CallbackProgression.TheVariants.{Continue, Stop}
@@ -44,13 +44,15 @@ pub record WasStopped {F T : Type 0} (step : F → T → ContainerHandle → Cal
   pub stops : step now x.value x.handle Stop last
   pub highest : All (λ i. i ≤ x.handle.index) indices
 
--- a find came to n indices: at these of them it called the closure, which was told to go on at each, or was told to stop
+-- A find came to n indices, and through those below the bound: at these it called the closure, which said to go on at each,
+-- and the bound is the capacity; or it said to stop, and the bound is behind that index.
 pub record HasFound {F T : Type 0}
     (step : F → T → ContainerHandle → CallbackProgression → F → Type 0) (capacity : ℕ)
-    (mine : ContainerHandle → Type 0) (f : F) (n : ℕ) (visits : List (Visit T)) (last : F) : Type 0 where
+    (mine : ContainerHandle → Type 0) (f : F) (n bound : ℕ) (visits : List (Visit T)) (last : F) : Type 0 where
   pub indices : List ℕ
   pub ascend : Ascends capacity indices
   pub number : length indices ≡ n
   pub visits_ascend : VisitsAscend mine visits
   pub among : All (λ (x : Visit T). Contains indices x.handle.index) visits
-  pub calls : FoldsTo (goes_on step) f visits last ⊎ WasStopped step f indices visits last
+  pub calls : (FoldsTo (goes_on step) f visits last × (bound ≡ capacity))
+      ⊎ ((stopped : WasStopped step f indices visits last) × (bound ≡ stopped.x.handle.index + 1))

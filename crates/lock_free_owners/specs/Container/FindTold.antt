@@ -1,11 +1,15 @@
 -- What a find of a container adds to the history, and what it answers.
-use Rattle.std.specs.Prelude.{◌≡◌, ◌⊎◌, ℕ, Some, List, ◌∷◌, ◌++◌, [], map}
+use Rattle.std.specs.Prelude.{◌≡◌, ◌⊎◌, ℕ, ◌+◌, Option, Some, List, ◌∷◌, ◌++◌, [], map}
+use Rattle.steps.specs.declared.container.find.FindStage as finds
 use Rattle.model.specs.declared.event.Answer.{Answer}
 use Rattle.model.specs.declared.event.Answer.TheVariants.{Number}
 use Rattle.model.specs.declared.event.Event.{Event}
 use Rattle.model.specs.declared.event.Event.TheVariants.{Begun, Copied}
 use Rattle.model.specs.declared.event.Start.{Start}
 use Rattle.model.specs.declared.event.Start.TheVariants.{Container}
+use Rattle.model.specs.declared.families.Flight.{Flight}
+use Rattle.model.specs.declared.families.Flight as flights
+use Rattle.model.specs.declared.families.container.calls.ContainerFlight as calls
 use Rattle.model.specs.declared.families.container.ContainerStart.TheVariants.{Find}
 use Rattle.model.specs.declared.turn.Kind.TheVariants as kinds
 use Rattle.model.specs.Coding.{Coding}
@@ -20,6 +24,15 @@ use Rattle.lock_free_owners.specs.Container.Told.{Answered}
 -- what a party writes that copies these
 abbrev pub copied : {T : Type 0} → ℕ → List (Visit T) → List (Event T)
 copied p visits = map (λ x. Copied p x.handle.index x.value) visits
+
+-- the index about which a find asks, and those below it
+abbrev pub below_question : finds.FindStage → ℕ
+below_question (finds.TheVariants.Asks index found) = index + 1
+below_question stage = 0
+
+abbrev pub asked_below : {T : Type 0} → Option (Start T × Flight T) → ℕ
+asked_below (Some (start, flights.TheVariants.Container (calls.TheVariants.Find run))) = below_question run.call.stage
+asked_below going = 0
 
 module _ {T : Type 0} (code : Coding T) where
   -- A call that has begun, and written this, rests: it ends with this answer before anything else that its party does, by
@@ -38,13 +51,14 @@ module _ {T : Type 0} (code : Coding T) where
     pub of : resting.start ≡ start
     pub ends : resting.answer ≡ answer
 
-  -- One call of the history, by a party of the pass. It copied just these values, each once, in turn. It has ended, or an
-  -- answer has ended it, and it rests.
-  pub record HasSearched (owner number : ℕ) (visits : List (Visit T)) (old new : View T) : Type 0 where
+  -- One call of the history, by a party of the pass. It copied just these values, each once, in turn. It has ended, having come
+  -- through all indices, or an answer has ended it, and it rests where it asked about the last one below the bound.
+  pub record HasSearched (capacity owner number bound : ℕ) (visits : List (Visit T)) (old new : View T) : Type 0 where
     pub from : View T
     pub settled : SettledFrom code kinds.Container old from
     pub by : ℕ
     pub mine : new.party ≡ Some by
     pub over : (Called by (Container (Find owner)) (Number number) (copied by visits) from new
-        × Answered code (Find owner) (Number number) old new)
-        ⊎ Rests by (Container (Find owner)) (Number number) (copied by visits) from new
+        × Answered code (Find owner) (Number number) old new × (bound ≡ capacity))
+        ⊎ (Rests by (Container (Find owner)) (Number number) (copied by visits) from new
+        × (bound ≡ asked_below new.going))

@@ -15,7 +15,7 @@ use Rattle.history.specs.ContainerFind.{find_copies, finds_values}
 use Rattle.history.specs.ContainerLooks.{KeepsState}
 use Rattle.history.specs.Passes.{Goes}
 use Rattle.history.specs.Settled.{AtRested, EndsRested, EndsAsked}
-use Rattle.history.specs.Stages.{Calling, AtAsked}
+use Rattle.history.specs.Stages.{Calling, AtAsked, Ends}
 use Rattle.lock_free_owners.specs.Container.Idle.{IsIdle}
 
 -- the words of a room
@@ -52,8 +52,9 @@ module _ {T : Type 0} (code : Coding T) (owner : ℕ) where
   abbrev pub FindAt : View T → View T → Find T (Kept 128) → Copying T → Type 0
   FindAt = AtRested code kinds.Container (BeginsFind owner) FindBegun FindOver
 
-  abbrev pub FindEnds : View T → ℕ → Copying T → View T → Type 0
-  FindEnds = EndsRested code kinds.Container (BeginsFind owner) FindBegun FindOver
+  -- a step at a word ends it for good
+  abbrev pub FindDone : View T → ℕ → Copying T → View T → Type 0
+  FindDone = EndsRested code kinds.Container (BeginsFind owner) FindBegun (Ends code kinds.Container finding)
 
   -- it may take a turn
   abbrev pub FindMay : View T → Find T (Kept 128) → Kept 128 → Type 0
@@ -63,7 +64,7 @@ module _ {T : Type 0} (code : Coding T) (owner : ℕ) where
   abbrev pub FindTells : Find T (Kept 128) → Kept 128 → View T → ℕ → View T → Type 0
   FindTells call room v n w =
       (base : View T) (copies : List (ℕ × T)) → FindAt base v call (room, copies)
-      → Next (λ (z : View T). z.capacity) FindAt FindEnds base (find_goes call n)
+      → Next (λ (z : View T). z.capacity) FindAt FindDone base (find_goes call n)
       (find_copying call (room, copies) n) w
 
   -- how it has gone on since
@@ -78,6 +79,11 @@ module _ {T : Type 0} (code : Coding T) (owner : ℕ) where
   FindTurns (finds.TheVariants.Asks index found) v call room after left w =
       (w ≡ v) × (left ≡ room)
   FindTurns stage v call room after left w = FindGoes v call room after left w
+
+-- it is at no question
+abbrev pub IsAtWord : finds.FindStage → Type 0
+IsAtWord (finds.TheVariants.Asks index found) = ⊥
+IsAtWord stage = Unit {0}
 
 -- what a call leaves of a pass with no call under way, or whose last one rests
 module _ {T : Type 0} (code : Coding T) where

@@ -117,7 +117,7 @@ module _ {T F : Type 0} (step : F → T → ContainerHandle → CallbackProgress
         calls = h.calls;
       }
 
-  found_all : (low n : ℕ) (visits : List (Visit T)) (p : F) → Came low n visits p → HasFound step cap mine f n visits p
+  found_all : (low n : ℕ) (visits : List (Visit T)) (p : F) → Came low n visits p → HasFound step cap mine f n cap visits p
   found_all low n visits p h =
       record {
         indices = h.indices;
@@ -125,7 +125,7 @@ module _ {T F : Type 0} (step : F → T → ContainerHandle → CallbackProgress
         number = h.count;
         visits_ascend = h.visits_ascend;
         among = h.among;
-        calls = inl h.calls;
+        calls = inl (h.calls, refl);
       }
 
   -- a step at a word, which leaves it
@@ -166,7 +166,7 @@ module _ {T F : Type 0} (step : F → T → ContainerHandle → CallbackProgress
       }
 
   found_last : (low n found : ℕ) (value : T) (visits : List (Visit T)) (p q : F) → low < cap → n + 1 ≡ found → step p value (named low owner id) Stop q
-      → Came low n visits p → HasFound step cap mine f found (visits ++ at_index low value ∷ []) q
+      → Came low n visits p → HasFound step cap mine f found (low + 1) (visits ++ at_index low value ∷ []) q
   found_last low n found value visits p q within more hit h =
       let longer = length-append h.indices (low ∷ []) in
       let count = h.count in
@@ -176,15 +176,18 @@ module _ {T F : Type 0} (step : F → T → ContainerHandle → CallbackProgress
         number = omega arith;
         visits_ascend = ascend_more low value visits within h.visits_ascend h.visits_below;
         among = among_more h.indices low value visits h.among;
-        calls = inr (record {
-          before = visits;
-          now = p;
-          calls = h.calls;
-          x = at_index low value;
-          is = refl;
-          stops = hit;
-          highest = All-push (λ i. i ≤ low) h.indices low (All-weaker (λ i. i < low) (λ i. i ≤ low) (λ i l. omega arith) h.indices h.below) (omega arith);
-        });
+        calls = inr (
+          record {
+            before = visits;
+            now = p;
+            calls = h.calls;
+            x = at_index low value;
+            is = refl;
+            stops = hit;
+            highest = All-push (λ i. i ≤ low) h.indices low (All-weaker (λ i. i < low) (λ i. i ≤ low) (λ i l. omega arith) h.indices h.below) (omega arith);
+          },
+          refl,
+        );
       }
 
   -- the closure may be called at the index that it has come to
@@ -202,7 +205,7 @@ module _ {T F : Type 0} (step : F → T → ContainerHandle → CallbackProgress
     -- where no answer stops it, it has come past all of them at its end
     abbrev pub Onward : After (Find T R) ℕ → List (ℕ × T) → T → F → Type 0
     Onward (GoOn d) copies value q = SoFar d.stage copies value q
-    Onward (Done n) copies value q = HasFound step cap mine f n (told copies) q
+    Onward (Done n) copies value q = HasFound step cap mine f n cap (told copies) q
 
     module _ (size : ℕ) (c : Find T R) where
       comes : (index found : ℕ) (copies : List (ℕ × T)) (value : T) (q : F) → Came index found (told copies) q
@@ -261,8 +264,8 @@ module _ {T F : Type 0} (step : F → T → ContainerHandle → CallbackProgress
 
   -- or to stop
   pub told_to_stop : (index found : ℕ) (copies : List (ℕ × T)) (value : T) (p q : F) → index < cap → step p value (named index owner id) Stop q
-      → SoFar (finds.TheVariants.Asks index found) copies value p → HasFound step cap mine f found (told copies) q
+      → SoFar (finds.TheVariants.Asks index found) copies value p → HasFound step cap mine f found (index + 1) (told copies) q
   told_to_stop index found copies value p q within hit so =
       let h = so.2 in
       let visits : told so.0 ++ at_index index value ∷ [] ≡ told copies = sym (ap told so.1 ∙ told_push so.0 index value) in
-      subst (λ vs. HasFound step cap mine f found vs q) visits (found_last index h.0 found value (told so.0) p q within h.1 hit h.2)
+      subst (λ vs. HasFound step cap mine f found (index + 1) vs q) visits (found_last index h.0 found value (told so.0) p q within h.1 hit h.2)

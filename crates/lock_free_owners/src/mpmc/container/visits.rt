@@ -1,5 +1,5 @@
 //! The call on a container that comes to the values of an owner.
-ghost use Rattle.std.specs.Prelude.{◌≡◌, ◌<◌, List, []};
+ghost use Rattle.std.specs.Prelude.{◌≡◌, ◌<◌, ℕ, List, []};
 ghost use Rattle.steps.specs.Container.Find.{first_find};
 ghost use Rattle.steps.specs.Copied.{value_in};
 ghost use Rattle.model.specs.Coding.{coding_of};
@@ -10,7 +10,7 @@ ghost use Rattle.history.specs.ContainerLooks.{KeepsState};
 ghost use Rattle.history.specs.Passes.{Goes};
 ghost use Rattle.lock_free_owners.specs.Container.Callable.{Visit, TakesVisits, HasFound};
 ghost use Rattle.lock_free_owners.specs.Container.FindTold.{HasSearched};
-ghost use Rattle.lock_free_owners.specs.Container.FindTurns.{FindAt, FindMay, FindGoes, FindTurns, IsLeft};
+ghost use Rattle.lock_free_owners.specs.Container.FindTurns.{FindAt, FindMay, FindGoes, FindTurns, IsAtWord, IsLeft};
 ghost use Rattle.lock_free_owners.specs.Container.Turns.{IsBoard};
 ghost use Rattle.lock_free_owners.specs.Container.Visits.{IsNamed, FindAsks, FindMoves};
 ghost use Rattle.lock_free_owners.specs.Container.Names.{view, code_of, container_of, capacity_of, IsPassOf, IsHandleFor};
@@ -34,6 +34,7 @@ fn step_find<T: Words>(
 ) -> After<Find<T, Copied>, usize>
     requires board { IsBoard T.WORDS seat.old }
     requires at { FindMay (coding_of T.WORDS T.words_of T.value_of) owner (seen seat.old) call room.old }
+    requires word { IsAtWord call.stage }
     ensures same { IsSame seat.old seat.new }
     ensures board { IsBoard T.WORDS seat.new }
     ensures goes { FindGoes (coding_of T.WORDS T.words_of T.value_of) owner (seen seat.old) call room.old
@@ -100,11 +101,11 @@ fn find_all<T: Words, F: FnMut(T, ContainerHandle) -> CallbackProgression>(
     ensures same { IsSame seat.old seat.new }
     ensures board { IsBoard T.WORDS seat.new }
     ensures left { IsLeft (coding_of T.WORDS T.words_of T.value_of) (seen seat.old) (seen seat.new) }
-    ensures found { (visits : List (Visit T))
-        × HasSearched (coding_of T.WORDS T.words_of T.value_of) owner result.0 visits (seen seat.old)
-        (seen seat.new)
+    ensures found { (visits : List (Visit T)) × (bound : ℕ)
+        × HasSearched (coding_of T.WORDS T.words_of T.value_of) capacity owner result.0 bound visits
+        (seen seat.old) (seen seat.new)
         × HasFound (λ p x h a q. F.step p x h a q) capacity (IsNamed capacity owner id) visit
-        result.0 visits result.1 }
+        result.0 bound visits result.1 }
 {
     let mut room = Copied { words: [0; 128] };
     let mut call = Find::new(capacity);
@@ -122,8 +123,9 @@ impl<T: Words> Container<T> {
     /// Comes to the indices of `owner`, ascending, each at most once and below the capacity, and calls `visit` with a
     /// copy of the value that stands there and the handle that names it, until it says `Stop`: how many indices it came
     /// to, the one on which it was told to stop among them. An index without a value, or whose value has changed while
-    /// it was copied, counts too, but `visit` is not called there. That it comes to each index that `owner` has through
-    /// the whole call, up to the one on which it is told to stop, is tested.
+    /// it was copied, counts too, but `visit` is not called there. Where `visit` says to go on at each it goes through all
+    /// indices; that it comes to each that `owner` has through the whole call, up to the one on which it is told to stop,
+    /// is tested.
     ///
     /// It is a call of the history, in which it copied just what `visit` was called with, in turn; in a proper faithful
     /// history of few turns each copy is whole (`laws`). A find that an answer ends, a `Stop` or the one at the last
@@ -147,10 +149,11 @@ impl<T: Words> Container<T> {
         ensures goes { Goes (code_of pass.old) kinds.Container (container_of pass.old).capacity
             (view pass.old) (view pass.new) }
         ensures keeps { KeepsState (view pass.old) (view pass.new) }
-        ensures found { (visits : List (Visit T)) × (last : F)
-            × HasSearched (code_of pass.old) owner result visits (view pass.old) (view pass.new)
+        ensures found { (visits : List (Visit T)) × (bound : ℕ) × (last : F)
+            × HasSearched (code_of pass.old) (capacity_of self.now) owner result bound visits
+            (view pass.old) (view pass.new)
             × HasFound (λ p x h a q. F.step p x h a q) (capacity_of self.now)
-            (IsHandleFor self.now owner) visit result visits last }
+            (IsHandleFor self.now owner) visit result bound visits last }
     {
         let (found, _) = find_all(
             &mut pass.token.seated,

@@ -1,5 +1,5 @@
 //! The calls by a handle that come to the values of an owner.
-ghost use Rattle.std.specs.Prelude.{◌≡◌, false, List};
+ghost use Rattle.std.specs.Prelude.{◌≡◌, ℕ, false, List};
 ghost use Rattle.model.specs.declared.event.Answer.TheVariants.{State};
 ghost use Rattle.model.specs.declared.families.container.ContainerStart.TheVariants as starts;
 ghost use Rattle.model.specs.declared.turn.Kind.TheVariants as kinds;
@@ -34,10 +34,11 @@ impl<'a, T: Words> Handle<'a, T> {
         ensures goes { Goes (code_of (pass_in self.old)) kinds.Container (capacity_of (container_in self.old))
             (knows self.old) (knows self.new) }
         ensures keeps { KeepsState (knows self.old) (knows self.new) }
-        ensures found { (visits : List (Visit T)) × (last : F)
-            × HasSearched (code_of (pass_in self.old)) owner result visits (knows self.old) (knows self.new)
+        ensures found { (visits : List (Visit T)) × (bound : ℕ) × (last : F)
+            × HasSearched (code_of (pass_in self.old)) (capacity_of (container_in self.old)) owner result
+            bound visits (knows self.old) (knows self.new)
             × HasFound (λ p x h a q. F.step p x h a q) (capacity_of (container_in self.old))
-            (IsHandleFor (container_in self.old) owner) visit result visits last }
+            (IsHandleFor (container_in self.old) owner) visit result bound visits last }
     {
         self.container.find(owner, visit, &mut self.pass)
     }

@@ -7,6 +7,7 @@ use Rattle.lock_free_sp.specs.Seats.{seen}
 use Rattle.lock_free_sp.specs.Sets.{SetId}
 use Rattle.history.specs.Passes.{Goes}
 use Rattle.lock_free_owners.specs.Container.Callable.{TakesVisits, HasFound}
+use Rattle.lock_free_owners.specs.Container.FindTold.{HasSearched}
 use Rattle.lock_free_owners.specs.Container.FindTurns.{FindAt}
 use Rattle.lock_free_owners.specs.Container.Names.{number_of}
 use Rattle.lock_free_owners.specs.Container.Visits.{IsNamed}
@@ -38,13 +39,17 @@ returns-clause-goes g c =
 
 pub returns-clause-found : goal.returns-clause-found
 returns-clause-found g c =
-    let found = c.find_all-found.ensures.found in (
+    let code : Coding g.row.T.Denot = coding_of g.T.Words.WORDS g.T.Words.words_of g.T.Words.value_of in
+    let found = c.find_all-found.ensures.found in
+    let size = ap (λ (z : SetId). z.capacity) c.requires.pass in (
       found.0,
-      c.find_all-found.result.1,
       found.1,
+      c.find_all-found.result.1,
+      subst (λ n. HasSearched code n c.args.owner c.find_all-found.result.0 found.1 found.0 (seen c.args.pass.now.token.seated)
+          (seen c.find_all-found.new.seat)) size found.2,
       subst (λ n. HasFound (λ p x h a q. given.F-step g p x h a q) n (IsNamed n c.args.owner (number_of c.args.self.now)) c.args.visit
-          c.find_all-found.result.0 found.0 c.find_all-found.result.1)
-          (ap (λ (z : SetId). z.capacity) c.requires.pass) found.2,
+          c.find_all-found.result.0 found.1 found.0 c.find_all-found.result.1)
+          size found.3,
     )
 
 pub returns-clause-keeps : goal.returns-clause-keeps

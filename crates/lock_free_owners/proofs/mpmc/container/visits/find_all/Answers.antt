@@ -78,4 +78,4 @@ returns-in-Done-clause-found g c =
     (seen c.args.seat.now) c.args.visit law small
     (seen c.loop-next.seat) c.loop-next.call c.loop-next.room c.loop-next.visit c.loop-next.invariant.2
     (seen called.new.seat) called.result.0 called.new.room called.result.1 called.ensures.turns called.ensures.moves) in
-    (over.visits, over.searched, over.found)
+    (over.visits, over.bound, over.searched, over.found)

@@ -8,8 +8,8 @@ use Rattle.lock_free_sp.specs.Seats.{seen, table_of, key_of}
 use Rattle.lock_free_sp.proofs.Driving.{weaker_owes}
 use Rattle.history.specs.declared.view.View.{View}
 use Rattle.history.specs.History.{IsMachine}
-use Rattle.lock_free_owners.specs.Container.FindTurns.{FindAt, FindEnds, find_goes, find_copying, FindTells}
-use Rattle.lock_free_owners.proofs.ContainerSet.FindTurns.{find_keeps, find_tells}
+use Rattle.lock_free_owners.specs.Container.FindTurns.{FindAt, FindDone, find_goes, find_copying, FindTells}
+use Rattle.lock_free_owners.proofs.ContainerSet.FindTurns.{find_keeps, find_tells, at_its_word}
 use Rattle.lock_free_owners.proofs.mpmc.container.visits.step_find.Goals as goal
 
 pub step_telling-requires-clause-owes : goal.step_telling-requires-clause-owes
@@ -22,7 +22,7 @@ step_telling-requires-clause-owes g c =
     let call = c.args.call in
     let room = c.args.room.now in
     let told : View g.row.T.Denot → ℕ → View g.row.T.Denot → Type 0 =
-    Told (λ (z : View g.row.T.Denot). z.capacity) (FindAt code c.args.owner) (FindEnds code c.args.owner)
+    Told (λ (z : View g.row.T.Denot). z.capacity) (FindAt code c.args.owner) (FindDone code c.args.owner)
     (find_goes code c.args.owner) (find_copying code c.args.owner) call (room, at.1) in
     let more : View g.row.T.Denot → ℕ → View g.row.T.Denot → Type 0 = λ v n w. (w.capacity ≡ v.capacity) × FindTells code c.args.owner call room v n w in
     subst (λ (xs : List (ℕ × Unit {0})). Owes (IsMachine code kinds.Container (key_of s)) (table_of s).words (table_of s).slots s.seat.id more
@@ -30,4 +30,5 @@ step_telling-requires-clause-owes g c =
     (weaker_owes (IsMachine code kinds.Container (key_of s)) (table_of s).words (table_of s).slots s.seat.id told more (find_want code.size call) (seen s, [])
     (λ n w h. find_tells code law c.args.owner at.0 (seen s) call room at.1 at.2 n w h)
     (find_keeps code law c.args.owner at.0 (seen s) call (room, at.1) (key_of s) (table_of s).words (table_of s).slots s.seat.id
+    (at_its_word code law c.args.owner call.capacity call.stage c.requires.word)
     (c.requires.board.0 ∙ ap (λ k. total_words k code.size + 1) (sym c.requires.board.1)) (sym c.requires.board.1) at.2))
