@@ -1,9 +1,11 @@
 //! Times each threaded call against the same steps written by hand, and prints a table. The first argument is what the
 //! name of a row begins with, or `all`; without one it times nothing. With a second one, `together`, these are the rows in
-//! which several threads make the calls at once. `bin/bench` builds it and runs it.
+//! which several threads make the calls at once. `bus` prints a table of its own, of records that go through a bus.
+//! `bin/bench` builds it and runs it.
 #![tactic(auto)]
 
 mod bits;
+mod bus;
 mod container;
 mod hand;
 mod indices;
@@ -83,8 +85,13 @@ fn main(rt: HostRuntime) -> io::Result<()> {
     let mut args = env::args(&rt)?;
     let _program = args.next();
     let Some(wanted) = args.next() else {
-        return println!(rt; "bench: what does the name of a row begin with? `all` is every row");
+        return println!(rt;
+            "bench: what does the name of a row begin with? `all` is every row, `bus` the table of the bus"
+        );
     };
+    if wanted.as_str() == "bus" {
+        return bus::print_table(&rt, rt.alloc());
+    }
     println!(rt; "| call | capacity | steps | driven, ns | by hand, ns | ratio |")?;
     println!(rt; "|---|---|---|---|---|---|")?;
     if args.next().is_some() {

@@ -7,7 +7,7 @@ use std::time::CpuClock;
 use std::{io, thread};
 
 /// How often each of the two is timed.
-const ROUNDS: usize = 11;
+pub const ROUNDS: usize = 11;
 
 /// How many nanoseconds of the processor one timing takes at least.
 const LONG_ENOUGH: u64 = 2_000_000;
@@ -137,14 +137,14 @@ fn time_all<T: Timed + Send, R: Wait + Threads + CpuClock + Sync>(
 }
 
 /// The middle one.
-fn median(numbers: &[u64; ROUNDS]) -> u64 {
+pub fn median(numbers: &[u64; ROUNDS]) -> u64 {
     let mut sorted = *numbers;
     sorted.sort_unstable();
     sorted[ROUNDS / 2]
 }
 
 /// The quotient in units of one part of so many, 0 where there is none.
-fn quotient(number: u64, by: u64, parts: u64) -> u64 {
+pub fn quotient(number: u64, by: u64, parts: u64) -> u64 {
     number.saturating_mul(parts).checked_div(by).unwrap_or(0)
 }
 

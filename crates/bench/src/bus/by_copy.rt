@@ -1,0 +1,139 @@
+//! Records that are copied into a buffer under a lock, and out of it again.
+
+use super::passing::{Ends, LOOKS, Reader, WAITING, Writer, pause, word_of};
+use std::alloc::{AllocError, Global};
+use std::sync::{Mutex, Wait};
+
+/// The records that wait, in cells that are taken in turn. Each number is written at its place, by how many came before.
+#[derive(Drop)]
+pub struct Waiting {
+    cells: Vec<Vec<u64>>,
+    put: usize,
+    taken: usize,
+}
+
+/// A record of so many words.
+fn blank(alloc: Global, words: usize) -> Result<Vec<u64>, AllocError> {
+    vec![in alloc; 0u64; words]
+}
+
+impl Waiting {
+    /// Room for records of so many words.
+    pub fn new(alloc: Global, words: usize) -> Result<Waiting, AllocError> {
+        let mut cells = Vec::with_capacity(alloc, WAITING)?;
+        for _ in 0..WAITING {
+            cells.push(blank(alloc, words)?)?;
+        }
+        Ok(Waiting {
+            cells,
+            put: 0,
+            taken: 0,
+        })
+    }
+
+    /// Copies a record in: whether there was room.
+    #[inline(always)]
+    fn put(&mut self, record: &[u64]) -> bool {
+        if self.put.wrapping_sub(self.taken) >= WAITING {
+            return false;
+        }
+        let Some(cell) = self.cells.get_mut(self.put % WAITING) else {
+            return false;
+        };
+        if !copies(record, cell) {
+            return false;
+        }
+        self.put = self.put.wrapping_add(1);
+        true
+    }
+
+    /// Copies the oldest out: whether there was one.
+    #[inline(always)]
+    fn take(&mut self, record: &mut [u64]) -> bool {
+        if self.put == self.taken {
+            return false;
+        }
+        let Some(cell) = self.cells.get(self.taken % WAITING) else {
+            return false;
+        };
+        if !copies(cell, record) {
+            return false;
+        }
+        self.taken = self.taken.wrapping_add(1);
+        true
+    }
+}
+
+/// Copies a record to one that is as long: whether it is.
+#[inline(always)]
+fn copies(from: &[u64], to: &mut [u64]) -> bool {
+    if from.len() != to.len() {
+        return false;
+    }
+    to.copy_from_slice(from);
+    true
+}
+
+/// Who copies records in.
+#[derive(Drop)]
+pub struct Puts<'a> {
+    waiting: &'a Mutex<Waiting>,
+    record: Vec<u64>,
+}
+
+/// Who copies them out.
+#[derive(Drop)]
+pub struct Takes<'a> {
+    waiting: &'a Mutex<Waiting>,
+    record: Vec<u64>,
+}
+
+impl<'a> Writer for Puts<'a> {
+    #[inline(always)]
+    fn write<R: Wait>(&mut self, rt: &R, number: u64) -> bool {
+        for at in 0..self.record.len() {
+            self.record[at] = word_of(number, at);
+        }
+        for looks in 0..LOOKS {
+            if self.waiting.lock(rt).put(&self.record) {
+                return true;
+            }
+            pause(looks);
+        }
+        false
+    }
+}
+
+impl<'a> Reader for Takes<'a> {
+    #[inline(always)]
+    fn read<R: Wait>(&mut self, rt: &R) -> Option<u64> {
+        if !self.waiting.lock(rt).take(&mut self.record) {
+            return None;
+        }
+        let mut sum = 0u64;
+        for word in self.record.iter() {
+            sum = sum.wrapping_add(*word);
+        }
+        Some(sum)
+    }
+}
+
+/// The two ends, each with a record of its own.
+pub fn ends<'a>(
+    alloc: Global,
+    waiting: &'a Mutex<Waiting>,
+    words: usize,
+) -> Result<Ends<Puts<'a>, Takes<'a>>, AllocError> {
+    let made = blank(alloc, words)?;
+    let read = blank(alloc, words)?;
+    Ok(Ends {
+        writer: Puts {
+            waiting,
+            record: made,
+        },
+        reader: Takes {
+            waiting,
+            record: read,
+        },
+    })
+}
