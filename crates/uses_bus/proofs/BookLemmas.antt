@@ -1,5 +1,7 @@
 -- The table stays right.
-use Rattle.std.proofs.Common.{◌≡◌, ◌≢◌, inl, inr, lit<, ℕ, zero, suc, ◌+◌, ◌<◌, ◌==◌, Bool, true, false, nat_lt, true≢false, IsTrue, IsFalse, if◌then◌else◌, List, [], ◌∷◌, length, set, replicate, sum_by, get_or-set_same, get_or-set_other, subst, sym, refl, ap, ◌∙◌, ⊎_elim, arith}
+use Rattle.std.proofs.Common.{◌≡◌, ◌≢◌, inl, inr, lit<, ℕ, zero, suc, ◌+◌, ◌<◌, ◌==◌, Bool, true, false, nat_lt}
+use Rattle.std.proofs.Common.{true≢false, if◌then◌else◌, ◌⊎◌, Some, None, List, [], ◌∷◌, length, set, replicate}
+use Rattle.std.proofs.Common.{sum_by, get_or-set_same, get_or-set_other, subst, sym, refl, ap, ◌∙◌, ⊎_elim, arith}
 use Rattle.std.proofs.lemmas.Bool.{cases_eq}
 use Rattle.std.proofs.lemmas.Bool.Decides.{nat_tests}
 use Rattle.std.proofs.lemmas.Nat.Bits.{bit_at-zero}
@@ -13,7 +15,8 @@ use Rattle.lock_free.specs.Unique.Told.{HasAcquired, HasCounted, HasGiven, WasRe
 use Rattle.lock_free.proofs.Unique.Holding.{counted_moves, given_moves, refused_moves, taken_moves}
 use Rattle.uses_bus.specs.declared.holders.Holder.{Holder}
 use Rattle.uses_bus.specs.declared.holders.Holders.{Holders}
-use Rattle.uses_bus.specs.Books.{holders_at, AllFree, ChangesAt, GainsNone, GainsOnly, HasNone, HasSlot, IsBookOf, KeepsAllOrNone, KeepsLoans, KeepsOthers}
+use Rattle.uses_bus.specs.Books.{holders_at, AllFree, ChangesAt, Exchanges, GainsNone, GainsOnly, HasNone, HasSlot}
+use Rattle.uses_bus.specs.Books.{IsBookOf, KeepsAllOrNone, KeepsLoans, KeepsOthers}
 use Rattle.uses_bus.specs.Holders.{is_held, nobody, Has, SameBut}
 
 abbrev counts : Bool → ℕ
@@ -63,23 +66,32 @@ module _ {v : View ℕ} {table : List Holders} (book : IsBookOf v table) where
 
   module _ (i : ℕ) (h : Holders) (lt : i < length table) where
     -- one place more or less is held, as one slot is out
-    moved : (w : View ℕ) → ((j : ℕ) → sum_by (claims j) w.made + (sum_by (frees j) v.made + (if i == j then counts (is_held (holders_at table i)) else 0)) ≡ sum_by (claims j) v.made + (sum_by (frees j) w.made + (if i == j then counts (is_held h) else 0))) → IsBookOf w (set table i h)
+    moved : (w : View ℕ)
+        → ((j : ℕ) → sum_by (claims j) w.made + (sum_by (frees j) v.made + (if i == j then counts (is_held (holders_at table i)) else 0))
+        ≡ sum_by (claims j) v.made + (sum_by (frees j) w.made + (if i == j then counts (is_held h) else 0)))
+        → IsBookOf w (set table i h)
     moved w moves = record { held = λ j. ⊎_elim (here j) (there j) (cases_eq j i) }
       where
         here : (j : ℕ) → j ≡ i → sum_by (claims j) w.made ≡ sum_by (frees j) w.made + counts (is_held (holders_at (set table i h) j))
         here j e =
             let t : (i == i) ≡ true = grind (arith, nat_tests) in
-            let m : sum_by (claims i) w.made + (sum_by (frees i) v.made + counts (is_held (holders_at table i))) ≡ sum_by (claims i) v.made + (sum_by (frees i) w.made + counts (is_held h)) = (let it = moves i in rw t at it) in
+            let m : sum_by (claims i) w.made + (sum_by (frees i) v.made + counts (is_held (holders_at table i)))
+            ≡ sum_by (claims i) v.made + (sum_by (frees i) w.made + counts (is_held h)) =
+            (let it = moves i in rw t at it) in
             let was = book.held i in
-            let now : counts (is_held (holders_at (set table i h) i)) ≡ counts (is_held h) = ap (λ z. counts (is_held z)) (get_or-set_same table i h nobody lt) in
+            let now : counts (is_held (holders_at (set table i h) i)) ≡ counts (is_held h) =
+            ap (λ z. counts (is_held z)) (get_or-set_same table i h nobody lt) in
             subst (λ k. sum_by (claims k) w.made ≡ sum_by (frees k) w.made + counts (is_held (holders_at (set table i h) k))) (sym e) (omega arith)
 
         there : (j : ℕ) → j ≢ i → sum_by (claims j) w.made ≡ sum_by (frees j) w.made + counts (is_held (holders_at (set table i h) j))
         there j ne =
             let t : (i == j) ≡ false = grind (arith, nat_tests) in
-            let m : sum_by (claims j) w.made + (sum_by (frees j) v.made + 0) ≡ sum_by (claims j) v.made + (sum_by (frees j) w.made + 0) = (let it = moves j in rw t at it) in
+            let m : sum_by (claims j) w.made + (sum_by (frees j) v.made + 0)
+            ≡ sum_by (claims j) v.made + (sum_by (frees j) w.made + 0) =
+            (let it = moves j in rw t at it) in
             let was = book.held j in
-            let now : counts (is_held (holders_at (set table i h) j)) ≡ counts (is_held (holders_at table j)) = ap (λ z. counts (is_held z)) (get_or-set_other table i j h nobody ne) in
+            let now : counts (is_held (holders_at (set table i h) j)) ≡ counts (is_held (holders_at table j)) =
+            ap (λ z. counts (is_held z)) (get_or-set_other table i j h nobody ne) in
             omega arith
 
     -- what is held stays held
@@ -87,15 +99,19 @@ module _ {v : View ℕ} {table : List Holders} (book : IsBookOf v table) where
     stays_held was held = moved v (λ j. ap (λ n. sum_by (claims j) v.made + (sum_by (frees j) v.made + (if i == j then n else 0))) (ap counts (was ∙ sym held)))
 
     -- what is given back is free
-    pub is_freed : (state : ReleaseState) (w : View ℕ) → is_held (holders_at table i) ≡ true → is_held h ≡ false → HasGiven i state v w → IsBookOf w (set table i h)
+    pub is_freed : (state : ReleaseState) (w : View ℕ) → is_held (holders_at table i) ≡ true → is_held h ≡ false
+        → HasGiven i state v w → IsBookOf w (set table i h)
     is_freed state w was free given = moved w go
       where
-        go : (j : ℕ) → sum_by (claims j) w.made + (sum_by (frees j) v.made + (if i == j then counts (is_held (holders_at table i)) else 0)) ≡ sum_by (claims j) v.made + (sum_by (frees j) w.made + (if i == j then counts (is_held h) else 0))
+        go : (j : ℕ)
+            → sum_by (claims j) w.made + (sum_by (frees j) v.made + (if i == j then counts (is_held (holders_at table i)) else 0))
+            ≡ sum_by (claims j) v.made + (sum_by (frees j) w.made + (if i == j then counts (is_held h) else 0))
         go j =
             let m = given_moves v w j i state given in
             let a = m.claimed in
             let b = m.freed in
-            let x : (if i == j then counts (is_held (holders_at table i)) else 0) ≡ (if i == j then 1 else 0) = ap (λ n. if i == j then n else 0) (ap counts was) in
+            let x : (if i == j then counts (is_held (holders_at table i)) else 0) ≡ (if i == j then 1 else 0) =
+            ap (λ n. if i == j then n else 0) (ap counts was) in
             let y : (if i == j then counts (is_held h) else 0) ≡ (if i == j then zero else zero) = ap (λ n. if i == j then n else 0) (ap counts free) in
             let z : (if i == j then zero else zero) ≡ 0 = none_if (i == j) in
             omega arith
@@ -104,12 +120,15 @@ module _ {v : View ℕ} {table : List Holders} (book : IsBookOf v table) where
     pub is_taken : (w : View ℕ) → is_held (holders_at table i) ≡ false → is_held h ≡ true → HasAcquired i v w → IsBookOf w (set table i h)
     is_taken w was held taken = moved w go
       where
-        go : (j : ℕ) → sum_by (claims j) w.made + (sum_by (frees j) v.made + (if i == j then counts (is_held (holders_at table i)) else 0)) ≡ sum_by (claims j) v.made + (sum_by (frees j) w.made + (if i == j then counts (is_held h) else 0))
+        go : (j : ℕ)
+            → sum_by (claims j) w.made + (sum_by (frees j) v.made + (if i == j then counts (is_held (holders_at table i)) else 0))
+            ≡ sum_by (claims j) v.made + (sum_by (frees j) w.made + (if i == j then counts (is_held h) else 0))
         go j =
             let m = taken_moves v w j i taken.taken in
             let a = m.claimed in
             let b = m.freed in
-            let x : (if i == j then counts (is_held (holders_at table i)) else 0) ≡ (if i == j then zero else zero) = ap (λ n. if i == j then n else 0) (ap counts was) in
+            let x : (if i == j then counts (is_held (holders_at table i)) else 0) ≡ (if i == j then zero else zero) =
+            ap (λ n. if i == j then n else 0) (ap counts was) in
             let y : (if i == j then counts (is_held h) else 0) ≡ (if i == j then 1 else 0) = ap (λ n. if i == j then n else 0) (ap counts held) in
             let z : (if i == j then zero else zero) ≡ 0 = none_if (i == j) in
             omega arith
@@ -132,10 +151,17 @@ module _ {v : View ℕ} {table : List Holders} (book : IsBookOf v table) where
 
   -- a refused acquire leaves the book, and a count
   pub is_refused : (e : UniqueIndexSetAcquireFailure) (w : View ℕ) → WasRefused e v w → IsBookOf w table
-  is_refused e w refused = record { held = λ j. (let m = refused_moves v w j e refused.taken in let a = m.claimed in let b = m.freed in let was = book.held j in omega arith) }
+  is_refused e w refused =
+      record {
+        held =
+            λ j. (let m = refused_moves v w j e refused.taken in let a = m.claimed in let b = m.freed in let was = book.held j in omega arith);
+      }
 
   pub is_counted : (n : ℕ) (w : View ℕ) → HasCounted n v w → IsBookOf w table
-  is_counted n w counted = record { held = λ j. (let m = counted_moves v w j n counted in let a = m.claimed in let b = m.freed in let was = book.held j in omega arith) }
+  is_counted n w counted =
+      record {
+        held = λ j. (let m = counted_moves v w j n counted in let a = m.claimed in let b = m.freed in let was = book.held j in omega arith);
+      }
 
   -- where nobody holds a slot the pass holds nothing
   pub holds_nothing : AllFree table → HoldsNothing v.made
@@ -145,12 +171,17 @@ module _ {v : View ℕ} {table : List Holders} (book : IsBookOf v table) where
 pub book_opens : (v : View ℕ) (n : ℕ) → HoldsNothing v.made → IsBookOf v (replicate n nobody)
 book_opens v n none =
     record {
-      held = λ i. (let was = none i in let free : is_held (holders_at (replicate n nobody) i) ≡ false = ap is_held (free_at n i) in let z = ap counts free in omega arith);
+      held =
+          λ i. (let was = none i in
+          let free : is_held (holders_at (replicate n nobody) i) ≡ false = ap is_held (free_at n i) in
+          let z = ap counts free in
+          omega arith);
     }
 
 -- ---- changes
 
-pub set_changes : (table : List Holders) (i : ℕ) (h : Holders) (holder : Holder) → i < length table → SameBut holder (holders_at table i) h → ChangesAt i holder table (set table i h)
+pub set_changes : (table : List Holders) (i : ℕ) (h : Holders) (holder : Holder) → i < length table
+    → SameBut holder (holders_at table i) h → ChangesAt i holder table (set table i h)
 set_changes table i h holder lt same =
     record {
       elsewhere = λ j ne. get_or-set_other table i j h nobody ne;
@@ -181,12 +212,59 @@ keeps_both holder one two three first second slot i small ne = second slot i sma
 pub changes_none : (slot : ℕ) (holder : Holder) (table : List Holders) → ChangesAt slot holder table table
 changes_none slot holder table = record { elsewhere = λ j ne. refl; here = λ i small ne. refl }
 
-pub changes_both : (slot : ℕ) (holder : Holder) (one two three : List Holders) → ChangesAt slot holder one two → ChangesAt slot holder two three → ChangesAt slot holder one three
+pub changes_both : (slot : ℕ) (holder : Holder) (one two three : List Holders) → ChangesAt slot holder one two
+    → ChangesAt slot holder two three → ChangesAt slot holder one three
 changes_both slot holder one two three first second =
     record {
       elsewhere = λ j ne. second.elsewhere j ne ∙ first.elsewhere j ne;
       here = λ i small ne. second.here i small ne ∙ first.here i small ne;
     }
+
+module _ (slot : ℕ) (holder : Holder) (old new : List Holders) (number : ℕ) (changes : ChangesAt slot holder old new) (ne : number ≢ slot) where
+  pub had_elsewhere : HasSlot new number holder → HasSlot old number holder
+  had_elsewhere has = subst (λ h. Has h holder) (changes.elsewhere number ne) has
+
+  pub has_elsewhere : HasSlot old number holder → HasSlot new number holder
+  has_elsewhere has = subst (λ h. Has h holder) (sym (changes.elsewhere number ne)) has
+
+-- ---- what is sent, and what comes back for it
+
+pub lent : (slot : ℕ) (holder : Holder) (old new : List Holders) → ChangesAt slot holder old new → HasSlot new slot holder → Exchanges slot holder None old new
+lent slot holder old new changes has number = (
+  λ now. (⊎_elim (λ e. inr e) (λ ne. inl (had_elsewhere slot holder old new number changes ne now)) (cases_eq number slot), λ e. none e),
+  λ x. ⊎_elim was (λ e. subst (λ n. HasSlot new n holder) (sym e) has) x.0,
+)
+  where
+    none : None ≡ Some number → ⊥
+    none e = cc
+
+    was : HasSlot old number holder → HasSlot new number holder
+    was had = ⊎_elim (λ e. subst (λ n. HasSlot new n holder) (sym e) has) (λ ne. has_elsewhere slot holder old new number changes ne had) (cases_eq number slot)
+
+pub exchanged : (slot back : ℕ) (holder : Holder) (one two three : List Holders)
+    → Exchanges slot holder None one two → ChangesAt back holder two three → ¬ HasSlot three back holder
+    → Exchanges slot holder (Some back) one three
+exchanged slot back holder one two three sent changes lacks number = (forth, from)
+  where
+    none : None ≡ Some number → ⊥
+    none e = cc
+
+    forth : HasSlot three number holder → (HasSlot one number holder ⊎ (number ≡ slot)) × (Some back ≢ Some number)
+    forth has =
+        let ne : number ≢ back = λ e. lacks (subst (λ n. HasSlot three n holder) e has) in
+        ((((sent number).0 (had_elsewhere back holder two three number changes ne has)).0), λ e. ne (let same : number ≡ back = cc in same))
+
+    from : (HasSlot one number holder ⊎ (number ≡ slot)) × (Some back ≢ Some number) → HasSlot three number holder
+    from x = has_elsewhere back holder two three number changes (λ e. x.1 (sym (ap Some e))) ((sent number).1 (x.0, none))
+
+pub came_back : (slot : ℕ) (holder : Holder) (table : List Holders) → ¬ HasSlot table slot holder → Exchanges slot holder (Some slot) table table
+came_back slot holder table lacks number = (forth, from)
+  where
+    forth : HasSlot table number holder → (HasSlot table number holder ⊎ (number ≡ slot)) × (Some slot ≢ Some number)
+    forth has = (inl has, λ e. lacks (let same : number ≡ slot = cc in subst (λ n. HasSlot table n holder) same has))
+
+    from : (HasSlot table number holder ⊎ (number ≡ slot)) × (Some slot ≢ Some number) → HasSlot table number holder
+    from x = ⊎_elim (λ has. has) (λ e. absurd (x.1 (sym (ap Some e)))) x.0
 
 -- ---- who gains
 
@@ -201,7 +279,9 @@ pub back_gains : (slot : ℕ) (holder : Holder) (old new : List Holders) → Cha
 back_gains slot holder old new changes lacks other i small has = ⊎_elim here there (cases_eq other slot)
   where
     at_slot : bit_at (holders_at new slot).bits i ≡ 1 → bit_at (holders_at old slot).bits i ≡ 1
-    at_slot now = ⊎_elim (λ e. absurd (lacks (subst (λ k. bit_at (holders_at new slot).bits k ≡ 1) e now))) (λ ne. sym (changes.here i small ne) ∙ now) (cases_eq i holder.bit)
+    at_slot now =
+        ⊎_elim (λ e. absurd (lacks (subst (λ k. bit_at (holders_at new slot).bits k ≡ 1) e now)))
+        (λ ne. sym (changes.here i small ne) ∙ now) (cases_eq i holder.bit)
 
     here : other ≡ slot → bit_at (holders_at old other).bits i ≡ 1
     here e = subst (λ k. bit_at (holders_at old k).bits i ≡ 1) (sym e) (at_slot (subst (λ k. bit_at (holders_at new k).bits i ≡ 1) e has))
@@ -237,9 +317,12 @@ all_same table i small = inl (λ slot. refl)
 
 pub all_both : (one two three : List Holders) → KeepsAllOrNone one two → KeepsAllOrNone two three → KeepsAllOrNone one three
 all_both one two three first second i small =
-    ⊎_elim (λ same. ⊎_elim (λ was. inl (λ slot. same slot ∙ was slot)) (λ none. inr (λ slot has. none slot (sym (same slot) ∙ has))) (first i small)) (λ none. inr none) (second i small)
+    ⊎_elim (λ same. ⊎_elim (λ was. inl (λ slot. same slot ∙ was slot))
+    (λ none. inr (λ slot has. none slot (sym (same slot) ∙ has))) (first i small))
+    (λ none. inr none) (second i small)
 
 -- one who has none is all that changes
 pub all_or_none : (holder : Holder) (old new : List Holders) → KeepsOthers holder old new → HasNone holder new → KeepsAllOrNone old new
 all_or_none holder old new keeps none i small =
-    ⊎_elim (λ e. inr (λ slot has. none slot (subst (λ k. bit_at (holders_at new slot).bits k ≡ 1) e has))) (λ ne. inl (λ slot. keeps slot i small ne)) (cases_eq i holder.bit)
+    ⊎_elim (λ e. inr (λ slot has. none slot (subst (λ k. bit_at (holders_at new slot).bits k ≡ 1) e has)))
+    (λ ne. inl (λ slot. keeps slot i small ne)) (cases_eq i holder.bit)

@@ -1,5 +1,5 @@
 -- That a queue was seen empty, where some was taken out before.
-use Rattle.std.proofs.Common.{◌≡◌, ℕ, List, [], ◌∷◌, ◌++◌, ap, sym, ◌∙◌, append-nil, append_assoc}
+use Rattle.std.proofs.Common.{ℕ, List, [], ◌++◌, ap, sym, ◌∙◌, append-nil, append_assoc}
 use Rattle.lock_free.specs.Event.{Event}
 use Rattle.lock_free.specs.History.{IsBeginning}
 use Rattle.lock_free.specs.HistoryView.View.{View}

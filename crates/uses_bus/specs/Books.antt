@@ -1,5 +1,5 @@
 -- The table of who holds each slot: what it says of a pass of the pool, and how it changes.
-use Rattle.std.specs.Prelude.{◌≡◌, ◌≢◌, ◌⊎◌, ℕ, ◌+◌, ◌<◌, false, List, sum_by, slice_index_or, if◌then◌else◌}
+use Rattle.std.specs.Prelude.{◌≡◌, ◌≢◌, ◌⊎◌, ◌↔◌, ℕ, ◌+◌, ◌<◌, false, Option, Some, List, sum_by, slice_index_or, if◌then◌else◌}
 use Rattle.std.specs.Int.{bit_at}
 use Rattle.lock_free.specs.HistoryHeld.{claims, frees}
 use Rattle.lock_free.specs.HistoryView.View.{View}
@@ -28,6 +28,24 @@ HasNone holder table = (slot : ℕ) → ¬ HasSlot table slot holder
 -- the publisher has it on loan
 abbrev pub IsLoaned : List Holders → ℕ → Type 0
 IsLoaned table slot = HasSlot table slot publisher
+
+-- whom a bit stands for has just the slots that he had
+abbrev pub KeepsBit : ℕ → List Holders → List Holders → Type 0
+KeepsBit i old new =
+    (slot : ℕ) → bit_at (holders_at new slot).bits i ≡ bit_at (holders_at old slot).bits i
+
+abbrev pub KeepsSlots : Holder → List Holders → List Holders → Type 0
+KeepsSlots holder old new = KeepsBit holder.bit old new
+
+-- the slot is on loan, and this one has it not
+abbrev pub CanSend : List Holders → ℕ → Holder → Type 0
+CanSend table slot holder = IsLoaned table slot × ¬ HasSlot table slot holder
+
+-- he has what he had and this slot, but for what came back for it
+abbrev pub Exchanges : ℕ → Holder → Option ℕ → List Holders → List Holders → Type 0
+Exchanges slot holder back old new =
+    (number : ℕ) → HasSlot new number holder
+    ↔ ((HasSlot old number holder ⊎ (number ≡ slot)) × (back ≢ Some number))
 
 -- what others hold stays
 abbrev pub KeepsOthers : Holder → List Holders → List Holders → Type 0

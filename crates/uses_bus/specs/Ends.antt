@@ -4,29 +4,17 @@ use Rattle.lock_free.specs.HistoryView.View.{View}
 use Rattle.lock_free.specs.Queues.Rings.{consumer_view, producer_view}
 use Rattle.lock_free.specs.Share.{Share}
 use Rattle.lock_free.specs.UniqueIndexSet.{SetId}
-use Rattle.uses_bus.specs.declared.holders.Holder.{Holder}
 use Rattle.uses_bus.specs.declared.holders.Holders.{Holders}
 use Rattle.uses_bus.specs.declared.outlet.Outlet.{Outlet}
-use Rattle.uses_bus.specs.declared.outlet.Tenancy.TheVariants.{Free}
 use Rattle.uses_bus.specs.declared.publisher.Loan.{Loan}
 use Rattle.uses_bus.specs.declared.publisher.Publisher.{Publisher}
+use Rattle.uses_bus.specs.declared.roll.Roll.{Roll}
 use Rattle.uses_bus.specs.declared.subscriber.Sample.{Sample}
 use Rattle.uses_bus.specs.declared.subscriber.Seat.{Seat}
 use Rattle.uses_bus.specs.declared.subscriber.Subscriber.{Subscriber}
+use Rattle.uses_bus.specs.Outlets.{holders_in}
 use Rattle.uses_bus.specs.Pools as pools
 use Rattle.uses_bus.specs.Records.{slots_in, words_in}
-
--- by whose name the subscriber of a lane holds slots
-abbrev pub holder_of : Outlet → Holder
-holder_of outlet = outlet.holder
-
--- nobody has the other end of the lane
-abbrev pub IsFree : Outlet → Type 0
-IsFree outlet = outlet.tenancy ≡ Free
-
--- what is known of the queue by which slots come back
-abbrev pub takes_view : Outlet → View ℕ
-takes_view outlet = consumer_view outlet.takes
 
 -- ---- the publisher
 
@@ -52,10 +40,18 @@ set_in p = pools.set_in p.pool
 abbrev pub share_in : Publisher → Share
 share_in p = pools.share_in p.pool
 
+-- its end of each lane, by places, and of the registry
+abbrev pub lanes_of : Publisher → List Outlet
+lanes_of p = p.outlets.items
+
+abbrev pub roll_of : Publisher → Roll
+roll_of p = p.roll
+
 -- a publisher of the same bus
 pub record IsSame (old new : Publisher) : Type 0 where
   pub pool : pools.IsSame old.pool new.pool
   pub records : new.records ≡ old.records
+  pub lanes : holders_in (lanes_of new) ≡ holders_in (lanes_of old)
 
 -- ---- a subscriber
 

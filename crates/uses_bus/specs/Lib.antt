@@ -4,6 +4,8 @@ pub mod Ends
 pub mod Holders
 pub mod Lanes
 pub mod News
+pub mod Outlets
 pub mod Pools
 pub mod Records
+pub mod Rolls
 pub mod Stores

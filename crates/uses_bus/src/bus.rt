@@ -6,6 +6,7 @@ ghost use Rattle.lock_free.specs.Unique.Held.{HoldsNothing};
 ghost use Rattle.lock_free.specs.UniqueIndexSet.{made, set_of, share};
 ghost use Rattle.uses_bus.specs.Books.{AllFree};
 ghost use Rattle.uses_bus.specs.Ends as ends;
+ghost use Rattle.uses_bus.specs.Outlets.{holders_in, open_in, HaveTheirPlaces, NobodyTakesPart};
 
 use crate::error::BusError;
 use crate::holders::{Holder, MOST_SUBSCRIBERS};
@@ -55,8 +56,11 @@ fn make_lanes(alloc: Global, sizes: Sizes) -> Result<Vec<Lane>, BusError>
     Ok(lanes)
 }
 
-/// The publisher's ends of the lanes.
-fn make_outlets(alloc: Global, lanes: &mut [Lane]) -> Result<Vec<Outlet<'_>>, BusError> {
+/// The publisher's ends of the lanes, of whom nobody takes part yet.
+fn make_outlets(alloc: Global, lanes: &mut [Lane]) -> Result<Vec<Outlet<'_>>, BusError>
+    ensures placed { IfOk result (λ o. HaveTheirPlaces (holders_in o.items)) }
+    ensures closed { IfOk result (λ o. NobodyTakesPart (open_in o.items)) }
+{
     let mut outlets = Vec::new(alloc);
     for (place, lane) in lanes.iter_mut().enumerate() {
         let Some(holder) = Holder::subscriber(place) else {

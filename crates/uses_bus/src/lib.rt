@@ -7,6 +7,7 @@ mod holders;
 mod lane;
 pub mod news;
 mod outlet;
+mod outlets;
 mod pool;
 pub mod publisher;
 mod records;

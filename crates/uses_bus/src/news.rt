@@ -1,7 +1,8 @@
 //! Which topics have news: a flag for each, which stands from a notice until a listener takes it. So who listens to many
 //! topics looks at one set of flags, and not at the queue of each.
-ghost use Rattle.std.specs.Prelude.{◌≡◌, ◌-◌, ◌^◌, ◌<◌, ◌↔◌, None, IsTrue, IfOk, IfSome, OnOk};
+ghost use Rattle.std.specs.Prelude.{◌≡◌, ◌-◌, ◌^◌, ◌<◌, ◌↔◌, None, IsTrue, IsFalse, IfOk, IfSome, OnOk};
 ghost use Rattle.lock_free.specs.Bits.Calls.{IsPassOf};
+ghost use Rattle.lock_free.specs.Bits.Told.{AllClearOnce, HasReset};
 ghost use Rattle.lock_free.specs.Enums.{capacity_refusal};
 
 use lock_free::mpmc::bit_set::{BitSet, Handle, Pass};
@@ -63,7 +64,7 @@ pub struct Notifier<'a> {
 }
 
 impl<'a> Notifier<'a> {
-    ghost use Rattle.uses_bus.specs.News.{topics_told};
+    ghost use Rattle.uses_bus.specs.News.{notifier_view, topics_told, HasTold};
 
     /// Another one. None where no further pass can be counted.
     pub fn split(&mut self) -> Option<Notifier<'a>>
@@ -74,9 +75,11 @@ impl<'a> Notifier<'a> {
         Some(Notifier { flags })
     }
 
-    /// Tells that a topic has news. False where there is no such topic.
+    /// Tells that a topic has news: its flag is set, or stood at a moment of the call. False where there is no such topic.
     pub fn notify(&mut self, rt: &impl Wait, topic: usize) -> bool
         ensures told { IsTrue result ↔ (topic < topics_told self.old) }
+        ensures set { IsTrue result → HasTold topic (notifier_view self.old) (notifier_view self.new) }
+        ensures none { IsFalse result → notifier_view self.new ≡ notifier_view self.old }
         ensures same { topics_told self.new ≡ topics_told self.old }
     {
         if topic >= self.flags.capacity() {
@@ -94,7 +97,7 @@ pub struct Listener<'a> {
 }
 
 impl<'a> Listener<'a> {
-    ghost use Rattle.uses_bus.specs.News.{topics_heard};
+    ghost use Rattle.uses_bus.specs.News.{listener_view, topics_heard};
 
     /// Another one: each notice is taken by one of them. None where no further pass can be counted.
     pub fn split(&mut self) -> Option<Listener<'a>>
@@ -105,9 +108,11 @@ impl<'a> Listener<'a> {
         Some(Listener { flags })
     }
 
-    /// The next topic that has news, which is told of it no more until it has news again. None where none has.
+    /// The next topic that has news, whose flag it takes down. None where the flag of each was down at a moment of the call.
     pub fn next(&mut self, rt: &impl Wait) -> Option<usize>
         ensures topic { IfSome result (λ topic. topic < topics_heard self.old) }
+        ensures cleared { HasReset result (listener_view self.old) (listener_view self.new) }
+        ensures none { result ≡ None → AllClearOnce (topics_heard self.old) (listener_view self.new) }
         ensures same { topics_heard self.new ≡ topics_heard self.old }
     {
         self.flags.reset_next(rt)

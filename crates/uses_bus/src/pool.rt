@@ -3,7 +3,7 @@ ghost use Rattle.std.specs.Prelude.{◌≡◌, ◌<◌, ◌↔◌, true, false, 
 ghost use Rattle.lock_free.specs.Shares.{IsAll};
 ghost use Rattle.lock_free.specs.Unique.Held.{HoldsNothing};
 ghost use Rattle.lock_free.specs.UniqueIndexSet.{capacity_of, made, set_of, share, view, IsPassOf};
-ghost use Rattle.uses_bus.specs.Books.{holders_at, AllFree, ChangesAt, GainsNone, HasNone, HasSlot, IsBookOf, KeepsOthers};
+ghost use Rattle.uses_bus.specs.Books.{holders_at, AllFree, CanSend, ChangesAt, Exchanges, GainsNone, GainsOnly, HasNone, HasSlot, IsBookOf, KeepsOthers};
 ghost use Rattle.uses_bus.specs.Holders.{is_held, nobody};
 
 use crate::error::BusError;
@@ -102,6 +102,40 @@ impl<'a> Pool<'a> {
         }
         self.table[slot as usize] = holders.with(holder);
         true
+    }
+
+    /// Whether a slot is on loan, and this holder has it not.
+    pub fn can_send(&self, slot: u32, holder: Holder) -> bool
+        ensures { IsTrue result ↔ CanSend (table_of self.now) slot holder }
+    {
+        self.has(slot, Holder::publisher()) && !self.has(slot, holder)
+    }
+
+    /// Lends a slot that is on loan to a holder who has it not, and for whom this came back, which he has no more. Where
+    /// it is the slot itself nothing changes: false.
+    pub fn exchange(&mut self, slot: u32, holder: Holder, back: Option<u64>) -> bool
+        requires { CanSend (table_of self.old) slot holder }
+        ensures has { Exchanges slot holder back (table_of self.old) (table_of self.new) }
+        ensures gained { IsTrue result ↔ HasSlot (table_of self.new) slot holder }
+        ensures others { KeepsOthers holder (table_of self.old) (table_of self.new) }
+        ensures gains { GainsOnly slot (table_of self.old) (table_of self.new) }
+        ensures refused { IsFalse result → table_of self.new ≡ table_of self.old }
+        ensures same { IsSame self.old self.new }
+    {
+        match back {
+            None => {
+                self.lend(slot, holder);
+                true
+            }
+            Some(number) => {
+                if number == slot as u64 {
+                    return false;
+                }
+                self.lend(slot, holder);
+                self.put_back(number, holder);
+                true
+            }
+        }
     }
 
     /// This holder has a slot no more, which is free where nobody else has it.

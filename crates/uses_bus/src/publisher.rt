@@ -1,14 +1,17 @@
 //! The end of a bus that writes records and publishes them.
-ghost use Rattle.std.specs.Prelude.{◌≡◌, ◌<◌, ◌↔◌, false, length, IsTrue, IfOk, IfSome, OnErr};
+ghost use Rattle.std.specs.Prelude.{◌≡◌, ◌<◌, ◌↔◌, Bool, false, count_by, IsTrue, IfOk, IfSome, OnErr};
 ghost use Rattle.lock_free.specs.Shares.{IsAll};
 ghost use Rattle.lock_free.specs.UniqueIndexSet.{set_of, share};
 ghost use Rattle.uses_bus.specs.Books.{holders_at, AllFree, ChangesAt, GainsNone, GainsOnly, IsLoaned, KeepsAllOrNone, KeepsLoans, KeepsLoansBut};
 ghost use Rattle.uses_bus.specs.Holders.{is_held, publisher};
+ghost use Rattle.uses_bus.specs.Outlets.{has_gained, holders_in, open_in, AreShown, EachLane, HaveTheirPlaces, IsServed, IsSettled, IsTakenBack, KeepsRest, NobodyTakesPart};
 ghost use Rattle.uses_bus.specs.Pools as pools;
 ghost use Rattle.uses_bus.specs.Records.{slots_in};
+ghost use Rattle.uses_bus.specs.Rolls.{HasLooked, HasRecovered};
 
 use crate::holders::Holder;
-use crate::outlet::{Outlet, free_inlet, send_to_all, settle_all, take_all_back};
+use crate::outlet::Outlet;
+use crate::outlets::{free_inlet, send_to_all, settle_all, take_all_back};
 use crate::pool::Pool;
 use crate::records::Records;
 use crate::roll::Roll;
@@ -43,10 +46,12 @@ pub struct Publisher<'a> {
     outlets: Vec<Outlet<'a>>,
     roll: Roll<'a>,
     ghost sized: { slots_in records.now ≡ pools.slots_of pool },
+    ghost placed: { HaveTheirPlaces (holders_in outlets.items) },
+    ghost shown: { AreShown roll (open_in outlets.items) },
 }
 
 impl<'a> Publisher<'a> {
-    ghost use Rattle.uses_bus.specs.Ends.{loaned, set_in, share_in, slots_before, slots_of, table_of, words_before, words_of, IsSame};
+    ghost use Rattle.uses_bus.specs.Ends.{lanes_of, loaned, roll_of, set_in, share_in, slots_before, slots_of, table_of, words_before, words_of, IsSame};
 
     pub(crate) fn of(
         pool: Pool<'a>,
@@ -54,7 +59,9 @@ impl<'a> Publisher<'a> {
         outlets: Vec<Outlet<'a>>,
         roll: Roll<'a>,
     ) -> Publisher<'a>
-        requires { slots_in records.now ≡ pools.slots_of pool }
+        requires sized { slots_in records.now ≡ pools.slots_of pool }
+        requires placed { HaveTheirPlaces (holders_in outlets.items) }
+        requires closed { NobodyTakesPart (open_in outlets.items) }
         ensures pool { result.pool ≡ pool.entry }
         ensures records { result.records ≡ records.entry }
     {
@@ -72,6 +79,7 @@ impl<'a> Publisher<'a> {
         ensures slots { IfSome result (λ s. slots_before s ≡ slots_of self.old) }
         ensures words { IfSome result (λ s. words_before s ≡ words_of self.old) }
         ensures table { table_of self.new ≡ table_of self.old }
+        ensures taking { open_in (lanes_of self.new) ≡ open_in (lanes_of self.old) }
         ensures same { IsSame self.old self.new }
     {
         let member = self.roll.member()?;
@@ -79,10 +87,14 @@ impl<'a> Publisher<'a> {
         Some(Seat::of(inlet, self.records, member, place as u64))
     }
 
-    /// Looks who takes part. Who does gets what is published from now on; and where one has left, or a recovery has taken
-    /// him out, his place is free again, and all that he had comes back. Each of the others has what he had, and the
-    /// publisher too.
+    /// Looks who takes part, once. Who does gets what is published from now on; and where one has left, or a recovery has
+    /// taken him out, and nobody has his end of the lane any more, that is free again, and all that he had comes back. Each
+    /// of the others has what he had, and the publisher too.
     pub fn update(&mut self, rt: &impl Wait)
+        ensures looked { (changed : Bool) × HasLooked changed (roll_of self.old) (roll_of self.new) }
+        ensures settled { EachLane (IsSettled (roll_of self.new) (table_of self.old) (table_of self.new))
+            (lanes_of self.old) (lanes_of self.new) }
+        ensures rest { KeepsRest (lanes_of self.old) (table_of self.old) (table_of self.new) }
         ensures all { KeepsAllOrNone (table_of self.old) (table_of self.new) }
         ensures loans { KeepsLoans (table_of self.old) (table_of self.new) }
         ensures same { IsSame self.old self.new }
@@ -99,6 +111,10 @@ impl<'a> Publisher<'a> {
 
     /// Takes an owner out who is dead, and then as `update`.
     pub fn recover(&mut self, rt: &impl Wait, dead: OwnerId)
+        ensures recovered { HasRecovered dead (roll_of self.old) (roll_of self.new) }
+        ensures settled { EachLane (IsSettled (roll_of self.new) (table_of self.old) (table_of self.new))
+            (lanes_of self.old) (lanes_of self.new) }
+        ensures rest { KeepsRest (lanes_of self.old) (table_of self.old) (table_of self.new) }
         ensures all { KeepsAllOrNone (table_of self.old) (table_of self.new) }
         ensures loans { KeepsLoans (table_of self.old) (table_of self.new) }
         ensures same { IsSame self.old self.new }
@@ -116,6 +132,7 @@ impl<'a> Publisher<'a> {
             (λ l. ChangesAt (loaned l) publisher (table_of self.old) (table_of self.new)) }
         ensures loaned { IfOk result (λ l. IsLoaned (table_of self.new) (loaned l)) }
         ensures refused { OnErr result (table_of self.new ≡ table_of self.old) }
+        ensures taking { open_in (lanes_of self.new) ≡ open_in (lanes_of self.old) }
         ensures same { IsSame self.old self.new }
     {
         let slot = self.pool.take(rt, Holder::publisher())?;
@@ -129,14 +146,20 @@ impl<'a> Publisher<'a> {
         self.records.write(loan.slot, at, word)
     }
 
-    /// Publishes a record to each who takes part: to how many. Its slot is on loan no more, and nobody gains another. The
-    /// oldest record of one who is too slow comes back.
+    /// Publishes a record to each who takes part and has it not: how many gained it. Its slot is on loan no more, and nobody
+    /// gains another. The oldest record of one who is too slow comes back.
     pub fn publish(&mut self, loan: Loan) -> usize
+        ensures served { EachLane (IsServed (loaned loan) (table_of self.old) (table_of self.new))
+            (lanes_of self.old) (lanes_of self.new) }
+        ensures number { result
+            ≡ count_by (has_gained (loaned loan) (table_of self.old) (table_of self.new)) (lanes_of self.old) }
+        ensures rest { KeepsRest (lanes_of self.old) (table_of self.old) (table_of self.new) }
         ensures gone { ¬ IsLoaned (table_of self.new) (loaned loan) }
         ensures gains { GainsOnly (loaned loan) (table_of self.old) (table_of self.new) }
         ensures loans { KeepsLoansBut (loaned loan) (table_of self.old) (table_of self.new) }
         ensures nobody { result ≡ 0
             → ChangesAt (loaned loan) publisher (table_of self.old) (table_of self.new) }
+        ensures taking { open_in (lanes_of self.new) ≡ open_in (lanes_of self.old) }
         ensures same { IsSame self.old self.new }
     {
         let Loan { slot } = loan;
@@ -149,6 +172,7 @@ impl<'a> Publisher<'a> {
     pub fn give_up(&mut self, loan: Loan)
         ensures gone { ¬ IsLoaned (table_of self.new) (loaned loan) }
         ensures changes { ChangesAt (loaned loan) publisher (table_of self.old) (table_of self.new) }
+        ensures taking { open_in (lanes_of self.new) ≡ open_in (lanes_of self.old) }
         ensures same { IsSame self.old self.new }
     {
         let Loan { slot } = loan;
@@ -157,8 +181,12 @@ impl<'a> Publisher<'a> {
 
     /// Takes back what subscribers have given back: nobody gains a slot, and what is on loan stays so.
     pub fn collect(&mut self)
+        ensures taken { EachLane (IsTakenBack (slots_of self.old) (table_of self.old) (table_of self.new))
+            (lanes_of self.old) (lanes_of self.new) }
+        ensures rest { KeepsRest (lanes_of self.old) (table_of self.old) (table_of self.new) }
         ensures gains { GainsNone (table_of self.old) (table_of self.new) }
         ensures loans { KeepsLoans (table_of self.old) (table_of self.new) }
+        ensures taking { open_in (lanes_of self.new) ≡ open_in (lanes_of self.old) }
         ensures same { IsSame self.old self.new }
     {
         take_all_back(&mut self.outlets, &mut self.pool);
