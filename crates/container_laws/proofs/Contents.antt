@@ -150,9 +150,7 @@ module _ {T : Type 0} (code : Coding T) (c : ℕ) where
 
     -- a writer is spared by whoever hides, since its own count is even
     pub hides_elsewhere : (a m : ℕ) (v : T) → Writing words a v m → count_at c words i % 2 ≡ 1 → a ≢ i
-    hides_elsewhere a m v w odd e =
-        let even : count_at c words i % 2 ≡ 0 = ap (λ b. count_at c words b % 2) (sym e) ∙ w.even in
-        absurd (omega arith)
+    hides_elsewhere a m v w odd e = grind arith
 
     -- and by another writer
     pub writes_elsewhere : (p q a o u : ℕ) → AreOwned events → p ≢ q → IsWriter p i o events → IsWriter q a u events → a ≢ i
@@ -170,6 +168,4 @@ module _ {T : Type 0} (code : Coding T) (c : ℕ) where
   -- at the exchange of the count for itself the copy is whole: what stands has these words
   pub copy_whole : (words : List ℕ) (events : List (Event T)) (i count : ℕ) (copy : List ℕ) → IsWhole words events → i < c → Reads words i count copy z → count_at c words i ≡ count
       → (value : T) → contents_of i events ≡ Some value → (j : ℕ) → j < z → get_or copy j 0 ≡ get_or (code.words_of value) j 0
-  copy_whole words events i count copy whole below r is value stands j js =
-      let h : Stands words i (Some value) = subst (Stands words i) stands (whole i below) in
-      r.same is j js ∙ h.1 j js
+  copy_whole words events i count copy whole below r is value stands j js = grind arith

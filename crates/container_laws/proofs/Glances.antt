@@ -157,13 +157,7 @@ module _ {T : Type 0} (code : Coding T) (c : ℕ) (m : Now T) (p : ℕ) where
     shown_there i ne = ap value_if (put.there i ne)
 
     number_below : Keeps m.terms → (i : ℕ) → i < c → number_at s' i ≤ count_in code c m i
-    number_below kept i low = ⊎_elim here there (cases_eq i k)
-      where
-        here : i ≡ k → number_at s' i ≤ count_in code c m i
-        here e = subst (λ n. number_at s' n ≤ count_in code c m n) (sym e) (omega arith)
-
-        there : i ≢ k → number_at s' i ≤ count_in code c m i
-        there ne = let same = number_there i ne in let was = h.sight.below kept i low in omega arith
+    number_below kept i low = grind arith
 
     known_then : length s'.seen.counts ≡ c
     known_then = ap (λ n. length n.counts) put.seen ∙ h.known

@@ -1,6 +1,6 @@
 -- A find that ends has come to the indices of the whole container, or to those up to the one that it asked about where a no
 -- ends it; and in a proper run it has copied what stood at each that it has counted.
-use Rattle.std.proofs.Common.{◌≡◌, ◌≢◌, ℕ, ◌+◌, ◌==◌, ◌<◌, ◌≤◌, if◌then◌else◌, nat_lt, Bool, true, false, Option, Some, None, is_none, is_some, List, [], ◌∷◌, ◌++◌, refl, sym, ap, subst, ◌∙◌, arith}
+use Rattle.std.proofs.Common.{◌≡◌, ◌≢◌, ℕ, ◌+◌, ◌==◌, ◌<◌, ◌≤◌, if◌then◌else◌, nat_lt, Bool, true, false, Option, Some, None, is_some, List, [], ◌∷◌, ◌++◌, refl, sym, ap, subst, ◌∙◌, arith}
 use Rattle.std.proofs.lemmas.Bool.Decides.{nat_tests}
 use Rattle.std.proofs.lemmas.List.{append_cancel_left}
 use Rattle.steps.specs.declared.ask.After.{After}
@@ -29,7 +29,6 @@ use Rattle.model.specs.declared.families.container.calls.ContainerFlight as call
 use Rattle.model.specs.declared.party.Doing.{Doing}
 use Rattle.model.specs.declared.party.Doing.TheVariants.{Going, Over}
 use Rattle.model.specs.declared.party.Party.{Party}
-use Rattle.model.specs.declared.turn.Refusal.TheVariants.{Idle, Undecided}
 use Rattle.model.specs.declared.turn.Turn.{Turn}
 use Rattle.model.specs.declared.turn.Turn.TheVariants.{Begin, Next, Decide, Die}
 use Rattle.model.specs.Coding.{Coding}
@@ -49,7 +48,6 @@ use Rattle.model.specs.Step.{as_call, answer_in}
 use Rattle.model.specs.Turns.{old_of, number_of, after_next, after_decision, after_answer, events_of_step, events_of_answer, events_of_next, events_of_decision, events_of, ask_of_doing, after_turn}
 use Rattle.model.specs.World.{Trace, flight_in}
 use Rattle.model.proofs.Frame as frame
-use Rattle.model.proofs.Rows.{row_passed}
 use Rattle.model.proofs.Scenes.{StandsThere, stands_there}
 use Rattle.robust_laws.proofs.Core.{cell}
 use Rattle.robust_laws.proofs.Effects.{both_ways}
@@ -94,17 +92,10 @@ module _ {T : Type 0} (scene : Scene T) (inv : Inv scene) (owner : ℕ) (fits : 
 
   -- it has come to the last cell
   comes_is : (stage : FindStage) (k found number : ℕ) → find_comes_to (at_stage stage) (k + 1) found ≡ Done number → (c ≤ k + 1) × (found ≡ number)
-  comes_is stage k found number e = go (nat_lt (k + 1) c) refl e
-    where
-      go : (b : Bool) → nat_lt (k + 1) c ≡ b → (if b then GoOn (at_find (at_stage stage) (finds.TheVariants.LoadsCell (k + 1) found)) else Done found) ≡ Done number → (c ≤ k + 1) × (found ≡ number)
-      go true t e = absurd (cc)
-      go false t e = (grind (arith, nat_tests), cc)
+  comes_is stage k found number e = grind arith
 
   ended : (k found number : ℕ) → k < c → (c ≤ k + 1) × (found ≡ number) → Has (k + 1) found → Has c number
-  ended k found number below last h =
-      let all_of = last.0 in
-      let is : k + 1 ≡ c = omega arith in
-      subst (λ n. Has n number) is (subst (λ n. Has (k + 1) n) last.1 h)
+  ended k found number below last h = grind arith
 
   abbrev Tells : ℕ → Bool → ContainerFlight T → Type 0
   Tells number due flight =
@@ -338,10 +329,7 @@ module _ {T : Type 0} (shown : Shown T) (terms : Terms) (code : Coding T) (c : �
 
   -- no decision is due in a step
   not_due : (q : ℕ) → call_refusal t.world (Next q) ≡ None → is_due t.world.coding (flight_in t.world q) ≡ false
-  not_due q e =
-      let first = row_passed (is_none (flight_in t.world q)) Idle _ e in
-      let second = row_passed (is_due t.world.coding (flight_in t.world q)) Undecided _ first.1 in
-      second.0
+  not_due q e = grind arith
 
   tells : MayGoOn terms t → (turn : Turn T) → IsAllowed t.world turn → Ended (events_of t.world turn) → turn ≢ Decide p false → Told c (after_turn t turn).world.latest
   tells may (Begin q start) r e ne = absurd (cc)
