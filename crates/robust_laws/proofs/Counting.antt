@@ -9,11 +9,7 @@ use Rattle.robust_laws.proofs.Past.{through_less, through_now}
 
 -- what the indices before another one take, each as much
 pub times_below : (c index each : ℕ) → index < c → index * each + each ≤ c * each
-times_below c index each below =
-    let rest : (d : ℕ) × (c ≡ index + 1 + d) = (c - (index + 1), omega arith) in
-    let more : c * each ≡ (index + 1 + rest.0) * each = ap (λ n. n * each) rest.1 in
-    let some : (index + 1 + rest.0) * each ≡ index * each + each + rest.0 * each = omega arith in
-    omega arith
+times_below c index each below = grind arith
 
 one_at_most : (b : Bool) → (if b then 1 else 0) ≤ 1
 one_at_most true = omega arith

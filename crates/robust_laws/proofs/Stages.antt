@@ -167,13 +167,7 @@ module _ {T : Type 0} (scene : Scene T) where
 
   -- a step that leaves the counter leaves what is known of it
   pub holds_on : (number : ℕ) (ask : Option Ask) (later : List (Event T)) → counter_of (words_after ws ask) ≡ counter_of ws → Holding number now → Holding number (seen ask false later)
-  holds_on number ask later same h =
-      let low = h.low in
-      record {
-        before_end = h.before_end;
-        low = omega arith;
-        paid = ⊎_elim (λ k. let paid = k.1 in inl (same ∙ k.0, omega arith)) (λ k. inr (omega arith)) h.paid;
-      }
+  holds_on number ask later same h = grind arith
 
   -- the counter has this number then
   pub holds_new : (number : ℕ) (ask : Option Ask) (back : Bool) (later : List (Event T)) → number < greatest → counter_of (words_after ws ask) ≡ number → IsPaid (seen ask back later) → Holding number (seen ask back later)
