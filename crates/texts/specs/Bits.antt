@@ -1,10 +1,5 @@
 -- The calls of the bit sets and of the counting bit sets, as a schedule names them and as they print.
 use Rattle.std.specs.Prelude.{ℕ, ◌-◌, ◌^◌, List, ◌++◌, Option, Some, None, Result, Ok, Err, if◌then◌else◌, bytes_eq, codes, decimal}
-use Rattle.model.specs.declared.event.Answer.{Answer}
-use Rattle.model.specs.declared.event.Answer.TheVariants.{ResetNone, Reset}
-use Rattle.model.specs.declared.event.Event.{Event}
-use Rattle.model.specs.declared.event.Event as events
-use Rattle.model.specs.declared.event.Event.TheVariants.{Cleared, Counted, TakenOut}
 use Rattle.model.specs.declared.event.Start.{Start}
 use Rattle.model.specs.declared.event.Start as starts
 use Rattle.model.specs.declared.families.bits.BitsStart.{BitsStart}
@@ -14,7 +9,6 @@ use Rattle.model.specs.declared.turn.Kind as kinds
 use Rattle.model.specs.declared.turn.Kind.TheVariants.{Counts}
 use Rattle.texts.specs.declared.error.Cause.{Cause}
 use Rattle.texts.specs.declared.error.Cause.TheVariants.{UnknownCall}
-use Rattle.texts.specs.Family.{Family}
 use Rattle.texts.specs.Reading.{◌>>=◌, number_at}
 
 -- ---- how they are read
@@ -54,45 +48,13 @@ counting_bit_set_call name ws = do
   call ← any_set_call name ws
   Ok (starts.TheVariants.Bits call.0, call.1)
 
-abbrev pub call : Kind → List ℕ → List (List ℕ)
-    → Option (Result (Start ℕ × List (List ℕ)) Cause)
-call kinds.TheVariants.Bits name ws = Some (bit_set_call name ws)
-call Counts name ws = Some (counting_bit_set_call name ws)
-call kind name ws = None
-
 -- ---- how they print
 
-abbrev pub bits_call_text : BitsStart → List ℕ
-bits_call_text (Set place) = codes "set " ++ decimal place
-bits_call_text ResetNext = codes "reset_next"
-bits_call_text ResetAll = codes "reset_all"
+abbrev pub call_text : BitsStart → List ℕ
+call_text (Set place) = codes "set " ++ decimal place
+call_text ResetNext = codes "reset_next"
+call_text ResetAll = codes "reset_all"
 
-abbrev pub call_text : Start ℕ → Option (List ℕ)
-call_text (starts.TheVariants.Bits start) = Some (bits_call_text start)
-call_text start = None
-
-abbrev pub answer_text : Answer ℕ → Option (List ℕ)
-answer_text ResetNone = Some (codes "none")
-answer_text (Reset bit) = Some (codes "some " ++ decimal bit)
-answer_text answer = None
-
-abbrev pub event_text : Event ℕ → Option (List ℕ)
-event_text (events.TheVariants.Set party bit) =
-    Some (decimal party ++ codes " set " ++ decimal bit)
-event_text (Cleared party bit) = Some (decimal party ++ codes " cleared " ++ decimal bit)
-event_text (Counted party place) = Some (decimal party ++ codes " counted " ++ decimal place)
-event_text (TakenOut party place count) =
-    Some (decimal party ++ codes " taken_out " ++ decimal place ++ codes " " ++ decimal count)
-event_text event = None
-
--- ---- all that the room says
-
-abbrev pub family : Family
-family =
-    record {
-      kind = kind_of;
-      call = call;
-      call_text = call_text;
-      answer_text = answer_text;
-      event_text = event_text;
-    }
+-- a place and the count that was taken out of it
+abbrev pub taken_text : ℕ → ℕ → List ℕ
+taken_text place count = decimal place ++ codes " " ++ decimal count

@@ -1,15 +1,9 @@
--- The calls of the container, as a schedule names them and as they print. The index or the state
--- that it answers, that it is locked, and what it does to a cell stand in the files of the sets of
--- indices.
+-- The calls of the container, as a schedule names them and as they print.
 use Rattle.std.specs.Prelude.{ℕ, ◌-◌, ◌^◌, List, ◌++◌, Option, Some, None, Result, Ok, Err, if◌then◌else◌, bytes_eq, codes, decimal}
 use Rattle.steps.specs.declared.container.enums.ContainerAddFailure.{ContainerAddFailure}
 use Rattle.steps.specs.declared.container.enums.ContainerAddFailure as add_failures
 use Rattle.steps.specs.declared.container.enums.ContainerRemoveError.{ContainerRemoveError}
 use Rattle.steps.specs.declared.container.enums.ContainerRemoveError as remove_errors
-use Rattle.model.specs.declared.event.Answer.{Answer}
-use Rattle.model.specs.declared.event.Answer.TheVariants.{NoPlace, NotRemoved}
-use Rattle.model.specs.declared.event.Event.{Event}
-use Rattle.model.specs.declared.event.Event.TheVariants.{Placed, Hidden, Copied, Shown}
 use Rattle.model.specs.declared.event.Start.{Start}
 use Rattle.model.specs.declared.event.Start as starts
 use Rattle.model.specs.declared.families.container.ContainerStart.{ContainerStart}
@@ -18,7 +12,6 @@ use Rattle.model.specs.declared.turn.Kind.{Kind}
 use Rattle.model.specs.declared.turn.Kind as kinds
 use Rattle.texts.specs.declared.error.Cause.{Cause}
 use Rattle.texts.specs.declared.error.Cause.TheVariants.{UnknownCall}
-use Rattle.texts.specs.Family.{Family}
 use Rattle.texts.specs.Indices.{mode_at, mode_text}
 use Rattle.texts.specs.Indices.Robust.{owned_text}
 use Rattle.texts.specs.Reading.{◌>>=◌, number_at, owner_at}
@@ -86,36 +79,25 @@ container_call name ws = do
   call ← any_container_call name ws
   Ok (starts.TheVariants.Container call.0, call.1)
 
-abbrev pub call : Kind → List ℕ → List (List ℕ)
-    → Option (Result (Start ℕ × List (List ℕ)) Cause)
-call kinds.TheVariants.Container name ws = Some (container_call name ws)
-call kind name ws = None
-
 -- ---- how they print
 
 -- an index and the value there
 abbrev pub placed_text : ℕ → ℕ → List ℕ
 placed_text index value = decimal index ++ codes " " ++ decimal value
 
-abbrev pub container_call_text : ContainerStart ℕ → List ℕ
-container_call_text (Add value owner) =
-    codes "add " ++ decimal value ++ codes " " ++ decimal owner
-container_call_text (Remove index owner mode) =
+abbrev pub call_text : ContainerStart ℕ → List ℕ
+call_text (Add value owner) = codes "add " ++ decimal value ++ codes " " ++ decimal owner
+call_text (Remove index owner mode) =
     codes "remove " ++ owned_text index owner ++ codes " " ++ mode_text mode
-container_call_text (Replace index value owner) =
+call_text (Replace index value owner) =
     codes "replace " ++ placed_text index value ++ codes " " ++ decimal owner
-container_call_text (Find owner) = codes "find " ++ decimal owner
-container_call_text (Recover owner mode) =
-    codes "recover " ++ decimal owner ++ codes " " ++ mode_text mode
-container_call_text GetState = codes "get_state"
-container_call_text UpdateState = codes "update_state"
-container_call_text Len = codes "len"
-container_call_text IsEmpty = codes "is_empty"
-container_call_text IsLocked = codes "is_locked"
-
-abbrev pub call_text : Start ℕ → Option (List ℕ)
-call_text (starts.TheVariants.Container start) = Some (container_call_text start)
-call_text start = None
+call_text (Find owner) = codes "find " ++ decimal owner
+call_text (Recover owner mode) = codes "recover " ++ decimal owner ++ codes " " ++ mode_text mode
+call_text GetState = codes "get_state"
+call_text UpdateState = codes "update_state"
+call_text Len = codes "len"
+call_text IsEmpty = codes "is_empty"
+call_text IsLocked = codes "is_locked"
 
 abbrev pub add_failure_text : ContainerAddFailure → List ℕ
 add_failure_text add_failures.TheVariants.OutOfSpace = codes "OutOfSpace"
@@ -124,29 +106,3 @@ add_failure_text add_failures.TheVariants.IsLocked = codes "IsLocked"
 abbrev pub remove_error_text : ContainerRemoveError → List ℕ
 remove_error_text remove_errors.TheVariants.ContainerHandleNotOwnedByContainer =
     codes "ContainerHandleNotOwnedByContainer"
-
-abbrev pub answer_text : Answer ℕ → Option (List ℕ)
-answer_text (NoPlace failure) = Some (add_failure_text failure)
-answer_text (NotRemoved failure) = Some (remove_error_text failure)
-answer_text answer = None
-
-abbrev pub event_text : Event ℕ → Option (List ℕ)
-event_text (Placed party index value) =
-    Some (decimal party ++ codes " placed " ++ placed_text index value)
-event_text (Hidden party index) = Some (decimal party ++ codes " hidden " ++ decimal index)
-event_text (Copied party index value) =
-    Some (decimal party ++ codes " copied " ++ placed_text index value)
-event_text (Shown party index) = Some (decimal party ++ codes " shown " ++ decimal index)
-event_text event = None
-
--- ---- all that the room says
-
-abbrev pub family : Family
-family =
-    record {
-      kind = kind_of;
-      call = call;
-      call_text = call_text;
-      answer_text = answer_text;
-      event_text = event_text;
-    }

@@ -1,16 +1,15 @@
 -- What a line says, read from left to right: a value, or the first cause that is met.
 use Rattle.std.specs.Prelude.{ℕ, ◌-◌, ◌^◌, ◌==◌, Bool, true, false, List, [], ◌∷◌, Some, None, Result, Ok, Err, if◌then◌else◌, bytes_eq, codes}
-use Rattle.model.specs.declared.event.Start.{Start}
 use Rattle.model.specs.declared.turn.Kind.{Kind}
 use Rattle.model.specs.declared.turn.Turn.TheVariants.{Begin, Next, Decide, Die}
 use Rattle.model.specs.Families.Loan.Opening.{is_loan}
 use Rattle.texts.specs.declared.error.Cause.{Cause}
-use Rattle.texts.specs.declared.error.Cause.TheVariants.{BadValue, UnknownKind, UnknownTurn, UnknownCall}
+use Rattle.texts.specs.declared.error.Cause.TheVariants.{BadValue, UnknownKind, UnknownTurn}
 use Rattle.texts.specs.declared.grammar.Command.{Command}
 use Rattle.texts.specs.declared.grammar.Command.TheVariants.{Once, Times}
 use Rattle.texts.specs.declared.grammar.Setup.{Setup}
 use Rattle.texts.specs.Families.{kind_named, call_named}
-unfoldable pub use Rattle.texts.specs.Reading.{Gives, GivesIfAny, ◌>>=◌, next_word, ended, number_at, owner_at}
+unfoldable pub use Rattle.texts.specs.Reading.{Gives, ◌>>=◌, next_word, ended, number_at, owner_at}
 use Rattle.texts.specs.Text.{number_of}
 
 -- ---- the first line
@@ -33,17 +32,12 @@ setup_of ws = do
   end ← ended parties.1
   Ok (record { kind = kind; capacity = capacity.0; queue = queue.0; parties = parties.0 })
 
--- ---- calls
-
-abbrev pub call_of : Kind → List ℕ → List (List ℕ) → Result (Start ℕ × List (List ℕ)) Cause
-call_of kind name ws = elim (call_named kind name ws) [ Some call ↦ call | None ↦ Err UnknownCall ]
-
 -- ---- turns
 
 unfoldable pub begin_of : Kind → ℕ → List (List ℕ) → Result (Command) Cause
 begin_of kind party ws = do
   name ← next_word ws
-  call ← call_of kind name.0 name.1
+  call ← call_named kind name.0 name.1
   end ← ended call.1
   Ok (Once (Begin party call.0))
 

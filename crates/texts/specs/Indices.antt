@@ -7,10 +7,6 @@ use Rattle.steps.specs.declared.indices.enums.ReleaseState.{ReleaseState}
 use Rattle.steps.specs.declared.indices.enums.ReleaseState as states
 use Rattle.steps.specs.declared.indices.enums.UniqueIndexSetAcquireFailure.{UniqueIndexSetAcquireFailure}
 use Rattle.steps.specs.declared.indices.enums.UniqueIndexSetAcquireFailure as failures
-use Rattle.model.specs.declared.event.Answer.{Answer}
-use Rattle.model.specs.declared.event.Answer.TheVariants.{Index, NoIndex, State}
-use Rattle.model.specs.declared.event.Event.{Event}
-use Rattle.model.specs.declared.event.Event.TheVariants.{Claimed, Freed, Locked}
 use Rattle.model.specs.declared.event.Start.{Start}
 use Rattle.model.specs.declared.event.Start.TheVariants.{Indices}
 use Rattle.model.specs.declared.families.indices.IndexStart.{IndexStart}
@@ -19,7 +15,6 @@ use Rattle.model.specs.declared.turn.Kind.{Kind}
 use Rattle.model.specs.declared.turn.Kind as kinds
 use Rattle.texts.specs.declared.error.Cause.{Cause}
 use Rattle.texts.specs.declared.error.Cause.TheVariants.{BadValue, UnknownCall}
-use Rattle.texts.specs.Family.{Family}
 use Rattle.texts.specs.Reading.{◌>>=◌, next_word, number_at}
 pub mod Robust
 
@@ -61,23 +56,17 @@ index_call name ws = do
   call ← any_index_call name ws
   Ok (Indices call.0, call.1)
 
-abbrev pub call : Kind → List ℕ → List (List ℕ)
-    → Option (Result (Start ℕ × List (List ℕ)) Cause)
-call kinds.TheVariants.Indices name ws = Some (index_call name ws)
-call kind name ws = None
-
 -- ---- how they print
 
 abbrev pub mode_text : ReleaseMode → List ℕ
 mode_text Default = codes "default"
 mode_text LockIfLastIndex = codes "lock"
 
-abbrev pub index_call_text : IndexStart → List ℕ
-index_call_text Acquire = codes "acquire"
-index_call_text (Release index mode) =
-    codes "release " ++ decimal index ++ codes " " ++ mode_text mode
-index_call_text BorrowedIndices = codes "borrowed_indices"
-index_call_text IsLocked = codes "is_locked"
+abbrev pub call_text : IndexStart → List ℕ
+call_text Acquire = codes "acquire"
+call_text (Release index mode) = codes "release " ++ decimal index ++ codes " " ++ mode_text mode
+call_text BorrowedIndices = codes "borrowed_indices"
+call_text IsLocked = codes "is_locked"
 
 abbrev pub failure_text : UniqueIndexSetAcquireFailure → List ℕ
 failure_text failures.TheVariants.OutOfIndices = codes "OutOfIndices"
@@ -86,31 +75,3 @@ failure_text failures.TheVariants.IsLocked = codes "IsLocked"
 abbrev pub state_text : ReleaseState → List ℕ
 state_text states.TheVariants.Locked = codes "Locked"
 state_text states.TheVariants.Unlocked = codes "Unlocked"
-
-abbrev pub call_text : Start ℕ → Option (List ℕ)
-call_text (Indices start) = Some (index_call_text start)
-call_text start = None
-
-abbrev pub answer_text : Answer ℕ → Option (List ℕ)
-answer_text (Index index) = Some (decimal index)
-answer_text (NoIndex failure) = Some (failure_text failure)
-answer_text (State state) = Some (state_text state)
-answer_text answer = None
-
-abbrev pub event_text : Event ℕ → Option (List ℕ)
-event_text (Claimed party index) = Some (decimal party ++ codes " claimed " ++ decimal index)
-event_text (Freed party index) = Some (decimal party ++ codes " freed " ++ decimal index)
-event_text (Locked party) = Some (decimal party ++ codes " locked")
-event_text event = None
-
--- ---- all that the room says
-
-abbrev pub family : Family
-family =
-    record {
-      kind = kind_of;
-      call = call;
-      call_text = call_text;
-      answer_text = answer_text;
-      event_text = event_text;
-    }

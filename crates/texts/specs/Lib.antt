@@ -2,7 +2,6 @@ pub mod Atomic
 pub mod Bits
 pub mod Container
 pub mod Families
-pub mod Family
 pub mod Grammar
 pub mod Indices
 pub mod Loan

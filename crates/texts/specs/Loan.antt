@@ -1,10 +1,5 @@
--- The calls of the loan channel, as a schedule names them and as they print. Its answers, and what
--- it does to an index or to a queue but give an index back or take it back, stand in the files of the
--- sets of indices and of the queues.
+-- The calls of the loan channel, as a schedule names them and as they print.
 use Rattle.std.specs.Prelude.{ℕ, ◌-◌, ◌^◌, List, ◌++◌, Option, Some, None, Result, Ok, Err, if◌then◌else◌, bytes_eq, codes, decimal}
-use Rattle.model.specs.declared.event.Answer.{Answer}
-use Rattle.model.specs.declared.event.Event.{Event}
-use Rattle.model.specs.declared.event.Event.TheVariants.{Returned, TakenBack}
 use Rattle.model.specs.declared.event.Start.{Start}
 use Rattle.model.specs.declared.event.Start as starts
 use Rattle.model.specs.declared.families.loan.LoanStart.{LoanStart}
@@ -13,7 +8,6 @@ use Rattle.model.specs.declared.turn.Kind.{Kind}
 use Rattle.model.specs.declared.turn.Kind as kinds
 use Rattle.texts.specs.declared.error.Cause.{Cause}
 use Rattle.texts.specs.declared.error.Cause.TheVariants.{UnknownCall}
-use Rattle.texts.specs.Family.{Family}
 use Rattle.texts.specs.Reading.{◌>>=◌, number_at}
 
 -- ---- how they are read
@@ -58,43 +52,13 @@ loan_call name ws = do
   call ← any_loan_call name ws
   Ok (starts.TheVariants.Loan call.0, call.1)
 
-abbrev pub call : Kind → List ℕ → List (List ℕ)
-    → Option (Result (Start ℕ × List (List ℕ)) Cause)
-call kinds.TheVariants.Loan name ws = Some (loan_call name ws)
-call kind name ws = None
-
 -- ---- how they print
 
-abbrev pub loan_call_text : LoanStart → List ℕ
-loan_call_text Loan = codes "loan"
-loan_call_text (Send index) = codes "send " ++ decimal index
-loan_call_text (GiveUp index) = codes "give_up " ++ decimal index
-loan_call_text TakeBack = codes "take_back"
-loan_call_text Receive = codes "receive"
-loan_call_text (GiveBack index) = codes "give_back " ++ decimal index
-loan_call_text Reclaim = codes "reclaim"
-
-abbrev pub call_text : Start ℕ → Option (List ℕ)
-call_text (starts.TheVariants.Loan start) = Some (loan_call_text start)
-call_text start = None
-
-abbrev pub answer_text : Answer ℕ → Option (List ℕ)
-answer_text answer = None
-
-abbrev pub event_text : Event ℕ → Option (List ℕ)
-event_text (Returned party index) = Some (decimal party ++ codes " returned " ++ decimal index)
-event_text (TakenBack party index) =
-    Some (decimal party ++ codes " taken_back " ++ decimal index)
-event_text event = None
-
--- ---- all that the room says
-
-abbrev pub family : Family
-family =
-    record {
-      kind = kind_of;
-      call = call;
-      call_text = call_text;
-      answer_text = answer_text;
-      event_text = event_text;
-    }
+abbrev pub call_text : LoanStart → List ℕ
+call_text Loan = codes "loan"
+call_text (Send index) = codes "send " ++ decimal index
+call_text (GiveUp index) = codes "give_up " ++ decimal index
+call_text TakeBack = codes "take_back"
+call_text Receive = codes "receive"
+call_text (GiveBack index) = codes "give_back " ++ decimal index
+call_text Reclaim = codes "reclaim"

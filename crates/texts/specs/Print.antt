@@ -1,47 +1,20 @@
 -- What is printed of events, refusals and errors.
-use Rattle.std.specs.Prelude.{ℕ, Bool, true, false, List, [], ◌++◌, unwrap_or, codes, decimal}
+use Rattle.std.specs.Prelude.{ℕ, List, ◌++◌, codes, decimal}
 use Rattle.std.specs.List.{flat_map}
-use Rattle.model.specs.declared.event.Answer.{Answer}
-use Rattle.model.specs.declared.event.Answer.TheVariants.{Done, Truth, Number}
 use Rattle.model.specs.declared.event.Event.{Event}
-use Rattle.model.specs.declared.event.Event.TheVariants.{Begun, Acted, Finished}
-use Rattle.model.specs.declared.event.Start.{Start}
 use Rattle.model.specs.declared.turn.Refusal.{Refusal}
 use Rattle.model.specs.declared.turn.Refusal.TheVariants as refusals
 use Rattle.texts.specs.declared.error.Cause.{Cause}
 use Rattle.texts.specs.declared.error.Cause.TheVariants as causes
 use Rattle.texts.specs.declared.error.ScheduleError.{ScheduleError}
 use Rattle.texts.specs.declared.error.ScheduleError.TheVariants as errors
-use Rattle.texts.specs.Families.{text_of_call, text_of_answer, text_of_event}
+use Rattle.texts.specs.Families.{text_of_event}
 
--- ---- events; what is a family's own prints as its room says
-
--- a call and its arguments
-abbrev pub call_text : Start ℕ → List ℕ
-call_text start = unwrap_or (text_of_call start) []
-
-abbrev pub truth_text : Bool → List ℕ
-truth_text true = codes "true"
-truth_text false = codes "false"
-
-abbrev pub answer_text : Answer ℕ → List ℕ
-answer_text Done = codes "done"
-answer_text (Truth said) = truth_text said
-answer_text (Number n) = decimal n
-answer_text answer = unwrap_or (text_of_answer answer) []
-
--- a call and its answer
-abbrev pub answered_text : Start ℕ → Answer ℕ → List ℕ
-answered_text start answer = call_text start ++ codes " -> " ++ answer_text answer
+-- ---- events
 
 -- the line of an event
 unfoldable pub event_text : Event ℕ → List ℕ
-event_text (Begun party start) = decimal party ++ codes " begun " ++ call_text start ++ codes "\n"
-event_text (Acted party start answer) =
-    decimal party ++ codes " acted " ++ answered_text start answer ++ codes "\n"
-event_text (Finished party start answer) =
-    decimal party ++ codes " finished " ++ answered_text start answer ++ codes "\n"
-event_text event = unwrap_or (text_of_event event) [] ++ codes "\n"
+event_text event = text_of_event event ++ codes "\n"
 
 -- the lines of the events, in their order
 abbrev pub events_text : List (Event ℕ) → List ℕ

@@ -1,9 +1,5 @@
 -- The calls of the queues, as a schedule names them and as they print.
 use Rattle.std.specs.Prelude.{ℕ, ◌-◌, ◌^◌, Bool, true, false, List, ◌++◌, Option, Some, None, Result, Ok, Err, if◌then◌else◌, bytes_eq, codes, decimal}
-use Rattle.model.specs.declared.event.Answer.{Answer}
-use Rattle.model.specs.declared.event.Answer.TheVariants.{PoppedNone, PoppedIndex, Popped}
-use Rattle.model.specs.declared.event.Event.{Event}
-use Rattle.model.specs.declared.event.Event.TheVariants.{Published, HandedOut}
 use Rattle.model.specs.declared.event.Item.{Item}
 use Rattle.model.specs.declared.event.Item.TheVariants.{Index, Value}
 use Rattle.model.specs.declared.event.Start.{Start}
@@ -14,7 +10,6 @@ use Rattle.model.specs.declared.turn.Kind.{Kind}
 use Rattle.model.specs.declared.turn.Kind.TheVariants.{IndexQueue, Overflow, Queue}
 use Rattle.texts.specs.declared.error.Cause.{Cause}
 use Rattle.texts.specs.declared.error.Cause.TheVariants.{UnknownCall}
-use Rattle.texts.specs.Family.{Family}
 use Rattle.texts.specs.Reading.{◌>>=◌, number_at}
 
 -- ---- how they are read
@@ -80,55 +75,20 @@ index_queue_call name ws = queue_call false name ws
 abbrev pub value_queue_call : List ℕ → List (List ℕ) → Result (Start ℕ × List (List ℕ)) Cause
 value_queue_call name ws = queue_call true name ws
 
--- both queues of indices have the same calls
-abbrev pub call : Kind → List ℕ → List (List ℕ)
-    → Option (Result (Start ℕ × List (List ℕ)) Cause)
-call IndexQueue name ws = Some (index_queue_call name ws)
-call Overflow name ws = Some (index_queue_call name ws)
-call Queue name ws = Some (value_queue_call name ws)
-call kind name ws = None
-
 -- ---- how they print
 
-abbrev pub queue_call_text : QueueStart ℕ → List ℕ
-queue_call_text AcquireProducer = codes "acquire_producer"
-queue_call_text ReleaseProducer = codes "release_producer"
-queue_call_text AcquireConsumer = codes "acquire_consumer"
-queue_call_text ReleaseConsumer = codes "release_consumer"
-queue_call_text (PushIndex index) = codes "push " ++ decimal index
-queue_call_text (Push value) = codes "push " ++ decimal value
-queue_call_text Pop = codes "pop"
-queue_call_text Len = codes "len"
-queue_call_text IsEmpty = codes "is_empty"
-queue_call_text IsFull = codes "is_full"
-
-abbrev pub call_text : Start ℕ → Option (List ℕ)
-call_text (Queues start) = Some (queue_call_text start)
-call_text start = None
-
-abbrev pub answer_text : Answer ℕ → Option (List ℕ)
-answer_text PoppedNone = Some (codes "none")
-answer_text (PoppedIndex index) = Some (codes "some " ++ decimal index)
-answer_text (Popped value) = Some (codes "some " ++ decimal value)
-answer_text answer = None
+abbrev pub call_text : QueueStart ℕ → List ℕ
+call_text AcquireProducer = codes "acquire_producer"
+call_text ReleaseProducer = codes "release_producer"
+call_text AcquireConsumer = codes "acquire_consumer"
+call_text ReleaseConsumer = codes "release_consumer"
+call_text (PushIndex index) = codes "push " ++ decimal index
+call_text (Push value) = codes "push " ++ decimal value
+call_text Pop = codes "pop"
+call_text Len = codes "len"
+call_text IsEmpty = codes "is_empty"
+call_text IsFull = codes "is_full"
 
 abbrev pub item_text : Item ℕ → List ℕ
 item_text (Index n) = decimal n
 item_text (Value n) = decimal n
-
-abbrev pub event_text : Event ℕ → Option (List ℕ)
-event_text (Published party item) = Some (decimal party ++ codes " published " ++ item_text item)
-event_text (HandedOut party item) = Some (decimal party ++ codes " handed_out " ++ item_text item)
-event_text event = None
-
--- ---- all that the room says
-
-abbrev pub family : Family
-family =
-    record {
-      kind = kind_of;
-      call = call;
-      call_text = call_text;
-      answer_text = answer_text;
-      event_text = event_text;
-    }

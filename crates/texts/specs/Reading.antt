@@ -1,5 +1,5 @@
 -- How words are read from left to right: a value and the rest, or the first cause that is met.
-use Rattle.std.specs.Prelude.{◌≡◌, ℕ, ◌-◌, ◌^◌, List, [], ◌∷◌, Option, Some, None, Result, Ok, Err}
+use Rattle.std.specs.Prelude.{◌≡◌, ℕ, ◌-◌, ◌^◌, List, [], ◌∷◌, Result, Ok, Err}
 use Rattle.texts.specs.declared.error.Cause.{Cause}
 use Rattle.texts.specs.declared.error.Cause.TheVariants.{MissingValue, ExtraWords}
 use Rattle.texts.specs.Text.{number_of}
@@ -13,13 +13,6 @@ abbrev pub ◌>>=◌ : {A B : Type 0} → Result A Cause → (A → Result B Cau
 abbrev pub Gives : {X Y : Type 0} → (X → Y) → Result X Cause → Result Y Cause → Type 0
 Gives view (Ok x) read = read ≡ Ok (view x)
 Gives view (Err e) read = read ≡ Err e
-
--- the same where there may be nothing to read
-abbrev pub GivesIfAny : {X Y : Type 0} → (X → Y) → Option (Result X Cause)
-    → Option (Result Y Cause) → Type 0
-GivesIfAny view None read = read ≡ None
-GivesIfAny view (Some (Ok x)) read = read ≡ Some (Ok (view x))
-GivesIfAny view (Some (Err e)) read = read ≡ Some (Err e)
 
 -- ---- words
 

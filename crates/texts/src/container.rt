@@ -1,16 +1,15 @@
-//! The calls of the container, as a schedule names them and as they print. The index or the state that it answers,
-//! that it is locked, and what it does to a cell print as those of the sets of indices.
-ghost use Rattle.std.specs.Prelude.{◌≡◌, ◌+◌, ◌≤◌, ◌++◌, [], length, is_some, unwrap_or, decimal};
+//! The calls of the container, as a schedule names them and as they print.
+ghost use Rattle.std.specs.Prelude.{◌≡◌, ◌+◌, ◌≤◌, ◌++◌, length, decimal};
 ghost use Rattle.texts.specs.Text.{words_left};
-ghost use Rattle.texts.specs.Grammar.{Gives, GivesIfAny};
-ghost use Rattle.texts.specs.Container.{kind_of, add, remove, replace, find, recover, look_call, any_container_call, container_call, call, placed_text, container_call_text, add_failure_text, remove_error_text, call_text, answer_text, event_text};
+ghost use Rattle.texts.specs.Grammar.{Gives};
+ghost use Rattle.texts.specs.Container.{kind_of, add, remove, replace, find, recover, look_call, any_container_call, container_call, placed_text, call_text, add_failure_text, remove_error_text};
 
 use crate::error::Cause;
 use crate::grammar::{number_at, owner_at};
 use crate::indices::mode_at;
 use crate::line::Line;
 use crate::text::Rest;
-use model::event::{Answer, Event, Start};
+use model::event::Start;
 use model::families::container::ContainerStart;
 use model::turn::Kind;
 use steps::container::enums::{ContainerAddFailure, ContainerRemoveError};
@@ -133,9 +132,9 @@ fn any_container_call<'a>(
     }
 }
 
-// A call of the container.
+/// A call of the container.
 #[tactic(auto, unfolding(crate::specs::Container::container_call))]
-fn container_call<'a>(name: &[u8], words: Rest<'a>) -> Result<(Start<u128>, Rest<'a>), Cause>
+pub fn container_call<'a>(name: &[u8], words: Rest<'a>) -> Result<(Start<u128>, Rest<'a>), Cause>
     ensures { Gives (λ x. (x.0, words_left x.1)) result
         (container_call name.now (words_left words.entry)) }
 {
@@ -144,21 +143,6 @@ fn container_call<'a>(name: &[u8], words: Rest<'a>) -> Result<(Start<u128>, Rest
         Err(cause) => return Err(cause),
     };
     Ok((Start::Container(start), rest))
-}
-
-/// The call of this name on a container, with its arguments, and the words behind them.
-pub fn call<'a>(
-    kind: Kind,
-    name: &[u8],
-    words: Rest<'a>,
-) -> Option<Result<(Start<u128>, Rest<'a>), Cause>>
-    ensures { GivesIfAny (λ x. (x.0, words_left x.1)) result
-        (call kind name.now (words_left words.entry)) }
-{
-    match kind {
-        Kind::Container => Some(container_call(name, words)),
-        _ => None,
-    }
 }
 
 impl Line {
@@ -172,142 +156,81 @@ impl Line {
         self.push_number(value);
     }
 
-    fn push_container_call(&mut self, start: ContainerStart<u128>)
-        requires { length self.old + 128 ≤ 256 }
-        ensures text { self.new ≡ self.old ++ container_call_text start }
-        ensures short { length self.new ≤ length self.old + 128 }
+    /// Writes an event of an index and the value there: whose it is, and what was done.
+    pub fn push_placed_event(&mut self, party: u32, done: &str, index: u32, value: u128)
+        requires { length self.old + length done.now + 118 ≤ 256 }
+        ensures text { self.new ≡ self.old ++ decimal party ++ done.now ++ placed_text index value }
+        ensures short { length self.new ≤ length self.old + length done.now + 118 }
     {
-        match start {
-            ContainerStart::Add(value, owner) => {
-                self.push("add ");
-                self.push_number(value);
-                self.push(" ");
-                self.push_owner(owner);
-            }
-            ContainerStart::Remove(index, owner, mode) => {
-                self.push("remove ");
-                self.push_owned(index, owner);
-                self.push(" ");
-                self.push_mode(mode);
-            }
-            ContainerStart::Replace(index, value, owner) => {
-                self.push("replace ");
-                self.push_placed(index, value);
-                self.push(" ");
-                self.push_owner(owner);
-            }
-            ContainerStart::Find(owner) => {
-                self.push("find ");
-                self.push_owner(owner);
-            }
-            ContainerStart::Recover(owner, mode) => {
-                self.push("recover ");
-                self.push_owner(owner);
-                self.push(" ");
-                self.push_mode(mode);
-            }
-            ContainerStart::GetState => self.push("get_state"),
-            ContainerStart::UpdateState => self.push("update_state"),
-            ContainerStart::Len => self.push("len"),
-            ContainerStart::IsEmpty => self.push("is_empty"),
-            ContainerStart::IsLocked => self.push("is_locked"),
-        }
-    }
-
-    /// Writes why no value was added.
-    fn push_add_failure(&mut self, failure: ContainerAddFailure)
-        requires { length self.old + 10 ≤ 256 }
-        ensures text { self.new ≡ self.old ++ add_failure_text failure }
-        ensures short { length self.new ≤ length self.old + 10 }
-    {
-        match failure {
-            ContainerAddFailure::OutOfSpace => self.push("OutOfSpace"),
-            ContainerAddFailure::IsLocked => self.push("IsLocked"),
-        }
-    }
-
-    /// Writes why no value was removed or replaced.
-    fn push_remove_error(&mut self, failure: ContainerRemoveError)
-        requires { length self.old + 34 ≤ 256 }
-        ensures text { self.new ≡ self.old ++ remove_error_text failure }
-        ensures short { length self.new ≤ length self.old + 34 }
-    {
-        match failure {
-            ContainerRemoveError::ContainerHandleNotOwnedByContainer => {
-                self.push("ContainerHandleNotOwnedByContainer")
-            }
-        }
+        self.push_party(party, done);
+        self.push_placed(u64::from(index), value);
     }
 }
 
-/// Writes a call of the container with its arguments, and answers true. Of another it answers false.
-pub fn print_call(line: &mut Line, start: &Start<u128>) -> bool
+/// Writes a call with its arguments.
+pub fn print_call(line: &mut Line, start: ContainerStart<u128>)
     requires { length line.old + 128 ≤ 256 }
-    ensures text { line.new ≡ line.old ++ unwrap_or (call_text start.now) [] }
-    ensures own { result ≡ is_some (call_text start.now) }
+    ensures text { line.new ≡ line.old ++ call_text start }
     ensures short { length line.new ≤ length line.old + 128 }
 {
-    match *start {
-        Start::Container(start) => {
-            line.push_container_call(start);
-            true
+    match start {
+        ContainerStart::Add(value, owner) => {
+            line.push("add ");
+            line.push_number(value);
+            line.push(" ");
+            line.push_owner(owner);
         }
-        _ => false,
+        ContainerStart::Remove(index, owner, mode) => {
+            line.push("remove ");
+            line.push_owned(index, owner);
+            line.push(" ");
+            line.push_mode(mode);
+        }
+        ContainerStart::Replace(index, value, owner) => {
+            line.push("replace ");
+            line.push_placed(index, value);
+            line.push(" ");
+            line.push_owner(owner);
+        }
+        ContainerStart::Find(owner) => {
+            line.push("find ");
+            line.push_owner(owner);
+        }
+        ContainerStart::Recover(owner, mode) => {
+            line.push("recover ");
+            line.push_owner(owner);
+            line.push(" ");
+            line.push_mode(mode);
+        }
+        ContainerStart::GetState => line.push("get_state"),
+        ContainerStart::UpdateState => line.push("update_state"),
+        ContainerStart::Len => line.push("len"),
+        ContainerStart::IsEmpty => line.push("is_empty"),
+        ContainerStart::IsLocked => line.push("is_locked"),
     }
 }
 
-/// The same of an answer.
-pub fn print_answer(line: &mut Line, answer: &Answer<u128>) -> bool
-    requires { length line.old + 60 ≤ 256 }
-    ensures text { line.new ≡ line.old ++ unwrap_or (answer_text answer.now) [] }
-    ensures own { result ≡ is_some (answer_text answer.now) }
-    ensures short { length line.new ≤ length line.old + 60 }
+/// Writes why no value was added.
+pub fn print_add_failure(line: &mut Line, failure: ContainerAddFailure)
+    requires { length line.old + 10 ≤ 256 }
+    ensures text { line.new ≡ line.old ++ add_failure_text failure }
+    ensures short { length line.new ≤ length line.old + 10 }
 {
-    match *answer {
-        Answer::NoPlace(failure) => {
-            line.push_add_failure(failure);
-            true
-        }
-        Answer::NotRemoved(failure) => {
-            line.push_remove_error(failure);
-            true
-        }
-        _ => false,
+    match failure {
+        ContainerAddFailure::OutOfSpace => line.push("OutOfSpace"),
+        ContainerAddFailure::IsLocked => line.push("IsLocked"),
     }
 }
 
-/// The same of an event: whose it is, and what was done.
-pub fn print_event(line: &mut Line, event: &Event<u128>) -> bool
-    requires { length line.old + 160 ≤ 256 }
-    ensures text { line.new ≡ line.old ++ unwrap_or (event_text event.now) [] }
-    ensures own { result ≡ is_some (event_text event.now) }
-    ensures short { length line.new ≤ length line.old + 160 }
+/// Writes why no value was removed or replaced.
+pub fn print_remove_error(line: &mut Line, failure: ContainerRemoveError)
+    requires { length line.old + 34 ≤ 256 }
+    ensures text { line.new ≡ line.old ++ remove_error_text failure }
+    ensures short { length line.new ≤ length line.old + 34 }
 {
-    match *event {
-        Event::Placed(party, index, value) => {
-            line.push_number(u128::from(party));
-            line.push(" placed ");
-            line.push_placed(u64::from(index), value);
-            true
+    match failure {
+        ContainerRemoveError::ContainerHandleNotOwnedByContainer => {
+            line.push("ContainerHandleNotOwnedByContainer")
         }
-        Event::Hidden(party, index) => {
-            line.push_number(u128::from(party));
-            line.push(" hidden ");
-            line.push_number(u128::from(index));
-            true
-        }
-        Event::Copied(party, index, value) => {
-            line.push_number(u128::from(party));
-            line.push(" copied ");
-            line.push_placed(u64::from(index), value);
-            true
-        }
-        Event::Shown(party, index) => {
-            line.push_number(u128::from(party));
-            line.push(" shown ");
-            line.push_number(u128::from(index));
-            true
-        }
-        _ => false,
     }
 }

@@ -1,12 +1,11 @@
 //! What a line says, read word by word.
 ghost use Rattle.std.specs.Prelude.{◌≡◌, ◌≤◌, ◌-◌, ◌==◌, IfOk};
 ghost use Rattle.texts.specs.Text.{words_left, words};
-ghost use Rattle.texts.specs.Grammar.{Gives, next_word, ended, number_at, owner_at, kind_of, queue_at, setup_of, call_of, begin_of, count_of, next_of, decision_of, turn_of, death_of, command_of};
+ghost use Rattle.texts.specs.Grammar.{Gives, next_word, ended, number_at, owner_at, kind_of, queue_at, setup_of, begin_of, count_of, next_of, decision_of, turn_of, death_of, command_of};
 
 use crate::error::Cause;
 use crate::families;
 use crate::text::{Rest, number_of, words};
-use model::event::Start;
 use model::families::loan::is_loan;
 use model::turn::{Kind, Turn};
 use steps::enums::OwnerId;
@@ -118,28 +117,16 @@ pub fn setup_of(line: &[u8]) -> Result<Setup, Cause>
     })
 }
 
-// ---- calls
+// ---- turns
 
 // What holds an owner is passed on by a match: the borrow checker has no rule for `?` on it.
-
-fn call_of<'a>(kind: Kind, name: &[u8], words: Rest<'a>) -> Result<(Start<u128>, Rest<'a>), Cause>
-    ensures { Gives (λ x. (x.0, words_left x.1)) result
-        (call_of kind name.now (words_left words.entry)) }
-{
-    match families::call(kind, name, words) {
-        Some(call) => call,
-        None => unreachable!(),
-    }
-}
-
-// ---- turns
 
 #[tactic(auto, unfolding(crate::specs::Grammar::begin_of))]
 fn begin_of(kind: Kind, party: u32, words: Rest<'_>) -> Result<Command, Cause>
     ensures { Gives (λ command. command) result (begin_of kind party (words_left words.entry)) }
 {
     let (name, rest) = next_word(words)?;
-    let (start, rest) = match call_of(kind, name, rest) {
+    let (start, rest) = match families::call(kind, name, rest) {
         Ok(found) => found,
         Err(cause) => return Err(cause),
     };

@@ -1,9 +1,9 @@
 //! The calls of the unique index set, as a schedule names them and as they print. The robust index set has a room of
 //! its own within.
-ghost use Rattle.std.specs.Prelude.{◌≡◌, ◌+◌, ◌≤◌, ◌++◌, [], length, is_some, unwrap_or};
+ghost use Rattle.std.specs.Prelude.{◌≡◌, ◌+◌, ◌≤◌, ◌++◌, length};
 ghost use Rattle.texts.specs.Text.{words_left};
-ghost use Rattle.texts.specs.Grammar.{Gives, GivesIfAny};
-ghost use Rattle.texts.specs.Indices.{kind_of, mode_of, mode_at, release, any_index_call, index_call, call, mode_text, index_call_text, failure_text, state_text, call_text, answer_text, event_text};
+ghost use Rattle.texts.specs.Grammar.{Gives};
+ghost use Rattle.texts.specs.Indices.{kind_of, mode_of, mode_at, release, any_index_call, index_call, mode_text, call_text, failure_text, state_text};
 
 pub mod robust;
 
@@ -11,7 +11,7 @@ use crate::error::Cause;
 use crate::grammar::{next_word, number_at};
 use crate::line::Line;
 use crate::text::Rest;
-use model::event::{Answer, Event, Start};
+use model::event::Start;
 use model::families::indices::IndexStart;
 use model::turn::Kind;
 use steps::indices::enums::{ReleaseMode, ReleaseState, UniqueIndexSetAcquireFailure};
@@ -76,29 +76,14 @@ fn any_index_call<'a>(name: &[u8], words: Rest<'a>) -> Result<(IndexStart, Rest<
     }
 }
 
-// A call of the unique index set.
+/// A call of the unique index set.
 #[tactic(auto, unfolding(crate::specs::Indices::index_call))]
-fn index_call<'a>(name: &[u8], words: Rest<'a>) -> Result<(Start<u128>, Rest<'a>), Cause>
+pub fn index_call<'a>(name: &[u8], words: Rest<'a>) -> Result<(Start<u128>, Rest<'a>), Cause>
     ensures { Gives (λ x. (x.0, words_left x.1)) result
         (index_call name.now (words_left words.entry)) }
 {
     let (start, rest) = any_index_call(name, words)?;
     Ok((Start::Indices(start), rest))
-}
-
-/// The call of this name on a unique index set, with its arguments, and the words behind them.
-pub fn call<'a>(
-    kind: Kind,
-    name: &[u8],
-    words: Rest<'a>,
-) -> Option<Result<(Start<u128>, Rest<'a>), Cause>>
-    ensures { GivesIfAny (λ x. (x.0, words_left x.1)) result
-        (call kind name.now (words_left words.entry)) }
-{
-    match kind {
-        Kind::Indices => Some(index_call(name, words)),
-        _ => None,
-    }
 }
 
 impl Line {
@@ -113,115 +98,47 @@ impl Line {
             ReleaseMode::LockIfLastIndex => self.push("lock"),
         }
     }
-
-    fn push_index_call(&mut self, start: IndexStart)
-        requires { length self.old + 80 ≤ 256 }
-        ensures text { self.new ≡ self.old ++ index_call_text start }
-        ensures short { length self.new ≤ length self.old + 80 }
-    {
-        match start {
-            IndexStart::Acquire => self.push("acquire"),
-            IndexStart::Release(index, mode) => {
-                self.push("release ");
-                self.push_number(u128::from(index));
-                self.push(" ");
-                self.push_mode(mode);
-            }
-            IndexStart::BorrowedIndices => self.push("borrowed_indices"),
-            IndexStart::IsLocked => self.push("is_locked"),
-        }
-    }
-
-    /// Writes why an acquire hands out no index.
-    fn push_failure(&mut self, failure: UniqueIndexSetAcquireFailure)
-        requires { length self.old + 12 ≤ 256 }
-        ensures text { self.new ≡ self.old ++ failure_text failure }
-        ensures short { length self.new ≤ length self.old + 12 }
-    {
-        match failure {
-            UniqueIndexSetAcquireFailure::OutOfIndices => self.push("OutOfIndices"),
-            UniqueIndexSetAcquireFailure::IsLocked => self.push("IsLocked"),
-        }
-    }
-
-    /// Writes whether a release has locked the set.
-    fn push_state(&mut self, state: ReleaseState)
-        requires { length self.old + 8 ≤ 256 }
-        ensures text { self.new ≡ self.old ++ state_text state }
-        ensures short { length self.new ≤ length self.old + 8 }
-    {
-        match state {
-            ReleaseState::Locked => self.push("Locked"),
-            ReleaseState::Unlocked => self.push("Unlocked"),
-        }
-    }
 }
 
-/// Writes a call of the family with its arguments, and answers true. Of another it answers false.
-pub fn print_call(line: &mut Line, start: &Start<u128>) -> bool
+/// Writes a call with its arguments.
+pub fn print_call(line: &mut Line, start: IndexStart)
     requires { length line.old + 80 ≤ 256 }
-    ensures text { line.new ≡ line.old ++ unwrap_or (call_text start.now) [] }
-    ensures own { result ≡ is_some (call_text start.now) }
+    ensures text { line.new ≡ line.old ++ call_text start }
     ensures short { length line.new ≤ length line.old + 80 }
 {
-    match *start {
-        Start::Indices(start) => {
-            line.push_index_call(start);
-            true
+    match start {
+        IndexStart::Acquire => line.push("acquire"),
+        IndexStart::Release(index, mode) => {
+            line.push("release ");
+            line.push_number(u128::from(index));
+            line.push(" ");
+            line.push_mode(mode);
         }
-        _ => false,
+        IndexStart::BorrowedIndices => line.push("borrowed_indices"),
+        IndexStart::IsLocked => line.push("is_locked"),
     }
 }
 
-/// The same of an answer.
-pub fn print_answer(line: &mut Line, answer: &Answer<u128>) -> bool
-    requires { length line.old + 60 ≤ 256 }
-    ensures text { line.new ≡ line.old ++ unwrap_or (answer_text answer.now) [] }
-    ensures own { result ≡ is_some (answer_text answer.now) }
-    ensures short { length line.new ≤ length line.old + 60 }
+/// Writes why an acquire hands out no index.
+pub fn print_failure(line: &mut Line, failure: UniqueIndexSetAcquireFailure)
+    requires { length line.old + 12 ≤ 256 }
+    ensures text { line.new ≡ line.old ++ failure_text failure }
+    ensures short { length line.new ≤ length line.old + 12 }
 {
-    match *answer {
-        Answer::Index(index) => {
-            line.push_number(u128::from(index));
-            true
-        }
-        Answer::NoIndex(failure) => {
-            line.push_failure(failure);
-            true
-        }
-        Answer::State(state) => {
-            line.push_state(state);
-            true
-        }
-        _ => false,
+    match failure {
+        UniqueIndexSetAcquireFailure::OutOfIndices => line.push("OutOfIndices"),
+        UniqueIndexSetAcquireFailure::IsLocked => line.push("IsLocked"),
     }
 }
 
-/// The same of an event: whose it is, and what was done.
-pub fn print_event(line: &mut Line, event: &Event<u128>) -> bool
-    requires { length line.old + 160 ≤ 256 }
-    ensures text { line.new ≡ line.old ++ unwrap_or (event_text event.now) [] }
-    ensures own { result ≡ is_some (event_text event.now) }
-    ensures short { length line.new ≤ length line.old + 160 }
+/// Writes whether a release has locked the set.
+pub fn print_state(line: &mut Line, state: ReleaseState)
+    requires { length line.old + 8 ≤ 256 }
+    ensures text { line.new ≡ line.old ++ state_text state }
+    ensures short { length line.new ≤ length line.old + 8 }
 {
-    match *event {
-        Event::Claimed(party, index) => {
-            line.push_number(u128::from(party));
-            line.push(" claimed ");
-            line.push_number(u128::from(index));
-            true
-        }
-        Event::Freed(party, index) => {
-            line.push_number(u128::from(party));
-            line.push(" freed ");
-            line.push_number(u128::from(index));
-            true
-        }
-        Event::Locked(party) => {
-            line.push_number(u128::from(party));
-            line.push(" locked");
-            true
-        }
-        _ => false,
+    match state {
+        ReleaseState::Locked => line.push("Locked"),
+        ReleaseState::Unlocked => line.push("Unlocked"),
     }
 }

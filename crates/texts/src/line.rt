@@ -1,10 +1,10 @@
 //! A line that is being made, in room of its own, so that printing takes no memory.
 ghost use Rattle.std.specs.Prelude.{◌≡◌, ◌+◌, ◌≤◌, ◌<◌, ◌++◌, [], length, decimal};
-ghost use Rattle.texts.specs.Print.{call_text, answer_text, answered_text, event_text, refusal_name, refusal_text, cause_text, error_text};
+ghost use Rattle.texts.specs.Print.{event_text, refusal_name, refusal_text, cause_text, error_text};
 
 use crate::error::{Cause, ScheduleError};
 use crate::families;
-use model::event::{Answer, Event, Start};
+use model::event::Event;
 use model::turn::Refusal;
 use std::marker::Model;
 
@@ -85,40 +85,24 @@ impl Line {
         self.push_bytes(&digits[at..]);
     }
 
-    fn push_call(&mut self, start: &Start<u128>)
-        requires { length self.old + 128 ≤ ROOM }
-        ensures text { self.new ≡ self.old ++ call_text start.now }
-        ensures short { length self.new ≤ length self.old + 128 }
+    /// Writes whose event it is, and what was done.
+    pub fn push_party(&mut self, party: u32, done: &str)
+        requires { length self.old + length done.now + 39 ≤ ROOM }
+        ensures text { self.new ≡ self.old ++ decimal party ++ done.now }
+        ensures short { length self.new ≤ length self.old + length done.now + 39 }
     {
-        let said = families::print_call(self, start);
-        prove!(said); // each call is a family's
+        self.push_number(u128::from(party));
+        self.push(done);
     }
 
-    fn push_answer(&mut self, answer: &Answer<u128>)
-        requires { length self.old + 60 ≤ ROOM }
-        ensures text { self.new ≡ self.old ++ answer_text answer.now }
-        ensures short { length self.new ≤ length self.old + 60 }
+    /// Writes whose event it is, and what was done to which place.
+    pub fn push_event(&mut self, party: u32, done: &str, place: u64)
+        requires { length self.old + length done.now + 78 ≤ ROOM }
+        ensures text { self.new ≡ self.old ++ decimal party ++ done.now ++ decimal place }
+        ensures short { length self.new ≤ length self.old + length done.now + 78 }
     {
-        match *answer {
-            Answer::Done => self.push("done"),
-            Answer::Truth(true) => self.push("true"),
-            Answer::Truth(false) => self.push("false"),
-            Answer::Number(number) => self.push_number(u128::from(number)),
-            _ => {
-                let said = families::print_answer(self, answer);
-                prove!(said); // any other answer is a family's
-            }
-        }
-    }
-
-    fn push_answered(&mut self, start: &Start<u128>, answer: &Answer<u128>)
-        requires { length self.old + 192 ≤ ROOM }
-        ensures text { self.new ≡ self.old ++ answered_text start.now answer.now }
-        ensures short { length self.new ≤ length self.old + 192 }
-    {
-        self.push_call(start);
-        self.push(" -> ");
-        self.push_answer(answer);
+        self.push_party(party, done);
+        self.push_number(u128::from(place));
     }
 
     /// The line of an event, with its line feed.
@@ -127,27 +111,7 @@ impl Line {
         ensures { result ≡ event_text event.now }
     {
         let mut line = Line::new();
-        match event {
-            Event::Begun(party, start) => {
-                line.push_number(u128::from(*party));
-                line.push(" begun ");
-                line.push_call(start);
-            }
-            Event::Acted(party, start, answer) => {
-                line.push_number(u128::from(*party));
-                line.push(" acted ");
-                line.push_answered(start, answer);
-            }
-            Event::Finished(party, start, answer) => {
-                line.push_number(u128::from(*party));
-                line.push(" finished ");
-                line.push_answered(start, answer);
-            }
-            _ => {
-                let said = families::print_event(&mut line, event);
-                prove!(said); // any other event is a family's
-            }
-        }
+        families::print_event(&mut line, event);
         line.push("\n");
         line
     }

@@ -1,15 +1,14 @@
-//! The calls of the loan channel, as a schedule names them and as they print. Its answers, and what it does to an index
-//! or to a queue but give an index back or take it back, print as those of the sets of indices and of the queues.
-ghost use Rattle.std.specs.Prelude.{◌≡◌, ◌+◌, ◌≤◌, ◌++◌, [], length, is_some, unwrap_or};
+//! The calls of the loan channel, as a schedule names them and as they print.
+ghost use Rattle.std.specs.Prelude.{◌≡◌, ◌+◌, ◌≤◌, ◌++◌, length};
 ghost use Rattle.texts.specs.Text.{words_left};
-ghost use Rattle.texts.specs.Grammar.{Gives, GivesIfAny};
-ghost use Rattle.texts.specs.Loan.{kind_of, send, give_up, give_back, bare_call, any_loan_call, loan_call, call, loan_call_text, call_text, answer_text, event_text};
+ghost use Rattle.texts.specs.Grammar.{Gives};
+ghost use Rattle.texts.specs.Loan.{kind_of, send, give_up, give_back, bare_call, any_loan_call, loan_call, call_text};
 
 use crate::error::Cause;
 use crate::grammar::number_at;
 use crate::line::Line;
 use crate::text::Rest;
-use model::event::{Answer, Event, Start};
+use model::event::Start;
 use model::families::loan::LoanStart;
 use model::turn::Kind;
 
@@ -83,9 +82,9 @@ fn any_loan_call<'a>(name: &[u8], words: Rest<'a>) -> Result<(LoanStart, Rest<'a
     }
 }
 
-// A call of the loan channel.
+/// A call of the loan channel.
 #[tactic(auto, unfolding(crate::specs::Loan::loan_call))]
-fn loan_call<'a>(name: &[u8], words: Rest<'a>) -> Result<(Start<u128>, Rest<'a>), Cause>
+pub fn loan_call<'a>(name: &[u8], words: Rest<'a>) -> Result<(Start<u128>, Rest<'a>), Cause>
     ensures { Gives (λ x. (x.0, words_left x.1)) result
         (loan_call name.now (words_left words.entry)) }
 {
@@ -93,95 +92,28 @@ fn loan_call<'a>(name: &[u8], words: Rest<'a>) -> Result<(Start<u128>, Rest<'a>)
     Ok((Start::Loan(start), rest))
 }
 
-/// The call of this name on a loan channel, with its arguments, and the words behind them.
-pub fn call<'a>(
-    kind: Kind,
-    name: &[u8],
-    words: Rest<'a>,
-) -> Option<Result<(Start<u128>, Rest<'a>), Cause>>
-    ensures { GivesIfAny (λ x. (x.0, words_left x.1)) result
-        (call kind name.now (words_left words.entry)) }
-{
-    match kind {
-        Kind::Loan => Some(loan_call(name, words)),
-        _ => None,
-    }
-}
-
-impl Line {
-    fn push_loan_call(&mut self, start: LoanStart)
-        requires { length self.old + 60 ≤ 256 }
-        ensures text { self.new ≡ self.old ++ loan_call_text start }
-        ensures short { length self.new ≤ length self.old + 60 }
-    {
-        match start {
-            LoanStart::Loan => self.push("loan"),
-            LoanStart::Send(index) => {
-                self.push("send ");
-                self.push_number(u128::from(index));
-            }
-            LoanStart::GiveUp(index) => {
-                self.push("give_up ");
-                self.push_number(u128::from(index));
-            }
-            LoanStart::TakeBack => self.push("take_back"),
-            LoanStart::Receive => self.push("receive"),
-            LoanStart::GiveBack(index) => {
-                self.push("give_back ");
-                self.push_number(u128::from(index));
-            }
-            LoanStart::Reclaim => self.push("reclaim"),
-        }
-    }
-}
-
-/// Writes a call of the loan channel with its arguments, and answers true. Of another it answers false.
-pub fn print_call(line: &mut Line, start: &Start<u128>) -> bool
+/// Writes a call with its arguments.
+pub fn print_call(line: &mut Line, start: LoanStart)
     requires { length line.old + 60 ≤ 256 }
-    ensures text { line.new ≡ line.old ++ unwrap_or (call_text start.now) [] }
-    ensures own { result ≡ is_some (call_text start.now) }
+    ensures text { line.new ≡ line.old ++ call_text start }
     ensures short { length line.new ≤ length line.old + 60 }
 {
-    match *start {
-        Start::Loan(start) => {
-            line.push_loan_call(start);
-            true
-        }
-        _ => false,
-    }
-}
-
-/// The channel has no answer of its own.
-pub fn print_answer(line: &mut Line, answer: &Answer<u128>) -> bool
-    ensures text { line.new ≡ line.old ++ unwrap_or (answer_text answer.now) [] }
-    ensures own { result ≡ is_some (answer_text answer.now) }
-    ensures short { length line.new ≤ length line.old }
-{
-    let _ = line;
-    let _ = answer;
-    false
-}
-
-/// Writes an event of the loan channel: whose it is, and what was done.
-pub fn print_event(line: &mut Line, event: &Event<u128>) -> bool
-    requires { length line.old + 160 ≤ 256 }
-    ensures text { line.new ≡ line.old ++ unwrap_or (event_text event.now) [] }
-    ensures own { result ≡ is_some (event_text event.now) }
-    ensures short { length line.new ≤ length line.old + 160 }
-{
-    match *event {
-        Event::Returned(party, index) => {
-            line.push_number(u128::from(party));
-            line.push(" returned ");
+    match start {
+        LoanStart::Loan => line.push("loan"),
+        LoanStart::Send(index) => {
+            line.push("send ");
             line.push_number(u128::from(index));
-            true
         }
-        Event::TakenBack(party, index) => {
-            line.push_number(u128::from(party));
-            line.push(" taken_back ");
+        LoanStart::GiveUp(index) => {
+            line.push("give_up ");
             line.push_number(u128::from(index));
-            true
         }
-        _ => false,
+        LoanStart::TakeBack => line.push("take_back"),
+        LoanStart::Receive => line.push("receive"),
+        LoanStart::GiveBack(index) => {
+            line.push("give_back ");
+            line.push_number(u128::from(index));
+        }
+        LoanStart::Reclaim => line.push("reclaim"),
     }
 }

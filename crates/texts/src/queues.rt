@@ -1,14 +1,14 @@
 //! The calls of the queues, as a schedule names them and as they print.
-ghost use Rattle.std.specs.Prelude.{◌≡◌, ◌+◌, ◌≤◌, ◌++◌, [], length, is_some, unwrap_or};
+ghost use Rattle.std.specs.Prelude.{◌≡◌, ◌+◌, ◌≤◌, ◌++◌, length, decimal};
 ghost use Rattle.texts.specs.Text.{words_left};
-ghost use Rattle.texts.specs.Grammar.{Gives, GivesIfAny};
-ghost use Rattle.texts.specs.Queues.{kind_of, role_call, length_call, push_index, push_value, push_call, item_call, any_call, queue_call, index_queue_call, value_queue_call, call, queue_call_text, call_text, answer_text, item_text, event_text};
+ghost use Rattle.texts.specs.Grammar.{Gives};
+ghost use Rattle.texts.specs.Queues.{kind_of, role_call, length_call, push_index, push_value, push_call, item_call, any_call, queue_call, index_queue_call, value_queue_call, call_text, item_text};
 
 use crate::error::Cause;
 use crate::grammar::number_at;
 use crate::line::Line;
 use crate::text::Rest;
-use model::event::{Answer, Event, Item, Start};
+use model::event::{Item, Start};
 use model::families::queues::QueueStart;
 use model::turn::Kind;
 
@@ -133,65 +133,23 @@ fn queue_call<'a>(
     Ok((Start::Queues(start), rest))
 }
 
-// A call of a queue of indices.
-fn index_queue_call<'a>(name: &[u8], words: Rest<'a>) -> Result<(Start<u128>, Rest<'a>), Cause>
+/// A call of a queue of indices.
+pub fn index_queue_call<'a>(name: &[u8], words: Rest<'a>) -> Result<(Start<u128>, Rest<'a>), Cause>
     ensures { Gives (λ x. (x.0, words_left x.1)) result
         (index_queue_call name.now (words_left words.entry)) }
 {
     queue_call(false, name, words)
 }
 
-// A call of a queue of values.
-fn value_queue_call<'a>(name: &[u8], words: Rest<'a>) -> Result<(Start<u128>, Rest<'a>), Cause>
+/// A call of a queue of values.
+pub fn value_queue_call<'a>(name: &[u8], words: Rest<'a>) -> Result<(Start<u128>, Rest<'a>), Cause>
     ensures { Gives (λ x. (x.0, words_left x.1)) result
         (value_queue_call name.now (words_left words.entry)) }
 {
     queue_call(true, name, words)
 }
 
-/// The call of this name on a queue of this kind, with its arguments, and the words behind them.
-pub fn call<'a>(
-    kind: Kind,
-    name: &[u8],
-    words: Rest<'a>,
-) -> Option<Result<(Start<u128>, Rest<'a>), Cause>>
-    ensures { GivesIfAny (λ x. (x.0, words_left x.1)) result
-        (call kind name.now (words_left words.entry)) }
-{
-    match kind {
-        Kind::IndexQueue => Some(index_queue_call(name, words)),
-        Kind::Overflow => Some(index_queue_call(name, words)),
-        Kind::Queue => Some(value_queue_call(name, words)),
-        _ => None,
-    }
-}
-
 impl Line {
-    fn push_queue_call(&mut self, start: QueueStart<u128>)
-        requires { length self.old + 80 ≤ 256 }
-        ensures text { self.new ≡ self.old ++ queue_call_text start }
-        ensures short { length self.new ≤ length self.old + 80 }
-    {
-        match start {
-            QueueStart::AcquireProducer => self.push("acquire_producer"),
-            QueueStart::ReleaseProducer => self.push("release_producer"),
-            QueueStart::AcquireConsumer => self.push("acquire_consumer"),
-            QueueStart::ReleaseConsumer => self.push("release_consumer"),
-            QueueStart::PushIndex(index) => {
-                self.push("push ");
-                self.push_number(u128::from(index));
-            }
-            QueueStart::Push(value) => {
-                self.push("push ");
-                self.push_number(value);
-            }
-            QueueStart::Pop => self.push("pop"),
-            QueueStart::Len => self.push("len"),
-            QueueStart::IsEmpty => self.push("is_empty"),
-            QueueStart::IsFull => self.push("is_full"),
-        }
-    }
-
     fn push_item(&mut self, item: Item<u128>)
         requires { length self.old + 39 ≤ 256 }
         ensures text { self.new ≡ self.old ++ item_text item }
@@ -202,70 +160,40 @@ impl Line {
             Item::Value(number) => self.push_number(number),
         }
     }
+
+    /// Writes an event of a queue: whose it is, what was done, and to which of its values.
+    pub fn push_item_event(&mut self, party: u32, done: &str, item: Item<u128>)
+        requires { length self.old + length done.now + 78 ≤ 256 }
+        ensures text { self.new ≡ self.old ++ decimal party ++ done.now ++ item_text item }
+        ensures short { length self.new ≤ length self.old + length done.now + 78 }
+    {
+        self.push_party(party, done);
+        self.push_item(item);
+    }
 }
 
-/// Writes a call of the family with its arguments, and answers true. Of another it answers false.
-pub fn print_call(line: &mut Line, start: &Start<u128>) -> bool
+/// Writes a call with its arguments.
+pub fn print_call(line: &mut Line, start: QueueStart<u128>)
     requires { length line.old + 80 ≤ 256 }
-    ensures text { line.new ≡ line.old ++ unwrap_or (call_text start.now) [] }
-    ensures own { result ≡ is_some (call_text start.now) }
+    ensures text { line.new ≡ line.old ++ call_text start }
     ensures short { length line.new ≤ length line.old + 80 }
 {
-    match *start {
-        Start::Queues(start) => {
-            line.push_queue_call(start);
-            true
-        }
-        _ => false,
-    }
-}
-
-/// The same of an answer.
-pub fn print_answer(line: &mut Line, answer: &Answer<u128>) -> bool
-    requires { length line.old + 60 ≤ 256 }
-    ensures text { line.new ≡ line.old ++ unwrap_or (answer_text answer.now) [] }
-    ensures own { result ≡ is_some (answer_text answer.now) }
-    ensures short { length line.new ≤ length line.old + 60 }
-{
-    match *answer {
-        Answer::PoppedNone => {
-            line.push("none");
-            true
-        }
-        Answer::PoppedIndex(index) => {
-            line.push("some ");
+    match start {
+        QueueStart::AcquireProducer => line.push("acquire_producer"),
+        QueueStart::ReleaseProducer => line.push("release_producer"),
+        QueueStart::AcquireConsumer => line.push("acquire_consumer"),
+        QueueStart::ReleaseConsumer => line.push("release_consumer"),
+        QueueStart::PushIndex(index) => {
+            line.push("push ");
             line.push_number(u128::from(index));
-            true
         }
-        Answer::Popped(value) => {
-            line.push("some ");
+        QueueStart::Push(value) => {
+            line.push("push ");
             line.push_number(value);
-            true
         }
-        _ => false,
-    }
-}
-
-/// The same of an event: whose it is, and what was done.
-pub fn print_event(line: &mut Line, event: &Event<u128>) -> bool
-    requires { length line.old + 160 ≤ 256 }
-    ensures text { line.new ≡ line.old ++ unwrap_or (event_text event.now) [] }
-    ensures own { result ≡ is_some (event_text event.now) }
-    ensures short { length line.new ≤ length line.old + 160 }
-{
-    match *event {
-        Event::Published(party, item) => {
-            line.push_number(u128::from(party));
-            line.push(" published ");
-            line.push_item(item);
-            true
-        }
-        Event::HandedOut(party, item) => {
-            line.push_number(u128::from(party));
-            line.push(" handed_out ");
-            line.push_item(item);
-            true
-        }
-        _ => false,
+        QueueStart::Pop => line.push("pop"),
+        QueueStart::Len => line.push("len"),
+        QueueStart::IsEmpty => line.push("is_empty"),
+        QueueStart::IsFull => line.push("is_full"),
     }
 }

@@ -1,12 +1,7 @@
--- The calls of the robust index set, as a schedule names them and as they print. What it answers
--- and writes down as the unique index set does stands in the file of that set.
+-- The calls of the robust index set, as a schedule names them and as they print.
 use Rattle.std.specs.Prelude.{ℕ, ◌-◌, ◌^◌, List, ◌++◌, Option, Some, None, Result, Ok, Err, if◌then◌else◌, bytes_eq, codes, decimal}
 use Rattle.steps.specs.declared.indices.enums.RobustUniqueIndexSetReleaseError.{RobustUniqueIndexSetReleaseError}
 use Rattle.steps.specs.declared.indices.enums.RobustUniqueIndexSetReleaseError.TheVariants.{IndexIsNotOwnedByProvidedOwner}
-use Rattle.model.specs.declared.event.Answer.{Answer}
-use Rattle.model.specs.declared.event.Answer.TheVariants.{NotOwned}
-use Rattle.model.specs.declared.event.Event.{Event}
-use Rattle.model.specs.declared.event.Event.TheVariants.{Filled, Granted, FreedOf, Asked, Told, Died}
 use Rattle.model.specs.declared.event.Start.{Start}
 use Rattle.model.specs.declared.event.Start.TheVariants.{Robust}
 use Rattle.model.specs.declared.families.indices.robust.RobustStart.{RobustStart}
@@ -15,7 +10,6 @@ use Rattle.model.specs.declared.turn.Kind.{Kind}
 use Rattle.model.specs.declared.turn.Kind as kinds
 use Rattle.texts.specs.declared.error.Cause.{Cause}
 use Rattle.texts.specs.declared.error.Cause.TheVariants.{UnknownCall}
-use Rattle.texts.specs.Family.{Family}
 use Rattle.texts.specs.Indices.{mode_at, mode_text}
 use Rattle.texts.specs.Reading.{◌>>=◌, number_at, owner_at}
 
@@ -63,60 +57,20 @@ robust_call name ws = do
   call ← any_robust_call name ws
   Ok (Robust call.0, call.1)
 
-abbrev pub call : Kind → List ℕ → List (List ℕ)
-    → Option (Result (Start ℕ × List (List ℕ)) Cause)
-call kinds.TheVariants.Robust name ws = Some (robust_call name ws)
-call kind name ws = None
-
 -- ---- how they print
 
 -- an index and its owner
 abbrev pub owned_text : ℕ → ℕ → List ℕ
 owned_text index owner = decimal index ++ codes " " ++ decimal owner
 
-abbrev pub robust_call_text : RobustStart → List ℕ
-robust_call_text (Acquire owner) = codes "acquire " ++ decimal owner
-robust_call_text (Release index owner mode) =
+abbrev pub call_text : RobustStart → List ℕ
+call_text (Acquire owner) = codes "acquire " ++ decimal owner
+call_text (Release index owner mode) =
     codes "release " ++ owned_text index owner ++ codes " " ++ mode_text mode
-robust_call_text (Find owner) = codes "find " ++ decimal owner
-robust_call_text (Recover mode) = codes "recover " ++ mode_text mode
-robust_call_text BorrowedIndices = codes "borrowed_indices"
-robust_call_text IsLocked = codes "is_locked"
-
-abbrev pub call_text : Start ℕ → Option (List ℕ)
-call_text (Robust start) = Some (robust_call_text start)
-call_text start = None
+call_text (Find owner) = codes "find " ++ decimal owner
+call_text (Recover mode) = codes "recover " ++ mode_text mode
+call_text BorrowedIndices = codes "borrowed_indices"
+call_text IsLocked = codes "is_locked"
 
 abbrev pub failure_text : RobustUniqueIndexSetReleaseError → List ℕ
 failure_text IndexIsNotOwnedByProvidedOwner = codes "IndexIsNotOwnedByProvidedOwner"
-
-abbrev pub answer_text : Answer ℕ → Option (List ℕ)
-answer_text (NotOwned failure) = Some (failure_text failure)
-answer_text answer = None
-
--- a death is no party's
-abbrev pub event_text : Event ℕ → Option (List ℕ)
-event_text (Filled party index owner) =
-    Some (decimal party ++ codes " filled " ++ owned_text index owner)
-event_text (Granted party index owner) =
-    Some (decimal party ++ codes " granted " ++ owned_text index owner)
-event_text (FreedOf party index owner) =
-    Some (decimal party ++ codes " freed " ++ owned_text index owner)
-event_text (Asked party index owner) =
-    Some (decimal party ++ codes " asked " ++ owned_text index owner)
-event_text (Told party index owner) =
-    Some (decimal party ++ codes " told " ++ owned_text index owner)
-event_text (Died owner) = Some (codes "died " ++ decimal owner)
-event_text event = None
-
--- ---- all that the room says
-
-abbrev pub family : Family
-family =
-    record {
-      kind = kind_of;
-      call = call;
-      call_text = call_text;
-      answer_text = answer_text;
-      event_text = event_text;
-    }

@@ -1,16 +1,15 @@
-//! The calls of the robust index set, as a schedule names them and as they print. The index or the state that it
-//! answers, and that it is locked, print as those of the unique index set.
-ghost use Rattle.std.specs.Prelude.{◌≡◌, ◌+◌, ◌≤◌, ◌++◌, [], length, is_some, unwrap_or, decimal};
+//! The calls of the robust index set, as a schedule names them and as they print.
+ghost use Rattle.std.specs.Prelude.{◌≡◌, ◌+◌, ◌≤◌, ◌++◌, length, decimal};
 ghost use Rattle.texts.specs.Text.{words_left};
-ghost use Rattle.texts.specs.Grammar.{Gives, GivesIfAny};
-ghost use Rattle.texts.specs.Indices.Robust.{kind_of, acquire, release, find, recover, any_robust_call, robust_call, call, owned_text, robust_call_text, failure_text, call_text, answer_text, event_text};
+ghost use Rattle.texts.specs.Grammar.{Gives};
+ghost use Rattle.texts.specs.Indices.Robust.{kind_of, acquire, release, find, recover, any_robust_call, robust_call, owned_text, call_text, failure_text};
 
 use super::mode_at;
 use crate::error::Cause;
 use crate::grammar::{number_at, owner_at};
 use crate::line::Line;
 use crate::text::Rest;
-use model::event::{Answer, Event, Start};
+use model::event::Start;
 use model::families::indices::robust::RobustStart;
 use model::turn::Kind;
 use steps::enums::OwnerId;
@@ -94,9 +93,9 @@ fn any_robust_call<'a>(name: &[u8], words: Rest<'a>) -> Result<(RobustStart, Res
     }
 }
 
-// A call of the robust index set.
+/// A call of the robust index set.
 #[tactic(auto, unfolding(crate::specs::Indices::Robust::robust_call))]
-fn robust_call<'a>(name: &[u8], words: Rest<'a>) -> Result<(Start<u128>, Rest<'a>), Cause>
+pub fn robust_call<'a>(name: &[u8], words: Rest<'a>) -> Result<(Start<u128>, Rest<'a>), Cause>
     ensures { Gives (λ x. (x.0, words_left x.1)) result
         (robust_call name.now (words_left words.entry)) }
 {
@@ -105,21 +104,6 @@ fn robust_call<'a>(name: &[u8], words: Rest<'a>) -> Result<(Start<u128>, Rest<'a
         Err(cause) => return Err(cause),
     };
     Ok((Start::Robust(start), rest))
-}
-
-/// The call of this name on a robust index set, with its arguments, and the words behind them.
-pub fn call<'a>(
-    kind: Kind,
-    name: &[u8],
-    words: Rest<'a>,
-) -> Option<Result<(Start<u128>, Rest<'a>), Cause>>
-    ensures { GivesIfAny (λ x. (x.0, words_left x.1)) result
-        (call kind name.now (words_left words.entry)) }
-{
-    match kind {
-        Kind::Robust => Some(robust_call(name, words)),
-        _ => None,
-    }
 }
 
 impl Line {
@@ -143,124 +127,56 @@ impl Line {
         self.push_owner(owner);
     }
 
-    fn push_robust_call(&mut self, start: RobustStart)
-        requires { length self.old + 96 ≤ 256 }
-        ensures text { self.new ≡ self.old ++ robust_call_text start }
-        ensures short { length self.new ≤ length self.old + 96 }
+    /// Writes an event of an index and its owner: whose it is, and what was done.
+    pub fn push_owned_event(&mut self, party: u32, done: &str, index: u32, owner: OwnerId)
+        requires { length self.old + length done.now + 118 ≤ 256 }
+        ensures text { self.new ≡ self.old ++ decimal party ++ done.now ++ owned_text index owner }
+        ensures short { length self.new ≤ length self.old + length done.now + 118 }
     {
-        match start {
-            RobustStart::Acquire(owner) => {
-                self.push("acquire ");
-                self.push_owner(owner);
-            }
-            RobustStart::Release(index, owner, mode) => {
-                self.push("release ");
-                self.push_owned(index, owner);
-                self.push(" ");
-                self.push_mode(mode);
-            }
-            RobustStart::Find(owner) => {
-                self.push("find ");
-                self.push_owner(owner);
-            }
-            RobustStart::Recover(mode) => {
-                self.push("recover ");
-                self.push_mode(mode);
-            }
-            RobustStart::BorrowedIndices => self.push("borrowed_indices"),
-            RobustStart::IsLocked => self.push("is_locked"),
-        }
-    }
-
-    /// Writes why a release gives nothing back.
-    fn push_release_failure(&mut self, failure: RobustUniqueIndexSetReleaseError)
-        requires { length self.old + 30 ≤ 256 }
-        ensures text { self.new ≡ self.old ++ failure_text failure }
-        ensures short { length self.new ≤ length self.old + 30 }
-    {
-        match failure {
-            RobustUniqueIndexSetReleaseError::IndexIsNotOwnedByProvidedOwner => {
-                self.push("IndexIsNotOwnedByProvidedOwner")
-            }
-        }
+        self.push_party(party, done);
+        self.push_owned(u64::from(index), owner);
     }
 }
 
-/// Writes a call of the set with its arguments, and answers true. Of another it answers false.
-pub fn print_call(line: &mut Line, start: &Start<u128>) -> bool
+/// Writes a call with its arguments.
+pub fn print_call(line: &mut Line, start: RobustStart)
     requires { length line.old + 96 ≤ 256 }
-    ensures text { line.new ≡ line.old ++ unwrap_or (call_text start.now) [] }
-    ensures own { result ≡ is_some (call_text start.now) }
+    ensures text { line.new ≡ line.old ++ call_text start }
     ensures short { length line.new ≤ length line.old + 96 }
 {
-    match *start {
-        Start::Robust(start) => {
-            line.push_robust_call(start);
-            true
-        }
-        _ => false,
-    }
-}
-
-/// The same of an answer.
-pub fn print_answer(line: &mut Line, answer: &Answer<u128>) -> bool
-    requires { length line.old + 60 ≤ 256 }
-    ensures text { line.new ≡ line.old ++ unwrap_or (answer_text answer.now) [] }
-    ensures own { result ≡ is_some (answer_text answer.now) }
-    ensures short { length line.new ≤ length line.old + 60 }
-{
-    match *answer {
-        Answer::NotOwned(failure) => {
-            line.push_release_failure(failure);
-            true
-        }
-        _ => false,
-    }
-}
-
-/// The same of an event: whose it is, and what was done. A death is no party's.
-pub fn print_event(line: &mut Line, event: &Event<u128>) -> bool
-    requires { length line.old + 160 ≤ 256 }
-    ensures text { line.new ≡ line.old ++ unwrap_or (event_text event.now) [] }
-    ensures own { result ≡ is_some (event_text event.now) }
-    ensures short { length line.new ≤ length line.old + 160 }
-{
-    match *event {
-        Event::Filled(party, index, owner) => {
-            line.push_number(u128::from(party));
-            line.push(" filled ");
-            line.push_owned(u64::from(index), owner);
-            true
-        }
-        Event::Granted(party, index, owner) => {
-            line.push_number(u128::from(party));
-            line.push(" granted ");
-            line.push_owned(u64::from(index), owner);
-            true
-        }
-        Event::FreedOf(party, index, owner) => {
-            line.push_number(u128::from(party));
-            line.push(" freed ");
-            line.push_owned(u64::from(index), owner);
-            true
-        }
-        Event::Asked(party, index, owner) => {
-            line.push_number(u128::from(party));
-            line.push(" asked ");
-            line.push_owned(u64::from(index), owner);
-            true
-        }
-        Event::Told(party, index, owner) => {
-            line.push_number(u128::from(party));
-            line.push(" told ");
-            line.push_owned(u64::from(index), owner);
-            true
-        }
-        Event::Died(owner) => {
-            line.push("died ");
+    match start {
+        RobustStart::Acquire(owner) => {
+            line.push("acquire ");
             line.push_owner(owner);
-            true
         }
-        _ => false,
+        RobustStart::Release(index, owner, mode) => {
+            line.push("release ");
+            line.push_owned(index, owner);
+            line.push(" ");
+            line.push_mode(mode);
+        }
+        RobustStart::Find(owner) => {
+            line.push("find ");
+            line.push_owner(owner);
+        }
+        RobustStart::Recover(mode) => {
+            line.push("recover ");
+            line.push_mode(mode);
+        }
+        RobustStart::BorrowedIndices => line.push("borrowed_indices"),
+        RobustStart::IsLocked => line.push("is_locked"),
+    }
+}
+
+/// Writes why a release gives nothing back.
+pub fn print_failure(line: &mut Line, failure: RobustUniqueIndexSetReleaseError)
+    requires { length line.old + 30 ≤ 256 }
+    ensures text { line.new ≡ line.old ++ failure_text failure }
+    ensures short { length line.new ≤ length line.old + 30 }
+{
+    match failure {
+        RobustUniqueIndexSetReleaseError::IndexIsNotOwnedByProvidedOwner => {
+            line.push("IndexIsNotOwnedByProvidedOwner")
+        }
     }
 }
