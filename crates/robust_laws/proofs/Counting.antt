@@ -1,5 +1,5 @@
 -- Counts of indices in a call that comes to them one after another.
-use Rattle.std.proofs.Common.{◌≡◌, ◌≢◌, ℕ, zero, suc, ◌+◌, ◌-◌, ◌*◌, ◌<◌, ◌≤◌, ◌==◌, ⊎_elim, if◌then◌else◌, Bool, true, false, List, ◌++◌, refl, sym, ap, subst, ◌∙◌, arith, eq-eqb, ne_eqb}
+use Rattle.std.proofs.Common.{◌≡◌, ◌≢◌, ℕ, zero, suc, ◌+◌, ◌*◌, ◌<◌, ◌≤◌, ◌==◌, ⊎_elim, if◌then◌else◌, Bool, true, false, List, ◌++◌, refl, sym, ap, subst, ◌∙◌, arith, eq-eqb, ne_eqb}
 use Rattle.std.proofs.lemmas.Bool.{cases_eq}
 use Rattle.model.specs.declared.event.Event.{Event}
 use Rattle.model.specs.Families.Indices.Robust.Promises.{count_below, HeldThrough, IsCount}
@@ -9,11 +9,7 @@ use Rattle.robust_laws.proofs.Past.{through_less, through_now}
 
 -- what the indices before another one take, each as much
 pub times_below : (c index each : ℕ) → index < c → index * each + each ≤ c * each
-times_below c index each below =
-    let rest : (d : ℕ) × (c ≡ index + 1 + d) = (c - (index + 1), omega arith) in
-    let more : c * each ≡ (index + 1 + rest.0) * each = ap (λ n. n * each) rest.1 in
-    let some : (index + 1 + rest.0) * each ≡ index * each + each + rest.0 * each = omega arith in
-    omega arith
+times_below c index each below = grind arith
 
 one_at_most : (b : Bool) → (if b then 1 else 0) ≤ 1
 one_at_most true = omega arith
@@ -54,20 +50,7 @@ module _ {T : Type 0} (p : ℕ) (P : ℕ → List (Event T) → Type 0) where
   pub count_within : (k number : ℕ) (events : List (Event T)) → IsCount p P k number events → number ≤ k
   count_within k number events h = let most = count_most h.chosen k in let is = h.is in omega arith
 
-  one_counts : (events : List (Event T)) (n : ℕ) (chosen : ℕ → Bool) → 0 < count_below chosen n → ((i : ℕ) → i < n → chosen i ≡ true → HeldOnce p (P i) events) → (i : ℕ) × HeldOnce p (P i) events
-  one_counts events zero chosen more once = absurd (omega arith)
-  one_counts events (suc n) chosen more once =
-      here (chosen n) refl more (λ less. one_counts events n chosen less (λ i below t. once i (omega arith) t))
-    where
-      here : (b : Bool) → chosen n ≡ b → 0 < (if b then 1 else 0) + count_below chosen n → (0 < count_below chosen n → (i : ℕ) × HeldOnce p (P i) events) → (i : ℕ) × HeldOnce p (P i) events
-      here true e less rest = (n, once n (omega arith) e)
-      here false e less rest = rest (omega arith)
-
   module _ (k number : ℕ) (events : List (Event T)) (h : IsCount p P k number events) where
-    -- some index counts
-    pub some_counts : 0 < number → (i : ℕ) × HeldOnce p (P i) events
-    some_counts more = let is = h.is in one_counts events k h.chosen (omega arith) (λ i below e. h.once i below e)
-
     -- at a later moment of the call
     pub count_later : (es : List (Event T)) → BeginsNone p es → IsCount p P k number (events ++ es)
     count_later es none =

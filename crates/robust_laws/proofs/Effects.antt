@@ -121,20 +121,7 @@ module _ {T : Type 0} (scene : Scene T) where
     is_shut shut = sym g.lock ∙ eq-eqb (counter_of ws) locked shut
 
     pub stays_same : (words' : List ℕ) → words' ≡ ws → Stays words'
-    stays_same words' same =
-        record {
-          leaves =
-              record {
-                wide = ap length same;
-                cells = λ i below. ap (λ w. cell w i) same;
-                lock = ap (λ w. counter_of w == locked) same;
-                low = λ t. let low = g.low (sym g.lock ∙ t) in let is : counter_of words' ≡ counter_of ws = ap counter_of same in omega arith;
-                grows = let is : counter_of words' ≡ counter_of ws = ap counter_of same in omega arith;
-                bound = let is : counter_of words' ≡ counter_of ws = ap counter_of same in let bound = g.bound in omega arith;
-                stuck = λ end. ap counter_of same ∙ end;
-              };
-          others = λ n some. ap (λ w. get_or w n 0) same;
-        }
+    stays_same words' same = grind arith
 
     pub stays_raised : (words' : List ℕ) → counter_of ws < greatest → words' ≡ set ws 0 (counter_of ws + 1) → Stays words'
     stays_raised words' less new =

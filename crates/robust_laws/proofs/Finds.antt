@@ -1,5 +1,5 @@
 -- The steps of a find.
-use Rattle.std.proofs.Common.{◌≡◌, ◌≢◌, ℕ, ◌+◌, ◌<◌, ◌≤◌, ◌==◌, if◌then◌else◌, nat_lt, Bool, true, false, Option, Some, None, List, [], refl, sym, ap, subst, ◌∙◌, arith}
+use Rattle.std.proofs.Common.{◌≡◌, ◌≢◌, ℕ, ◌+◌, ◌<◌, ◌≤◌, ◌==◌, if◌then◌else◌, nat_lt, Bool, true, false, Option, Some, None, List, [], refl, ap, ◌∙◌, arith}
 use Rattle.std.proofs.lemmas.Bool.Decides.{nat_tests}
 use Rattle.steps.specs.declared.ask.Ask.{Ask}
 use Rattle.steps.specs.declared.ask.After.{After}
@@ -108,14 +108,7 @@ module _ {T : Type 0} (scene : Scene T) (inv : Inv scene) (owner : ℕ) (fits : 
   -- ---- a find that is done without a no has come to all indices
 
   comes_to_all : (k found number : ℕ) (stage : FindStage) → k < c → Counted (k + 1) found → find_comes_to (call_at stage) (k + 1) found ≡ Done number → Counted c number
-  comes_to_all k found number stage below counted e = go (nat_lt (k + 1) c) refl e
-    where
-      go : (b : Bool) → nat_lt (k + 1) c ≡ b → ◌≡◌ {A = After calls.Find ℕ} (if b then GoOn (at_find (call_at stage) (finds.TheVariants.LoadsCell (k + 1) found)) else Done found) (Done number) → Counted c number
-      go true t e = absurd (cc)
-      go false t e =
-          let last : c ≡ k + 1 = grind (arith, nat_tests) in
-          let same : found ≡ number = cc in
-          subst (λ n. Counted c n) same (subst (λ b. Counted b found) (sym last) counted)
+  comes_to_all k found number stage below counted e = grind arith
 
   pub find_loads_all : (k found : ℕ) → FindAt c (all scene) (finds.TheVariants.LoadsCell k found) → Knows c (find_at c owner (finds.TheVariants.LoadsCell k found)) (now scene) → (number : ℕ)
       → find_after (record { capacity = c; stage = finds.TheVariants.LoadsCell k found }) owner (cell scene.set.words k) ≡ Done number → Counted c number

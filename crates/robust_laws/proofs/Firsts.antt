@@ -110,9 +110,7 @@ IsOwn T c start flight = ⊥
 
 module _ (T : Type 0) (c : ℕ) where
   named_own : (start : RobustStart) (flight : Flight T) (b : Bool) → names_owner start ≡ b → option_map flights.TheVariants.Robust (if b then Some (first c start) else None) ≡ Some flight → IsOwn T c (Robust start) flight
-  named_own start (flights.TheVariants.Robust flight) true t e = (cc, t)
-  named_own start flight true t e = absurd (cc)
-  named_own start flight false t e = absurd (cc)
+  named_own start flight b t e = grind arith
 
   pub begins_own : (kept : Kept T) (start : Start T) (flight : Flight T) → first_of kinds.TheVariants.Robust c start kept ≡ Some flight → IsOwn T c start flight
   begins_own kept (Robust start) flight e = named_own start flight (names_owner start) refl e

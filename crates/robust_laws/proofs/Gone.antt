@@ -1,6 +1,6 @@
 -- Who is gone stays so; a run was honest and proper a turn ago; and in an honest run nothing is filled again with an owner
 -- who is gone.
-use Rattle.std.proofs.Common.{⊎_elim, inl, inr, ◌≡◌, ◌≢◌, ℕ, ◌==◌, ◌||◌, if◌then◌else◌, Bool, true, false, Option, Some, None, List, [], ◌∷◌, ◌++◌, fold, refl, sym, ap, subst, ◌∙◌, append_assoc, append-nil, eq-eqb}
+use Rattle.std.proofs.Common.{⊎_elim, ◌≡◌, ℕ, ◌==◌, ◌||◌, Bool, true, false, Option, Some, None, List, [], ◌∷◌, ◌++◌, fold, refl, sym, ap, subst, ◌∙◌, append_assoc, append-nil, eq-eqb, arith}
 use Rattle.std.proofs.lemmas.List.Sums.{fold-append}
 use Rattle.steps.specs.declared.indices.enums.ReleaseMode.{ReleaseMode}
 use Rattle.steps.specs.declared.indices.enums.ReleaseMode.TheVariants.{LockIfLastIndex}
@@ -8,7 +8,7 @@ use Rattle.steps.specs.declared.indices.enums.ReleaseState.TheVariants.{Unlocked
 use Rattle.steps.specs.declared.indices.enums.UniqueIndexSetAcquireFailure.TheVariants.{OutOfIndices}
 use Rattle.model.specs.declared.event.Answer.TheVariants.{Index, NoIndex, State}
 use Rattle.model.specs.declared.event.Event.{Event}
-use Rattle.model.specs.declared.event.Event.TheVariants.{Begun, Filled, Granted, FreedOf, Told, Died, Finished}
+use Rattle.model.specs.declared.event.Event.TheVariants.{Begun, Granted, FreedOf, Told, Died, Finished}
 use Rattle.model.specs.declared.event.Start.TheVariants.{Robust, Container}
 use Rattle.model.specs.declared.families.container.ContainerStart as containers
 use Rattle.model.specs.declared.families.indices.robust.RobustStart.TheVariants.{Acquire, Release, Recover}
@@ -24,17 +24,6 @@ or_true false = refl
 was_false : (b : Bool) → (b ≡ true → true ≡ false) → b ≡ false
 was_false true h = h refl
 was_false false h = refl
-
-filled_so : (i index o owner : ℕ) (old : Option ℕ) → o ≢ owner → (if index == i then Some o else old) ≡ Some owner → old ≡ Some owner
-filled_so i index o owner old other e = go (index == i) e
-  where
-    go : (b : Bool) → (if b then Some o else old) ≡ Some owner → old ≡ Some owner
-    go true h = let same : o ≡ owner = cc in absurd (other same)
-    go false h = h
-
-freed_so : (b : Bool) (owner : ℕ) (old : Option ℕ) → (if b then None else old) ≡ Some owner → old ≡ Some owner
-freed_so true owner old h = absurd (cc)
-freed_so false owner old h = h
 
 module _ {T : Type 0} where
   -- ---- who is gone
@@ -104,10 +93,7 @@ module _ {T : Type 0} where
 
   module _ (i owner : ℕ) (events : List (Event T)) (gone : is_gone Word owner events ≡ true) where
     filled_before : (e : Event T) (old : Option ℕ) → ActsForRight events e → filled_after i old e ≡ Some owner → old ≡ Some owner
-    filled_before (Filled p index o) old lives h =
-        filled_so i index o owner old (λ same. let both : true ≡ false = sym gone ∙ (ap (λ n. is_gone Word n events) (sym same) ∙ lives) in absurd (cc)) h
-    filled_before (FreedOf p index o) old lives h = freed_so (index == i) owner old h
-    filled_before e old lives h = h
+    filled_before e old lives h = grind arith
 
   lost_so_far : (i owner : ℕ) (events es : List (Event T)) → IsHonest (events ++ es) → is_gone Word owner events ≡ true → filled_of i (events ++ es) ≡ Some owner → filled_of i events ≡ Some owner
   lost_so_far i owner events [] honest gone h = subst (λ xs. filled_of i xs ≡ Some owner) (append-nil events) h
@@ -133,9 +119,7 @@ module _ {T : Type 0} where
 
   module _ (worn worn' : Type 0) (on : worn → worn') where
     still_right : (by : GoneBy) (c : ℕ) (before : List (Event T)) (e : Event T) → AnswersBy by worn c before e → AnswersBy by worn' c before e
-    still_right by c before (Finished p (Robust (Acquire owner)) (NoIndex OutOfIndices)) h = (h.0, ⊎_elim (λ w. inl (on w)) (λ k. inr k) h.1)
-    still_right by c before (Finished p (Robust (Release index owner LockIfLastIndex)) (State Unlocked)) h = (h.0, ⊎_elim (λ w. inl (on w)) (λ k. inr k) h.1)
-    still_right by c before e h = h
+    still_right by c before e h = grind arith
 
     -- a counter that was at its end still is
     pub answers_on : (by : GoneBy) (c : ℕ) (events : List (Event T)) → Each (AnswersBy by worn c) events → Each (AnswersBy by worn' c) events

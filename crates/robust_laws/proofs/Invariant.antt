@@ -1,6 +1,6 @@
 -- What holds of the machine of a robust index set between any two turns beside what the frame says of every machine, and
 -- what a turn must show to keep it.
-use Rattle.std.proofs.Common.{◌≡◌, ◌≢◌, ℕ, ◌+◌, ◌-◌, ◌^◌, ◌<◌, ◌≤◌, ◌==◌, ne_eqb, false, Some, List, ◌++◌, length, fold, refl, sym, ap, subst, ◌∙◌, arith}
+use Rattle.std.proofs.Common.{◌≡◌, ◌≢◌, ℕ, ◌+◌, ◌-◌, ◌^◌, ◌<◌, ◌≤◌, ◌==◌, false, Some, List, ◌++◌, length, fold, refl, sym, ap, subst, ◌∙◌, arith}
 use Rattle.steps.specs.Indices.Robust.Parts.{empty, locked, greatest}
 use Rattle.model.specs.declared.event.Event.{Event}
 use Rattle.model.specs.declared.event.Start.{Start}
@@ -152,10 +152,7 @@ module _ {T : Type 0} where
 
   -- so it is where few turns were taken
   pub ahead_of_few : (by : GoneBy) (c : ℕ) (words dead : List ℕ) (events : List (Event T)) (turns : ℕ) → Good by c words dead events turns → 1 ≤ turns → turns < 2 ^ 64 - 2 → IsAhead words
-  ahead_of_few by c words dead events turns g begun small open_now =
-      let t : (counter_of words == locked) ≡ false = ne_eqb (counter_of words) locked open_now in
-      let low = g.low (sym g.lock ∙ t) in
-      omega arith
+  ahead_of_few by c words dead events turns g begun small open_now = grind arith
 
   pub room_of_few : (by : GoneBy) (c : ℕ) (words dead : List ℕ) (events : List (Event T)) (turns : ℕ) → Good by c words dead events turns → 1 ≤ turns → turns < 2 ^ 64 - 2 → HasRoom by words
   room_of_few Death c words dead events turns g begun small = ahead_of_few Death c words dead events turns g begun small

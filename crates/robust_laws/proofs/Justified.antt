@@ -1,5 +1,5 @@
 -- What a turn writes down: what the step did to the set, then the end. No call of the set acts.
-use Rattle.std.proofs.Common.{◌≡◌, ℕ, Option, Some, List, [], ◌++◌, refl, sym, ap, subst, append-nil}
+use Rattle.std.proofs.Common.{◌≡◌, ℕ, Option, Some, List, [], ◌++◌, refl, sym, ap, subst, append-nil, arith}
 use Rattle.model.specs.declared.event.Answer.{Answer}
 use Rattle.model.specs.declared.event.Start.{Start}
 use Rattle.model.specs.declared.event.Start.TheVariants.{Robust}
@@ -65,9 +65,7 @@ module _ {T : Type 0} (code : Coding T) (c : ℕ) (t : Trace T) (p : ℕ) (s : f
 -- a call of the set goes on as its table says
 told : {T : Type 0} (code z : Coding T) (c : ℕ) (words : List ℕ) (beside : Option (ℕ × ℕ)) (s : RobustSet T) (p : ℕ) (start : Start T) (flight : Flight T) (answer : ℕ) (kept : Kept T) → Fit kept words s → (family code c).At s p start flight
     → (step_of z words beside p start flight answer kept).after ≡ goes_of z p flight answer kept
-told y z c words beside s p (Robust start) (flights.TheVariants.Robust flight) answer (kepts.TheVariants.Owners dead) fit at = refl
-told y z c words beside s p (Robust start) (flights.TheVariants.Robust flight) answer held fit at = absurd fit
-told y z c words beside s p start flight answer held fit at = absurd at
+told y z c words beside s p start flight answer held fit at = grind arith
 
 module _ {T : Type 0} where
   orders : (code : Coding T) (c : ℕ) → Orders (family code c)

@@ -3,20 +3,14 @@ use Rattle.std.proofs.Common.{◌≡◌, ℕ, ◌+◌, ◌-◌, ◌*◌, ◌≤�
 use Rattle.steps.specs.declared.indices.enums.ReleaseMode.{ReleaseMode}
 use Rattle.steps.specs.declared.indices.enums.ReleaseMode.TheVariants.{LockIfLastIndex, Default}
 use Rattle.steps.specs.declared.indices.robust.acquire.AcquireStage.{AcquireStage}
-use Rattle.steps.specs.declared.indices.robust.acquire.AcquireStage as acquires
 use Rattle.steps.specs.declared.indices.robust.find.FindStage.{FindStage}
 use Rattle.steps.specs.declared.indices.robust.find.FindStage as finds
 use Rattle.steps.specs.declared.indices.robust.parts.Count.{Count}
-use Rattle.steps.specs.declared.indices.robust.parts.Count as counts
 use Rattle.steps.specs.declared.indices.robust.parts.Lock.{Lock}
 use Rattle.steps.specs.declared.indices.robust.parts.Lock as locks
-use Rattle.steps.specs.declared.indices.robust.parts.Raise.{Raise}
-use Rattle.steps.specs.declared.indices.robust.parts.Raise as raises
 use Rattle.steps.specs.declared.indices.robust.recover.RecoverStage.{RecoverStage}
-use Rattle.steps.specs.declared.indices.robust.recover.RecoverStage as recovers
 use Rattle.steps.specs.declared.indices.robust.release.GiveBack.{GiveBack}
 use Rattle.steps.specs.declared.indices.robust.release.ReleaseStage.{ReleaseStage}
-use Rattle.steps.specs.declared.indices.robust.release.ReleaseStage as releases
 use Rattle.model.specs.declared.event.Event.{Event}
 use Rattle.model.specs.declared.event.Start.{Start}
 use Rattle.model.specs.declared.event.Start.TheVariants.{Robust}
@@ -41,42 +35,27 @@ use Rattle.model.specs.World.{Trace, progress_in}
 use Rattle.model.proofs.Frame as frame
 use Rattle.robust_laws.specs.Gone.{Death}
 use Rattle.robust_laws.proofs.Core.{cell}
-use Rattle.robust_laws.proofs.Counting.{times_below}
 use Rattle.robust_laws.proofs.Gone.{asks_right, answers_right}
 use Rattle.robust_laws.proofs.Invariant.{RobustSet, family}
 use Rattle.robust_laws.proofs.Knows.{View, flight_holds, Paid}
-use Rattle.robust_laws.proofs.Standing.{raise_number, count_number, lock_number, acquire_number, for_back, for_index, release_number, recover_number, find_number, number_of, AcquireAt, CountAt, LockAt, ReleaseAt, FindAt, RecoverAt, At}
+use Rattle.robust_laws.proofs.Standing.{count_number, lock_number, acquire_number, for_back, for_index, release_number, recover_number, find_number, number_of, AcquireAt, CountAt, LockAt, ReleaseAt, FindAt, RecoverAt, At}
 use Rattle.robust_laws.proofs.Sound.{kept_is, reached_sound}
 
 -- ---- how many steps a call has taken
 
-pub raise_most : (raise : Raise) → raise_number raise ≤ 1
-raise_most raises.TheVariants.LoadsCounter = omega arith
-raise_most (raises.TheVariants.ExchangesCounter counter) = omega arith
-
 pub count_most : (c : ℕ) (count : Count) → CountAt c count → count_number c count ≤ c + 1
-count_most c counts.TheVariants.LoadsCounter at = omega arith
-count_most c (counts.TheVariants.LoadsCell counter index filled) at = let below = at.0 in omega arith
-count_most c (counts.TheVariants.ExchangesCounter counter filled) at = omega arith
+count_most c count at = grind arith
 
 pub lock_most : (c : ℕ) (lock : Lock) → LockAt c lock → lock_number c lock ≤ c + 2
 lock_most c (locks.TheVariants.Counts count) at = let few = count_most c count at in omega arith
 lock_most c (locks.TheVariants.ExchangesCounter counter) at = omega arith
 
 pub acquire_most : (c owner : ℕ) (all : List Deed) (stage : AcquireStage) (backs : ℕ) → AcquireAt c owner all stage → acquire_number c stage backs ≤ c + 3 + backs * (c + 1)
-acquire_most c owner all acquires.TheVariants.LoadsCounter backs at = omega arith
-acquire_most c owner all (acquires.TheVariants.FillsCell counter index) backs at = let below = at.0 in omega arith
-acquire_most c owner all (acquires.TheVariants.ChecksCounter counter) backs at = omega arith
-acquire_most c owner all (acquires.TheVariants.Raises index raise) backs at = let few = raise_most raise in omega arith
+acquire_most c owner all stage backs at = grind arith
 
 pub release_most : (c index owner : ℕ) (mode : ReleaseMode) (all : List Deed) (stage : ReleaseStage) (backs : ℕ) → ReleaseAt c index owner mode all stage
     → release_number c mode stage backs ≤ most_steps c (starts.TheVariants.Release index owner mode) backs
-release_most c index owner Default all releases.TheVariants.EmptiesCell backs at = omega arith
-release_most c index owner LockIfLastIndex all releases.TheVariants.EmptiesCell backs at = omega arith
-release_most c index owner Default all (releases.TheVariants.Raises raise) backs at = let few = raise_most raise in omega arith
-release_most c index owner LockIfLastIndex all (releases.TheVariants.Raises raise) backs at = let few = raise_most raise in omega arith
-release_most c index owner Default all (releases.TheVariants.Locks lock) backs at = let mode = at.0 in absurd (cc)
-release_most c index owner LockIfLastIndex all (releases.TheVariants.Locks lock) backs at = let few = lock_most c lock at.1 in omega arith
+release_most c index owner mode all stage backs at = grind arith
 
 find_most : (c : ℕ) (all : List Deed) (stage : FindStage) → FindAt c all stage → find_number stage ≤ c
 find_most c all (finds.TheVariants.LoadsCell index found) at = let below = at.0 in omega arith
@@ -84,13 +63,7 @@ find_most c all (finds.TheVariants.Asks index found) at = let below = at.0 in om
 
 recover_at_most : (c : ℕ) (mode : ReleaseMode) (all : List Deed) (stage : RecoverStage) (backs : ℕ) → 4 ≤ for_index c mode
     → ((lock : Lock) → mode ≡ LockIfLastIndex → LockAt c lock → lock_number c lock + 5 ≤ for_index c mode) → RecoverAt c mode all stage → recover_number c mode stage backs ≤ 2 + c * for_index c mode + backs * for_back c mode
-recover_at_most c mode all recovers.TheVariants.LoadsCounter backs wide lock at = omega arith
-recover_at_most c mode all (recovers.TheVariants.LoadsCell index) backs wide lock at = let few = times_below c index (for_index c mode) at.within in omega arith
-recover_at_most c mode all (recovers.TheVariants.Asks index owner) backs wide lock at = let few = times_below c index (for_index c mode) at.0.within in omega arith
-recover_at_most c mode all (recovers.TheVariants.EmptiesCell index owner) backs wide lock at = let few = times_below c index (for_index c mode) at.0.within in omega arith
-recover_at_most c mode all (recovers.TheVariants.Raises index raise) backs wide lock at = let few = times_below c index (for_index c mode) at.0.within in let one = raise_most raise in omega arith
-recover_at_most c mode all (recovers.TheVariants.Locks index part) backs wide lock at = let few = times_below c index (for_index c mode) at.0.within in let some = lock part at.2 at.3 in omega arith
-recover_at_most c mode all recovers.TheVariants.LoadsCounterAgain backs wide lock at = omega arith
+recover_at_most c mode all stage backs wide lock at = grind arith
 
 recover_most : (c : ℕ) (mode : ReleaseMode) (all : List Deed) (stage : RecoverStage) (backs : ℕ) → RecoverAt c mode all stage → recover_number c mode stage backs ≤ most_steps c (starts.TheVariants.Recover mode) backs
 recover_most c Default all stage backs at =

@@ -1,6 +1,6 @@
 -- What a call of the robust index set knows where it stands: of its counts, of moments of it, of what it has a right to, and
 -- of what it has recovered; and that it knows this still after any turn of another party.
-use Rattle.std.proofs.Common.{if◌then◌else◌, ◌==◌, ◌≡◌, ◌≢◌, ℕ, ◌+◌, ◌<◌, ◌≤◌, ◌⊎◌, ⊎_elim, inl, inr, true, false, Option, Some, None, List, ◌++◌, sym, ap, subst, ◌∙◌, arith}
+use Rattle.std.proofs.Common.{if◌then◌else◌, ◌==◌, ◌≡◌, ◌≢◌, ℕ, ◌+◌, ◌<◌, ◌≤◌, ◌⊎◌, ⊎_elim, inl, inr, true, false, Option, Some, None, List, ◌++◌, sym, subst, ◌∙◌, arith}
 use Rattle.steps.specs.declared.indices.robust.acquire.AcquireStage.{AcquireStage}
 use Rattle.steps.specs.declared.indices.robust.acquire.AcquireStage as acquires
 use Rattle.steps.specs.declared.indices.robust.find.FindStage.{FindStage}
@@ -144,9 +144,7 @@ LockSays c Says (locks.TheVariants.Counts count) = CountSays c Says count
 LockSays c Says (locks.TheVariants.ExchangesCounter counter) = Unit {0}
 
 count_says : (c : ℕ) (P Q : ℕ → ℕ → Type 0) → ((k n : ℕ) → P k n → Q k n) → (count : Count) → CountSays c P count → CountSays c Q count
-count_says c P Q follows counts.TheVariants.LoadsCounter h = tt
-count_says c P Q follows (counts.TheVariants.LoadsCell counter index filled) h = follows index filled h
-count_says c P Q follows (counts.TheVariants.ExchangesCounter counter filled) h = follows c filled h
+count_says c h k follows count m = grind arith
 
 lock_says : (c : ℕ) (P Q : ℕ → ℕ → Type 0) → ((k n : ℕ) → P k n → Q k n) → (lock : Lock) → LockSays c P lock → LockSays c Q lock
 lock_says c P Q follows (locks.TheVariants.Counts count) h = count_says c P Q follows count h
@@ -319,23 +317,8 @@ module _ {T : Type 0} where
     abbrev pub later : View T
     later = record { by = by; words = words'; events = events ++ es; party = q; since = since; changes = changes'; backs = backs }
 
-    paid_later : IsPaid before → IsPaid later
-    paid_later h = ⊎_elim (λ s. let same = s.1 in omega arith) (λ more. omega arith) seen
-
-    unless_later : (number : ℕ) → PaidUnless (counter_of words ≡ number) before → PaidUnless (counter_of words' ≡ number) later
-    unless_later number h = ⊎_elim still (λ more. inr (⊎_elim (λ k. let paid = k.1 in omega arith) (λ k. omega arith) h)) seen
-      where
-        still : (words' ≡ words) × (changes' ≡ changes) → PaidUnless (counter_of words' ≡ number) later
-        still s =
-            let same = s.1 in
-            ⊎_elim (λ k. let paid = k.1 in inl (ap counter_of s.0 ∙ k.0, omega arith)) (λ k. inr (omega arith)) h
-
     pub held_paid : (held : Option ℕ) → Paid held before → Paid held later
-    held_paid None h = paid_later h
-    held_paid (Some number) h =
-        let low = h.low in
-        let grows = goes.grows in
-        record { before_end = h.before_end; low = omega arith; paid = unless_later number h.paid }
+    held_paid held h = grind arith
 
     pub still_scanned : (s : Option Scan) → Scanned s before → Scanned s later
     still_scanned None h = tt

@@ -1,5 +1,5 @@
 -- The steps of the calls that look: how many indices are borrowed, and whether the set is locked.
-use Rattle.std.proofs.Common.{◌≡◌, ℕ, ◌+◌, ◌*◌, ◌≤◌, ◌==◌, Bool, true, false, Option, Some, None, is_some, List, [], refl, sym, ap, ◌∙◌, arith}
+use Rattle.std.proofs.Common.{◌≡◌, ℕ, ◌+◌, ◌*◌, ◌≤◌, ◌==◌, Bool, true, false, Option, Some, None, is_some, List, [], refl, ap, arith}
 use Rattle.steps.specs.declared.ask.Ask.{Ask}
 use Rattle.steps.specs.declared.ask.After.{After}
 use Rattle.steps.specs.declared.indices.robust.parts.Count.{Count}
@@ -26,9 +26,7 @@ use Rattle.robust_laws.proofs.Parts.{count_ask, count_step, IsSaid}
 use Rattle.robust_laws.proofs.Stages.{IsHere, all, now, loads, loads_same, StepOf, Leads, goes_quietly, ends_quietly}
 
 is_none : {A : Type 0} (o : Option ℕ) → o ≡ None → is_some o ≡ true → A
-is_none o none some =
-    let same : false ≡ true = ap is_some (sym none) ∙ some in
-    absurd (cc)
+is_none o none some = grind arith
 
 module _ {T : Type 0} (scene : Scene T) (inv : Inv scene) where
   open scene use {capacity as c, party as p, steps as steps, backs as backs, events as events}

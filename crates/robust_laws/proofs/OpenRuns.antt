@@ -1,5 +1,5 @@
 -- What holds of the machine of a robust set keeps to every turn of an open run, so it holds wherever such a run leads.
-use Rattle.std.proofs.Common.{◌≡◌, ◌≢◌, slice_index, ℕ, ◌+◌, Bool, true, false, not, Option, Some, None, is_some, is_none, List, [], ◌∷◌, ◌++◌, refl, sym, ap, subst, ◌∙◌, append-nil}
+use Rattle.std.proofs.Common.{◌≡◌, ◌≢◌, slice_index, ℕ, ◌+◌, Bool, true, not, Option, Some, None, is_none, List, [], ◌∷◌, ◌++◌, refl, sym, ap, subst, ◌∙◌, append-nil, arith}
 use Rattle.steps.specs.Indices.Robust.Parts.{greatest}
 use Rattle.steps.specs.declared.indices.enums.ReleaseMode.{ReleaseMode}
 use Rattle.model.specs.declared.event.Start.TheVariants.{Container}
@@ -11,11 +11,11 @@ use Rattle.model.specs.declared.party.Doing.TheVariants.{Going, Over}
 use Rattle.model.specs.declared.party.Party.{Party}
 use Rattle.model.specs.declared.turn.Kind.{Kind}
 use Rattle.model.specs.declared.turn.Kind as kinds
-use Rattle.model.specs.declared.turn.Refusal.TheVariants.{WrongCall, Busy, Idle, Undecided}
+use Rattle.model.specs.declared.turn.Refusal.TheVariants.{Idle, Undecided}
 use Rattle.model.specs.declared.turn.Turn.{Turn}
 use Rattle.model.specs.declared.turn.Turn.TheVariants.{Begin, Next, Decide, Die}
 use Rattle.model.specs.Coding.{Coding, IsCoding}
-use Rattle.model.specs.Families.{first_of, want_of, is_question}
+use Rattle.model.specs.Families.{want_of, is_question}
 use Rattle.model.specs.Families.Indices.Robust.Promises.{AnswersRight, KeepsDead}
 use Rattle.model.specs.Parties.{party_of, doing_of, flight_of}
 use Rattle.model.specs.Reading.{Each}
@@ -83,12 +83,7 @@ module _ {T : Type 0} (code : Coding T) (c : ℕ) where
 
   -- no call of a container begins on it
   no_container : {A : Type 0} (t : Trace T) → Sound t → (p owner : ℕ) (mode : ReleaseMode) → open_refusal t.world (Begin p (Container (Recover owner mode))) ≡ None → A
-  no_container t s p owner mode e =
-      let b = row_passed (is_some (flight_in t.world p)) Busy _ e in
-      let d = row_passed (is_none (first_of t.world.kind t.world.capacity (Container (Recover owner mode)) t.world.kept)) WrongCall None b.1 in
-      let none : is_none (first_of {T = T} kinds.TheVariants.Robust t.world.capacity (Container (Recover owner mode)) t.world.kept) ≡ false =
-      subst (λ kind. is_none (first_of kind t.world.capacity (Container (Recover owner mode)) t.world.kept) ≡ false) s.kind d.0 in
-      absurd (cc)
+  no_container t s p owner mode e = grind arith
 
   pub open_turn_sound : (t : Trace T) (turn : Turn T) → open_refusal t.world turn ≡ None → Sound t → Sound (after_turn t turn)
   open_turn_sound t (Begin p (Container (Recover owner mode))) e s = no_container t s p owner mode e

@@ -1,8 +1,6 @@
 -- The robust index set as it opens: no index is filled, and nobody has died.
-use Rattle.std.proofs.Common.{◌≡◌, ℕ, zero, suc, ◌+◌, ◌-◌, ◌^◌, ◌<◌, ◌≤◌, if◌then◌else◌, nat_lt, Bool, true, false, Some, None, [], replicate, get_or, refl, ap, ◌∙◌, arith}
-use Rattle.std.proofs.lemmas.Bool.Decides.{nat_tests}
+use Rattle.std.proofs.Common.{◌≡◌, ℕ, zero, suc, ◌+◌, ◌^◌, ◌<◌, ◌≤◌, None, [], replicate, get_or, refl, ap, ◌∙◌, arith}
 use Rattle.std.proofs.lemmas.List.{length-replicate}
-use Rattle.steps.specs.declared.enums.UniqueIndexCreationError.{UniqueIndexCreationError}
 use Rattle.steps.specs.Indices.Robust.Parts.{empty}
 use Rattle.model.specs.declared.turn.Kind as kinds
 use Rattle.model.specs.Families.Indices.Robust.Opening.{opening_words}
@@ -41,15 +39,5 @@ opening_good by c some few =
       holds = λ calm. Each-nil _;
     }
 
--- a capacity that is admitted
-passed_both : (a b : Bool) (x y : UniqueIndexCreationError) → (if a then Some x else if b then Some y else None) ≡ None → (a ≡ false) × (b ≡ false)
-passed_both true b x y e = absurd (cc)
-passed_both false true x y e = absurd (cc)
-passed_both false false x y e = (refl, refl)
-
 pub admitted_is : (c : ℕ) → capacity_error kinds.TheVariants.Robust c ≡ None → (1 ≤ c) × (c < 2 ^ 32)
-admitted_is c e =
-    let both = passed_both (nat_lt (2 ^ 32 - 1) c) (nat_lt c 1) _ _ e in
-    let most : nat_lt (2 ^ 32 - 1) c ≡ false = both.0 in
-    let least : nat_lt c 1 ≡ false = both.1 in
-    (grind (arith, nat_tests), grind (arith, nat_tests))
+admitted_is c e = grind arith

@@ -25,7 +25,7 @@ use Rattle.model.specs.Families.Indices.Robust.Steps.{locked_by}
 use Rattle.model.specs.Turns.{old_of, words_after, step_count}
 use Rattle.robust_laws.specs.Gone.{IsCalm}
 use Rattle.robust_laws.proofs.Core.{counter_of, cell, counter_set}
-use Rattle.robust_laws.proofs.Effects.{Stays, some_none, not_shut, stays_same, stays_raised, filled_none, filled_some}
+use Rattle.robust_laws.proofs.Effects.{Stays, not_shut, stays_same, stays_raised, filled_none, filled_some}
 use Rattle.robust_laws.proofs.Invariant.{IsWorn, worn_at, worn_then, Scene, Inv, Good}
 use Rattle.robust_laws.proofs.Knows.{unless_last, raise_holds, count_holds, lock_holds, count_scan, lock_scan, CountSays, LockSays, IsPaid, Holding, Paid, Scanned}
 use Rattle.robust_laws.proofs.Standing.{raise_number, count_number, lock_number, CountAt, LockAt}
@@ -46,24 +46,14 @@ lock_ask (locks.TheVariants.Counts count) = count_ask count
 lock_ask (locks.TheVariants.ExchangesCounter counter) = exchanges 0 counter locked
 
 zero_if : (n : ℕ) → ((n == 0) && true) ≡ true → n ≡ 0
-zero_if n t = go (n == 0) refl t
-  where
-    go : (b : Bool) → (n == 0) ≡ b → (b && true) ≡ true → n ≡ 0
-    go true e s = grind (arith, nat_tests)
-    go false e s = absurd (cc)
+zero_if n t = grind arith
 
 more_if : (n : ℕ) → ((n == 0) && true) ≡ false → 0 < n
-more_if n t = go (n == 0) refl t
-  where
-    go : (b : Bool) → (n == 0) ≡ b → (b && true) ≡ false → 0 < n
-    go true e s = absurd (cc)
-    go false e s = let other : n ≢ 0 = grind (arith, nat_tests) in omega arith
+more_if n t = grind arith
 
 -- where the counter is at its end none locks
 none_locks : {X : Type 0} (P : X → Type 0) (a b : X) (zero last : Bool) → last ≡ true → P b → P (if zero && not last then a else b)
-none_locks P a b true true e h = h
-none_locks P a b false true e h = h
-none_locks P a b zero false e h = absurd (cc)
+none_locks h a b zero last e k = grind arith
 
 module _ {T : Type 0} (scene : Scene T) (inv : Inv scene) where
   open scene use {by as by, capacity as c, party as p, steps as steps, backs as backs, since as since, changes as changes, turns as turns, events as events}
@@ -76,11 +66,7 @@ module _ {T : Type 0} (scene : Scene T) (inv : Inv scene) where
 
   -- nobody holds an index that is not filled
   pub none_holds : IsCalm by events → (i : ℕ) → filled_of i events ≡ None → holder_of i events ≡ None
-  none_holds calm i none = go (holder_of i events) refl
-    where
-      go : (o : Option ℕ) → holder_of i events ≡ o → o ≡ None
-      go None e = refl
-      go (Some owner) e = some_none (filled_of i events) owner none ((g.owned calm).held i owner e)
+  none_holds calm i none = grind arith
 
   -- none that is not of the set is filled
   pub none_beyond : (i : ℕ) → c ≤ i → filled_of i events ≡ None
@@ -103,10 +89,7 @@ module _ {T : Type 0} (scene : Scene T) (inv : Inv scene) where
 
   -- the counter that a call finds
   pub finds_counter : (ask : Option Ask) (back : Bool) → words_after ws ask ≡ ws → counter_of ws ≢ locked → counter_of ws ≢ greatest → IsPaid (sees scene ask back) → Holding (counter_of ws) (sees scene ask back)
-  finds_counter ask back same open_now other paid =
-      let bound = g.bound in
-      let is : counter_of (words_after ws ask) ≡ counter_of ws = ap counter_of same in
-      record { before_end = omega arith; low = omega arith; paid = inl (is, paid) }
+  finds_counter ask back same open_now other paid = grind arith
 
   -- ---- a raise
 
@@ -160,11 +143,7 @@ module _ {T : Type 0} (scene : Scene T) (inv : Inv scene) where
   -- ---- the counter that a count has loaded, which it holds unless that is at its end
 
   still_paid : (number : ℕ) → Paid (unless_last number) (now scene) → IsPaid (now scene)
-  still_paid number h = go (number == greatest) h
-    where
-      go : (b : Bool) → Paid (if b then None else Some number) (now scene) → IsPaid (now scene)
-      go true h = h
-      go false h = paid_of scene (counter_of ws ≡ number) h.paid
+  still_paid number h = grind arith
 
   still_held : (number : ℕ) (ask : Option Ask) → counter_of (words_after ws ask) ≡ counter_of ws → Paid (unless_last number) (now scene) → Paid (unless_last number) (sees scene ask false)
   still_held number ask same h = go (number == greatest) h

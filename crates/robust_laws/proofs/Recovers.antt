@@ -11,9 +11,7 @@ use Rattle.steps.specs.declared.indices.enums.ReleaseMode.{ReleaseMode}
 use Rattle.steps.specs.declared.indices.enums.ReleaseMode.TheVariants.{LockIfLastIndex, Default}
 use Rattle.steps.specs.declared.indices.enums.ReleaseState.{ReleaseState}
 use Rattle.steps.specs.declared.indices.enums.ReleaseState as states
-use Rattle.steps.specs.declared.indices.robust.parts.Count as counts
 use Rattle.steps.specs.declared.indices.robust.parts.Lock.{Lock}
-use Rattle.steps.specs.declared.indices.robust.parts.Lock as parts
 use Rattle.steps.specs.declared.indices.robust.parts.Raise.{Raise}
 use Rattle.steps.specs.declared.indices.robust.parts.Raise as raises
 use Rattle.steps.specs.declared.indices.robust.recover.Recover as calls
@@ -60,10 +58,7 @@ most_is c backs Default = omega arith
 most_is c backs LockIfLastIndex = omega arith
 
 pub nothing_said : (c : ℕ) (lock : Lock) → LockSays c (λ k filled. Unit {0}) lock
-nothing_said c (parts.TheVariants.Counts counts.TheVariants.LoadsCounter) = tt
-nothing_said c (parts.TheVariants.Counts (counts.TheVariants.LoadsCell number index filled)) = tt
-nothing_said c (parts.TheVariants.Counts (counts.TheVariants.ExchangesCounter number filled)) = tt
-nothing_said c (parts.TheVariants.ExchangesCounter number) = tt
+nothing_said c lock = grind arith
 
 module _ {T : Type 0} (scene : Scene T) (inv : Inv scene) (mode : ReleaseMode) (here : IsHere scene (Recover mode)) where
   open scene use {by as by, capacity as c, party as p, steps as steps, backs as backs, since as since, changes as changes, events as events}
@@ -100,10 +95,7 @@ module _ {T : Type 0} (scene : Scene T) (inv : Inv scene) (mode : ReleaseMode) (
 
   module _ (index : ℕ) (below : index < c) (stage : RecoverStage) (ask : Option Ask) (back : Bool) (few : Few ask back 1 (index + 1)) where
     few_last : c ≤ index + 1 → steps + step_count ask ≤ 1 + c * for_index c mode + backs_then scene back * for_back c mode
-    few_last last =
-        let is : c ≡ index + 1 = omega arith in
-        let times : c * for_index c mode ≡ (index + 1) * for_index c mode = ap (λ n. n * for_index c mode) is in
-        omega arith
+    few_last last = grind arith
 
     module _ (stays : Stays scene (words_after ws ask)) (paid : IsPaid (sees scene ask back)) (asked : AllByRecursion (λ i. i < index + 1) (asked_in done)) (freed : FreedWereAsked done) (open_once : WasOpen (now scene))
         (says : AskedBelow (index + 1) (now scene)) (gone : GoneBut (λ i o. ⊥) (now scene)) where
@@ -386,10 +378,7 @@ module _ {T : Type 0} (scene : Scene T) (inv : Inv scene) (mode : ReleaseMode) (
           some_none (filled_of i (events ++ freeing)) o (fold-append (filled_after i) None events freeing ∙ at_same index i None (filled_of i events) exempt.0) e
 
       asked_about : (i o : ℕ) → Frees index owner ≡ Frees i o → IsOneOf (Asks i o) done
-      asked_about i o e =
-          let same : index ≡ i = cc in
-          let own : owner ≡ o = cc in
-          subst (λ j. IsOneOf (Asks j o) done) same (subst (λ n. IsOneOf (Asks index n) done) own at.3)
+      asked_about i o e = grind arith
 
       empties : Lead exchange false freeing (GoOn (at_recover (call_at (recovers.TheVariants.EmptiesCell index owner)) (recovers.TheVariants.Raises index raises.TheVariants.LoadsCounter)))
       empties =

@@ -2,11 +2,9 @@
 use Rattle.std.proofs.Common.{◌≡◌, ◌≢◌, ℕ, ◌+◌, ◌-◌, ◌^◌, ◌<◌, ◌≤◌, inl, Bool, true, false, Option, Some, None, List, [], ◌∷◌, ◌++◌, refl, sym, ap, subst, ◌∙◌, arith}
 use Rattle.steps.specs.declared.indices.enums.ReleaseMode.{ReleaseMode}
 use Rattle.steps.specs.declared.indices.robust.acquire.AcquireStage.{AcquireStage}
-use Rattle.steps.specs.declared.indices.robust.acquire.AcquireStage as acquires
 use Rattle.steps.specs.declared.indices.robust.find.FindStage.{FindStage}
 use Rattle.steps.specs.declared.indices.robust.find.FindStage as finds
 use Rattle.steps.specs.declared.indices.robust.parts.Count.{Count}
-use Rattle.steps.specs.declared.indices.robust.parts.Count as counts
 use Rattle.steps.specs.declared.indices.robust.parts.Lock.{Lock}
 use Rattle.steps.specs.declared.indices.robust.parts.Lock as locks
 use Rattle.steps.specs.declared.indices.robust.parts.Raise.{Raise}
@@ -15,7 +13,6 @@ use Rattle.steps.specs.declared.indices.robust.recover.RecoverStage.{RecoverStag
 use Rattle.steps.specs.declared.indices.robust.recover.RecoverStage as recovers
 use Rattle.steps.specs.declared.indices.robust.release.GiveBack.{GiveBack}
 use Rattle.steps.specs.declared.indices.robust.release.ReleaseStage.{ReleaseStage}
-use Rattle.steps.specs.declared.indices.robust.release.ReleaseStage as releases
 use Rattle.steps.specs.Indices.Robust.Acquire.{acquire_asks}
 use Rattle.steps.specs.Indices.Robust.Parts.{empty, raise_want, count_want, lock_want}
 use Rattle.steps.specs.Indices.Robust.Release.{release_asks}
@@ -88,24 +85,17 @@ raise_asks_none raises.TheVariants.LoadsCounter = refl
 raise_asks_none (raises.TheVariants.ExchangesCounter counter) = refl
 
 pub count_asks_none : (count : Count) → is_question (count_want count) ≡ false
-count_asks_none counts.TheVariants.LoadsCounter = refl
-count_asks_none (counts.TheVariants.LoadsCell counter index filled) = refl
-count_asks_none (counts.TheVariants.ExchangesCounter counter filled) = refl
+count_asks_none count = grind arith
 
 pub lock_asks_none : (lock : Lock) → is_question (lock_want lock) ≡ false
 lock_asks_none (locks.TheVariants.Counts count) = count_asks_none count
 lock_asks_none (locks.TheVariants.ExchangesCounter counter) = refl
 
 pub acquire_asks_none : (stage : AcquireStage) (owner : ℕ) → is_question (acquire_asks stage owner) ≡ false
-acquire_asks_none acquires.TheVariants.LoadsCounter owner = refl
-acquire_asks_none (acquires.TheVariants.FillsCell counter index) owner = refl
-acquire_asks_none (acquires.TheVariants.ChecksCounter counter) owner = refl
-acquire_asks_none (acquires.TheVariants.Raises index raise) owner = raise_asks_none raise
+acquire_asks_none stage owner = grind arith
 
 pub release_asks_none : (stage : ReleaseStage) (given : GiveBack) → is_question (release_asks stage given) ≡ false
-release_asks_none releases.TheVariants.EmptiesCell given = refl
-release_asks_none (releases.TheVariants.Raises raise) given = raise_asks_none raise
-release_asks_none (releases.TheVariants.Locks lock) given = lock_asks_none lock
+release_asks_none stage given = grind arith
 
 -- where owners die a yes about one who lives is refused
 abbrev pub MayDecide : GoneBy → List ℕ → RobustFlight → Bool → Type 0
@@ -148,9 +138,7 @@ module _ {T : Type 0} (scene : Scene T) (inv : Inv scene) where
 
   -- a yes about an owner, where owners die, is of a dead one
   may_tell : (b : GoneBy) (said : Bool) (mode : ReleaseMode) (index owner : ℕ) → MayDecide b scene.set.dead (recover_at c mode (recovers.TheVariants.Asks index owner)) said → number_of said ≢ 0 → MayBeTold b owner events
-  may_tell Death true mode index owner e ne = sym (inv.good.died owner) ∙ frame.is_true (has_died owner scene.set.dead) e
-  may_tell Death false mode index owner e ne = absurd (ne refl)
-  may_tell Word said mode index owner e ne = tt
+  may_tell b said mode index owner e ne = grind arith
 
   find_decides : (said : Bool) (owner : ℕ) → owner < empty → IsHere scene (starts.TheVariants.Find owner) → (stage : FindStage) → FindAt c (all scene) stage → Decides said (starts.TheVariants.Find owner) (find_at c owner stage)
   find_decides said owner fits here (finds.TheVariants.LoadsCell index found) at frees asks s k = absurd (cc)
@@ -224,13 +212,7 @@ module _ {T : Type 0} (by : GoneBy) (code : Coding T) (c : ℕ) (t : Trace T) (s
       pub knows : Knows c flight (now (scene_of p x since))
 
     pub is_there : (start : RobustStart) (flight : RobustFlight) → StandsThere (family_by by code c) t s p x since (Robust start) (flights.TheVariants.Robust flight) → IsThere start flight
-    is_there start flight h =
-        record {
-          here = h.span ∙ ap (λ es. Open (Robust start) (wrote_of p es)) s.holds.same;
-          at = at_written c (wrote_of p s.state.events) (wrote_of p t.events) (Robust start) (flights.TheVariants.Robust flight) (sym (ap (wrote_of p) s.holds.same)) h.at;
-          steps = h.steps;
-          knows = h.knows;
-        }
+    is_there start flight h = grind arith
 
     -- the rows that it has passed
     pub passes : (flight : RobustFlight) (said : Option Bool) → first_row (going_rows t.world.coding t.world.kept (Some (flights.TheVariants.Robust flight)) said) ≡ None

@@ -1,11 +1,10 @@
 -- What a step of a call of the robust index set has to show, and how a call goes on or ends.
-use Rattle.std.proofs.Common.{◌≡◌, ◌≢◌, ℕ, ◌+◌, ◌<◌, ◌≤◌, ◌==◌, ⊎_elim, inl, inr, if◌then◌else◌, Bool, true, false, Option, Some, None, List, [], ◌∷◌, ◌++◌, get_or, set, fold, refl, sym, ap, subst, ◌∙◌, append-nil, arith, eq-eqb, ne_eqb}
+use Rattle.std.proofs.Common.{◌≡◌, ◌≢◌, ℕ, ◌+◌, ◌≤◌, ◌==◌, ⊎_elim, inl, inr, if◌then◌else◌, Bool, true, false, Option, Some, None, List, [], ◌∷◌, ◌++◌, get_or, set, fold, refl, sym, ap, subst, ◌∙◌, append-nil, arith, eq-eqb, ne_eqb}
 use Rattle.std.proofs.lemmas.Bool.Decides.{nat_tests}
 use Rattle.std.proofs.lemmas.List.{set-get_or}
 use Rattle.std.proofs.lemmas.List.Concat.{flat_map-append}
 use Rattle.std.proofs.lemmas.List.Sums.{fold-append}
 use Rattle.steps.specs.Ask.{written}
-use Rattle.steps.specs.Indices.Robust.Parts.{greatest}
 use Rattle.steps.specs.declared.ask.Ask.{Ask}
 use Rattle.steps.specs.declared.ask.After.{After}
 use Rattle.steps.specs.declared.ask.After.TheVariants.{GoOn, Done}
@@ -167,17 +166,7 @@ module _ {T : Type 0} (scene : Scene T) where
 
   -- a step that leaves the counter leaves what is known of it
   pub holds_on : (number : ℕ) (ask : Option Ask) (later : List (Event T)) → counter_of (words_after ws ask) ≡ counter_of ws → Holding number now → Holding number (seen ask false later)
-  holds_on number ask later same h =
-      let low = h.low in
-      record {
-        before_end = h.before_end;
-        low = omega arith;
-        paid = ⊎_elim (λ k. let paid = k.1 in inl (same ∙ k.0, omega arith)) (λ k. inr (omega arith)) h.paid;
-      }
-
-  -- the counter has this number then
-  pub holds_new : (number : ℕ) (ask : Option Ask) (back : Bool) (later : List (Event T)) → number < greatest → counter_of (words_after ws ask) ≡ number → IsPaid (seen ask back later) → Holding number (seen ask back later)
-  holds_new number ask back later less is paid = record { before_end = less; low = omega arith; paid = inl (is, paid) }
+  holds_on number ask later same h = grind arith
 
   -- ---- what the party has written
 

@@ -1,5 +1,5 @@
 -- A find that ends in another turn than a no has come to the indices of the whole set.
-use Rattle.std.proofs.Common.{◌≡◌, ◌≢◌, ℕ, ◌^◌, ◌-◌, ◌<◌, Bool, true, false, Option, Some, None, is_none, List, [], ◌∷◌, ◌++◌, refl, sym, ap, subst, ◌∙◌, arith}
+use Rattle.std.proofs.Common.{◌≡◌, ◌≢◌, ℕ, ◌^◌, ◌-◌, ◌<◌, Bool, true, false, Option, Some, None, List, [], ◌∷◌, ◌++◌, refl, sym, ap, subst, ◌∙◌, arith}
 use Rattle.std.proofs.lemmas.List.{append_cancel_left}
 use Rattle.std.specs.List.{AllByRecursion}
 use Rattle.steps.specs.declared.ask.After.{After}
@@ -29,7 +29,6 @@ use Rattle.model.specs.declared.party.Doing.TheVariants.{Going, Over}
 use Rattle.model.specs.declared.party.Party.{Party}
 use Rattle.model.specs.declared.turn.Turn.{Turn}
 use Rattle.model.specs.declared.turn.Turn.TheVariants.{Begin, Next, Decide, Die}
-use Rattle.model.specs.declared.turn.Refusal.TheVariants.{Idle, Undecided}
 use Rattle.model.specs.Coding.{Coding}
 use Rattle.model.specs.Families.{want_of, ask_of, is_question, beside_of, step_of}
 use Rattle.model.specs.Families.Indices.Robust.Calls.{want, after}
@@ -43,7 +42,7 @@ use Rattle.model.specs.Step.{as_call, answer_in}
 use Rattle.model.specs.Turns.{old_of, number_of, events_of_step, events_of_answer, events_of_next, events_of_decision, events_of, ask_of_doing, ending_of, after_turn}
 use Rattle.model.specs.World.{World, Trace, flight_in}
 use Rattle.model.proofs.Frame as frame
-use Rattle.model.proofs.Rows.{row_passed, passes, must_be_due}
+use Rattle.model.proofs.Rows.{passes, must_be_due}
 use Rattle.model.proofs.Scenes.{StandsThere, stands_there}
 use Rattle.robust_laws.proofs.Finds.{find_loads_all, find_asks_all}
 use Rattle.robust_laws.proofs.Invariant.{Scene, Inv, family}
@@ -185,10 +184,7 @@ module _ {T : Type 0} where
 
   -- no decision is due in a step
   not_due : (w : World T) (q : ℕ) → call_refusal w (Next q) ≡ None → is_due w.coding (flight_in w q) ≡ false
-  not_due w q e =
-      let c = row_passed (is_none (flight_in w q)) Idle _ e in
-      let d = row_passed (is_due w.coding (flight_in w q)) Undecided _ c.1 in
-      d.0
+  not_due w q e = grind arith
 
   tells : (code : Coding T) (c : ℕ) (t : Trace T) (turn : Turn T) → refusal_of t.world turn ≡ None → frame.Sound (family code c) t → (p owner number : ℕ)
       → events_of t.world turn ≡ Finished p (Robust (starts.TheVariants.Find owner)) (Number number) ∷ [] → turn ≢ Decide p false → IsCount p (IsFilledWith owner) c number t.events

@@ -1,14 +1,10 @@
 -- What a decision comes to: a no ends a find at the index that it asked about, and a yes tells a recovery to free the index
 -- that it asked about. No other turn tells it.
-use Rattle.std.proofs.Common.{◌≡◌, ◌≢◌, ℕ, Bool, true, false, Option, Some, None, is_none, List, [], ◌∷◌, ◌++◌, refl, sym, ap, subst, ◌∙◌}
+use Rattle.std.proofs.Common.{◌≡◌, ◌≢◌, ℕ, Bool, true, false, Option, Some, None, is_none, List, [], ◌∷◌, ◌++◌, refl, sym, ap, subst, ◌∙◌, arith}
 use Rattle.std.specs.List.{AllByRecursion}
 use Rattle.steps.specs.declared.ask.Want.{Want}
-use Rattle.steps.specs.declared.ask.Want as wants
 use Rattle.steps.specs.declared.indices.enums.ReleaseMode.{ReleaseMode}
-use Rattle.steps.specs.declared.indices.robust.find.FindStage.{FindStage}
-use Rattle.steps.specs.declared.indices.robust.find.FindStage as finds
 use Rattle.steps.specs.declared.indices.robust.parts.Count.{Count}
-use Rattle.steps.specs.declared.indices.robust.parts.Count as counts
 use Rattle.steps.specs.declared.indices.robust.parts.Lock.{Lock}
 use Rattle.steps.specs.declared.indices.robust.parts.Lock as locks
 use Rattle.steps.specs.declared.indices.robust.parts.Raise.{Raise}
@@ -37,7 +33,7 @@ use Rattle.model.specs.declared.turn.Turn.TheVariants.{Begin, Next, Decide, Die}
 use Rattle.model.specs.Coding.{Coding}
 use Rattle.model.specs.Families.{want_of, ask_of, is_question, beside_of, step_of}
 use Rattle.model.specs.Families.Indices.Robust.Calls.{want, after}
-use Rattle.model.specs.Families.Indices.Robust.Promises.{asked_of, owned_by, owned_of, IsIn, IsStopped, FindsUpTo, ToldRight, TellsOnce, IsTold, YesTells}
+use Rattle.model.specs.Families.Indices.Robust.Promises.{owned_by, owned_of, IsIn, IsStopped, FindsUpTo, ToldRight, TellsOnce, IsTold, YesTells}
 use Rattle.model.specs.Families.Indices.Robust.Steps.{effects}
 use Rattle.model.specs.Parties.{party_of, doing_of, flight_of}
 use Rattle.model.specs.Refusals.{refusal_of, is_due, call_refusal}
@@ -53,14 +49,12 @@ use Rattle.robust_laws.proofs.Knows.{Knows}
 use Rattle.robust_laws.specs.Gone.{Death}
 use Rattle.robust_laws.proofs.Sound.{kept_is, scene_of, is_there}
 use Rattle.robust_laws.proofs.Stages.{all, now, any_call}
-use Rattle.robust_laws.proofs.Standing.{find_at, recover_at, At}
+use Rattle.robust_laws.proofs.Standing.{recover_at, At}
 use Rattle.robust_laws.proofs.Written.{effects_hold}
 
 -- only a question asks about an index of an owner
 asks_owned : (w : Want (Unit {0})) (index owner : ℕ) → owned_by w ≡ Some (index, owner) → is_question w ≡ true
-asks_owned (wants.TheVariants.Ask ask) index owner e = absurd (cc)
-asks_owned (wants.TheVariants.Question question) index owner e = refl
-asks_owned wants.TheVariants.Nothing index owner e = absurd (cc)
+asks_owned w index owner e = grind arith
 
 -- neither a raise nor a lock asks about any
 raise_asks_none : (raise : Raise) → is_question (raise_want raise) ≡ true → ⊥
@@ -68,9 +62,7 @@ raise_asks_none raises.TheVariants.LoadsCounter e = absurd (cc)
 raise_asks_none (raises.TheVariants.ExchangesCounter counter) e = absurd (cc)
 
 count_asks_none : (count : Count) → is_question (count_want count) ≡ true → ⊥
-count_asks_none counts.TheVariants.LoadsCounter e = absurd (cc)
-count_asks_none (counts.TheVariants.LoadsCell counter index filled) e = absurd (cc)
-count_asks_none (counts.TheVariants.ExchangesCounter counter filled) e = absurd (cc)
+count_asks_none count e = grind arith
 
 lock_asks_none : (lock : Lock) → is_question (lock_want lock) ≡ true → ⊥
 lock_asks_none (locks.TheVariants.Counts count) e = count_asks_none count e
@@ -162,15 +154,8 @@ module _ {T : Type 0} (code : Coding T) (c : ℕ) (t : Trace T) (s : frame.Sound
         flight_in t.world p ≡ Some (flights.TheVariants.Robust flight) → is_question (want flight) ≡ true → Knows c flight (now (scene_of Death code c t s p x since))
         → events_of t.world (Decide p false) ≡ effects p flight 0 ++ ending_of p (Robust (starts.TheVariants.Find owner)) (answer_in (any_call (after {T = T} flight 0))) → IsStopped p owner t (after_turn t (Decide p false))
 
-    stage_stops : (x : Party T) (since : ℕ) (stage : FindStage) → Stops x since (find_at c owner stage)
-    stage_stops x since (finds.TheVariants.LoadsCell index found) here due h e = absurd (cc)
-    stage_stops x since (finds.TheVariants.Asks index found) here due h e =
-        record { index = index; number = found; asked = ap (asked_of t.world.coding) here; ends = ap (λ es. t.events ++ es) e; count = h.says }
-
     find_stops : (x : Party T) (since : ℕ) (flight : RobustFlight) → At c (all (scene_of Death code c t s p x since)) (starts.TheVariants.Find owner) flight → Stops x since flight
-    find_stops x since (calls.TheVariants.Find run) at =
-        subst (Stops x since) (sym (ap (λ n. find_at n run.given run.call.stage) at.0 ∙ ap (λ o. find_at c o run.call.stage) at.1)) (stage_stops x since run.call.stage)
-    find_stops x since flight at = absurd at
+    find_stops x since flight at = grind arith
 
   pub finds_up_to : (turn : Turn T) → refusal_of t.world turn ≡ None → FindsUpTo t turn (after_turn t turn)
   finds_up_to turn r p owner is under_way =
