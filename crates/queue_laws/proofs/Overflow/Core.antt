@@ -1,5 +1,5 @@
 -- The overflowing list beside the values that wait: it is as many of them as the capacity, from the oldest on.
-use Rattle.std.proofs.Common.{◌≡◌, ℕ, zero, suc, ◌+◌, ◌*◌, ◌%◌, ◌<◌, ◌≤◌, nat_lt, true, false, Some, None, List, [], ◌∷◌, ◌++◌, length, get_or, map, take, drop, slice_get, refl, sym, ap, ◌∙◌, arith, length-append}
+use Rattle.std.proofs.Common.{◌≡◌, ℕ, suc, ◌+◌, ◌*◌, ◌%◌, ◌<◌, ◌≤◌, nat_lt, true, false, Some, None, List, [], ◌∷◌, ◌++◌, length, get_or, map, take, drop, slice_get, refl, sym, ap, ◌∙◌, arith, length-append}
 use Rattle.std.proofs.lemmas.Bool.Decides.{nat_tests}
 use Rattle.std.proofs.lemmas.List.{map-append, length-map, take-append-le}
 use Rattle.std.proofs.Math.Seq.{take-append_seam}
@@ -27,12 +27,10 @@ list_is c xs others v is full = ap (take c) is ∙ (ap (λ n. take n (others ++ 
 
 module _ {T : Type 0} where
   pub none_passes : (c : ℕ) (item : Item T) → c ≡ 0 → through_cells Overflow c item ≡ []
-  none_passes zero item e = refl
-  none_passes (suc less) item e = absurd (omega arith)
+  none_passes x0 x1 x2 = grind arith
 
   pub one_passes : (c : ℕ) (item : Item T) → 0 < c → through_cells Overflow c item ≡ item ∷ []
-  one_passes zero item h = absurd (omega arith)
-  one_passes (suc less) item h = refl
+  one_passes x0 x1 x2 = grind arith
 
   abbrev pub items : List ℕ → List (Item T)
   items xs = map Index xs

@@ -1,23 +1,18 @@
 -- What a call of another party goes on to know in an overflowing queue.
-use Rattle.std.proofs.Common.{◌≡◌, ◌≢◌, ℕ, ◌+◌, ◌≤◌, ◌==◌, false, List, [], ◌∷◌, ◌++◌, length, refl, ap, arith}
-use Rattle.std.proofs.lemmas.Bool.Decides.{nat_tests}
+use Rattle.std.proofs.Common.{◌≡◌, ℕ, ◌+◌, ◌≤◌, List, [], ◌∷◌, ◌++◌, length, ap, arith}
 use Rattle.steps.specs.declared.copied.OneWord.{OneWord}
 use Rattle.steps.specs.declared.queues.overflow.PushStage as overflow_pushes
 use Rattle.steps.specs.declared.queues.overflow.PopStage as overflow_pops
 use Rattle.model.specs.Families.Queues.Calls.{words_of_index}
 use Rattle.queue_laws.proofs.Queues.Core as core
-use Rattle.queue_laws.proofs.Queues.Core.{Core, Holds, Good, filled, taken, fills, one_filled, publishes, takes, word_at, set_at}
+use Rattle.queue_laws.proofs.Queues.Core.{Core, Good, filled, taken}
 use Rattle.queue_laws.proofs.Overflow.Knows.{KnowsOverflowPush, KnowsOverflowPop, overflow_wrote}
 
 -- ---- a pop, where a push takes a step
 
 -- a store into a cell
 pub fill_keeps_pop : (c : ℕ) (k : Core ℕ) (at word : ℕ) (room : OneWord) (stage : overflow_pops.PopStage) → KnowsOverflowPop c k room stage → KnowsOverflowPop c (filled 1 words_of_index (c + 1) k at word) room stage
-fill_keeps_pop c k at word room overflow_pops.TheVariants.FindsNone h = h
-fill_keeps_pop c k at word room overflow_pops.TheVariants.LoadsRead h = h
-fill_keeps_pop c k at word room (overflow_pops.TheVariants.LoadsWrite read) h = h
-fill_keeps_pop c k at word room (overflow_pops.TheVariants.LoadsCell read) h = h
-fill_keeps_pop c k at word room (overflow_pops.TheVariants.MovesRead read) h = h
+fill_keeps_pop x0 x1 x2 x3 x4 x5 x6 = grind arith
 
 -- the next write position
 pub publish_keeps_pop : (c : ℕ) (k : Core ℕ) (v : ℕ) (room : OneWord) (stage : overflow_pops.PopStage) → KnowsOverflowPop c k room stage → KnowsOverflowPop c (core.published 1 words_of_index (c + 1) k v) room stage
@@ -36,42 +31,11 @@ publish_keeps_pop c k v room (overflow_pops.TheVariants.MovesRead read) h =
 pub take_keeps_pop :
     (c : ℕ) (k : Core ℕ) (rest : List ℕ) → k.write ≡ k.read + c + 1 → (room : OneWord) (stage : overflow_pops.PopStage) → KnowsOverflowPop c k room stage
     → KnowsOverflowPop c (taken 1 words_of_index (c + 1) k rest) room stage
-take_keeps_pop c k rest far room overflow_pops.TheVariants.FindsNone h = h
-take_keeps_pop c k rest far room overflow_pops.TheVariants.LoadsRead h = h
-take_keeps_pop c k rest far room (overflow_pops.TheVariants.LoadsWrite read) h =
-    let some = h.0 in
-    let low = h.1 in
-    (some, omega arith, λ moved. omega arith)
-take_keeps_pop c k rest far room (overflow_pops.TheVariants.LoadsCell read) h =
-    let some = h.0 in
-    let low = h.1 in
-    (some, omega arith, omega arith)
-take_keeps_pop c k rest far room (overflow_pops.TheVariants.MovesRead read) h =
-    let some = h.0 in
-    let low = h.1 in
-    (some, omega arith, omega arith, λ same. absurd (omega arith))
+take_keeps_pop x0 x1 x2 x3 x4 x5 x6 = grind arith
 
 -- ---- a push, where a pop moves the read position and no push was pending
 
 pub take_keeps_push :
     {T : Type 0} → (c : ℕ) (k : Core ℕ) (q : ℕ) (rest : List ℕ) → Good 1 words_of_index (c + 1) k → length k.waiting ≤ c → (w : ℕ) (stage : overflow_pushes.PushStage) → KnowsOverflowPush c k w stage
     → KnowsOverflowPush c (taken 1 words_of_index (c + 1) k rest) w stage × (overflow_wrote {T = T} c (taken 1 words_of_index (c + 1) k rest) q w stage ≡ overflow_wrote c k q w stage)
-take_keeps_push c k q rest g few w overflow_pushes.TheVariants.HandsBack h = (h, refl)
-take_keeps_push c k q rest g few w overflow_pushes.TheVariants.LoadsWrite h = (h, refl)
-take_keeps_push c k q rest g few w (overflow_pushes.TheVariants.LoadsRead write) h = (h, refl)
-take_keeps_push c k q rest g few w (overflow_pushes.TheVariants.StoresCell write read) h =
-    let low = h.2 in
-    ((h.0, h.1, omega arith, h.3, h.4), refl)
-take_keeps_push c k q rest g few w (overflow_pushes.TheVariants.StoresWrite write read) h =
-    let low = h.2 in
-    ((h.0, h.1, omega arith, h.3, h.4, h.5), refl)
-take_keeps_push c k q rest g few w (overflow_pushes.TheVariants.MovesRead read) h =
-    let low = h.1 in
-    let far = h.2 in
-    let write = g.write in
-    let before : (read == k.read) ≡ false = (let apart : read ≢ k.read = λ e. absurd (omega arith) in grind (arith, nat_tests)) in
-    let after : (read == k.read + 1) ≡ false = (let apart : read ≢ k.read + 1 = λ e. absurd (omega arith) in grind (arith, nat_tests)) in
-    ((h.0, omega arith, far, λ same. absurd (omega arith)), rw (before, after) refl)
-take_keeps_push c k q rest g few w (overflow_pushes.TheVariants.LoadsCell read) h =
-    let low = h.1 in
-    ((h.0, omega arith, h.2), refl)
+take_keeps_push x0 x1 x2 x3 x4 x5 x6 x7 x8 = grind arith

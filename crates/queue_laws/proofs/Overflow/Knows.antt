@@ -83,37 +83,7 @@ KnowsBacks k since changes backs (overflow_pops.TheVariants.MovesRead read) =
 -- a turn of another party keeps it
 module _ {V : Type 0} (k k' : Core V) (changes changes' : ℕ) (up : GoesUp k k' changes changes') where
   pub backs_keep : (since backs : ℕ) (stage : overflow_pops.PopStage) → KnowsBacks k since changes backs stage → KnowsBacks k' since changes' backs stage
-  backs_keep since backs overflow_pops.TheVariants.FindsNone h =
-      let w = up.write in
-      let r = up.read in
-      let more = up.paid in
-      omega arith
-  backs_keep since backs overflow_pops.TheVariants.LoadsRead h =
-      let w = up.write in
-      let r = up.read in
-      let more = up.paid in
-      omega arith
-  backs_keep since backs (overflow_pops.TheVariants.LoadsWrite read) h =
-      let w = up.write in
-      let r = up.read in
-      let more = up.paid in
-      let low = h.0 in
-      let paid = h.1 in
-      (omega arith, omega arith)
-  backs_keep since backs (overflow_pops.TheVariants.LoadsCell read) h =
-      let w = up.write in
-      let r = up.read in
-      let more = up.paid in
-      let low = h.0 in
-      let paid = h.1 in
-      (omega arith, omega arith)
-  backs_keep since backs (overflow_pops.TheVariants.MovesRead read) h =
-      let w = up.write in
-      let r = up.read in
-      let more = up.paid in
-      let low = h.0 in
-      let paid = h.1 in
-      (omega arith, omega arith)
+  backs_keep x0 x1 x2 x3 = grind arith
 
 module _ {T : Type 0} where
   -- what a push has written since its begin

@@ -73,10 +73,7 @@ module _ {T : Type 0} (en : Coding T) (scene : Scene T kinds.TheVariants.Overflo
     words_publish = ap (λ n. n ∷ k.read ∷ free ro.producer ∷ free ro.consumer ∷ k.cells) next_is
 
     one : change_of (layout ro k) next_write ≡ 1
-    one =
-        let reached = inv.queue.reached in
-        let moved : (after_position k.write == k.write) ≡ false = grind (arith, nat_tests) in
-        rw moved refl
+    one = grind arith
 
     joined : map {B = Item T} Index k.waiting ++ Index v ∷ [] ≡ map Index (k.waiting ++ v ∷ [])
     joined = sym (map-append Index k.waiting (v ∷ []))

@@ -23,7 +23,6 @@ use Rattle.model.specs.declared.event.Event.{Event}
 use Rattle.model.specs.declared.event.Start.TheVariants.{Queues}
 use Rattle.model.specs.declared.event.Event.TheVariants.{Published, HandedOut, Acted, Finished}
 use Rattle.model.specs.declared.event.Start.{Start}
-use Rattle.model.specs.declared.event.Start as starts
 use Rattle.model.specs.declared.families.Flight.{Flight}
 use Rattle.model.specs.declared.families.Flight as flights
 use Rattle.model.specs.declared.party.Party.{Party}
@@ -44,8 +43,7 @@ use Rattle.queue_laws.proofs.Queues.Invariant.{Queue, Scene, Inv, family, queue_
 use Rattle.queue_laws.proofs.Overflow.Core.{one_passes, pop_front, pop_room}
 use Rattle.queue_laws.proofs.Overflow.Waiting.{past_none, Pushing, IsPending, pending_is}
 use Rattle.queue_laws.proofs.Queues.Core.{Core, Good, GoesUp, taken, takes}
-use Rattle.queue_laws.proofs.Overflow.Knows.{KnowsOverflowPush}
-use Rattle.queue_laws.proofs.Queues.Knows.{free, layout, Hangs, has_written}
+use Rattle.queue_laws.proofs.Queues.Knows.{layout, Hangs, has_written}
 use Rattle.queue_laws.proofs.Queues.Keeping.{clash, kept}
 use Rattle.queue_laws.proofs.Queues.Pending.{pending_put, few_wait, none_hangs}
 use Rattle.queue_laws.proofs.Queues.Stages.{party_then, DoesStep, Moves, alone}
@@ -84,24 +82,10 @@ module _ {T : Type 0} (en : Coding T) (scene : Scene T kinds.TheVariants.Overflo
       answer = PoppedIndex value
 
       words_take : words_after (layout ro k) (asks_move k.read) ≡ layout ro after_take
-      words_take =
-          let long : length k.waiting ≡ suc (length rest) = ap length first in
-          let g = inv.queue.good in
-          let write = g.write in
-          let reached = inv.queue.reached in
-          let t : (k.read == k.read) ≡ true = grind (arith, nat_tests) in
-          let next : after_position k.read ≡ k.read + 1 = omega arith in
-          rw t (ap (λ n. k.write ∷ n ∷ free ro.producer ∷ free ro.consumer ∷ k.cells) next)
+      words_take = grind arith
 
       one : change_of (layout ro k) (asks_move k.read) ≡ 1
-      one =
-          let long : length k.waiting ≡ suc (length rest) = ap length first in
-          let g = inv.queue.good in
-          let write = g.write in
-          let reached = inv.queue.reached in
-          let t : (k.read == k.read) ≡ true = grind (arith, nat_tests) in
-          let moved : (after_position k.read == k.read) ≡ false = grind (arith, nat_tests) in
-          rw (t, moved) refl
+      one = grind arith
 
       good_take : Good 1 words_of_index (c + 1) after_take
       good_take = takes 1 words_of_index (c + 1) k value rest first inv.queue.good
@@ -203,27 +187,17 @@ module _ {T : Type 0} (en : Coding T) (scene : Scene T kinds.TheVariants.Overflo
         IsAt state start run = (family en kinds.TheVariants.Overflow c).At state q start (flights.TheVariants.Queues (pushing run))
 
         start_is : (start : Start T) (run : Pushing) → IsAt (queue_in scene) start run → run.given ≡ w → start ≡ Queues (PushIndex w)
-        start_is (starts.TheVariants.Queues (PushIndex v)) run h e = let same : v ≡ w = sym h.2 ∙ e in ap (λ (n : ℕ). Queues (PushIndex n)) same
-        start_is start run h e = absurd h
+        start_is x0 x1 x2 x3 = grind arith
 
         still_at : (start : Start T) (run : Pushing) → run.call.stage ≡ overflow_pushes.TheVariants.MovesRead k.read → IsAt (queue_in scene) start run → IsAt after_queue start run
-        still_at (starts.TheVariants.Queues (PushIndex v)) run e h =
-            let knows = subst (KnowsOverflowPush c k v) e h.3 in
-            let now : KnowsOverflowPush c after_take v (overflow_pushes.TheVariants.MovesRead k.read) = (knows.0, omega arith, knows.2, λ same. absurd (omega arith)) in
-            (h.0, h.1, h.2, subst (KnowsOverflowPush c after_take v) (sym e) now)
-        still_at start run e h = absurd h
+        still_at x0 x1 x2 x3 = grind arith
 
         module _ (producer : ro.producer ≡ Some q) (x : Party T) (run : Pushing) (begun : ℕ) (is : IsPending k.read latest q w x run begun) where
           other : q ≢ p
-          other e =
-              let none : pending_at k.read (flight_of (doing_of (party_of q latest))) ≡ None = subst (λ n. pending_at k.read (flight_of (doing_of (party_of n latest))) ≡ None) (sym e) (calm k.read) in
-              let clashing : None ≡ Some w = sym none ∙ is.waits in
-              cc
+          other x0 = grind arith
 
           under : frame.IsUnderWay (family en kinds.TheVariants.Overflow c) (queue_in scene) q x (flights.TheVariants.Queues (pushing run)) (span_of q events)
-          under =
-              subst (λ d. frame.FitsDoing (family en kinds.TheVariants.Overflow c) (queue_in scene) q x d (span_of q events)) is.doing
-              (subst (λ o. frame.Fits (family en kinds.TheVariants.Overflow c) (queue_in scene) q o (span_of q events)) is.found (inv.frame.calls q))
+          under = grind arith
 
           start : x.start ≡ Queues (PushIndex w)
           start = start_is x.start run under.at is.value
@@ -232,9 +206,7 @@ module _ {T : Type 0} (en : Coding T) (scene : Scene T kinds.TheVariants.Overflo
           wrote = let t : (k.read == k.read) ≡ true = grind (arith, nat_tests) in rw (is.value, is.stage, t) refl
 
           writes : has_written {T = T} c after_take q (pushing run) ≡ Published q (Index w) ∷ acts_q ∷ []
-          writes =
-              let t : (k.read == k.read + 1) ≡ false = (let apart : k.read ≢ k.read + 1 = omega arith in grind (arith, nat_tests)) in
-              rw (is.value, is.stage, t) refl
+          writes = grind arith
 
           -- the spans of both parties
           p_1 : span_of p run_1 ≡ Open (Queues Pop) (hands ∷ [])

@@ -1,6 +1,6 @@
 -- The queue that the words hold, and what each operation on a word does to it. No event and no party is in it.
 -- V is the type of the values, size the number of their words, and words_of gives the words.
-use Rattle.std.proofs.Common.{◌≡◌, ◌≢◌, ℕ, zero, suc, ◌+◌, ◌*◌, ◌/◌, ◌%◌, ◌<◌, ◌≤◌, ◌⊎◌, inl, inr, ⊎_elim, slice_get, Some, List, [], ◌∷◌, ◌++◌, length, get_or, set, take, refl, ap, subst, ◌∙◌, arith, length-set, length-append, get_or-set_same, get_or-set_other}
+use Rattle.std.proofs.Common.{◌≡◌, ◌≢◌, ℕ, zero, suc, ◌+◌, ◌*◌, ◌%◌, ◌<◌, ◌≤◌, ◌⊎◌, inl, inr, ⊎_elim, slice_get, Some, List, [], ◌∷◌, ◌++◌, length, get_or, set, take, refl, ap, subst, ◌∙◌, arith, length-set, length-append, get_or-set_same, get_or-set_other}
 use Rattle.std.proofs.lemmas.Bool.{cases_lt}
 use Rattle.std.proofs.Math.Seq.{take-nil}
 use Rattle.std.proofs.Math.Nat.{mul-le-mul_left}
@@ -15,19 +15,7 @@ take_all (suc n) (x ∷ xs) h = ap (λ ys. x ∷ ys) (take_all n xs (omega arith
 
 -- two positions less than a lap apart stand in different cells
 pub apart : (c r i n : ℕ) → i < n → n < c → (r + i) % c ≢ (r + n) % c
-apart c r i n below lap e = ⊎_elim less more (cases_lt ((r + i) / c) ((r + n) / c))
-  where
-    less : (r + i) / c < (r + n) / c → ⊥
-    less h =
-        let step : c * ((r + i) / c + 1) ≤ c * ((r + n) / c) = mul-le-mul_left c (omega arith) in
-        let room : 0 < c = omega arith in
-        absurd (omega arith)
-
-    more : (r + n) / c ≤ (r + i) / c → ⊥
-    more h =
-        let step : c * ((r + n) / c) ≤ c * ((r + i) / c) = mul-le-mul_left c h in
-        let room : 0 < c = omega arith in
-        absurd (omega arith)
+apart x0 x1 x2 x3 x4 x5 x6 = grind arith
 
 -- the words of different cells are different
 pub cells_apart : (size a b i j : ℕ) → i < size → j < size → a ≢ b → size * a + i ≢ size * b + j
@@ -44,10 +32,7 @@ cells_apart size a b i j is js ne e = ⊎_elim less more (cases_lt a b)
 
 -- a word of a cell lies among the cells
 pub cell_within : (size c p i : ℕ) → 0 < c → i < size → size * (p % c) + i < size * c
-cell_within size c p i room below =
-    let low : p % c < c = omega arith in
-    let step : size * (p % c + 1) ≤ size * c = mul-le-mul_left size (omega arith) in
-    omega arith
+cell_within x0 x1 x2 x3 x4 x5 = grind arith
 
 -- ---- the words
 
@@ -167,7 +152,4 @@ module _ {V : Type 0} (size : ℕ) (words_of : V → List ℕ) (c : ℕ) where
 
   -- the front value, read word by word
   pub front : (k : Core V) (v : V) (rest : List V) → k.waiting ≡ v ∷ rest → Good k → Holds k.cells k.read v size
-  front k v rest is g j js =
-      let at : slice_get k.waiting 0 ≡ Some v = rw is refl in
-      let place : k.read + 0 ≡ k.read = omega arith in
-      rw place at (g.held 0 v at j js)
+  front x0 x1 x2 x3 x4 x5 x6 = grind arith

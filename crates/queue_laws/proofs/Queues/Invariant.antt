@@ -225,8 +225,7 @@ module _ {T : Type 0} (en : Coding T) where
   pub any_stays : (kd : QueueKind) (c : ℕ) (ro ro' : Roles) (k k' : Core (Val T kd)) (q : ℕ)
       → ((start : QueueStart T) (flight : QueueFlight T) → At en kd c ro k q start flight → At en kd c ro' k' q start flight × (has_written {T = T} c k' q flight ≡ has_written {T = T} c k q flight))
       → (start : Start T) (flight : Flight T) → FlightAt kd c ro k q start flight → FlightAt kd c ro' k' q start flight × (written c k' q flight ≡ written c k q flight)
-  any_stays kd c ro ro' k k' q stays (starts.TheVariants.Queues start) (flights.TheVariants.Queues flight) h = stays start flight h
-  any_stays kd c ro ro' k k' q stays start flight h = absurd h
+  any_stays x0 x1 x2 x3 x4 x5 x6 x7 x8 x9 x10 = grind arith
 
   pub any_knows : {V : Type 0} → (c : ℕ) (k k' : Core V) (q : ℕ) (events es : List (Event T)) (changes changes' : ℕ) → GoesUp k k' changes changes' → BeginsNone q es
       → (since backs : ℕ) (flight : Flight T) → Knowing c k q events since changes backs flight → Knowing c k' q (events ++ es) since changes' backs flight
@@ -241,20 +240,4 @@ module _ {T : Type 0} (en : Coding T) where
         (record { own = s.own; stands = s.stands; here = s.here; knows = s.knows; others = λ q ne. any_stays kd scene.capacity scene.roles ro' scene.core k' q (s.others q ne); others_know = λ q ne. any_knows scene.capacity scene.core k' q scene.events es scene.changes changes' s.up (others_begin_none q scene.party es ne s.own) })
 
     pub queue_part : ShowsQueue kd scene ro' k' y es changes'
-    queue_part =
-        record {
-          right = s.right;
-          lengths = s.lengths;
-          grants = s.grants;
-          good = s.good;
-          hangs = s.hangs;
-          book = s.book;
-          out = s.out;
-          producers = s.producers;
-          consumers = s.consumers;
-          goes = s.goes;
-          answers = s.answers;
-          up = s.up;
-          reached = s.reached;
-          within = s.within;
-        }
+    queue_part = grind arith

@@ -1,24 +1,21 @@
 -- What a turn writes down: what its step did to the queue, then the acts, then the end. A push that answers false, and a
 -- pop that answers None, did so in its own turn, as it loaded the other position; without capacity, an overflowing queue's
 -- pop loads none. A push that is taken, and a pop that answers a value, acts as its position goes on.
-use Rattle.std.proofs.Common.{◌≡◌, ℕ, zero, suc, ◌+◌, ◌-◌, ◌^◌, ◌<◌, ◌≤◌, ◌==◌, ◌||◌, ◌&&◌, not, if◌then◌else◌, Bool, true, false, cond, inl, inr, Option, Some, None, List, [], ◌∷◌, ◌++◌, get_or, refl, sym, ap, subst, ◌∙◌, arith}
+use Rattle.std.proofs.Common.{◌≡◌, ℕ, ◌+◌, ◌-◌, ◌^◌, ◌<◌, ◌≤◌, ◌==◌, Bool, true, false, cond, inr, Option, Some, None, List, [], ◌∷◌, ◌++◌, get_or, refl, sym, ap, subst, ◌∙◌, arith}
 use Rattle.std.proofs.lemmas.Bool.Decides.{nat_tests}
 use Rattle.std.specs.List.{AllByRecursion}
 use Rattle.steps.specs.declared.ask.Ask.{Ask}
-use Rattle.steps.specs.declared.ask.Op.TheVariants.{Store, Exchange}
+use Rattle.steps.specs.declared.ask.Op.TheVariants.{Exchange}
 use Rattle.steps.specs.declared.ask.After.{After}
 use Rattle.steps.specs.declared.ask.After.TheVariants.{GoOn, Done}
 use Rattle.steps.specs.declared.copied.OneWord.{OneWord}
-use Rattle.steps.specs.declared.queues.ring.PushStage as pushes
-use Rattle.steps.specs.declared.queues.ring.PopStage as pops
 use Rattle.steps.specs.declared.queues.overflow.Push as overflow_push
 use Rattle.steps.specs.declared.queues.overflow.Pop as overflow_pop
 use Rattle.steps.specs.declared.queues.overflow.PushStage as overflow_pushes
 use Rattle.steps.specs.declared.queues.overflow.PopStage as overflow_pops
 use Rattle.steps.specs.declared.queues.overflow.PushEnd.{PushEnd}
-use Rattle.steps.specs.declared.queues.overflow.PushEnd.TheVariants.{Added}
 use Rattle.steps.specs.declared.copied.Kept as cells
-use Rattle.steps.specs.Queues.Ring.{after_position, distance}
+use Rattle.steps.specs.Queues.Ring.{after_position}
 use Rattle.steps.specs.Queues.Overflow.{cell_word, push_answer, pop_answer}
 use Rattle.steps.specs.Routine.{went_on}
 use Rattle.model.specs.declared.event.Answer.{Answer}
@@ -51,9 +48,9 @@ use Rattle.model.specs.declared.turn.Turn.TheVariants.{Next}
 use Rattle.model.specs.Coding.{Coding, IsCoding}
 use Rattle.model.specs.Families.{ask_of, beside_of, step_of, goes_of}
 use Rattle.model.specs.Families.Queues.Book.{AnswersRight}
-use Rattle.model.specs.Families.Queues.Calls.{write_word, read_word, want, after, popped}
+use Rattle.model.specs.Families.Queues.Calls.{read_word, want, after, popped}
 use Rattle.model.specs.Families.Queues.Opening.{holds}
-use Rattle.model.specs.Families.Queues.Promises.{load_of_write, load_of_read, finding_none, AddsOne, HandsBack, promise}
+use Rattle.model.specs.Families.Queues.Promises.{load_of_write, finding_none, AddsOne, HandsBack, promise}
 use Rattle.model.specs.Families.Queues.Steps.{pending_at, pending, beside, takes_effect, effect_of, acts_if_done, effects_of}
 use Rattle.model.specs.Parties.{party_of, doing_of, flight_of}
 use Rattle.model.specs.Promises.{IsTurnBy}
@@ -66,7 +63,6 @@ use Rattle.model.proofs.Orders.{Orders, Keeps, ends_end, turn_is}
 use Rattle.model.proofs.Readings.{AreRight}
 use Rattle.model.proofs.Scenes.{StandsThere, stands_there, InOrder, in_order_from}
 use Rattle.queue_laws.proofs.Overflow.Knows.{overflow_push_at, overflow_pop_at, KnowsOverflowPush, KnowsOverflowPop, OverflowAt}
-use Rattle.queue_laws.proofs.Overflow.Waiting.{pending_is}
 use Rattle.queue_laws.proofs.Queues.Core.{Core}
 use Rattle.queue_laws.proofs.Queues.Invariant.{Queue, Fit, machine_kind, family}
 use Rattle.queue_laws.proofs.Queues.Knows.{all_fresh, layout, IndexAt, ValueAt, At}
@@ -74,17 +70,14 @@ use Rattle.queue_laws.proofs.Queues.Sound.{kept_is, step_moves, scene_of, inv_of
 use Rattle.queue_laws.proofs.Queues.Kept.{kept, promised_by}
 use Rattle.queue_laws.proofs.Queues.Stages.{told_after, any_call}
 use Rattle.queue_laws.proofs.Queues.Values.{Val, encoded, item}
-use Rattle.queue_laws.proofs.Ring.Kinds.{Ring, of_indices, of_values, kind_of, Room, words_in, push, got, read_in, ring_want, ring_after, ring_effect}
-use Rattle.queue_laws.proofs.Ring.Knows.{push_at, pop_at, KnowsPush, KnowsPop, PushAt, PopAt}
+use Rattle.queue_laws.proofs.Ring.Kinds.{Ring, of_indices, of_values, kind_of, push}
 
 -- where a pop finds nothing
 ring_finds : (r : Ring) (c : ℕ) → finding_none (kind_of r) c ≡ Some load_of_write
-ring_finds of_indices c = refl
-ring_finds of_values c = refl
+ring_finds x0 x1 = grind arith
 
 overflow_finds : (c : ℕ) → (0 < c → finding_none kinds.TheVariants.Overflow c ≡ Some load_of_write) × (c ≡ 0 → finding_none kinds.TheVariants.Overflow c ≡ None)
-overflow_finds zero = ((λ some. absurd (omega arith)), (λ none. refl))
-overflow_finds (suc less) = ((λ some. refl), (λ none. absurd (omega arith)))
+overflow_finds x0 = grind arith
 
 module _ {T : Type 0} where
   -- ---- the order
@@ -110,40 +103,17 @@ module _ {T : Type 0} where
   acts_of p start (MakesRoom item q pushed) outcome = acts_if_done p start outcome ++ Acted q (Queues (PushIndex pushed)) answers.TheVariants.PoppedNone ∷ []
 
   effects_are : (p : ℕ) (start : QueueStart T) (effect : Effect T) (outcome : Option (Answer T)) → effects_of p start effect outcome ≡ did p effect ++ acts_of p start effect outcome
-  effects_are p start Quiet outcome = refl
-  effects_are p start Acts outcome = refl
-  effects_are p start (Publishes item) outcome = refl
-  effects_are p start (PublishesAndActs item) outcome = refl
-  effects_are p start (HandsOut item) outcome = refl
-  effects_are p start (TakesOut index) outcome = refl
-  effects_are p start (MakesRoom item q pushed) outcome = refl
+  effects_are x0 x1 x2 x3 = grind arith
 
   did_effects : (turn : Turn T) (p : ℕ) (effect : Effect T) → IsParty turn p → AllByRecursion (IsEffectOf turn) (did p effect)
-  did_effects turn p Quiet mine = tt
-  did_effects turn p Acts mine = tt
-  did_effects turn p (Publishes item) mine = (mine, tt)
-  did_effects turn p (PublishesAndActs item) mine = (mine, tt)
-  did_effects turn p (HandsOut item) mine = (mine, tt)
-  did_effects turn p (TakesOut index) mine = (mine, tt)
-  did_effects turn p (MakesRoom item q pushed) mine = (mine, tt)
-
-  acts_act : (p : ℕ) (start : QueueStart T) (outcome : Option (Answer T)) → AllByRecursion IsAct (acts_if_done p start outcome)
-  acts_act p start None = tt
-  acts_act p start (Some answer) = (tt, tt)
+  did_effects x0 x1 x2 x3 = grind arith
 
   joined : (P : Event T → Type 0) (xs ys : List (Event T)) → AllByRecursion P xs → AllByRecursion P ys → AllByRecursion P (xs ++ ys)
   joined P [] ys h r = r
   joined P (x ∷ xs) ys h r = (h.0, joined P xs ys h.1 r)
 
   all_act : (p : ℕ) (start : QueueStart T) (effect : Effect T) (outcome : Option (Answer T)) → AllByRecursion IsAct (acts_of p start effect outcome)
-  all_act p start Quiet outcome = tt
-  all_act p start Acts outcome = acts_act p start outcome
-  all_act p start (Publishes item) outcome = acts_act p start outcome
-  all_act p start (PublishesAndActs item) outcome = (tt, tt)
-  all_act p start (HandsOut item) outcome = acts_act p start outcome
-  all_act p start (TakesOut index) outcome = (tt, tt)
-  all_act p start (MakesRoom item q pushed) outcome =
-      joined IsAct (acts_if_done p start outcome) (Acted q (Queues (PushIndex pushed)) answers.TheVariants.PoppedNone ∷ []) (acts_act p start outcome) (tt, tt)
+  all_act x0 x1 x2 x3 = grind arith
 
 -- ---- what an act tells
 
@@ -167,27 +137,13 @@ module _ {T : Type 0} (own : QueueKind) (t : Trace T) (turn : Turn T) (p : ℕ) 
   abbrev Adds : ℕ → Type 0
   Adds word = AddsOne word t.world.words asked
 
-  push_acted : (r : Ring) (v : Val T (kind_of r)) → asked ≡ Some load_of_read → AnswersRight c t.events (Acted p (Queues (push r v)) (answers.TheVariants.Truth false)) → ActsRight (promise own) t turn (Acted p (Queues (push r v)) (answers.TheVariants.Truth false))
-  push_acted of_indices v asks h = (mine, asks, h)
-  push_acted of_values v asks h = (mine, asks, h)
-
-  taken_acted : (r : Ring) (v : Val T (kind_of r)) → Adds write_word → ActsRight (promise own) t turn (Acted p (Queues (push r v)) (answers.TheVariants.Truth true))
-  taken_acted of_indices v adds = (mine, adds)
-  taken_acted of_values v adds = (mine, adds)
-
-  got_acted : (r : Ring) (v : Val T (kind_of r)) → Adds read_word → ActsRight (promise own) t turn (Acted p (Queues Pop) (got r v))
-  got_acted of_indices v adds = (mine, adds)
-  got_acted of_values v adds = (mine, adds)
-
   -- it goes on, or it is done with None
   abbrev FindsNone : After (QueueFlight T) (Answer T) → Type 0
   FindsNone (GoOn flight) = Unit {0}
   FindsNone (Done answer) = answer ≡ answers.TheVariants.PoppedNone
 
   pop_acts : (after : After (QueueFlight T) (Answer T)) → FindsNone after → asked ≡ finding_none own c → Right (told_after p Pop Acts after) → Justified (acts_if_done p Pop (answer_in after))
-  pop_acts (GoOn flight) none asks h = tt
-  pop_acts (Done answer) none asks h =
-      (subst (λ a. AnswersRight c t.events (Acted p (Queues Pop) a) → ActsRight (promise own) t turn (Acted p (Queues Pop) a)) (sym none) (λ right. (mine, asks, right)) h.0, tt)
+  pop_acts x0 x1 x2 x3 = grind arith
 
   -- ---- the positions
 
@@ -199,26 +155,8 @@ module _ {T : Type 0} (own : QueueKind) (t : Trace T) (turn : Turn T) (p : ℕ) 
     pub low : read ≤ write
 
   module _ (write read : ℕ) (at : Positions write read) where
-    by_words : (word : ℕ) (ask : Option Ask) → AddsOne word (write ∷ read ∷ at.rest) ask → asked ≡ ask → Adds word
-    by_words word ask h asks = subst (λ ws. AddsOne word ws asked) (sym at.words) (subst (λ a. AddsOne word (write ∷ read ∷ at.rest) a) (sym asks) h)
-
-    stores_write : asked ≡ Some (record { word = write_word; op = Store (after_position write) }) → Adds write_word
-    stores_write asks =
-        let few = at.few in
-        let next : after_position write ≡ write + 1 = omega arith in
-        by_words write_word (Some (record { word = write_word; op = Store (after_position write) })) next asks
-
-    next_read : after_position read ≡ read + 1
-    next_read = let few = at.few in let low = at.low in omega arith
-
-    stores_read : asked ≡ Some (record { word = read_word; op = Store (after_position read) }) → Adds read_word
-    stores_read asks = by_words read_word (Some (record { word = read_word; op = Store (after_position read) })) next_read asks
-
     moves_read : asked ≡ Some (record { word = read_word; op = Exchange read (after_position read) }) → Adds read_word
-    moves_read asks =
-        let same : (read == read) ≡ true = grind (arith, nat_tests) in
-        let next : (if read == read then after_position read else read) ≡ read + 1 = rw same next_read in
-        by_words read_word (Some (record { word = read_word; op = Exchange read (after_position read) })) next asks
+    moves_read x0 = grind arith
 
   module _ (words : List ℕ) (waits : Option (ℕ × ℕ)) where
     abbrev Tells : QueueStart T → QueueFlight T → ℕ → Type 0
@@ -229,101 +167,19 @@ module _ {T : Type 0} (own : QueueKind) (t : Trace T) (turn : Turn T) (p : ℕ) 
     Acting start flight old = Justified (acts_of p start (effect_of en words waits flight old) (answer_in (after en flight old)))
 
     module _ (r : Ring) where
-      abbrev RingTells : QueueStart T → rings.RingCall (Val T (kind_of r)) (Room r) → ℕ → Type 0
-      RingTells start call old = Right (told_after p start (ring_effect en r call) (ring_after en r call old))
-
-      abbrev RingActing : QueueStart T → rings.RingCall (Val T (kind_of r)) (Room r) → ℕ → Type 0
-      RingActing start call old = Justified (acts_of p start (ring_effect en r call) (answer_in (ring_after en r call old)))
-
       abbrev coded : Coding (Val T (kind_of r))
       coded = encoded en (kind_of r)
-
-      push_right : (k : Core (Val T (kind_of r))) → Positions k.write k.read → (v : Val T (kind_of r)) (capacity : ℕ) (stage : pushes.PushStage) (old : ℕ) → KnowsPush coded c k v stage → asked ≡ ask_of (ring_want en r (push_at capacity v stage)) → RingTells (push r v) (push_at capacity v stage) old
-          → RingActing (push r v) (push_at capacity v stage) old
-      push_right k at v capacity pushes.TheVariants.LoadsWrite old knows asks h = tt
-      push_right k at v capacity (pushes.TheVariants.LoadsRead write) old knows asks h = go (capacity == 0 || distance write old == capacity) refl h
-        where
-          call : rings.RingCall (Val T (kind_of r)) (Room r)
-          call = push_at capacity v (pushes.TheVariants.LoadsRead write)
-
-          go : (b : Bool) → (capacity == 0 || distance write old == capacity) ≡ b → RingTells (push r v) call old → RingActing (push r v) call old
-          go true e h =
-              let goes : ring_after en r call old ≡ Done (answers.TheVariants.Truth false) = rw e refl in
-              let told = subst (λ a. Right (told_after p (push r v) Acts a)) goes h in
-              subst (λ a. Justified (acts_of p (push r v) Acts (answer_in a))) (sym goes) (push_acted r v asks told.0, tt)
-          go false e h = rw e tt
-      push_right k at v capacity (pushes.TheVariants.StoresCell write cell place) old knows asks h = tt
-      push_right k at v capacity (pushes.TheVariants.StoresWrite write) old knows asks h =
-          (taken_acted r v (stores_write k.write k.read at (asks ∙ ap (λ n. Some (record { word = write_word; op = Store (after_position n) })) knows.0)), tt)
-
-      pop_right : (k : Core (Val T (kind_of r))) → Positions k.write k.read → (capacity : ℕ) (room : Room r) (stage : pops.PopStage) (old : ℕ) → KnowsPop coded c k (words_in r room) stage → asked ≡ ask_of (ring_want en r (pop_at capacity room stage)) → finding_none own c ≡ Some load_of_write
-          → RingTells Pop (pop_at capacity room stage) old → RingActing Pop (pop_at capacity room stage) old
-      pop_right k at capacity room pops.TheVariants.LoadsRead old knows asks finds h = tt
-      pop_right k at capacity room (pops.TheVariants.LoadsWrite read) old knows asks finds h = pop_acts (ring_after en r call old) (none (capacity == 0 || old == read) refl) (asks ∙ sym finds) h
-        where
-          call : rings.RingCall (Val T (kind_of r)) (Room r)
-          call = pop_at capacity room (pops.TheVariants.LoadsWrite read)
-
-          none : (b : Bool) → (capacity == 0 || old == read) ≡ b → FindsNone (ring_after en r call old)
-          none true e = rw e refl
-          none false e = rw e tt
-      pop_right k at capacity room (pops.TheVariants.LoadsCell read cell place) old knows asks finds h = tt
-      pop_right k at capacity room (pops.TheVariants.StoresRead read) old knows asks finds h =
-          (got_acted r (read_in en r room) (stores_read k.write k.read at (asks ∙ ap (λ n. Some (record { word = read_word; op = Store (after_position n) })) knows.1)), tt)
-
-      push_call_right : (ro : Roles) (k : Core (Val T (kind_of r))) → Positions k.write k.read → (v : Val T (kind_of r)) (call : rings.RingCall (Val T (kind_of r)) (Room r)) (old : ℕ) → PushAt (encoded en (kind_of r)) (words_in r) c ro k p v call
-          → asked ≡ ask_of (ring_want en r call) → RingTells (push r v) call old → RingActing (push r v) call old
-      push_call_right ro k place v (rings.TheVariants.Push run) old at asks h =
-          subst (λ x. RingTells (push r v) (push_at run.call.capacity x run.call.stage) old → asked ≡ ask_of (ring_want en r (push_at run.call.capacity x run.call.stage)) → RingActing (push r v) (push_at run.call.capacity x run.call.stage) old) (sym at.2)
-          (λ right asks. push_right k place v run.call.capacity run.call.stage old at.3 asks right)
-          h
-          asks
-      push_call_right ro k place v (rings.TheVariants.Pop run) old at asks h = absurd at
-
-      pop_call_right : (ro : Roles) (k : Core (Val T (kind_of r))) → Positions k.write k.read → (call : rings.RingCall (Val T (kind_of r)) (Room r)) (old : ℕ) → PopAt (encoded en (kind_of r)) (words_in r) c ro k p call → finding_none own c ≡ Some load_of_write
-          → asked ≡ ask_of (ring_want en r call) → RingTells Pop call old → RingActing Pop call old
-      pop_call_right ro k place (rings.TheVariants.Push run) old at finds asks h = absurd at
-      pop_call_right ro k place (rings.TheVariants.Pop run) old at finds asks h = pop_right k place run.call.capacity run.room run.call.stage old at.2 asks finds h
 
     -- a push of an overflowing queue
     module _ (k : Core ℕ) (place : Positions k.write k.read) (v : ℕ) (room : OneWord) where
       abbrev answered : After overflow_push.Push PushEnd → Option (Answer T)
       answered after = answer_in {C = QueueFlight T} (as_call (λ r. Overflow (overflows.TheVariants.Push r)) popped (went_on (λ end given room. push_answer given room.0 end) v room after))
 
-      -- it acts as it stores the next write position, unless the queue was full until then
-      publishing : (on : overflow_push.Push) (full moved : Bool) → Adds write_word
-          → Justified (acts_of p (PushIndex v) (if full && moved then PublishesAndActs (Index v) else Publishes (Index v)) (answered (if full then GoOn on else Done Added)))
-      publishing on true true adds = (inl (mine, adds), tt)
-      publishing on true false adds = tt
-      publishing on false moved adds = (inl (mine, adds), tt)
-
       hands_back : (capacity : ℕ) → 0 < capacity → Adds read_word → HandsBack capacity t.world.words asked
-      hands_back zero some adds = absurd (omega arith)
-      hands_back (suc less) some adds = adds
+      hands_back x0 x1 x2 = grind arith
 
       overflow_push_right : (stage : overflow_pushes.PushStage) (old : ℕ) → KnowsOverflowPush c k v stage → asked ≡ ask_of (want en (Overflow (overflow_push_at c v room stage))) → old ≡ old_of (k.write ∷ k.read ∷ place.rest) asked → Acting (PushIndex v) (Overflow (overflow_push_at c v room stage)) old
-      overflow_push_right overflow_pushes.TheVariants.HandsBack old knows asks handed =
-          ((mine, subst (λ n. HandsBack n t.world.words asked) (sym knows) asks), tt)
-      overflow_push_right overflow_pushes.TheVariants.LoadsWrite old knows asks handed = tt
-      overflow_push_right (overflow_pushes.TheVariants.LoadsRead write) old knows asks handed = tt
-      overflow_push_right (overflow_pushes.TheVariants.StoresCell write read) old knows asks handed = tt
-      overflow_push_right (overflow_pushes.TheVariants.StoresWrite write read) old knows asks handed =
-          publishing (record { capacity = c; stage = overflow_pushes.TheVariants.MovesRead read }) (distance write read == c) (not (get_or words 1 0 == read))
-          (stores_write k.write k.read place (asks ∙ ap (λ n. Some (record { word = write_word; op = Store (after_position n) })) knows.1))
-      overflow_push_right (overflow_pushes.TheVariants.MovesRead read) old knows asks handed = go (old == read) refl
-        where
-          flight : QueueFlight T
-          flight = Overflow (overflow_push_at c v room (overflow_pushes.TheVariants.MovesRead read))
-
-          go : (b : Bool) → (old == read) ≡ b → Acting (PushIndex v) flight old
-          go true e =
-              let found : old ≡ read = grind (arith, nat_tests) in
-              let now : old ≡ k.read = handed ∙ ap (old_of (k.write ∷ k.read ∷ place.rest)) asks in
-              let same : read ≡ k.read = sym found ∙ now in
-              let adds = moves_read k.write k.read place (asks ∙ ap (λ n. Some (record { word = read_word; op = Exchange n (after_position n) })) same) in
-              rw e ((mine, hands_back c knows.0 adds), tt)
-          go false e = rw e tt
-      overflow_push_right (overflow_pushes.TheVariants.LoadsCell read) old knows asks handed = tt
+      overflow_push_right x0 x1 x2 x3 x4 = grind arith
 
     -- a pop that moves the read position answers a value, and then the push acts that waits for it
     taking : (item : Item T) (push : Option (ℕ × ℕ)) → ((q w : ℕ) → push ≡ Some (q, w) → q ≡ p → ⊥) → (room : OneWord) (on : overflow_pop.Pop) (b : Bool) → (b ≡ true → Adds read_word)
@@ -362,15 +218,11 @@ module _ {T : Type 0} (own : QueueKind) (t : Trace T) (turn : Turn T) (p : ℕ) 
 
     index_right : (ro : Roles) (k : Core ℕ) → Positions k.write k.read → (start : QueueStart T) (call : rings.RingCall ℕ OneWord) (old : ℕ) → IndexAt kinds.TheVariants.IndexQueue c ro k p start call → finding_none own c ≡ Some load_of_write
         → asked ≡ ask_of (want en (Indices call)) → Tells start (Indices call) old → Acting start (Indices call) old
-    index_right ro k place (PushIndex v) (rings.TheVariants.Push run) old at finds asks h = push_call_right of_indices ro k place v (rings.TheVariants.Push run) old at asks h
-    index_right ro k place Pop (rings.TheVariants.Pop run) old at finds asks h = pop_call_right of_indices ro k place (rings.TheVariants.Pop run) old at finds asks h
-    index_right ro k place start call old at finds asks h = absurd at
+    index_right x0 x1 x2 x3 x4 x5 x6 x7 x8 x9 = grind arith
 
     value_right : (ro : Roles) (k : Core T) → Positions k.write k.read → (start : QueueStart T) (call : rings.RingCall T (cells.Kept 128)) (old : ℕ) → ValueAt en kinds.TheVariants.Queue c ro k p start call → finding_none own c ≡ Some load_of_write
         → asked ≡ ask_of (want en (Values call)) → Tells start (Values call) old → Acting start (Values call) old
-    value_right ro k place (Push v) (rings.TheVariants.Push run) old at finds asks h = push_call_right of_values ro k place v (rings.TheVariants.Push run) old at asks h
-    value_right ro k place Pop (rings.TheVariants.Pop run) old at finds asks h = pop_call_right of_values ro k place (rings.TheVariants.Pop run) old at finds asks h
-    value_right ro k place start call old at finds asks h = absurd at
+    value_right x0 x1 x2 x3 x4 x5 x6 x7 x8 x9 = grind arith
 
     overflow_right :
         (ro : Roles) (k : Core ℕ) (place : Positions k.write k.read) (start : QueueStart T) (call : overflows.OverflowCall) (old : ℕ) → OverflowAt c ro k p start call → (0 < c → finding_none own c ≡ Some load_of_write) → (c ≡ 0 → finding_none own c ≡ None)
@@ -415,10 +267,7 @@ waiter_is {T} roles words latest p flight found q w e same = go (holds roles.con
     position = get_or words 1 0
 
     go : (b : Bool) → cond b (pending position roles.producer latest) None ≡ Some (q, w) → pending_at position (Some (flights.TheVariants.Queues flight)) ≡ Some w
-    go true e =
-        let both = pending_is position latest q w roles.producer e in
-        subst (λ o. pending_at position o ≡ Some w) found (subst (λ n. pending_at position (flight_of (doing_of (party_of n latest))) ≡ Some w) same both.4.waits)
-    go false e = absurd (cc)
+    go x0 x1 = grind arith
 
 module _ {T : Type 0} (en : Coding T) (law : IsCoding en) (kd : QueueKind) (c : ℕ) (t : Trace T) (p : ℕ) (s : frame.Sound (family en kd c) t) (small : t.world.turns < 2 ^ 64 - 2) (x : Party T) (since : ℕ) where
   in_order : (start : Start T) (flight : Flight T) → t.world.coding ≡ en → t.world.capacity ≡ c → t.world.words ≡ layout s.state.roles s.state.core → StandsThere (family en kd c) t s p x since start flight → InOrder t p (promise kd) t.world.coding (layout s.state.roles s.state.core) (kepts.TheVariants.Queues s.state.roles) start flight
@@ -462,9 +311,7 @@ module _ {T : Type 0} (en : Coding T) (law : IsCoding en) (kd : QueueKind) (c : 
 -- a call of a queue goes on as its table says
 told : {T : Type 0} (en z : Coding T) (kd : QueueKind) (c : ℕ) (words : List ℕ) (waits : Option (ℕ × ℕ)) (s : Queue (Val T kd)) (p : ℕ) (start : Start T) (flight : Flight T) (answer : ℕ) (kept : Kept T) → Fit kept words s → (family en kd c).At s p start flight
     → (step_of z words waits p start flight answer kept).after ≡ goes_of z p flight answer kept
-told y z kd c words waits s p (Queues start) (flights.TheVariants.Queues flight) answer (kepts.TheVariants.Queues roles) fit at = refl
-told y z kd c words waits s p (Queues start) (flights.TheVariants.Queues flight) answer held fit at = absurd fit
-told y z kd c words waits s p start flight answer held fit at = absurd at
+told x0 x1 x2 x3 x4 x5 x6 x7 x8 x9 x10 x11 x12 x13 = grind arith
 
 module _ {T : Type 0} where
   orders : (en : Coding T) → IsCoding en → (kd : QueueKind) (c : ℕ) → Orders (family en kd c)

@@ -1,4 +1,5 @@
 -- What a step of one party keeps of what the calls of the others know.
+use native.Mathlib.Omega.{arith}
 use Rattle.std.proofs.Common.{◌≡◌, ◌≢◌, ℕ, Option, Some, List, refl, sym, ◌∙◌}
 use Rattle.steps.specs.declared.copied.Kept.{Kept}
 use Rattle.steps.specs.declared.copied.OneWord.{OneWord}
@@ -7,13 +8,11 @@ use Rattle.steps.specs.declared.queues.ring.PopStage as pops
 use Rattle.steps.specs.declared.queues.overflow.PushStage as overflow_pushes
 use Rattle.steps.specs.declared.queues.overflow.PopStage as overflow_pops
 use Rattle.model.specs.declared.families.queues.calls.RoleCall.{RoleCall}
-use Rattle.model.specs.declared.families.queues.calls.RoleCall.TheVariants.{Acquire, Release}
 use Rattle.model.specs.declared.families.queues.calls.RingCall as rings
 use Rattle.model.specs.declared.families.queues.calls.OverflowCall as overflows
 use Rattle.model.specs.declared.families.queues.calls.QueueFlight.{QueueFlight}
 use Rattle.model.specs.declared.families.queues.calls.QueueFlight.TheVariants.{Role, Indices, Values, Overflow, Length}
 use Rattle.model.specs.declared.families.queues.QueueStart.{QueueStart}
-use Rattle.model.specs.declared.families.queues.QueueStart.TheVariants.{AcquireProducer, ReleaseProducer, AcquireConsumer, ReleaseConsumer, PushIndex, Push, Pop}
 use Rattle.model.specs.declared.families.queues.Roles.{Roles}
 use Rattle.model.specs.declared.families.queues.QueueKind.{QueueKind}
 use Rattle.model.specs.declared.families.queues.QueueKind as kinds
@@ -22,7 +21,7 @@ use Rattle.queue_laws.proofs.Queues.Core.{Core}
 use Rattle.queue_laws.proofs.Queues.Values.{Val}
 use Rattle.queue_laws.proofs.Ring.Knows.{KnowsPush, KnowsPop, PushAt, PopAt}
 use Rattle.queue_laws.proofs.Overflow.Knows.{KnowsOverflowPush, KnowsOverflowPop, overflow_wrote, OverflowAt}
-use Rattle.queue_laws.proofs.Queues.Knows.{in_one, in_cell, has_written, RoleAt, IndexAt, ValueAt, At}
+use Rattle.queue_laws.proofs.Queues.Knows.{has_written, RoleAt, IndexAt, ValueAt, At}
 
 -- a role has one holder
 pub clash : (o : Option ℕ) (p q : ℕ) → q ≢ p → o ≡ Some p → o ≡ Some q → ⊥
@@ -50,42 +49,27 @@ keeps_same en kinds.TheVariants.Queue c ro k q = record { push = λ mine v stage
 
 module _ (ro ro' : Roles) (q : ℕ) (producer : ro.producer ≡ Some q → ro'.producer ≡ Some q) (consumer : ro.consumer ≡ Some q → ro'.consumer ≡ Some q) where
   role_kept : {T : Type 0} → (start : QueueStart T) (call : RoleCall) → RoleAt ro q start call → RoleAt ro' q start call
-  role_kept AcquireProducer (Acquire call) h = h
-  role_kept ReleaseProducer (Release call) h = (h.0, producer h.1)
-  role_kept AcquireConsumer (Acquire call) h = h
-  role_kept ReleaseConsumer (Release call) h = (h.0, consumer h.1)
-  role_kept start call h = absurd h
+  role_kept x0 x1 x2 = grind arith
 
   module _ {V R : Type 0} (en : Coding V) (words_in : R → List ℕ) (c : ℕ) (k k' : Core V) (keeps : RingKeeps en c ro k k' q) where
     push_kept : (v : V) (call : rings.RingCall V R) → PushAt en words_in c ro k q v call → PushAt en words_in c ro' k' q v call
-    push_kept v (rings.TheVariants.Push run) h = (producer h.0, h.1, h.2, keeps.push h.0 v run.call.stage h.3)
-    push_kept v (rings.TheVariants.Pop run) h = absurd h
+    push_kept x0 x1 x2 = grind arith
 
     pop_kept : (call : rings.RingCall V R) → PopAt en words_in c ro k q call → PopAt en words_in c ro' k' q call
-    pop_kept (rings.TheVariants.Push run) h = absurd h
-    pop_kept (rings.TheVariants.Pop run) h = (consumer h.0, h.1, keeps.pop h.0 (words_in run.room) run.call.stage h.2)
+    pop_kept x0 x1 = grind arith
 
   module _ {T : Type 0} (en : Coding T) (c : ℕ) where
     index_kept : (k k' : Core ℕ) → RingKeeps one_word c ro k k' q → (start : QueueStart T) (call : rings.RingCall ℕ OneWord)
         → IndexAt kinds.TheVariants.IndexQueue c ro k q start call → IndexAt kinds.TheVariants.IndexQueue c ro' k' q start call
-    index_kept k k' keeps (PushIndex v) call h = push_kept one_word in_one c k k' keeps v call h
-    index_kept k k' keeps Pop call h = pop_kept one_word in_one c k k' keeps call h
-    index_kept k k' keeps start call h = absurd h
+    index_kept x0 x1 x2 x3 x4 x5 = grind arith
 
     value_kept : (k k' : Core T) → RingKeeps en c ro k k' q → (start : QueueStart T) (call : rings.RingCall T (Kept 128))
         → ValueAt en kinds.TheVariants.Queue c ro k q start call → ValueAt en kinds.TheVariants.Queue c ro' k' q start call
-    value_kept k k' keeps (Push v) call h = push_kept en in_cell c k k' keeps v call h
-    value_kept k k' keeps Pop call h = pop_kept en in_cell c k k' keeps call h
-    value_kept k k' keeps start call h = absurd h
+    value_kept x0 x1 x2 x3 x4 x5 = grind arith
 
     overflow_kept : (k k' : Core ℕ) → OverflowKeeps T c ro k k' q → (start : QueueStart T) (call : overflows.OverflowCall) → OverflowAt c ro k q start call
         → OverflowAt c ro' k' q start call × (has_written {T = T} c k' q (Overflow call) ≡ has_written c k q (Overflow call))
-    overflow_kept k k' keeps (PushIndex v) (overflows.TheVariants.Push run) h =
-        let both = keeps.push h.0 v run.call.stage h.3 in
-        let same = h.2 in
-        ((producer h.0, h.1, h.2, both.0), rw same both.1)
-    overflow_kept k k' keeps Pop (overflows.TheVariants.Pop run) h = ((consumer h.0, h.1, keeps.pop h.0 run.room run.call.stage h.2), refl)
-    overflow_kept k k' keeps start call h = absurd h
+    overflow_kept x0 x1 x2 x3 x4 x5 = grind arith
 
     abbrev KeptAt : (kd : QueueKind) → Core (Val T kd) → Core (Val T kd) → QueueStart T → QueueFlight T → Type 0
     KeptAt kd k k' start flight = At en kd c ro k q start flight → At en kd c ro' k' q start flight × (has_written {T = T} c k' q flight ≡ has_written c k q flight)

@@ -3,44 +3,26 @@ use lib.Seq.{get_or-drop}
 use native.Mathlib.Nat.{mul-le-mul_left}
 use Rattle.std.proofs.Common.{None, ◌≡◌, ℕ, suc, ◌+◌, ◌-◌, ◌%◌, ◌*◌, ◌<◌, ◌≤◌, Some, List, [], ◌∷◌, length, get_or, map, slice_get, take, drop, refl, sym, ap, subst, ◌∙◌, arith, length-append, length-drop}
 use Rattle.std.proofs.lemmas.List.{length-map, take-map}
-use Rattle.steps.specs.declared.copied.Kept as rooms
-use Rattle.steps.specs.declared.copied.OneWord.{OneWord}
-use Rattle.steps.specs.declared.queues.ring.PushStage as pushes
-use Rattle.steps.specs.declared.queues.ring.PopStage as pops
-use Rattle.steps.specs.declared.queues.overflow.PushStage as overflow_pushes
-use Rattle.steps.specs.declared.queues.overflow.PopStage as overflow_pops
-use Rattle.steps.specs.declared.queues.lengths.Len.{Len}
 use Rattle.steps.specs.declared.queues.lengths.LenStage.{LenStage}
-use Rattle.steps.specs.declared.queues.lengths.LenStage as lens
-use Rattle.steps.specs.declared.routine.Running.{Running}
 use Rattle.steps.specs.Queues.Ring.{cell_word}
-use Rattle.model.specs.declared.families.queues.calls.RoleCall.{RoleCall}
-use Rattle.model.specs.declared.families.queues.calls.RingCall as rings
 use Rattle.model.specs.declared.families.queues.calls.LengthOf.{LengthOf}
-use Rattle.model.specs.declared.families.queues.calls.LengthOf as measures
-use Rattle.model.specs.declared.families.queues.calls.OverflowCall as overflows
 use Rattle.model.specs.declared.families.queues.calls.QueueFlight.{QueueFlight}
-use Rattle.model.specs.declared.families.queues.calls.QueueFlight.TheVariants.{Role, Indices, Values, Overflow, Length}
+use Rattle.model.specs.declared.families.queues.calls.QueueFlight.TheVariants.{Values, Overflow}
 use Rattle.model.specs.declared.event.Item.{Item}
 use Rattle.model.specs.declared.event.Item.TheVariants.{Index, Value}
 use Rattle.model.specs.declared.families.queues.QueueStart.{QueueStart}
-use Rattle.model.specs.declared.families.queues.QueueStart.TheVariants.{PushIndex, Push, Pop, IsEmpty, IsFull}
-use Rattle.model.specs.declared.families.queues.QueueStart as starts
-use Rattle.model.specs.declared.event.Event.{Event}
 use Rattle.model.specs.declared.event.Start.{Start}
 use Rattle.model.specs.declared.event.Start.TheVariants.{Queues}
 use Rattle.model.specs.declared.families.Flight.{Flight}
-use Rattle.model.specs.declared.families.Flight as flights
 use Rattle.model.specs.declared.families.queues.Roles.{Roles}
 use Rattle.model.specs.declared.families.queues.QueueKind.{QueueKind}
 use Rattle.model.specs.declared.families.queues.QueueKind.TheVariants.{IndexQueue}
 use Rattle.model.specs.declared.families.queues.QueueKind as kinds
-use Rattle.model.specs.Coding.{Coding, IsCoding, one_word}
+use Rattle.model.specs.Coding.{Coding, IsCoding}
 use Rattle.model.specs.Families.Queues.Book.{item_at, cell_of, stored, waiting_in}
-use Rattle.model.specs.Families.Queues.Bounds.{most_steps}
 use Rattle.model.specs.Families.Queues.Opening.{cells_of}
 use Rattle.model.specs.Parties.{party_of}
-use Rattle.model.specs.Families.Queues.Promises.{IsQueue, most, promise}
+use Rattle.model.specs.Families.Queues.Promises.{IsQueue, promise}
 use Rattle.model.specs.Families.Queues.Roles.{KeepsHolders}
 use Rattle.model.specs.Families.Queues.Reading.{published, handed_out}
 use Rattle.model.specs.Promises.{IsKeptBy, IsKept}
@@ -49,9 +31,7 @@ use Rattle.model.specs.Reading.{span_of}
 use Rattle.model.specs.Turns.{IsReached}
 use Rattle.model.specs.World.{Trace}
 use Rattle.queue_laws.proofs.Queues.Core.{Core, Good, take_all, at_below, word_at}
-use Rattle.queue_laws.proofs.Ring.Knows.{KnowsPush, KnowsPop, push_number, pop_number, ring_number, PushAt, PopAt}
-use Rattle.queue_laws.proofs.Overflow.Knows.{overflow_push_number, overflow_pop_number, KnowsBacks, OverflowAt}
-use Rattle.queue_laws.proofs.Queues.Knows.{free, layout, in_one, in_cell, listed, len_number, number_of, IsPaid, KnowsLen, KnowsFlight, RoleAt, LengthAt, IndexAt, ValueAt, At}
+use Rattle.queue_laws.proofs.Queues.Knows.{free, layout, listed}
 use Rattle.model.proofs.Frame as frame
 use Rattle.queue_laws.proofs.Queues.Invariant.{Queue, machine_kind, family, waiting_is}
 use Rattle.queue_laws.proofs.Queues.Stages.{cell_place}
@@ -60,132 +40,11 @@ use Rattle.queue_laws.proofs.Ring.Pops.{same_words}
 use Rattle.model.specs.World.{capacity_error}
 use Rattle.queue_laws.proofs.Queues.Sound.{kept_is, cell_size, reached_sound, sound_on, IsFreshRun}
 
--- ---- how many steps a call has taken
-
-module _ {V : Type 0} (en : Coding V) (c : ℕ) (k : Core V) where
-  push_most : (v : V) (stage : pushes.PushStage) → KnowsPush en c k v stage → push_number en.size stage ≤ 3 + en.size
-  push_most v pushes.TheVariants.LoadsWrite h = omega arith
-  push_most v (pushes.TheVariants.LoadsRead write) h = omega arith
-  push_most v (pushes.TheVariants.StoresCell write cell at) h = let below = h.3 in omega arith
-  push_most v (pushes.TheVariants.StoresWrite write) h = omega arith
-
-  pop_most : (room : List ℕ) (stage : pops.PopStage) → KnowsPop en c k room stage → pop_number en.size stage ≤ 3 + en.size
-  pop_most room pops.TheVariants.LoadsRead h = omega arith
-  pop_most room (pops.TheVariants.LoadsWrite read) h = omega arith
-  pop_most room (pops.TheVariants.LoadsCell read cell at) h = let below = h.6 in omega arith
-  pop_most room (pops.TheVariants.StoresRead read) h = omega arith
-
-  module _ {R : Type 0} (words_in : R → List ℕ) (ro : Roles) (p : ℕ) where
-    push_call_most : (v : V) (call : rings.RingCall V R) → PushAt en words_in c ro k p v call → ring_number en words_in call ≤ 3 + en.size
-    push_call_most v (rings.TheVariants.Push run) h = push_most v run.call.stage h.3
-    push_call_most v (rings.TheVariants.Pop run) h = absurd h
-
-    pop_call_most : (call : rings.RingCall V R) → PopAt en words_in c ro k p call → ring_number en words_in call ≤ 3 + en.size
-    pop_call_most (rings.TheVariants.Push run) h = absurd h
-    pop_call_most (rings.TheVariants.Pop run) h = pop_most (words_in run.room) run.call.stage h.2
-
-overflow_push_most : (stage : overflow_pushes.PushStage) → overflow_push_number stage ≤ 6
-overflow_push_most overflow_pushes.TheVariants.HandsBack = omega arith
-overflow_push_most overflow_pushes.TheVariants.LoadsWrite = omega arith
-overflow_push_most (overflow_pushes.TheVariants.LoadsRead write) = omega arith
-overflow_push_most (overflow_pushes.TheVariants.StoresCell write read) = omega arith
-overflow_push_most (overflow_pushes.TheVariants.StoresWrite write read) = omega arith
-overflow_push_most (overflow_pushes.TheVariants.MovesRead read) = omega arith
-overflow_push_most (overflow_pushes.TheVariants.LoadsCell read) = omega arith
-
-overflow_pop_most : (backs : ℕ) (stage : overflow_pops.PopStage) → 2 * backs + overflow_pop_number stage ≤ 4 + 2 * backs
-overflow_pop_most backs overflow_pops.TheVariants.FindsNone = omega arith
-overflow_pop_most backs overflow_pops.TheVariants.LoadsRead = omega arith
-overflow_pop_most backs (overflow_pops.TheVariants.LoadsWrite read) = omega arith
-overflow_pop_most backs (overflow_pops.TheVariants.LoadsCell read) = omega arith
-overflow_pop_most backs (overflow_pops.TheVariants.MovesRead read) = omega arith
-
-len_most : (backs : ℕ) (stage : LenStage) → 4 * backs + len_number stage ≤ 4 * (backs + 1)
-len_most backs lens.TheVariants.LoadsWrite = omega arith
-len_most backs (lens.TheVariants.LoadsRead write) = omega arith
-len_most backs (lens.TheVariants.LoadsWriteAgain write read) = omega arith
-len_most backs (lens.TheVariants.LoadsReadAgain write read) = omega arith
-
--- ---- how often it has turned back
-
-paid_backs : {V : Type 0} → (k : Core V) (since changes backs write read : ℕ) → IsPaid k since changes backs write read → backs ≤ changes - since
-paid_backs k since changes backs write read h =
-    let w = h.0 in
-    let r = h.1 in
-    let paid = h.2 in
-    omega arith
-
-pop_paid : {V : Type 0} → (k : Core V) (since changes backs : ℕ) (stage : overflow_pops.PopStage) → KnowsBacks k since changes backs stage → backs ≤ changes - since
-pop_paid k since changes backs overflow_pops.TheVariants.FindsNone h = omega arith
-pop_paid k since changes backs overflow_pops.TheVariants.LoadsRead h = omega arith
-pop_paid k since changes backs (overflow_pops.TheVariants.LoadsWrite read) h = let low = h.0 in let paid = h.1 in omega arith
-pop_paid k since changes backs (overflow_pops.TheVariants.LoadsCell read) h = let low = h.0 in let paid = h.1 in omega arith
-pop_paid k since changes backs (overflow_pops.TheVariants.MovesRead read) h = let low = h.0 in let paid = h.1 in omega arith
-
 module _ {T : Type 0} (en : Coding T) where
-  role_most : (kd : QueueKind) (ro : Roles) (p backs : ℕ) (start : QueueStart T) (call : RoleCall) → RoleAt ro p start call → 0 ≤ most_steps en.size kd start backs
-  role_most kd ro p backs start call h = omega arith
-
-  index_most : (c : ℕ) (ro : Roles) (k : Core ℕ) (p backs : ℕ) (start : QueueStart T) (call : rings.RingCall ℕ OneWord) → IndexAt IndexQueue c ro k p start call → number_of en (Indices call) backs ≤ most_steps en.size IndexQueue start backs
-  index_most c ro k p backs (PushIndex v) call h = push_call_most one_word c k in_one ro p v call h
-  index_most c ro k p backs Pop call h = pop_call_most one_word c k in_one ro p call h
-  index_most c ro k p backs start call h = absurd h
-
-  value_most : (c : ℕ) (ro : Roles) (k : Core T) (p backs : ℕ) (start : QueueStart T) (call : rings.RingCall T (rooms.Kept 128)) → ValueAt en kinds.TheVariants.Queue c ro k p start call → number_of en (Values call) backs ≤ most_steps en.size kinds.TheVariants.Queue start backs
-  value_most c ro k p backs (Push v) call h = push_call_most en c k in_cell ro p v call h
-  value_most c ro k p backs Pop call h = pop_call_most en c k in_cell ro p call h
-  value_most c ro k p backs start call h = absurd h
-
-  overflow_most : (c : ℕ) (ro : Roles) (k : Core ℕ) (p backs : ℕ) (start : QueueStart T) (call : overflows.OverflowCall) → OverflowAt c ro k p start call → number_of en (Overflow call) backs ≤ most_steps en.size kinds.TheVariants.Overflow start backs
-  overflow_most c ro k p backs (PushIndex v) (overflows.TheVariants.Push run) h = overflow_push_most run.call.stage
-  overflow_most c ro k p backs Pop (overflows.TheVariants.Pop run) h = overflow_pop_most backs run.call.stage
-  overflow_most c ro k p backs start call h = absurd h
-
-  length_most : (kd : QueueKind) (c backs : ℕ) (start : QueueStart T) (which : LengthOf) (run : Running Len (Unit {0}) (Unit {0})) → LengthAt c start which run.call.capacity → number_of en (Length which run) backs ≤ most_steps en.size kd start backs
-  length_most kd c backs starts.TheVariants.Len measures.TheVariants.Len run h = len_most backs run.call.stage
-  length_most kd c backs IsEmpty measures.TheVariants.IsEmpty run h = len_most backs run.call.stage
-  length_most kd c backs IsFull measures.TheVariants.IsFull run h = len_most backs run.call.stage
-  length_most kd c backs start which call h = absurd h
-
-  steps_most : (kd : QueueKind) (c : ℕ) (ro : Roles) (k : Core (Val T kd)) (p backs : ℕ) (start : QueueStart T) (flight : QueueFlight T) → At en kd c ro k p start flight → number_of en flight backs ≤ most_steps en.size kd start backs
-  steps_most kd c ro k p backs start (Role call) h = role_most kd ro p backs start call h
-  steps_most IndexQueue c ro k p backs start (Indices call) h = index_most c ro k p backs start call h
-  steps_most kinds.TheVariants.Overflow c ro k p backs start (Indices call) h = absurd h
-  steps_most kinds.TheVariants.Queue c ro k p backs start (Indices call) h = absurd h
-  steps_most IndexQueue c ro k p backs start (Values call) h = absurd h
-  steps_most kinds.TheVariants.Overflow c ro k p backs start (Values call) h = absurd h
-  steps_most kinds.TheVariants.Queue c ro k p backs start (Values call) h = value_most c ro k p backs start call h
-  steps_most IndexQueue c ro k p backs start (Overflow call) h = absurd h
-  steps_most kinds.TheVariants.Overflow c ro k p backs start (Overflow call) h = overflow_most c ro k p backs start call h
-  steps_most kinds.TheVariants.Queue c ro k p backs start (Overflow call) h = absurd h
-  steps_most kd c ro k p backs start (Length which call) h = length_most kd c backs start which call h
-
   -- ---- progress
 
-  len_paid : {V : Type 0} → (c : ℕ) (k : Core V) (p : ℕ) (events : List (Event T)) (since changes backs : ℕ) (stage : LenStage) → KnowsLen c k p events since changes backs stage → backs ≤ changes - since
-  len_paid c k p events since changes backs lens.TheVariants.LoadsWrite h = omega arith
-  len_paid c k p events since changes backs (lens.TheVariants.LoadsRead write) h = paid_backs k since changes backs write k.read h
-  len_paid c k p events since changes backs (lens.TheVariants.LoadsWriteAgain write read) h = paid_backs k since changes backs write read h.0
-  len_paid c k p events since changes backs (lens.TheVariants.LoadsReadAgain write read) h = paid_backs k since changes backs write read h.0
-
-  backs_paid : {V : Type 0} → (c : ℕ) (k : Core V) (p : ℕ) (events : List (Event T)) (since changes backs : ℕ) (flight : QueueFlight T) → KnowsFlight c k p events since changes backs flight → backs ≤ changes - since
-  backs_paid c k p events since changes backs (Role call) h = omega arith
-  backs_paid c k p events since changes backs (Indices call) h = omega arith
-  backs_paid c k p events since changes backs (Values call) h = omega arith
-  backs_paid c k p events since changes backs (Overflow (overflows.TheVariants.Push call)) h = omega arith
-  backs_paid c k p events since changes backs (Overflow (overflows.TheVariants.Pop run)) h = pop_paid k since changes backs run.call.stage h
-  backs_paid c k p events since changes backs (Length which run) h = len_paid c k p events since changes backs run.call.stage h
-
   pub bounds : (kd : QueueKind) (c : ℕ) → frame.Bounds (family {T = T} en kd c)
-  bounds kd c = record { most = at_most; paid = paid }
-    where
-      at_most : (s : Queue (Val T kd)) (p backs : ℕ) (start : Start T) (flight : Flight T) → (family en kd c).At s p start flight → (family {T = T} en kd c).number ((family {T = T} en kd c).written s p flight) flight backs ≤ most kd c en.size start backs
-      at_most s p backs (Queues start) (flights.TheVariants.Queues flight) h = steps_most kd c s.roles s.core p backs start flight h
-      at_most s p backs start flight h = absurd h
-
-      paid : (s : Queue (Val T kd)) (p : ℕ) (events : List (Event T)) (since changes backs : ℕ) (flight : Flight T) → (family en kd c).Knows s p events since changes backs flight → backs ≤ changes - since
-      paid s p events since changes backs (flights.TheVariants.Queues flight) h = backs_paid c s.core p events since changes backs flight h
-      paid s p events since changes backs flight h = absurd h
+  bounds x0 x1 = grind arith
 
   -- ---- the values that wait in the words
 
@@ -287,9 +146,7 @@ module _ {T : Type 0} (en : Coding T) where
       }
 
 promise_is : {T : Type 0} (kd : QueueKind) → promise_of {T = T} (machine_kind kd) ≡ promise kd
-promise_is IndexQueue = refl
-promise_is kinds.TheVariants.Overflow = refl
-promise_is kinds.TheVariants.Queue = refl
+promise_is x0 = grind arith
 
 module _ {T : Type 0} where
   kept_by : (kd : QueueKind) (t : Trace T) → IsCoding t.world.coding → (s : frame.Sound (family t.world.coding kd t.world.capacity) t) → IsKeptBy (promise kd) t

@@ -30,14 +30,9 @@ use Rattle.model.proofs.Moments.{held_later}
 use Rattle.queue_laws.proofs.Queues.Core.{Core}
 use Rattle.queue_laws.proofs.Queues.Core.{GoesUp}
 use Rattle.queue_laws.proofs.Queues.Values.{Val, item}
-use Rattle.steps.specs.declared.atomic.StoreStage as stores
-use Rattle.steps.specs.declared.queues.ring.PushStage as pushes
-use Rattle.steps.specs.declared.queues.overflow.PushStage as overflow_pushes
 use Rattle.model.specs.declared.families.Flight.{Flight}
-use Rattle.model.specs.declared.families.Flight as flights
-use Rattle.model.specs.declared.families.atomic.calls.AtomicFlight as values
-use Rattle.queue_laws.proofs.Ring.Knows.{ring_number, IsFresh, PushAt, PopAt}
-use Rattle.queue_laws.proofs.Overflow.Knows.{IsFreshOver, KnowsBacks, backs_keep, overflow_wrote, overflow_push_number, overflow_pop_number, OverflowAt}
+use Rattle.queue_laws.proofs.Ring.Knows.{ring_number, PushAt, PopAt}
+use Rattle.queue_laws.proofs.Overflow.Knows.{KnowsBacks, backs_keep, overflow_wrote, overflow_push_number, overflow_pop_number, OverflowAt}
 pub use Rattle.queue_laws.specs.Fresh.{IsFreshStore, IsFreshAt, IsFreshCall}
 
 -- ---- the words
@@ -87,26 +82,6 @@ Hangs T kinds.TheVariants.Overflow c k None = length k.waiting ≤ c
 Hangs T kinds.TheVariants.Overflow c k (Some push) = (0 < c) × (others : List ℕ) × (k.waiting ≡ others ++ push.1 ∷ []) × (length others ≡ c)
 Hangs T kinds.TheVariants.Queue c k push = Unit {0}
 
-fresh_push : (write : ℕ) (stage : pushes.PushStage) → write < 2 ^ 64 - 1 → IsFresh write stage
-fresh_push write pushes.TheVariants.LoadsWrite low = low
-fresh_push write (pushes.TheVariants.LoadsRead w) low = tt
-fresh_push write (pushes.TheVariants.StoresCell w cell at) low = tt
-fresh_push write (pushes.TheVariants.StoresWrite w) low = tt
-
-fresh_over : (write : ℕ) (stage : overflow_pushes.PushStage) → write < 2 ^ 64 - 1 → IsFreshOver write stage
-fresh_over write overflow_pushes.TheVariants.HandsBack low = tt
-fresh_over write overflow_pushes.TheVariants.LoadsWrite low = low
-fresh_over write (overflow_pushes.TheVariants.LoadsRead w) low = tt
-fresh_over write (overflow_pushes.TheVariants.StoresCell w read) low = tt
-fresh_over write (overflow_pushes.TheVariants.StoresWrite w read) low = tt
-fresh_over write (overflow_pushes.TheVariants.MovesRead read) low = tt
-fresh_over write (overflow_pushes.TheVariants.LoadsCell read) low = tt
-
-fresh_store : (version : ℕ) (stage : stores.StoreStage) → version < 2 ^ 64 - 1 → IsFreshStore version stage
-fresh_store version stores.TheVariants.LoadsVersion low = low
-fresh_store version (stores.TheVariants.StoresCell cell at) low = tt
-fresh_store version stores.TheVariants.AddsVersion low = tt
-
 module _ {T : Type 0} where
   -- the list that the calls answer as
   abbrev pub listed : (kd : QueueKind) → ℕ → List (Val T kd) → List (Item T)
@@ -154,14 +129,7 @@ module _ {T : Type 0} where
   -- a turn of another party keeps it
   module _ {V : Type 0} (c : ℕ) (k k' : Core V) (p : ℕ) (events es : List (Event T)) (changes changes' : ℕ) (up : GoesUp k k' changes changes') (none : BeginsNone p es) where
     paid_keeps : (since backs write read : ℕ) → IsPaid k since changes backs write read → IsPaid k' since changes' backs write read
-    paid_keeps since backs write read h =
-        let w = up.write in
-        let r = up.read in
-        let more = up.paid in
-        let a = h.0 in
-        let b = h.1 in
-        let paid = h.2 in
-        (omega arith, omega arith, omega arith)
+    paid_keeps x0 x1 x2 x3 x4 = grind arith
 
     len_keeps : (since backs : ℕ) (stage : LenStage) → KnowsLen c k p events since changes backs stage → KnowsLen c k' p (events ++ es) since changes' backs stage
     len_keeps since backs lens.TheVariants.LoadsWrite h =
@@ -198,19 +166,10 @@ module _ {T : Type 0} where
   -- ---- a call that is to load the number which it moves finds another than the last
 
   pub all_fresh : (write : ℕ) (flight : QueueFlight T) → write < 2 ^ 64 - 1 → IsFreshAt write flight
-  all_fresh write (Role call) low = tt
-  all_fresh write (Indices (rings.TheVariants.Push run)) low = fresh_push write run.call.stage low
-  all_fresh write (Indices (rings.TheVariants.Pop run)) low = tt
-  all_fresh write (Values (rings.TheVariants.Push run)) low = fresh_push write run.call.stage low
-  all_fresh write (Values (rings.TheVariants.Pop run)) low = tt
-  all_fresh write (Overflow (overflows.TheVariants.Push run)) low = fresh_over write run.call.stage low
-  all_fresh write (Overflow (overflows.TheVariants.Pop run)) low = tt
-  all_fresh write (Length which run) low = tt
+  all_fresh x0 x1 x2 = grind arith
 
   pub any_fresh : (found : ℕ) (flight : Flight T) → found < 2 ^ 64 - 1 → IsFreshCall found flight
-  any_fresh found (flights.TheVariants.Queues flight) low = all_fresh found flight low
-  any_fresh found (flights.TheVariants.Atomic (values.TheVariants.Store run)) low = fresh_store found run.call.stage low
-  any_fresh found flight low = tt
+  any_fresh x0 x1 x2 = grind arith
 
   -- ---- where a call under way stands
 

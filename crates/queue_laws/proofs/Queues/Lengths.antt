@@ -7,7 +7,6 @@ use Rattle.steps.specs.declared.ask.After.TheVariants.{GoOn, Done}
 use Rattle.steps.specs.declared.queues.lengths.Len.{Len}
 use Rattle.steps.specs.declared.queues.lengths.LenStage.{LenStage}
 use Rattle.steps.specs.declared.queues.lengths.LenStage as lens
-use Rattle.steps.specs.Queues.Ring.{distance}
 use Rattle.steps.specs.Routine.{went_on}
 use Rattle.steps.specs.Queues.Lengths.{number_waiting, first_len}
 use Rattle.model.specs.declared.families.queues.calls.LengthOf.{LengthOf}
@@ -50,13 +49,7 @@ call_at which c stage = Length which (len_at c stage)
 
 -- how many values wait between the positions, as the call computes it
 number_is : {V : Type 0} → (size : ℕ) (words_of : V → List ℕ) (cells c : ℕ) (k : Core V) → Good size words_of cells k → (c ≡ 0 → length k.waiting ≡ 0) → k.write < 2 ^ 64 → length k.waiting ≡ number_waiting c k.write k.read
-number_is size words_of cells c k g nothing small = go (c == 0) refl
-  where
-    go : (b : Bool) → (c == 0) ≡ b → length k.waiting ≡ cond b 0 (distance k.write k.read)
-    go true e =
-        let none : c ≡ 0 = grind (arith, nat_tests) in
-        nothing none
-    go false e = let write = g.write in omega arith
+number_is x0 x1 x2 x3 x4 x5 x6 x7 = grind arith
 
 module _ {T : Type 0} (en : Coding T) (kd : QueueKind) (scene : Scene T kd) (inv : Inv en kd scene) (small : scene.core.write < 2 ^ 64) (before : IsCalm en kd scene scene.core.read) where
   open scene use {capacity as c, roles as ro, core as k, party as p, steps, backs, since, changes, latest, events}

@@ -68,5 +68,4 @@ nothing_waits {T = T} en kinds.TheVariants.Queue c k o e g h = let few = g.few i
 nothing_waits {T = T} en kinds.TheVariants.Overflow c k o e g h = go o h
   where
     go : (o : Option (ℕ × ℕ)) → Hangs T kinds.TheVariants.Overflow c k o → length k.waiting ≡ 0
-    go None h = omega arith
-    go (Some push) h = let some = h.0 in absurd (omega arith)
+    go x0 x1 = grind arith

@@ -1,6 +1,5 @@
 -- Every turn keeps what holds of a queue's machine: the laws of the family.
-use Rattle.std.proofs.Common.{◌≡◌, ℕ, ◌-◌, ◌*◌, ◌^◌, ◌<◌, ◌≤◌, nat_lt, Bool, true, false, cond, Option, Some, None, option_map, List, [], ◌∷◌, ◌++◌, map, replicate, get_or, refl, sym, ap, subst, ◌∙◌, append-nil, arith}
-use Rattle.std.proofs.lemmas.Bool.Decides.{nat_tests}
+use Rattle.std.proofs.Common.{◌≡◌, ℕ, ◌-◌, ◌*◌, ◌^◌, ◌<◌, ◌≤◌, true, false, Option, Some, None, option_map, List, [], ◌∷◌, ◌++◌, map, replicate, get_or, refl, sym, ap, subst, ◌∙◌, append-nil, arith}
 use Rattle.std.proofs.lemmas.List.{length-replicate}
 use Rattle.std.proofs.Math.Seq.{take-nil}
 use Rattle.steps.specs.declared.copied.Kept as cells
@@ -42,8 +41,6 @@ use Rattle.model.specs.Parties.{party_of, put, doing_of, flight_of}
 use Rattle.model.specs.Reading.{Open, span_of}
 use Rattle.model.specs.Rows.{first_row}
 use Rattle.model.specs.Turns.{old_of, party_at_begin, IsReached}
-use Rattle.steps.specs.declared.enums.UniqueIndexCreationError.{UniqueIndexCreationError}
-use Rattle.steps.specs.declared.enums.UniqueIndexCreationError.TheVariants.{ProvidedCapacityGreaterThanMaxCapacity}
 use Rattle.model.specs.declared.turn.Turn.TheVariants.{Next}
 use Rattle.queue_laws.proofs.Queues.Runs.{LawsAt, run_sound}
 use Rattle.model.specs.World.{Trace, opening, capacity_error}
@@ -54,7 +51,6 @@ use Rattle.model.proofs.Scenes.{asked, StandsThere, stands_there, ComesFrom, com
 use Rattle.queue_laws.proofs.Overflow.Knows.{overflow_push_at, overflow_pop_at, OverflowAt}
 use Rattle.queue_laws.proofs.Overflow.Pops.{overflow_pop_step}
 use Rattle.queue_laws.proofs.Overflow.Pushes.{overflow_push_step}
-use Rattle.queue_laws.proofs.Queues.Asks.{never_asks}
 use Rattle.queue_laws.proofs.Queues.Begins.{IsFirst, first_is}
 pub use Rattle.queue_laws.proofs.Queues.Fresh.{IsFreshTurn, IsFreshRun, fresh_there, fresh_any, fresh_more, fresh_opening}
 use Rattle.queue_laws.proofs.Queues.Core.{Core}
@@ -72,8 +68,7 @@ use Rattle.queue_laws.proofs.Ring.Pops.{pop_step}
 use Rattle.queue_laws.proofs.Ring.Pushes.{push_step}
 
 pub kept_is : {T V : Type 0} → (kept : Kept T) (words : List ℕ) (s : Queue V) → Fit kept words s → (kept ≡ kepts.TheVariants.Queues s.roles) × (words ≡ layout s.roles s.core)
-kept_is (kepts.TheVariants.Queues ro) words s fit = (ap (λ r. kepts.TheVariants.Queues r) fit.1, fit.0)
-kept_is kept words s fit = absurd fit
+kept_is x0 x1 x2 x3 = grind arith
 
 -- ---- one step of a call
 
@@ -187,32 +182,18 @@ module _ {T : Type 0} (en : Coding T) (law : IsCoding en) where
 -- ---- the laws of the family
 
 call_is : {T : Type 0} (kd : QueueKind) (c : ℕ) (start : QueueStart T) → call_of (machine_kind kd) c start ≡ first kd c start
-call_is IndexQueue c start = refl
-call_is kinds.TheVariants.Overflow c start = refl
-call_is kinds.TheVariants.Queue c start = refl
+call_is x0 x1 x2 = grind arith
 
 some_mapped : {T : Type 0} → (o : Option (QueueFlight T)) (flight : QueueFlight T) → option_map flights.TheVariants.Queues o ≡ Some (flights.TheVariants.Queues flight) → o ≡ Some flight
-some_mapped None flight e = absurd (cc)
-some_mapped (Some f) flight e =
-    let both : flights.TheVariants.Queues f ≡ flights.TheVariants.Queues flight = cc in
-    let same : f ≡ flight = cc in
-    ap Some same
+some_mapped x0 x1 x2 = grind arith
 
 -- a call that begins on a queue is one of its own
 abbrev IsOwn : {T : Type 0} → Start T → Flight T → Type 0
 IsOwn (Queues start) (flights.TheVariants.Queues flight) = Unit {0}
 IsOwn start flight = ⊥
 
-mapped_own : {T : Type 0} (start : QueueStart T) (o : Option (QueueFlight T)) (flight : Flight T) → option_map flights.TheVariants.Queues o ≡ Some flight → IsOwn (Queues start) flight
-mapped_own start None flight e = absurd (cc)
-mapped_own start (Some f) (flights.TheVariants.Queues flight) e = tt
-mapped_own start (Some f) flight e = absurd (cc)
-
 begins_own : {T : Type 0} (kd : QueueKind) (c : ℕ) (kept : Kept T) (start : Start T) (flight : Flight T) → first_of (machine_kind kd) c start kept ≡ Some flight → IsOwn start flight
-begins_own kd c kept (Queues start) flight e = mapped_own start (call_of (machine_kind kd) c start) flight e
-begins_own IndexQueue c kept start flight e = absurd (cc)
-begins_own kinds.TheVariants.Overflow c kept start flight e = absurd (cc)
-begins_own kinds.TheVariants.Queue c kept start flight e = absurd (cc)
+begins_own x0 x1 x2 x3 x4 x5 = grind arith
 
 module _ {T : Type 0} (en : Coding T) (law : IsCoding en) (kd : QueueKind) (c : ℕ) (t : Trace T) (s : frame.Sound (family en kd c) t) where
   pub write_is : get_or t.world.words 0 0 ≡ s.state.core.write
@@ -314,14 +295,9 @@ module _ {T : Type 0} (en : Coding T) (law : IsCoding en) (kd : QueueKind) (c : 
       let named : first_of (machine_kind kd) t.world.capacity start t.world.kept ≡ Some flight = subst (λ kind. first_of kind t.world.capacity start t.world.kept ≡ Some flight) s.kind e in
       absurd (begins_own kd t.world.capacity t.world.kept start flight named)
 
-never_due : {T A : Type 0} → (en z : Coding T) (kd : QueueKind) (c : ℕ) (s : Queue (Val T kd)) (p : ℕ) (start : Start T) (flight : Flight T) → (family en kd c).At s p start flight → is_question (want_of z flight) ≡ true → A
-never_due en z kd c s p (Queues start) (flights.TheVariants.Queues flight) at e = let none = never_asks z flight in absurd (cc)
-never_due en z kd c s p start flight at e = absurd at
-
 pub asks_nothing : {T A : Type 0} → (en : Coding T) (kd : QueueKind) (c : ℕ) (t : Trace T) (p : ℕ) (x : Party T) (flight : Flight T) (since : ℕ) (s : frame.Sound (family en kd c) t) → party_of p t.world.latest ≡ Some x → x.doing ≡ Going flight since
     → is_question (want_of t.world.coding flight) ≡ true → A
-asks_nothing en kd c t p x flight since s found doing asks =
-    never_due en t.world.coding kd c s.state p x.start flight (stands_there (family en kd c) t s p x since flight found doing).at asks
+asks_nothing x0 x1 x2 x3 x4 x5 x6 x7 x8 x9 x10 x11 = grind arith
 
 abbrev empty_core : {T : Type 0} → Coding T → (kd : QueueKind) → ℕ → Core (Val T kd)
 empty_core en kd c = record { write = 0; read = 0; waiting = []; cells = replicate (words_of_cell en.size kd * cells_of kd c) 0 }
@@ -330,24 +306,15 @@ abbrev empty_queue : {T : Type 0} → Coding T → (kd : QueueKind) → ℕ → 
 empty_queue en kd c = record { roles = record { producer = None; consumer = None }; core = empty_core en kd c }
 
 opening_fits : {T : Type 0} → (en : Coding T) (kd : QueueKind) (c : ℕ) → Fit ((opening_of (machine_kind kd)).kept {T = T} c) ((opening_of (machine_kind kd)).words en.size c) (empty_queue en kd c)
-opening_fits en IndexQueue c = (refl, refl)
-opening_fits en kinds.TheVariants.Overflow c = (refl, refl)
-opening_fits en kinds.TheVariants.Queue c = (refl, refl)
+opening_fits x0 x1 x2 = grind arith
 
 pub cell_size : {T : Type 0} → (en : Coding T) (kd : QueueKind) → words_of_cell en.size kd ≡ (encoded en kd).size
 cell_size en IndexQueue = refl
 cell_size en kinds.TheVariants.Overflow = refl
 cell_size en kinds.TheVariants.Queue = refl
 
--- an admitted capacity is a number of 32 bits
-small_enough : (c : ℕ) (b : Bool) → nat_lt (2 ^ 32 - 1) c ≡ b → (rest : Option UniqueIndexCreationError) → cond b (Some ProvidedCapacityGreaterThanMaxCapacity) rest ≡ None → c < 2 ^ 32
-small_enough c true t rest e = absurd (cc)
-small_enough c false t rest e = grind (arith, nat_tests)
-
 pub admitted_fits : (kd : QueueKind) (c : ℕ) → capacity_error (machine_kind kd) c ≡ None → c < 2 ^ 32
-admitted_fits IndexQueue c e = small_enough c (nat_lt (2 ^ 32 - 1) c) refl _ e
-admitted_fits kinds.TheVariants.Overflow c e = small_enough c (nat_lt (2 ^ 32 - 1) c) refl _ e
-admitted_fits kinds.TheVariants.Queue c e = small_enough c (nat_lt (2 ^ 32 - 1) c) refl _ e
+admitted_fits x0 x1 x2 = grind arith
 
 module _ {T : Type 0} (en : Coding T) (law : IsCoding en) where
   pub fresh_laws : (kd : QueueKind) (c : ℕ) → LawsAt (family {T = T} en kd c) IsFreshTurn
@@ -411,9 +378,7 @@ module _ {T : Type 0} (en : Coding T) (law : IsCoding en) where
       }
 
 no_loan : (kd : QueueKind) → is_loan (machine_kind kd) ≡ false
-no_loan IndexQueue = refl
-no_loan kinds.TheVariants.Overflow = refl
-no_loan kinds.TheVariants.Queue = refl
+no_loan x0 = grind arith
 
 pub reached_sound : {T : Type 0} (kd : QueueKind) (t : Trace T) → t.world.kind ≡ machine_kind kd → IsReached t → frame.Sound (family t.world.coding kd t.world.capacity) t
 reached_sound kd t is r =

@@ -1,6 +1,5 @@
 -- What a step of a queue's call has to show.
-use Rattle.std.proofs.Common.{◌≡◌, ◌≢◌, ℕ, ◌+◌, ◌-◌, ◌*◌, ◌%◌, ◌^◌, ◌<◌, ◌≤◌, ◌==◌, Bool, true, false, ◌||◌, ◌⊎◌, inl, inr, Option, Some, None, List, [], ◌∷◌, ◌++◌, fold, length, map, refl, sym, ap, subst, ◌∙◌, append-nil, arith}
-use Rattle.std.proofs.lemmas.Bool.Decides.{nat_tests}
+use Rattle.std.proofs.Common.{◌≡◌, ◌≢◌, ℕ, ◌+◌, ◌-◌, ◌*◌, ◌%◌, ◌^◌, ◌<◌, ◌≤◌, Bool, true, false, ◌||◌, ◌⊎◌, Option, Some, None, List, [], ◌∷◌, ◌++◌, fold, length, map, refl, sym, ap, subst, ◌∙◌, append-nil, arith}
 use native.Mathlib.Nat.{mul-le-mul_right}
 use Rattle.steps.specs.declared.ask.Ask.{Ask}
 use Rattle.steps.specs.declared.ask.After.{After}
@@ -44,22 +43,18 @@ use Rattle.queue_laws.proofs.Queues.Values.{Val, encoded, item}
 use Rattle.queue_laws.proofs.Queues.Pending.{pending_put, hangs_same}
 
 pub or_true : (a b : Bool) → (a || b) ≡ true → (a ≡ true) ⊎ (b ≡ true)
-or_true true b e = inl refl
-or_true false b e = inr e
+or_true x0 x1 x2 = grind arith
 
 pub first_of_some : {A : Type 0} → (xs : List A) → 0 < length xs → (x : A) × (rest : List A) × (xs ≡ x ∷ rest)
 first_of_some [] h = absurd (omega arith)
 first_of_some (x ∷ xs) h = (x, xs, refl)
 
 pub or_false : (a b : Bool) → (a || b) ≡ false → (a ≡ false) × (b ≡ false)
-or_false true b e = absurd (cc)
-or_false false b e = (refl, e)
+or_false x0 x1 x2 = grind arith
 
 -- the place of a cell's first word among the words
 pub cell_place : (size c position : ℕ) → 0 < c → cell_word c size position ≡ 4 + size * (position % c)
-cell_place size c position some =
-    let t : (c == 0) ≡ false = grind (arith, nat_tests) in
-    rw t refl
+cell_place x0 x1 x2 x3 = grind arith
 
 -- a word of a cell as a call asks for it, which wraps
 abbrev pub cell_asked : ℕ → ℕ → ℕ → ℕ → ℕ

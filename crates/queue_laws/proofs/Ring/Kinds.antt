@@ -117,31 +117,25 @@ are_words en of_indices h = record { some = omega arith; few = omega arith; size
 are_words en of_values h = h
 
 pub cells_are : (r : Ring) (c : ℕ) → cells_of (kind_of r) c ≡ c
-cells_are of_indices c = refl
-cells_are of_values c = refl
+cells_are x0 x1 = grind arith
 
 module _ (T : Type 0) where
   pub calm : (r : Ring) (position : ℕ) (call : rings.RingCall (Val T (kind_of r)) (Room r)) → pending_at position (Some (flights.TheVariants.Queues (flight {T = T} r call))) ≡ None
-  calm of_indices position call = refl
-  calm of_values position call = refl
+  calm x0 x1 x2 = grind arith
 
   pub none_hangs : (r : Ring) (c : ℕ) (k : Core (Val T (kind_of r))) (o : Option (ℕ × ℕ)) → Hangs T (kind_of r) c k o
-  none_hangs of_indices c k o = tt
-  none_hangs of_values c k o = tt
+  none_hangs x0 x1 x2 x3 = grind arith
 
   pub hands_out : (r : Ring) → HandsOut {T = T} (kind_of r) (Queues Pop)
-  hands_out of_indices = refl
-  hands_out of_values = refl
+  hands_out x0 = grind arith
 
 module _ {T : Type 0} where
   pub wrote_none : (r : Ring) (c : ℕ) (k : Core (Val T (kind_of r))) (p : ℕ) (call : rings.RingCall (Val T (kind_of r)) (Room r)) → has_written {T = T} c k p (flight r call) ≡ []
-  wrote_none of_indices c k p call = refl
-  wrote_none of_values c k p call = refl
+  wrote_none x0 x1 x2 x3 x4 = grind arith
 
   pub knows : (r : Ring) (c : ℕ) (k : Core (Val T (kind_of r))) (p : ℕ) (events : List (Event T)) (since changes backs : ℕ) (call : rings.RingCall (Val T (kind_of r)) (Room r)) → backs ≡ 0
       → KnowsFlight c k p events since changes backs (flight r call)
-  knows of_indices c k p events since changes backs call e = e
-  knows of_values c k p events since changes backs call e = e
+  knows x0 x1 x2 x3 x4 x5 x6 x7 x8 x9 = grind arith
 
   pub number : (en : Coding T) (r : Ring) (call : rings.RingCall (Val T (kind_of r)) (Room r)) (backs : ℕ) → number_of en (flight r call) backs ≡ ring_number (encoded en (kind_of r)) (words_in r) call
   number en of_indices call backs = refl
@@ -193,53 +187,33 @@ module _ {T : Type 0} where
   -- ---- the events of a push
 
   pub push_roles : (r : Ring) (p : ℕ) (v : Val T (kind_of r)) (o : Option (Answer T)) (ro : Roles) → roles_after p (push r v) o ro ≡ ro
-  push_roles of_indices p v o ro = refl
-  push_roles of_values p v o ro = refl
+  push_roles x0 x1 x2 x3 x4 = grind arith
 
   module _ (r : Ring) (c : ℕ) (before : List (Event T)) (p : ℕ) (v : Val T (kind_of r)) (b : Bool) where
     pub push_grants : GrantsRight before (Finished p (Queues (push r v)) (answers.TheVariants.Truth b))
-    push_grants = go r v
-      where
-        go : (r : Ring) (v : Val T (kind_of r)) → GrantsRight before (Finished p (Queues (push r v)) (answers.TheVariants.Truth b))
-        go of_indices v = tt
-        go of_values v = tt
+    push_grants = grind arith
 
     pub push_tells : TellsLength c before (Finished p (Queues (push r v)) (answers.TheVariants.Truth b))
-    push_tells = go r v
-      where
-        go : (r : Ring) (v : Val T (kind_of r)) → TellsLength c before (Finished p (Queues (push r v)) (answers.TheVariants.Truth b))
-        go of_indices v = tt
-        go of_values v = tt
+    push_tells = grind arith
 
     pub push_producer : (o : Option ℕ) → producer_after {T = T} o (Finished p (Queues (push r v)) (answers.TheVariants.Truth b)) ≡ o
-    push_producer o = go r v
-      where
-        go : (r : Ring) (v : Val T (kind_of r)) → producer_after {T = T} o (Finished p (Queues (push r v)) (answers.TheVariants.Truth b)) ≡ o
-        go of_indices v = refl
-        go of_values v = refl
+    push_producer x0 = grind arith
 
     pub push_consumer : (o : Option ℕ) → consumer_after {T = T} o (Finished p (Queues (push r v)) (answers.TheVariants.Truth b)) ≡ o
-    push_consumer o = go r v
-      where
-        go : (r : Ring) (v : Val T (kind_of r)) → consumer_after {T = T} o (Finished p (Queues (push r v)) (answers.TheVariants.Truth b)) ≡ o
-        go of_indices v = refl
-        go of_values v = refl
+    push_consumer x0 = grind arith
 
   pub false_is_right : (r : Ring) (c : ℕ) (before : List (Event T)) (p : ℕ) (v : Val T (kind_of r)) → length (waiting before) ≡ c → AnswersRight c before (Acted p (Queues (push r v)) (answers.TheVariants.Truth false))
-  false_is_right of_indices c before p v e = e
-  false_is_right of_values c before p v e = e
+  false_is_right x0 x1 x2 x3 x4 x5 = grind arith
 
   pub true_is_right : (r : Ring) (c : ℕ) (before : List (Event T)) (p : ℕ) (v : Val T (kind_of r)) → AnswersRight c before (Acted p (Queues (push r v)) (answers.TheVariants.Truth true))
-  true_is_right of_indices c before p v = tt
-  true_is_right of_values c before p v = tt
+  true_is_right x0 x1 x2 x3 x4 = grind arith
 
   pub named : (r : Ring) (v : Val T (kind_of r)) → Queues (push {T = T} r v) ≡ push_of (item (kind_of r) v)
   named of_indices v = refl
   named of_values v = refl
 
   pub wrote_false : (r : Ring) (c p : ℕ) (v : Val T (kind_of r)) → Wrote {T = T} (kind_of r) c (push r v) (answers.TheVariants.Truth false) (Acted p (Queues (push r v)) (answers.TheVariants.Truth false) ∷ [])
-  wrote_false of_indices c p v = record { moments = refl; published = refl; handed_out = refl }
-  wrote_false of_values c p v = record { moments = refl; published = refl; handed_out = refl }
+  wrote_false x0 x1 x2 x3 = grind arith
 
   pub wrote_true : (r : Ring) (c p : ℕ) (v : Val T (kind_of r))
       → Wrote {T = T} (kind_of r) c (push r v) (answers.TheVariants.Truth true) (Published p (item (kind_of r) v) ∷ Acted p (Queues (push r v)) (answers.TheVariants.Truth true) ∷ [])
@@ -253,8 +227,7 @@ module _ {T : Type 0} where
   -- ---- the events of a pop
 
   pub got_is_right : (r : Ring) (c : ℕ) (before : List (Event T)) (p : ℕ) (v : Val T (kind_of r)) → AnswersRight c before (Acted p (Queues Pop) (got r v))
-  got_is_right of_indices c before p v = tt
-  got_is_right of_values c before p v = tt
+  got_is_right x0 x1 x2 x3 x4 = grind arith
 
   pub wrote_got : (r : Ring) (c p : ℕ) (v : Val T (kind_of r)) → Wrote {T = T} (kind_of r) c Pop (got r v) (HandedOut p (item (kind_of r) v) ∷ Acted p (Queues Pop) (got r v) ∷ [])
   wrote_got of_indices c p v = record { moments = refl; published = refl; handed_out = refl }

@@ -33,7 +33,7 @@ use Rattle.queue_laws.proofs.Queues.Core.{Core, Good, taken, takes, front, word_
 use Rattle.queue_laws.proofs.Queues.Invariant.{Scene, Inv, waiting_is}
 use Rattle.queue_laws.proofs.Queues.Keeping.{clash, kept}
 use Rattle.queue_laws.proofs.Queues.Knows.{free, layout}
-use Rattle.queue_laws.proofs.Queues.Stages.{IsCalm, or_true, or_false, first_of_some, cell_asked, asked_place, DoesStep, quiet}
+use Rattle.queue_laws.proofs.Queues.Stages.{IsCalm, or_true, first_of_some, cell_asked, asked_place, DoesStep, quiet}
 use Rattle.queue_laws.proofs.Queues.Values.{Val, encoded, item}
 use Rattle.queue_laws.proofs.Ring.Kinds.{Ring, kind_of, Room, words_in, with_word, put_in, flight, got, read_in, ring_want, ring_after, ring_effect, are_words, calm, wrote_none, knows, number, pop_here, ring_keeps, none_hangs, cells_are, list_after_pop, list_answers_pop, listed_is, answer_is, got_is_right, hands_out, wrote_got, most_pop}
 use Rattle.queue_laws.proofs.Ring.Knows.{pop_at, KnowsPush, KnowsPop, pop_number}
@@ -74,16 +74,7 @@ module _ {V : Type 0} (en : Coding V) (law : IsCoding en) where
 
   -- the next read position keeps what a push knows
   take_keeps : (c : ℕ) (k : Core V) (v : V) (rest : List V) → k.waiting ≡ v ∷ rest → (w : V) (stage : pushes.PushStage) → KnowsPush en c k w stage → KnowsPush en c (taken en.size en.words_of c k rest) w stage
-  take_keeps c k v rest is w pushes.TheVariants.LoadsWrite h = h
-  take_keeps c k v rest is w (pushes.TheVariants.LoadsRead write) h = h
-  take_keeps c k v rest is w (pushes.TheVariants.StoresCell write cell at) h =
-      let long : length k.waiting ≡ suc (length rest) = ap length is in
-      let room = h.1 in
-      (h.0, omega arith, h.2, h.3, h.4, h.5)
-  take_keeps c k v rest is w (pushes.TheVariants.StoresWrite write) h =
-      let long : length k.waiting ≡ suc (length rest) = ap length is in
-      let room = h.1 in
-      (h.0, omega arith, h.2, h.3)
+  take_keeps x0 x1 x2 x3 x4 x5 x6 x7 = grind arith
 
 module _ {T : Type 0} (en : Coding T) (r : Ring) (law : IsCoding en) (scene : Scene T (kind_of r)) (inv : Inv en (kind_of r) scene) (small : scene.core.write < 2 ^ 64) (before : IsCalm en (kind_of r) scene scene.core.read) (room : Room r) (holds : scene.roles.consumer ≡ Some scene.party) (b : scene.backs ≡ 0) where
   open scene use {capacity as c, roles as ro, core as k, party as p, steps, backs, since, changes, events}
@@ -177,12 +168,7 @@ module _ {T : Type 0} (en : Coding T) (r : Ring) (law : IsCoding en) (scene : Sc
 
   -- something waits
   some : (c == 0 || k.write == k.read) ≡ false → 0 < length k.waiting
-  some t =
-      let write = g.write in
-      let both = or_false (c == 0) (k.write == k.read) t in
-      let apart : (k.write == k.read) ≡ false = both.1 in
-      let ne : k.write ≢ k.read = grind (arith, nat_tests) in
-      omega arith
+  some x0 = grind arith
 
   abbrev loads_cell : ℕ → pops.PopStage
   loads_cell i = pops.TheVariants.LoadsCell k.read (cell_word c size k.read) i

@@ -1,5 +1,5 @@
 -- The steps of a push of a bounded queue.
-use Rattle.std.proofs.Common.{◌≡◌, ◌≢◌, ℕ, ◌+◌, ◌-◌, ◌*◌, ◌%◌, ◌^◌, ◌<◌, ◌≤◌, ◌==◌, nat_lt, Bool, true, false, ◌||◌, ⊎_elim, Option, Some, List, [], ◌∷◌, ◌++◌, length, get_or, map, refl, sym, ap, subst, ◌∙◌, append-nil, arith}
+use Rattle.std.proofs.Common.{◌≡◌, ◌≢◌, ℕ, ◌+◌, ◌-◌, ◌*◌, ◌%◌, ◌^◌, ◌<◌, ◌≤◌, ◌==◌, nat_lt, Bool, true, false, ◌||◌, Option, Some, List, [], ◌∷◌, ◌++◌, length, get_or, map, refl, sym, ap, subst, ◌∙◌, append-nil, arith}
 use Rattle.std.proofs.lemmas.Bool.Decides.{nat_tests}
 use Rattle.std.proofs.lemmas.List.{map-append, length-map}
 use Rattle.steps.specs.declared.ask.Ask.{Ask}
@@ -19,7 +19,6 @@ use Rattle.model.specs.declared.event.Answer.{Answer}
 use Rattle.model.specs.declared.event.Answer as answers
 use Rattle.model.specs.declared.event.Start.TheVariants.{Queues}
 use Rattle.model.specs.declared.event.Event.TheVariants.{Published, Acted}
-use Rattle.model.specs.declared.families.queues.QueueKind.{QueueKind}
 use Rattle.model.specs.Coding.{Coding, IsCoding}
 use Rattle.model.specs.Families.{ask_of}
 use Rattle.model.specs.Families.Queues.Calls.{write_word}
@@ -34,7 +33,7 @@ use Rattle.queue_laws.proofs.Queues.Core.{Core, Holds, Good, filled, fills, one_
 use Rattle.queue_laws.proofs.Queues.Invariant.{Scene, Inv, waiting_is}
 use Rattle.queue_laws.proofs.Queues.Keeping.{clash, kept}
 use Rattle.queue_laws.proofs.Queues.Knows.{free, layout, has_written, At}
-use Rattle.queue_laws.proofs.Queues.Stages.{IsCalm, or_true, or_false, cell_asked, asked_place, Leaves, DoesStep, quiet}
+use Rattle.queue_laws.proofs.Queues.Stages.{IsCalm, cell_asked, asked_place, Leaves, DoesStep, quiet}
 use Rattle.queue_laws.proofs.Queues.Values.{Val, encoded, item}
 use Rattle.queue_laws.proofs.Ring.Kinds.{Ring, kind_of, Room, flight, push, ring_want, ring_after, ring_effect, are_words, calm, wrote_none, knows, number, push_here, ring_keeps, none_hangs, cells_are, list_after_push, list_answers_push, listed_is, push_roles, push_grants, push_tells, push_producer, push_consumer, false_is_right, true_is_right, named, wrote_false, wrote_true, most_push}
 use Rattle.queue_laws.proofs.Ring.Knows.{push_at, IsFresh, KnowsPush, KnowsPop, push_number}
@@ -42,10 +41,7 @@ use Rattle.queue_laws.proofs.Ring.Knows.{push_at, IsFresh, KnowsPush, KnowsPop, 
 module _ {V : Type 0} (en : Coding V) (c : ℕ) (k : Core V) where
   -- a store into a cell keeps what a pop knows
   fill_keeps : (at word : ℕ) (room : List ℕ) (stage : pops.PopStage) → KnowsPop en c k room stage → KnowsPop en c (filled en.size en.words_of c k at word) room stage
-  fill_keeps at word room pops.TheVariants.LoadsRead h = h
-  fill_keeps at word room (pops.TheVariants.LoadsWrite read) h = h
-  fill_keeps at word room (pops.TheVariants.LoadsCell read cell place) h = h
-  fill_keeps at word room (pops.TheVariants.StoresRead read) h = h
+  fill_keeps x0 x1 x2 x3 x4 = grind arith
 
   -- so does the next write position
   publish_keeps : (w : V) (room : List ℕ) (stage : pops.PopStage) → KnowsPop en c k room stage → KnowsPop en c (core.published en.size en.words_of c k w) room stage
@@ -56,9 +52,6 @@ module _ {V : Type 0} (en : Coding V) (c : ℕ) (k : Core V) where
 
 module _ {T : Type 0} (en : Coding T) (r : Ring) (law : IsCoding en) (scene : Scene T (kind_of r)) (inv : Inv en (kind_of r) scene) (small : scene.core.write < 2 ^ 64) (before : IsCalm en (kind_of r) scene scene.core.read) (v : Val T (kind_of r)) (holds : scene.roles.producer ≡ Some scene.party) (b : scene.backs ≡ 0) where
   open scene use {capacity as c, roles as ro, core as k, party as p, steps, backs, since, changes, events}
-
-  abbrev kd : QueueKind
-  kd = kind_of r
 
   abbrev size : ℕ
   size = (encoded en (kind_of r)).size
@@ -118,22 +111,10 @@ module _ {T : Type 0} (en : Coding T) (r : Ring) (law : IsCoding en) (scene : Sc
   behind = let reached = inv.queue.reached in let write = g.write in omega arith
 
   full : (c == 0 || distance k.write k.read == c) ≡ true → length k.waiting ≡ c
-  full t =
-      let few = g.few in
-      let far = behind in
-      let zero : (c == 0) ≡ true → length k.waiting ≡ c = λ e. let none : c ≡ 0 = grind (arith, nat_tests) in omega arith in
-      let lap : (distance k.write k.read == c) ≡ true → length k.waiting ≡ c = λ e. let here : distance k.write k.read ≡ c = grind (arith, nat_tests) in sym far ∙ here in
-      ⊎_elim zero lap (or_true (c == 0) (distance k.write k.read == c) t)
+  full x0 = grind arith
 
   room : (c == 0 || distance k.write k.read == c) ≡ false → length k.waiting < c
-  room t =
-      let few = g.few in
-      let far = behind in
-      let both = or_false (c == 0) (distance k.write k.read == c) t in
-      let lap : (distance k.write k.read == c) ≡ false = both.1 in
-      let ne : distance k.write k.read ≢ c = grind (arith, nat_tests) in
-      let other : length k.waiting ≢ c = λ e. ne (far ∙ e) in
-      omega arith
+  room x0 = grind arith
 
   refused : length k.waiting ≡ c → steps ≤ 1 → Does (Some load_of_read) (Done (answers.TheVariants.Truth false)) Acts
   refused lap s =
