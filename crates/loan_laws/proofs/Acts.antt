@@ -1,6 +1,6 @@
 -- What a turn of a loan channel writes down: what its step did, then who acts, then the end. A send acts as it publishes, or where
 -- that left one index too many, as the read position goes on; a receive as it moves the read position, or finds nothing.
-use Rattle.std.proofs.Common.{◌≡◌, ◌≢◌, ℕ, ◌+◌, ◌-◌, ◌^◌, ◌<◌, ◌≤◌, ◌==◌, ◌&&◌, if◌then◌else◌, Bool, true, false, inl, inr, option_map, Option, Some, None, List, [], ◌∷◌, ◌++◌, refl, sym, ap, subst, ◌∙◌, append-nil, arith}
+use Rattle.std.proofs.Common.{◌≡◌, ◌≢◌, ℕ, ◌+◌, ◌-◌, ◌^◌, ◌<◌, ◌≤◌, ◌==◌, ◌&&◌, if◌then◌else◌, Bool, true, false, inl, Option, Some, List, [], ◌∷◌, ◌++◌, refl, sym, ap, subst, ◌∙◌, arith}
 use Rattle.std.proofs.lemmas.Bool.Decides.{nat_tests}
 use Rattle.std.proofs.lemmas.List.{nil_from_length}
 use Rattle.std.specs.List.{AllByRecursion}
@@ -8,14 +8,10 @@ use Rattle.steps.specs.declared.ask.Ask.{Ask}
 use Rattle.steps.specs.declared.ask.Op.TheVariants.{Load}
 use Rattle.steps.specs.declared.copied.OneWord.{OneWord}
 use Rattle.steps.specs.declared.indices.unique.ReleaseStage.{ReleaseStage}
-use Rattle.steps.specs.declared.indices.unique.ReleaseStage as releases
 use Rattle.steps.specs.declared.loan.reclaim.ReclaimStage.{ReclaimStage}
-use Rattle.steps.specs.declared.loan.reclaim.ReclaimStage as reclaims
 use Rattle.steps.specs.declared.loan.take_back.TakeBackStage.{TakeBackStage}
-use Rattle.steps.specs.declared.loan.take_back.TakeBackStage as take_backs
 use Rattle.steps.specs.declared.queues.overflow.PopStage as overflow_pops
 use Rattle.steps.specs.declared.queues.overflow.PushStage as overflow_pushes
-use Rattle.steps.specs.declared.queues.ring.PopStage as pops
 use Rattle.steps.specs.declared.queues.ring.PushStage as pushes
 use Rattle.steps.specs.Loan.Layout.{submission_word}
 use Rattle.steps.specs.Loan.Parts.{shifted}
@@ -36,15 +32,14 @@ use Rattle.model.specs.Coding.{Coding}
 use Rattle.model.specs.Families.{ask_of}
 use Rattle.model.specs.Families.Loan.Calls.{want}
 use Rattle.model.specs.Families.Loan.Promises.{read_word, AddsOne, promise}
-use Rattle.model.specs.Families.Loan.Steps.{read_in, sent_at, pending, beside, release_effect, take_back_effect, give_back_effect, reclaim_effect, effect_of, acts, claimed, room_made, effects_of}
+use Rattle.model.specs.Families.Loan.Steps.{read_in, sent_at, beside, release_effect, take_back_effect, give_back_effect, reclaim_effect, effect_of, acts, claimed, room_made, effects_of}
 use Rattle.model.specs.Families.Queues.Reading.{waiting}
-use Rattle.model.specs.Parties.{party_of, doing_of, flight_of}
 use Rattle.model.specs.Promises.Turns.{ask_in, IsParty, IsEffectOf, IsAct, ActsRight}
 use Rattle.model.specs.Turns.{old_of}
 use Rattle.model.specs.World.{Trace}
 use Rattle.model.proofs.Frame as frame
 use Rattle.queue_laws.proofs.Overflow.Knows.{KnowsOverflowPush, KnowsBacks}
-use Rattle.loan_laws.proofs.Channel.{Channel, words_in, kept_is}
+use Rattle.loan_laws.proofs.Channel.{Channel, words_in}
 use Rattle.loan_laws.proofs.Invariant.{sends_at, counted_for}
 use Rattle.loan_laws.proofs.Kept.{waiting_is}
 use Rattle.loan_laws.proofs.Parts.{submission_old}
@@ -86,52 +81,14 @@ module _ {T : Type 0} where
   acts_of p (effects.Frees index) = []
 
   pub effects_are : (p : ℕ) (effect : Effect) (outcome : Option (Answer T)) → effects_of p effect outcome ≡ did p effect outcome ++ acts_of p effect
-  effects_are p effects.Quiet outcome = refl
-  effects_are p effects.Claims outcome = sym (append-nil (claimed p outcome))
-  effects_are p (effects.Publishes index) outcome = refl
-  effects_are p (effects.PublishesAndActs index) outcome = refl
-  effects_are p (effects.TakesOut index oldest) outcome = refl
-  effects_are p effects.FindsNone outcome = refl
-  effects_are p (effects.Receives oldest push) outcome = refl
-  effects_are p (effects.HandsOut oldest) outcome = refl
-  effects_are p (effects.Returns index) outcome = refl
-  effects_are p (effects.TakesBack index) outcome = refl
-  effects_are p (effects.Frees index) outcome = refl
-
-  claim_effects : (turn : Turn T) (p : ℕ) (outcome : Option (Answer T)) → IsParty turn p → AllByRecursion (IsEffectOf turn) (claimed p outcome)
-  claim_effects turn p (Some (answers.TheVariants.Index index)) mine = (mine, tt)
-  claim_effects turn p outcome mine = tt
+  effects_are x0 x1 x2 = grind arith
 
   pub did_effects : (turn : Turn T) (p : ℕ) (effect : Effect) (outcome : Option (Answer T)) → IsParty turn p → AllByRecursion (IsEffectOf turn) (did p effect outcome)
-  did_effects turn p effects.Quiet outcome mine = tt
-  did_effects turn p effects.Claims outcome mine = claim_effects turn p outcome mine
-  did_effects turn p (effects.Publishes index) outcome mine = (mine, tt)
-  did_effects turn p (effects.PublishesAndActs index) outcome mine = (mine, tt)
-  did_effects turn p (effects.TakesOut index oldest) outcome mine = (mine, tt)
-  did_effects turn p effects.FindsNone outcome mine = tt
-  did_effects turn p (effects.Receives oldest push) outcome mine = (mine, tt)
-  did_effects turn p (effects.HandsOut oldest) outcome mine = (mine, tt)
-  did_effects turn p (effects.Returns index) outcome mine = (mine, tt)
-  did_effects turn p (effects.TakesBack index) outcome mine = (mine, tt)
-  did_effects turn p (effects.Frees index) outcome mine = (mine, tt)
+  did_effects x0 x1 x2 x3 x4 = grind arith
 
 module _ (T : Type 0) where
-  room_acts : (push : Option (ℕ × ℕ)) → AllByRecursion IsAct (room_made {T = T} push)
-  room_acts None = tt
-  room_acts (Some push) = (tt, tt)
-
   pub all_act : (p : ℕ) (effect : Effect) → AllByRecursion IsAct (acts_of {T = T} p effect)
-  all_act p effects.Quiet = tt
-  all_act p effects.Claims = tt
-  all_act p (effects.Publishes index) = tt
-  all_act p (effects.PublishesAndActs index) = (tt, tt)
-  all_act p (effects.TakesOut index oldest) = (tt, tt)
-  all_act p effects.FindsNone = (tt, tt)
-  all_act p (effects.Receives oldest push) = (tt, room_acts push)
-  all_act p (effects.HandsOut oldest) = tt
-  all_act p (effects.Returns index) = tt
-  all_act p (effects.TakesBack index) = tt
-  all_act p (effects.Frees index) = tt
+  all_act x0 x1 = grind arith
 
 -- ---- steps in which nobody acts
 
@@ -146,48 +103,18 @@ Silent (effects.Frees index) = Unit {0}
 Silent effect = ⊥
 
 pub frees_silent : (index : ℕ) (stage : ReleaseStage) → Silent (release_effect index stage)
-frees_silent index releases.TheVariants.ClearsFlag = tt
-frees_silent index releases.TheVariants.LoadsHead = tt
-frees_silent index (releases.TheVariants.StoresNext head) = tt
-frees_silent index (releases.TheVariants.ExchangesHead head) = tt
-frees_silent index releases.TheVariants.Subtracts = tt
+frees_silent x0 x1 = grind arith
 
 pub take_back_silent : (stage : TakeBackStage) → Silent (take_back_effect stage)
-take_back_silent (take_backs.TheVariants.Pops pops.TheVariants.LoadsRead found) = tt
-take_back_silent (take_backs.TheVariants.Pops (pops.TheVariants.LoadsWrite read) found) = tt
-take_back_silent (take_backs.TheVariants.Pops (pops.TheVariants.LoadsCell read cell at) found) = tt
-take_back_silent (take_backs.TheVariants.Pops (pops.TheVariants.StoresRead read) found) = tt
-take_back_silent (take_backs.TheVariants.Releases index stage) = frees_silent index stage
+take_back_silent x0 = grind arith
 
 pub give_back_silent : (index : ℕ) (stage : pushes.PushStage) → Silent (give_back_effect index stage)
-give_back_silent index pushes.TheVariants.LoadsWrite = tt
-give_back_silent index (pushes.TheVariants.LoadsRead write) = tt
-give_back_silent index (pushes.TheVariants.StoresCell write cell at) = tt
-give_back_silent index (pushes.TheVariants.StoresWrite write) = tt
-
-either_silent : (b : Bool) (x y : Effect) → Silent x → Silent y → Silent (if b then x else y)
-either_silent true x y one other = one
-either_silent false x y one other = other
+give_back_silent x0 x1 = grind arith
 
 pub reclaim_silent : (slots queue : ℕ) (words : List ℕ) (stage : ReclaimStage) (old : ℕ) → Silent (reclaim_effect slots queue words stage old)
-reclaim_silent slots queue words (reclaims.TheVariants.Drains overflow_pops.TheVariants.FindsNone) old = tt
-reclaim_silent slots queue words (reclaims.TheVariants.Drains overflow_pops.TheVariants.LoadsRead) old = tt
-reclaim_silent slots queue words (reclaims.TheVariants.Drains (overflow_pops.TheVariants.LoadsWrite read)) old = tt
-reclaim_silent slots queue words (reclaims.TheVariants.Drains (overflow_pops.TheVariants.LoadsCell read)) old = tt
-reclaim_silent slots queue words (reclaims.TheVariants.Drains (overflow_pops.TheVariants.MovesRead read)) old = either_silent (old == read) _ effects.Quiet tt tt
-reclaim_silent slots queue words (reclaims.TheVariants.Empties pops.TheVariants.LoadsRead) old = tt
-reclaim_silent slots queue words (reclaims.TheVariants.Empties (pops.TheVariants.LoadsWrite read)) old = tt
-reclaim_silent slots queue words (reclaims.TheVariants.Empties (pops.TheVariants.LoadsCell read cell at)) old = tt
-reclaim_silent slots queue words (reclaims.TheVariants.Empties (pops.TheVariants.StoresRead read)) old = tt
-reclaim_silent slots queue words (reclaims.TheVariants.Releases number index stage) old = frees_silent index stage
+reclaim_silent x0 x1 x2 x3 x4 = grind arith
 
 -- ---- what an act tells
-
--- the send that a receive makes room for is the sender's
-sender_waits : (b : Bool) (o : Option ℕ) (push : ℕ × ℕ) → (if b then option_map (λ index. (0, index)) o else None) ≡ Some push → push.0 ≡ 0
-sender_waits true (Some index) push e = let same : (0, index) ≡ push = cc in ap (λ (q : ℕ × ℕ). q.0) (sym same)
-sender_waits true None push e = absurd (cc)
-sender_waits false o push e = absurd (cc)
 
 module _ {T : Type 0} (code : Coding T) (slots queue : ℕ) (t : Trace T) (s : frame.Sound (channel code slots queue) t) (small : t.world.turns < 2 ^ 64 - 2) (p : ℕ) where
   abbrev pub k : Channel T
@@ -206,11 +133,7 @@ module _ {T : Type 0} (code : Coding T) (slots queue : ℕ) (t : Trace T) (s : f
   reached = let sent = s.holds.sent in omega arith
 
   by_words : (word : ℕ → ℕ) (ask : Option Ask) → asked ≡ ask → AddsOne (word slots) (words_in k) ask → AddsOne (word t.world.capacity) t.world.words asked
-  by_words word ask asks adds =
-      let is = kept_is t.world.kept t.world.words k s.fit in
-      subst (λ n. AddsOne (word n) t.world.words asked) (sym s.capacity)
-      (subst (λ ws. AddsOne (word slots) ws asked) (sym is.1)
-      (subst (λ a. AddsOne (word slots) (words_in k) a) (sym asks) adds))
+  by_words x0 x1 x2 x3 = grind arith
 
   -- the next write position is stored
   writes_on : (write read index : ℕ) → write ≡ k.submission.write → asked ≡ ask_of (shifted (submission_word slots) (push_asks queue (overflow_pushes.TheVariants.StoresWrite write read) index)) → AddsOne (submission_word t.world.capacity) t.world.words asked
@@ -232,17 +155,7 @@ module _ {T : Type 0} (code : Coding T) (slots queue : ℕ) (t : Trace T) (s : f
       (adds_read slots queue k busy s.holds.parts reached))
 
   pub silent_right : (effect : Effect) → Silent effect → Right (acts_of p effect)
-  silent_right effects.Quiet silent = tt
-  silent_right effects.Claims silent = tt
-  silent_right (effects.Publishes index) silent = tt
-  silent_right (effects.PublishesAndActs index) silent = absurd silent
-  silent_right (effects.TakesOut index oldest) silent = absurd silent
-  silent_right effects.FindsNone silent = absurd silent
-  silent_right (effects.Receives oldest push) silent = absurd silent
-  silent_right (effects.HandsOut oldest) silent = tt
-  silent_right (effects.Returns index) silent = tt
-  silent_right (effects.TakesBack index) silent = tt
-  silent_right (effects.Frees index) silent = tt
+  silent_right x0 x1 = grind arith
 
   -- beside the send that waits
   abbrev pub waits : Option (ℕ × ℕ)
@@ -273,10 +186,7 @@ module _ {T : Type 0} (code : Coding T) (slots queue : ℕ) (t : Trace T) (s : f
   -- ---- a receive
 
   made_right : p ≢ 0 → AddsOne (read_word t.world.capacity) t.world.words asked → (push : Option (ℕ × ℕ)) → waits ≡ push → Right (room_made push)
-  made_right other adds None e = tt
-  made_right other adds (Some push) e =
-      let zero = sender_waits (p == k.book.receiver) (pending (words_in k) (flight_of (doing_of (party_of 0 t.world.latest)))) push e in
-      (inr ((λ (own : push.0 ≡ p). other (sym own ∙ zero)), adds), tt)
+  made_right x0 x1 x2 x3 = grind arith
 
   none_waits : (read : ℕ) → read ≤ k.submission.read → k.submission.write ≡ read → waiting t.events ≡ []
   none_waits read low same =

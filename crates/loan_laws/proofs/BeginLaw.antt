@@ -1,5 +1,5 @@
 -- A begin that no row refuses keeps what holds of a loan channel.
-use Rattle.std.proofs.Common.{◌≡◌, ℕ, ◌+◌, ◌≤◌, ◌==◌, Bool, true, false, not, Some, None, List, [], ◌∷◌, ◌++◌, get_or, refl, sym, ap, subst, ◌∙◌, arith}
+use Rattle.std.proofs.Common.{◌≡◌, ℕ, ◌+◌, ◌≤◌, ◌==◌, Bool, false, not, Some, None, List, [], ◌∷◌, ◌++◌, get_or, refl, sym, ap, subst, ◌∙◌, arith}
 use Rattle.std.proofs.lemmas.Bool.Decides.{nat_tests}
 use Rattle.steps.specs.declared.loan.reclaim.ReclaimStage as reclaims
 use Rattle.steps.specs.declared.loan.send.SendStage as sends
@@ -28,7 +28,7 @@ use Rattle.model.specs.Families.Loan.Opening.{call_rows, kept_rows, is_past, ask
 use Rattle.model.specs.Families.Queues.Calls.{fresh}
 use Rattle.model.specs.Families.Queues.Opening.{holds}
 use Rattle.model.specs.Parties.{party_of}
-use Rattle.model.specs.Reading.{Span, Never, Open, Ended, span_of}
+use Rattle.model.specs.Reading.{span_of}
 use Rattle.model.specs.Rows.{first_row}
 use Rattle.model.specs.Shape.{IsShut}
 use Rattle.model.specs.Turns.{party_at_begin}
@@ -43,18 +43,7 @@ use Rattle.loan_laws.proofs.Invariant.{reclaims_in, HoldsNow, family}
 -- five rows, none of which refuses
 pub rows_passed : (a b c d e : Bool) → first_row ((a, BadIndex) ∷ (b, NoRole) ∷ (c, NotHeld) ∷ (d, OwnerIsDead) ∷ (e, OwnerLives) ∷ []) ≡ None
     → (a ≡ false) × (b ≡ false) × (c ≡ false) × (d ≡ false) × (e ≡ false)
-rows_passed true b c d e r = absurd (cc)
-rows_passed false true c d e r = absurd (cc)
-rows_passed false false true d e r = absurd (cc)
-rows_passed false false false true e r = absurd (cc)
-rows_passed false false false false true r = absurd (cc)
-rows_passed false false false false false r = (refl, refl, refl, refl, refl)
-
--- a call that is over is no reclaim under way
-shut_idle : {T : Type 0} (span : Span T) → IsShut span → reclaims_in span ≡ false
-shut_idle Never shut = refl
-shut_idle (Open start wrote) shut = absurd shut
-shut_idle (Ended start answer wrote) shut = refl
+rows_passed x0 x1 x2 x3 x4 x5 = grind arith
 
 -- ---- on a queue with a capacity a call begins with a load
 
@@ -77,10 +66,7 @@ module _ {T : Type 0} (code : Coding T) (slots queue : ℕ) (s : Channel T) (lat
 
   -- a call of the sender, which has no other one under way
   as_sender : (start : LoanStart) (flight : LoanFlight) → not (p == 0) ≡ false → (p ≡ 0 → IsShut (span_of 0 s.events) → reclaims_in (span_of 0 s.events) ≡ false → IsFirst code slots queue s latest turns changes 0 start flight) → First start flight
-  as_sender start flight e known =
-      let zero : p ≡ 0 = is_that p 0 e in
-      let over : IsShut (span_of 0 s.events) = subst (λ q. IsShut (span_of q s.events)) zero shut in
-      subst (λ q. IsFirst code slots queue s latest turns changes q start flight) (sym zero) (known zero over (shut_idle (span_of 0 s.events) over))
+  as_sender x0 x1 x2 x3 = grind arith
 
   -- the sender has the index that its call asks for
   mine : (index : ℕ) → p ≡ 0 → not (holds (get_or s.book.holders index None) p) ≡ false → not (holds (get_or s.book.holders index None) 0) ≡ false
@@ -132,9 +118,7 @@ IsOwn slots book (starts.Loan start) (flights.TheVariants.Loan flight) = first s
 IsOwn slots book start flight = ⊥
 
 pub begins_own : {T : Type 0} (slots : ℕ) (book : Book) (start : Start T) (flight : Flight T) → first_of kinds.TheVariants.Loan slots start (kepts.TheVariants.Loan book) ≡ Some flight → IsOwn slots book start flight
-begins_own slots book (starts.Loan start) (flights.TheVariants.Loan flight) e = cc
-begins_own slots book (starts.Loan start) flight e = absurd (cc)
-begins_own slots book start flight e = absurd (cc)
+begins_own x0 x1 x2 x3 x4 = grind arith
 
 module _ {T : Type 0} (code : Coding T) (slots queue : ℕ) where
   abbrev channel : frame.Family T

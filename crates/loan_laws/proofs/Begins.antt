@@ -18,7 +18,7 @@ use Rattle.model.specs.Families.Loan.Opening.{asks_for, taken_from}
 use Rattle.model.specs.Families.Loan.Promises.{MovesRight, BeginsRight}
 use Rattle.model.specs.Families.Loan.Reading.{Passing, spot_of, receiver_after, receiver_of, reclaims_after}
 use Rattle.model.specs.Parties.{party_of, put, doing_of, flight_of}
-use Rattle.model.specs.Reading.{Span, Never, Open, Ended, span_of}
+use Rattle.model.specs.Reading.{Span, Open, span_of}
 use Rattle.model.specs.Shape.{IsShut}
 use Rattle.model.specs.Turns.{party_at_begin}
 use Rattle.model.proofs.Frame as frame
@@ -27,7 +27,7 @@ use Rattle.model.proofs.Readings.{span_of-own, span_of-other}
 use Rattle.index_laws.proofs.Core as indices
 use Rattle.loan_laws.proofs.Channel.{Channel, Holds}
 use Rattle.loan_laws.proofs.Invariant.{Hangs, sends_at, counted_for, hung, reclaims_in, Carries, HoldsNow, family}
-use Rattle.loan_laws.proofs.Keeping.{at_stays, knows_stay}
+use Rattle.loan_laws.proofs.Keeping.{at_stays}
 use Rattle.loan_laws.proofs.Knows.{counts, wrote_in, At, FlightKnows}
 use Rattle.loan_laws.proofs.Placed.{Placed}
 use Rattle.loan_laws.proofs.Told.{items, is_reclaiming}
@@ -35,9 +35,7 @@ use Rattle.loan_laws.proofs.Turns.{Shows, now_more}
 
 -- a call that is over has nothing in passing
 pub shut_none : {T : Type 0} (index : ℕ) (span : Span T) → IsShut span → Carries index span → ⊥
-shut_none index Never shut carries = carries
-shut_none index (Open start wrote) shut carries = shut
-shut_none index (Ended start answer wrote) shut carries = carries
+shut_none x0 x1 x2 x3 = grind arith
 
 module _ {T : Type 0} (code : Coding T) (slots queue : ℕ) (s : Channel T) (latest : List (ℕ × Party T)) (turns changes p : ℕ) (start : LoanStart) (flight : LoanFlight) where
   abbrev channel : frame.Family T
@@ -163,8 +161,7 @@ module _ {T : Type 0} (code : Coding T) (slots queue : ℕ) (s : Channel T) (lat
     others q ne other call known = absurd known
 
     others_know : (q : ℕ) → q ≢ p → (since backs : ℕ) (call : Flight T) → channel.Knows s q s.events since changes backs call → channel.Knows after q (s.events ++ begun ∷ []) since changes backs call
-    others_know q ne since backs (flights.TheVariants.Loan call) known = knows_stay slots queue s book_then events_then since changes backs call known
-    others_know q ne since backs call known = absurd known
+    others_know x0 x1 x2 x3 x4 x5 = grind arith
 
     pub owes : frame.Owes channel after p began latest s.events (begun ∷ []) changes
     owes =

@@ -1,6 +1,6 @@
 -- The state of a loan channel's machine: its three parts with what they hold, its book and the events, what holds of them
 -- between two turns, and how it opens.
-use Rattle.std.proofs.Common.{◌≡◌, ◌≢◌, ℕ, zero, suc, ◌+◌, ◌^◌, ◌<◌, ◌≤◌, ⊎_elim, Option, None, List, [], ◌++◌, replicate, refl, ap, ◌∙◌, arith}
+use Rattle.std.proofs.Common.{◌≡◌, ◌≢◌, ℕ, zero, suc, ◌+◌, ◌^◌, ◌<◌, ◌≤◌, ⊎_elim, Option, None, List, [], ◌++◌, replicate, refl, ◌∙◌, arith}
 use Rattle.std.proofs.lemmas.List.{length-replicate}
 use Rattle.steps.specs.declared.loan.places.Place.{Place}
 use Rattle.steps.specs.declared.loan.places.Place.TheVariants as places
@@ -45,8 +45,7 @@ Fit (kepts.TheVariants.Loan book) words s = (book ≡ s.book) × (words ≡ word
 Fit kept words s = ⊥
 
 pub kept_is : {T : Type 0} (kept : Kept T) (words : List ℕ) (s : Channel T) → Fit kept words s → (kept ≡ kepts.TheVariants.Loan s.book) × (words ≡ words_in s)
-kept_is (kepts.TheVariants.Loan book) words s fit = (ap (λ b. kepts.TheVariants.Loan b) fit.0, fit.1)
-kept_is kept words s fit = absurd fit
+kept_is x0 x1 x2 x3 = grind arith
 
 -- ---- what holds between two turns
 

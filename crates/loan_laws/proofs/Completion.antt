@@ -1,13 +1,12 @@
 -- What each operation of a push and of a pop does to the completion queue, whose values have one word each.
-use Rattle.std.proofs.Common.{◌≡◌, ◌≢◌, ℕ, ◌+◌, ◌-◌, ◌*◌, ◌%◌, ◌^◌, ◌<◌, ◌≤◌, ◌==◌, ◌||◌, true, false, Option, Some, List, [], ◌∷◌, length, get_or, refl, ap, ◌∙◌, arith}
-use Rattle.std.proofs.lemmas.Bool.{or_from}
+use Rattle.std.proofs.Common.{◌≡◌, ℕ, ◌+◌, ◌-◌, ◌*◌, ◌%◌, ◌^◌, ◌<◌, ◌≤◌, ◌==◌, true, false, Option, Some, List, [], ◌∷◌, length, get_or, refl, ap, ◌∙◌, arith}
 use Rattle.std.proofs.lemmas.Bool.Decides.{nat_tests}
 use Rattle.steps.specs.declared.ask.Ask.{Ask}
 use Rattle.steps.specs.declared.ask.Op.TheVariants.{Store}
 use Rattle.steps.specs.declared.ask.After.TheVariants.{GoOn}
 use Rattle.steps.specs.declared.queues.ring.Push.{Push}
 use Rattle.steps.specs.declared.queues.ring.PushStage as pushes
-use Rattle.steps.specs.Queues.Ring.{after_position, distance, cell_word, push_takes, word_at}
+use Rattle.steps.specs.Queues.Ring.{after_position, cell_word, push_takes, word_at}
 use Rattle.model.specs.Families.Queues.Calls.{words_of_index}
 use Rattle.model.specs.Turns.{words_after, change_of}
 use Rattle.queue_laws.proofs.Queues.Core as core
@@ -30,17 +29,10 @@ module _ (slots : ℕ) (some : 1 ≤ slots) (few : slots < 2 ^ 24) (k : Core ℕ
 
   -- the place of a position's cell, as a call asks for it
   cell_place : (position : ℕ) → word_at (cell_word slots 1 position) 0 ≡ 4 + (1 * (position % slots) + 0)
-  cell_place position =
-      let t : (slots == 0) ≡ false = grind (arith, nat_tests) in
-      let low : position % slots < slots = omega arith in
-      rw t (omega arith)
+  cell_place x0 = grind arith
 
   pub cell_on : (position : ℕ) → word_at (cell_word slots 1 position) 0 < length ws
-  cell_on position =
-      let all = long in
-      let place = cell_place position in
-      let low : position % slots < slots = omega arith in
-      omega arith
+  cell_on x0 = grind arith
 
   pub cell_is : (position : ℕ) → get_or ws (word_at (cell_word slots 1 position) 0) 0 ≡ get_or k.cells (1 * (position % slots) + 0) 0
   cell_is position = core.word_at k.write k.read 1 1 k.cells (word_at (cell_word slots 1 position) 0) (1 * (position % slots) + 0) (cell_place position)
@@ -59,14 +51,7 @@ module _ (slots : ℕ) (some : 1 ≤ slots) (few : slots < 2 ^ 24) (k : Core ℕ
 
   -- it finds room
   pub loads_read : length k.waiting < slots → push_takes 1 (push_at (pushes.TheVariants.LoadsRead k.write)) (pushes.TheVariants.LoadsRead k.write) k.read ≡ GoOn (push_at (pushes.TheVariants.StoresCell k.write (cell_word slots 1 k.write) 0))
-  loads_read room =
-      let write = g.write in
-      let behind : distance k.write k.read ≡ length k.waiting = omega arith in
-      let t : (slots == 0) ≡ false = grind (arith, nat_tests) in
-      let less : distance k.write k.read ≢ slots = λ e. absurd (omega arith) in
-      let u : (distance k.write k.read == slots) ≡ false = grind (arith, nat_tests) in
-      let both : (slots == 0 || distance k.write k.read == slots) ≡ false = or_from (slots == 0) (distance k.write k.read == slots) t u in
-      rw both refl
+  loads_read x0 = grind arith
 
   module _ (v : ℕ) (room : length k.waiting < slots) where
     abbrev pub fill : Core ℕ
@@ -91,9 +76,7 @@ module _ (slots : ℕ) (some : 1 ≤ slots) (few : slots < 2 ^ 24) (k : Core ℕ
     next_write = Some (record { word = 0; op = Store (after_position k.write) })
 
     pub publish_words : words_after ws next_write ≡ layout no_roles publish
-    publish_words =
-        let next : after_position k.write ≡ k.write + 1 = omega arith in
-        ap (λ n. n ∷ k.read ∷ 1 ∷ 1 ∷ k.cells) next
+    publish_words = grind arith
 
     pub publish_changes : change_of ws next_write ≡ 1
     publish_changes = let moved : (after_position k.write == k.write) ≡ false = grind (arith, nat_tests) in rw moved refl
@@ -111,10 +94,7 @@ module _ (slots : ℕ) (some : 1 ≤ slots) (few : slots < 2 ^ 24) (k : Core ℕ
       none_long k.waiting (omega arith)
 
   pub finds_some : (k.write == k.read) ≡ false → k.read < k.write
-  finds_some t =
-      let write = g.write in
-      let apart : k.write ≢ k.read = grind (arith, nat_tests) in
-      omega arith
+  finds_some x0 = grind arith
 
   abbrev pub next_read : Option Ask
   next_read = Some (record { word = 1; op = Store (after_position k.read) })
@@ -130,10 +110,7 @@ module _ (slots : ℕ) (some : 1 ≤ slots) (few : slots < 2 ^ 24) (k : Core ℕ
     take_words = ap (λ n. k.write ∷ n ∷ 1 ∷ 1 ∷ k.cells) not_last
 
     pub take_changes : change_of ws next_read ≡ 1
-    take_changes =
-        let next = not_last in
-        let moved : (after_position k.read == k.read) ≡ false = grind (arith, nat_tests) in
-        rw moved refl
+    take_changes = grind arith
 
     pub take_good : Good 1 words_of_index slots take_out
     take_good = takes 1 words_of_index slots k value rest first g

@@ -9,8 +9,6 @@ use Rattle.model.specs.declared.event.Start.TheVariants as starts
 use Rattle.model.specs.declared.families.Flight.{Flight}
 use Rattle.model.specs.declared.families.Flight as flights
 use Rattle.model.specs.declared.families.Kept.{Kept}
-use Rattle.model.specs.declared.families.Kept as kepts
-use Rattle.model.specs.declared.families.loan.Book.{Book}
 use Rattle.model.specs.declared.families.loan.LoanStart.{LoanStart}
 use Rattle.model.specs.declared.families.loan.calls.LoanFlight.{LoanFlight}
 use Rattle.model.specs.declared.party.Party.{Party}
@@ -27,7 +25,7 @@ use Rattle.model.proofs.Readings.{Each-append, span_of-death}
 use Rattle.model.proofs.Rows.{MayDie}
 use Rattle.loan_laws.proofs.Channel.{Channel, Fit, Holds}
 use Rattle.loan_laws.proofs.Invariant.{sends_at, counted_for, reclaims_in, Carries, HoldsNow, family}
-use Rattle.loan_laws.proofs.Keeping.{at_stays, knows_stay}
+use Rattle.loan_laws.proofs.Keeping.{at_stays}
 use Rattle.loan_laws.proofs.Knows.{wrote_in, At}
 use Rattle.loan_laws.proofs.Lists.{lists_stay}
 use Rattle.loan_laws.proofs.Placed.{Placed, placed_on}
@@ -46,16 +44,13 @@ died_with q o dead = ⊎_elim now before (cases_eq q o)
     before ne = died_before q o dead ne ∙ sym (ap (λ b. b || has_died q dead) (ne_eqb o q (λ e. ne (sym e))))
 
 either_way : (b d : Bool) → (b || d) ≡ (if b then true else d)
-either_way true d = refl
-either_way false d = refl
+either_way x0 x1 = grind arith
 
 still_dead : (b d : Bool) → d ≡ true → (b || d) ≡ true
-still_dead true d e = refl
-still_dead false d e = e
+still_dead x0 x1 x2 = grind arith
 
 was_alive : (b d : Bool) → (b || d) ≡ false → d ≡ false
-was_alive true d e = absurd (cc)
-was_alive false d e = e
+was_alive x0 x1 x2 = grind arith
 
 module _ {T : Type 0} (slots queue : ℕ) (s : Channel T) (o : ℕ) where
   abbrev pub after : Channel T
@@ -145,8 +140,7 @@ module _ {T : Type 0} (code : Coding T) (slots queue : ℕ) where
   channel = family code slots queue
 
   fit_then : (kept : Kept T) (words : List ℕ) (s : Channel T) (o : ℕ) → Fit kept words s → Fit (kept_after_death kept o) words (after slots queue s o)
-  fit_then (kepts.TheVariants.Loan book) words s o fit = (ap {A = Book} (λ b. record b { dead = dead_with o b.dead }) fit.0, fit.1)
-  fit_then kept words s o fit = absurd fit
+  fit_then x0 x1 x2 x3 x4 = grind arith
 
   call_on : (s : Channel T) (o q : ℕ) (start : Start T) (flight : Flight T) → channel.At s q start flight → channel.At (after slots queue s o) q start flight
   call_on s o q (starts.Loan start) (flights.TheVariants.Loan flight) h =
@@ -155,8 +149,7 @@ module _ {T : Type 0} (code : Coding T) (slots queue : ℕ) where
   call_on s o q start flight h = absurd h
 
   known_on : (s : Channel T) (o since changes backs : ℕ) (flight : Flight T) → channel.Knows s o s.events since changes backs flight → channel.Knows (after slots queue s o) o (s.events ++ Died o ∷ []) since changes backs flight
-  known_on s o since changes backs (flights.TheVariants.Loan flight) h = knows_stay slots queue s (after slots queue s o).book (s.events ++ Died o ∷ []) since changes backs flight h
-  known_on s o since changes backs flight h = absurd h
+  known_on x0 x1 x2 x3 x4 x5 x6 = grind arith
 
   pub death_comes : (t : Trace T) (owner : ℕ) (sound : frame.Sound channel t) → MayDie t.world owner → frame.ComesByDeath channel t sound owner
   death_comes t owner sound may =

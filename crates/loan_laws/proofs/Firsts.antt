@@ -1,5 +1,5 @@
 -- What the first stage of each call of a loan channel knows, where no row refuses its begin.
-use Rattle.std.proofs.Common.{◌≡◌, ◌≢◌, ℕ, ◌+◌, ◌<◌, ◌≤◌, ◌⊎◌, ◌==◌, inl, inr, ⊎_elim, nat_le, Bool, true, false, not, Option, Some, None, List, [], ◌∷◌, ◌++◌, get_or, refl, sym, ap, subst, ◌∙◌, arith}
+use Rattle.std.proofs.Common.{◌≡◌, ◌≢◌, ℕ, ◌+◌, ◌<◌, ◌≤◌, ◌⊎◌, ◌==◌, inl, inr, ⊎_elim, nat_le, Bool, true, false, not, Some, None, List, [], ◌∷◌, ◌++◌, get_or, refl, sym, ap, subst, ◌∙◌, arith}
 use Rattle.std.proofs.lemmas.Bool.{cases_eq}
 use Rattle.std.proofs.lemmas.Bool.Decides.{nat_tests}
 use Rattle.std.proofs.lemmas.List.Sums.{fold-append}
@@ -19,8 +19,7 @@ use Rattle.model.specs.declared.party.Party.{Party}
 use Rattle.model.specs.Coding.{Coding}
 use Rattle.model.specs.Families.Indices.Robust.Dead.{has_died}
 use Rattle.model.specs.Families.Loan.Calls.{loan_of, give_up_of, take_back_of, give_back_of}
-use Rattle.model.specs.Families.Loan.Promises.{holder_in}
-use Rattle.model.specs.Families.Loan.Reading.{Spot, Free, Passing, With, Move, move_of, spot_of, receiver_after, receiver_of, died_after}
+use Rattle.model.specs.Families.Loan.Reading.{Passing, With, Move, move_of, spot_of, receiver_after, receiver_of, died_after}
 use Rattle.model.specs.Families.Queues.Calls.{fresh}
 use Rattle.model.specs.Families.Queues.Opening.{holds}
 use Rattle.model.specs.Reading.{Open, span_of}
@@ -38,27 +37,8 @@ use Rattle.loan_laws.proofs.Told.{is_reclaiming}
 
 -- ---- what rows tell that do not apply
 
--- the party holds it
-holds_is : (o : Option ℕ) (p : ℕ) → not (holds o p) ≡ false → o ≡ Some p
-holds_is None p e = absurd (cc)
-holds_is (Some q) p e = go (q == p) refl e
-  where
-    go : (b : Bool) → (q == p) ≡ b → not b ≡ false → Some q ≡ Some p
-    go true t e = let same : q ≡ p = grind (arith, nat_tests) in ap Some same
-    go false t e = absurd (cc)
-
-pub with_is : (spot : Spot) (p : ℕ) → holder_in spot ≡ Some p → spot ≡ With p
-with_is Free p e = absurd (cc)
-with_is (Passing q) p e = absurd (cc)
-with_is (With q) p e = let same : q ≡ p = cc in ap With same
-with_is spot p e = absurd (cc)
-
 pub is_that : (a b : ℕ) → not (a == b) ≡ false → a ≡ b
-is_that a b e = go (a == b) refl e
-  where
-    go : (t : Bool) → (a == b) ≡ t → not t ≡ false → a ≡ b
-    go true t e = grind (arith, nat_tests)
-    go false t e = absurd (cc)
+is_that x0 x1 x2 = grind arith
 
 pub is_below : (slots index : ℕ) → nat_le slots index ≡ false → index < slots
 is_below slots index t = grind (arith, nat_tests)
@@ -73,14 +53,10 @@ module _ {T : Type 0} (code : Coding T) (slots queue : ℕ) (s : Channel T) (lat
 
   -- the party has the index by its row
   pub has_it : (p index : ℕ) → not (holds (get_or s.book.holders index None) p) ≡ false → spot_of index s.events ≡ With p
-  has_it p index held =
-      with_is (spot_of index s.events) p (sym (h.parts.placed.keeps.holders index) ∙ holds_is (get_or s.book.holders index None) p held)
+  has_it x0 x1 x2 = grind arith
 
   pub receiver_is : (p : ℕ) → p ≡ s.book.receiver → (p ≢ 0) × (p ≡ receiver_of s.events)
-  receiver_is p e =
-      let same : p ≡ receiver_of s.events = e ∙ h.parts.placed.keeps.receiver in
-      let some = h.receivers.0 in
-      (λ z. absurd (omega arith), same)
+  receiver_is x0 x1 = grind arith
 
   module _ (p : ℕ) (start : LoanStart) where
     abbrev begun : Event T

@@ -45,7 +45,7 @@ use Rattle.loan_laws.proofs.Placed.{Placed}
 use Rattle.loan_laws.proofs.Reclaiming.{reclaim_at, none_more, reclaimed, receiver_then, none_passing, placed_ended}
 use Rattle.loan_laws.proofs.Reclaims.{dead_stays}
 use Rattle.loan_laws.proofs.Sender.{party_then, Steps}
-use Rattle.loan_laws.proofs.Sents.{none_there, IsHome, sent_claimed, may_free, all_home}
+use Rattle.loan_laws.proofs.Sents.{none_there, IsHome, may_free, all_home}
 use Rattle.loan_laws.proofs.SetSteps.{ReleaseLeads, ReleaseStep, claims_then, release_step}
 use Rattle.loan_laws.proofs.Spots.{is_waiting, is_returning, spot_other, spot_moved}
 use Rattle.loan_laws.proofs.Table.{frees_it}
@@ -55,19 +55,11 @@ frees_at slots queue number index stage = reclaim_at slots queue (Releases numbe
 
 -- each stage takes one operation
 one_step : (slots index : ℕ) (stage : ReleaseStage) → step_count (ask_of (back_asks slots index stage)) ≡ 1
-one_step slots index releases.TheVariants.ClearsFlag = refl
-one_step slots index releases.TheVariants.LoadsHead = refl
-one_step slots index (releases.TheVariants.StoresNext head) = refl
-one_step slots index (releases.TheVariants.ExchangesHead head) = refl
-one_step slots index releases.TheVariants.Subtracts = refl
+one_step x0 x1 x2 = grind arith
 
 -- behind the first stage nothing more is to be known of the index
 pub frees_for : (stage : ReleaseStage) → release_counts stage ≡ 1 → (table : List Place) (index : ℕ) → FreesAt table index stage
-frees_for releases.TheVariants.ClearsFlag e table index = absurd (omega arith)
-frees_for releases.TheVariants.LoadsHead e table index = tt
-frees_for (releases.TheVariants.StoresNext head) e table index = tt
-frees_for (releases.TheVariants.ExchangesHead head) e table index = tt
-frees_for releases.TheVariants.Subtracts e table index = tt
+frees_for x0 x1 x2 x3 = grind arith
 
 -- numbers below a bound are below a greater one
 pub all_less : (xs : List ℕ) (m n : ℕ) → m ≤ n → AllByRecursion (λ i. i < m) xs → AllByRecursion (λ i. i < n) xs
@@ -94,11 +86,7 @@ module _ {T : Type 0} (code : Coding T) (slots queue : ℕ) (s : Channel T) (lat
 
   -- what its step does to the words of the indices
   release_for : (stage : ReleaseStage) → index < slots → FreesAt s.book.places index stage → ReleaseAt s.claims 0 index stage
-  release_for releases.TheVariants.ClearsFlag below sent = sent_claimed slots s.claims s.submission.waiting s.completion.waiting s.book s.events h.parts.placed index below sent
-  release_for releases.TheVariants.LoadsHead below sent = tt
-  release_for (releases.TheVariants.StoresNext head) below sent = tt
-  release_for (releases.TheVariants.ExchangesHead head) below sent = tt
-  release_for releases.TheVariants.Subtracts below sent = tt
+  release_for x0 x1 x2 = grind arith
 
   steps_set : (stage : ReleaseStage) → Here stage → (at : Known stage) → ReleaseStep slots index at.stage_at.1 s.set s.claims stage
   steps_set stage here at =
@@ -248,11 +236,7 @@ module _ {T : Type 0} (code : Coding T) (slots queue : ℕ) (s : Channel T) (lat
   -- ---- every later step
 
   claims_for : (stage : ReleaseStage) → release_counts stage ≡ 1 → claims_then index stage s.claims ≡ s.claims
-  claims_for releases.TheVariants.ClearsFlag e = absurd (omega arith)
-  claims_for releases.TheVariants.LoadsHead e = refl
-  claims_for (releases.TheVariants.StoresNext head) e = refl
-  claims_for (releases.TheVariants.ExchangesHead head) e = refl
-  claims_for releases.TheVariants.Subtracts e = refl
+  claims_for x0 x1 = grind arith
 
   module _ (stage : ReleaseStage) (heavy : release_counts stage ≡ 1) (here : Here stage) (at : Known stage) (few : x.steps ≤ 8 * (slots + 1) + 5 * number + release_number stage 0) where
     abbrev ask : Option Ask

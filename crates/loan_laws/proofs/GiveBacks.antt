@@ -136,10 +136,7 @@ module _ {T : Type 0} (code : Coding T) (slots queue : ℕ) (s : Channel T) (lat
       ∙ ap (λ ws. s.set ++ (layout no_roles s.submission ++ ws)) is
 
   one_step : (stage : PushStage) → step_count (asked stage) ≡ 1
-  one_step pushes.TheVariants.LoadsWrite = refl
-  one_step (pushes.TheVariants.LoadsRead write) = refl
-  one_step (pushes.TheVariants.StoresCell write cell at) = refl
-  one_step (pushes.TheVariants.StoresWrite write) = refl
+  one_step x0 = grind arith
 
   -- ---- it goes on
 

@@ -1,11 +1,10 @@
 -- A give-up, as steps of the machine: it is a release of the set.
-use Rattle.std.proofs.Common.{◌≡◌, ℕ, ◌-◌, ◌^◌, ◌<◌, ◌==◌, Bool, true, false, refl, sym, ap, subst, ◌∙◌, arith}
+use Rattle.std.proofs.Common.{◌≡◌, ℕ, ◌-◌, ◌^◌, ◌<◌, sym, ap, subst, ◌∙◌, arith}
 use Rattle.steps.specs.declared.ask.After.{After}
 use Rattle.steps.specs.declared.indices.enums.ReleaseState.{ReleaseState}
 use Rattle.steps.specs.declared.indices.unique.DefaultMode.{DefaultMode}
 use Rattle.steps.specs.declared.indices.unique.Release.{Release}
 use Rattle.steps.specs.declared.indices.unique.ReleaseStage.{ReleaseStage}
-use Rattle.steps.specs.declared.indices.unique.ReleaseStage as releases
 use Rattle.steps.specs.Loan.Back.{back_asks, back_takes}
 use Rattle.steps.specs.Routine.{went_on}
 use Rattle.model.specs.declared.event.Answer.{Answer}
@@ -38,15 +37,7 @@ module _ (T : Type 0) (slots queue index : ℕ) where
   given_up_after release = as_call GiveUp (λ _. answers.Done) (went_on as_it_is index tt release)
 
   goes_so : (stage : ReleaseStage) (value : ℕ) → given_up_after (back_takes slots stage value) ≡ embedded (give_up_at slots queue index) answers.Done (back_takes slots stage value)
-  goes_so releases.TheVariants.ClearsFlag value = refl
-  goes_so releases.TheVariants.LoadsHead value = refl
-  goes_so (releases.TheVariants.StoresNext head) value = refl
-  goes_so (releases.TheVariants.ExchangesHead head) value = found (value == head) refl
-    where
-      found : (b : Bool) → (value == head) ≡ b → given_up_after (back_takes slots (releases.TheVariants.ExchangesHead head) value) ≡ embedded (give_up_at slots queue index) answers.Done (back_takes slots (releases.TheVariants.ExchangesHead head) value)
-      found true e = rw e refl
-      found false e = rw e refl
-  goes_so releases.TheVariants.Subtracts value = refl
+  goes_so x0 x1 = grind arith
 
 module _ {T : Type 0} (code : Coding T) (slots queue : ℕ) (t : Trace T) (sound : frame.Sound (channel code slots queue) t) (small : t.world.turns < 2 ^ 64 - 2) (x : Party T) (since : ℕ) where
   pub give_up_releases : (index : ℕ) (stage : ReleaseStage) → Stands code slots queue t sound small x since 0 (starts.TheVariants.Loan (calls.GiveUp index)) (flights.TheVariants.Loan (give_up_at slots queue index stage)) → Comes code slots queue t sound small x since 0 (starts.TheVariants.Loan (calls.GiveUp index)) (flights.TheVariants.Loan (give_up_at slots queue index stage))

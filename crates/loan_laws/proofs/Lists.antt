@@ -20,12 +20,10 @@ pub other_none : (x i : ℕ) → x ≢ i → one_if (x == i) ≡ 0
 other_none x i ne = ap one_if (ne_eqb x i ne)
 
 pub one_at_most : (b : Bool) → one_if b ≤ 1
-one_at_most true = omega arith
-one_at_most false = omega arith
+one_at_most x0 = grind arith
 
 pub true_if_one : (b : Bool) → 1 ≤ one_if b → b ≡ true
-true_if_one true h = refl
-true_if_one false h = absurd (omega arith)
+true_if_one x0 x1 = grind arith
 
 times_more : (i : ℕ) (xs : List ℕ) (x : ℕ) → times i (xs ++ x ∷ []) ≡ times i xs + one_if (x == i)
 times_more i [] x = omega arith
@@ -84,11 +82,7 @@ module _ {T : Type 0} (is : Spot → Bool) where
 
   -- the first of them is there
   pub first_there : (xs rest : List ℕ) (events : List (Event T)) (x : ℕ) → xs ≡ x ∷ rest → Lists xs events → is (spot_of x events) ≡ true
-  first_there xs rest events x front all =
-      let here = all x in
-      let one = same_one x in
-      let stands : times x xs ≡ one_if (x == x) + times x rest = ap (times x) front in
-      true_if_one (is (spot_of x events)) (omega arith)
+  first_there x0 x1 x2 x3 x4 x5 = grind arith
 
   module _ (xs : List ℕ) (events : List (Event T)) (e : Event T) (all : Lists xs events) where
     -- an event that moves no index

@@ -1,12 +1,11 @@
 -- The steps of a loan: the sender acquires an index of the set.
-use Rattle.std.proofs.Common.{◌≡◌, ◌≢◌, ℕ, ◌+◌, ◌-◌, ◌<◌, ◌≤◌, ◌⊎◌, ⊎_elim, false, Option, Some, None, List, [], ◌∷◌, ◌++◌, fold, set, get_or-set_same, refl, sym, ap, subst, ◌∙◌, append-nil, append_assoc, arith}
+use Rattle.std.proofs.Common.{◌≡◌, ◌≢◌, ℕ, ◌+◌, ◌<◌, ◌≤◌, ◌⊎◌, ⊎_elim, false, Option, Some, None, List, [], ◌∷◌, ◌++◌, fold, set, get_or-set_same, refl, sym, ap, subst, ◌∙◌, append-nil, append_assoc, arith}
 use Rattle.std.proofs.lemmas.Bool.{cases_eq}
 use Rattle.std.proofs.lemmas.List.Sums.{fold-append}
 use Rattle.steps.specs.declared.ask.Ask.{Ask}
 use Rattle.steps.specs.declared.ask.After.TheVariants.{GoOn, Done}
 use Rattle.steps.specs.declared.indices.enums.UniqueIndexSetAcquireFailure as failures
 use Rattle.steps.specs.declared.indices.unique.AcquireStage.{AcquireStage}
-use Rattle.steps.specs.declared.indices.unique.AcquireStage as acquires
 use Rattle.steps.specs.declared.loan.places.Place.TheVariants as places
 use Rattle.steps.specs.Indices.Unique.{acquire_asks}
 use Rattle.model.specs.declared.event.Answer.{Answer}
@@ -49,19 +48,14 @@ loan_at slots stage = Loan (record { call = record { capacity = slots; stage = s
 
 -- an index that nobody has claimed is free
 none_free : (spot : Spot) → claim_of spot ≡ None → spot ≡ Free
-none_free Free e = refl
-none_free spot e = absurd (cc)
+none_free x0 x1 = grind arith
 
 free_not_passing : (q : ℕ) → Passing q ≡ Free → ⊥
 free_not_passing q e = absurd (cc)
 
 -- each stage takes one operation
 one_step : (slots : ℕ) (stage : AcquireStage) → step_count (ask_of (acquire_asks slots stage)) ≡ 1
-one_step slots acquires.TheVariants.LoadsHead = refl
-one_step slots (acquires.TheVariants.LoadsNext head) = refl
-one_step slots (acquires.TheVariants.ExchangesHead head next) = refl
-one_step slots (acquires.TheVariants.Claims i) = refl
-one_step slots (acquires.TheVariants.Scans i) = refl
+one_step x0 x1 = grind arith
 
 module _ {T : Type 0} (code : Coding T) (slots queue : ℕ) (s : Channel T) (latest : List (ℕ × Party T)) (turns changes since : ℕ) (x : Party T) (h : HoldsNow slots queue s latest s.events turns) (stage : AcquireStage) (here : sends_at latest ≡ Some (flights.TheVariants.Loan (loan_at slots stage))) (takes : TakesAt slots s.set stage)
     (from : span_of 0 s.events ≡ Open (starts.Loan calls.Loan) []) (few : x.steps ≤ acquire_number slots stage 0) (straight : x.backs ≡ 0) where

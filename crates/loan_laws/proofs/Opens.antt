@@ -1,8 +1,5 @@
 -- How a loan channel's machine opens, at any two numbers that are admitted.
-use Rattle.std.proofs.Common.{◌≡◌, ℕ, ◌-◌, ◌^◌, ◌<◌, ◌≤◌, Bool, true, false, nat_lt, if◌then◌else◌, Some, None, [], refl, sym, ap, arith}
-use Rattle.std.proofs.Math.Seq.{take-nil}
-use Rattle.std.proofs.lemmas.Bool.Decides.{nat_tests}
-use Rattle.steps.specs.declared.enums.UniqueIndexCreationError.{UniqueIndexCreationError}
+use Rattle.std.proofs.Common.{◌≡◌, ℕ, ◌^◌, ◌<◌, ◌≤◌, None, [], refl, arith}
 use Rattle.steps.specs.Indices.Head.{locked}
 use Rattle.model.specs.declared.turn.Kind as kinds
 use Rattle.model.specs.Coding.{Coding}
@@ -13,40 +10,21 @@ use Rattle.model.proofs.Readings.{Each-nil}
 use Rattle.loan_laws.proofs.Channel as channels
 use Rattle.loan_laws.proofs.Channel.{opening_fits, opening_holds}
 use Rattle.loan_laws.proofs.Invariant.{HoldsNow, family}
-use Rattle.loan_laws.proofs.Told.{items, Told}
+use Rattle.loan_laws.proofs.Told.{Told}
 
 -- ---- numbers that are admitted
 
-passed_both : (a b : Bool) (x y : UniqueIndexCreationError) → (if a then Some x else if b then Some y else None) ≡ None → (a ≡ false) × (b ≡ false)
-passed_both true b x y e = absurd (cc)
-passed_both false true x y e = absurd (cc)
-passed_both false false x y e = (refl, refl)
-
 pub slots_are : (c : ℕ) → capacity_error kinds.TheVariants.Loan c ≡ None → (1 ≤ c) × (c < locked)
-slots_are c e =
-    let both = passed_both (nat_lt (2 ^ 24 - 2) c) (nat_lt c 1) _ _ e in
-    let most : nat_lt (2 ^ 24 - 2) c ≡ false = both.0 in
-    let least : nat_lt c 1 ≡ false = both.1 in
-    (grind (arith, nat_tests), grind (arith, nat_tests))
+slots_are x0 x1 = grind arith
 
 pub queue_is : (c : ℕ) → queue_error kinds.TheVariants.Loan c ≡ None → (1 ≤ c) × (c < 2 ^ 32)
-queue_is c e =
-    let both = passed_both (nat_lt (2 ^ 32 - 1) c) (nat_lt c 1) _ _ e in
-    let most : nat_lt (2 ^ 32 - 1) c ≡ false = both.0 in
-    let least : nat_lt c 1 ≡ false = both.1 in
-    (grind (arith, nat_tests), grind (arith, nat_tests))
+queue_is x0 x1 = grind arith
 
 -- ---- the opening
 
 module _ {T : Type 0} where
   told_nothing : (queue : ℕ) → Told {T = T} queue [] [] []
-  told_nothing queue =
-      record {
-        book = refl;
-        given = refl;
-        stand = sym (ap items (take-nil {A = ℕ} queue));
-        legal = refl;
-      }
+  told_nothing x0 = grind arith
 
   module _ (slots queue : ℕ) (some : 1 ≤ slots) (few : slots < locked) (room : 1 ≤ queue) (fits : queue < 2 ^ 32) where
     holds_now : HoldsNow {T = T} slots queue (channels.opened slots queue) [] [] 0

@@ -35,12 +35,7 @@ module _ {T : Type 0} (slots queue : ℕ) (s : Channel T) (busy : ℕ) (h : Hold
       omega arith
 
   few_before : length s.set + length submission < 2 ^ 64
-  few_before =
-      let first = set_long in
-      let second = submission_long in
-      let some = h.set.few in
-      let few = h.few in
-      omega arith
+  few_before = grind arith
 
   few_in_all : length (s.set ++ submission) + length completion < 2 ^ 64
   few_in_all =

@@ -1,6 +1,5 @@
 -- The words of a loan channel at which its sends and receives act: the positions of the submission queue.
-use Rattle.std.proofs.Common.{◌≡◌, ℕ, ◌+◌, ◌-◌, ◌^◌, ◌<◌, ◌==◌, true, Some, List, ◌∷◌, ◌++◌, length, get_or, sym, ap, subst, ◌∙◌, arith}
-use Rattle.std.proofs.lemmas.Bool.Decides.{nat_tests}
+use Rattle.std.proofs.Common.{◌≡◌, ℕ, ◌+◌, ◌-◌, ◌^◌, ◌<◌, Some, List, ◌∷◌, ◌++◌, length, get_or, sym, ap, subst, ◌∙◌, arith}
 use Rattle.std.proofs.lemmas.List.{get_or-append-add}
 use Rattle.steps.specs.declared.ask.Op.TheVariants.{Exchange}
 use Rattle.steps.specs.declared.queues.overflow.PushStage as pushes
@@ -45,10 +44,7 @@ module _ {T : Type 0} (slots queue : ℕ) (s : Channel T) (busy : ℕ) (h : Hold
 
   -- the move of the read position
   moved_words : words_after queued (Some (record { word = 1; op = Exchange s.submission.read (after_position s.submission.read) })) ≡ s.submission.write ∷ (s.submission.read + 1) ∷ 1 ∷ 1 ∷ s.submission.cells
-  moved_words =
-      let t : (s.submission.read == s.submission.read) ≡ true = grind (arith, nat_tests) in
-      let next : after_position s.submission.read ≡ s.submission.read + 1 = (let write = h.submission.write in omega arith) in
-      rw t (ap (λ n. s.submission.write ∷ n ∷ 1 ∷ 1 ∷ s.submission.cells) next)
+  moved_words = grind arith
 
   pub adds_read : AddsOne (read_word slots) (words_in s) (ask_of (shifted (submission_word slots) (move 1 s.submission.read)))
   adds_read =

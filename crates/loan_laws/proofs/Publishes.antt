@@ -42,7 +42,7 @@ use Rattle.queue_laws.proofs.Overflow.Keeping.{publish_keeps_pop}
 use Rattle.queue_laws.proofs.Queues.Core.{Core, Holds, published}
 use Rattle.loan_laws.proofs.Channel.{Channel, words_in}
 use Rattle.loan_laws.proofs.Invariant.{Hangs, sends_at, counted_for, hung, reclaims_in, Carries, HoldsNow, family}
-use Rattle.loan_laws.proofs.Knows.{Passes, push_wrote, wrote_in, At}
+use Rattle.loan_laws.proofs.Knows.{Passes, push_wrote}
 use Rattle.loan_laws.proofs.OnQueues.{OnQueues, queues_show}
 use Rattle.loan_laws.proofs.Placed.{Placed}
 use Rattle.loan_laws.proofs.Sender.{party_then, Steps}
@@ -265,34 +265,11 @@ module _ {T : Type 0} (code : Coding T) (slots queue : ℕ) (s : Channel T) (lat
 
   -- ---- the three cases
 
-  acts_still : AreStill (acts ∷ [])
-  acts_still = (record { moves = refl; receiver = λ r. refl; dead = λ q b. refl }, tt)
-
   acts_tail : Tail (acts ∷ [])
-  acts_tail =
-      record {
-        still = acts_still;
-        own = (refl, tt);
-        reclaims = λ b. refl;
-        other = refl;
-        moves = (tt, tt);
-        begins = (tt, tt);
-        answers = (tt, tt);
-        stands = ((refl, refl), tt);
-      }
+  acts_tail = grind arith
 
   ends_tail : Tail (acts ∷ ends ∷ [])
-  ends_tail =
-      record {
-        still = (acts_still.0, (record { moves = refl; receiver = λ r. refl; dead = λ q b. refl }, tt));
-        own = (refl, (refl, tt));
-        reclaims = λ b. refl;
-        other = refl;
-        moves = (tt, (tt, tt));
-        begins = (tt, (tt, tt));
-        answers = (tt, (tt, tt));
-        stands = ((refl, refl), ((refl, record { moments = refl; done = record { claimed = refl; published = refl; handed_out = refl; given_back = refl; taken_back = refl; freed = refl } }), tt));
-      }
+  ends_tail = grind arith
 
   no_tail : Tail []
   no_tail = record { still = tt; own = tt; reclaims = λ b. refl; other = refl; moves = tt; begins = tt; answers = tt; stands = tt }
@@ -306,14 +283,7 @@ module _ {T : Type 0} (code : Coding T) (slots queue : ℕ) (s : Channel T) (lat
   -- a push that stands before its move
   waits_here : (tail wrote : List (Event T)) → span_of 0 (s.events ++ publishes ∷ tail) ≡ Open call wrote → wrote ≡ push_wrote queue k index (pushes.TheVariants.MovesRead read) → read ≤ s.submission.read → s.submission.write ≡ read + queue → x.steps ≤ 3
       → frame.Fits channel (s_then tail) 0 (Some (party (GoOn waits_at))) (Open call wrote)
-  waits_here tail wrote seen told low far steps =
-      let some = h.parts.some in
-      let wrote_is : wrote ≡ wrote_in (span_of 0 (s.events ++ publishes ∷ tail)) = sym (ap wrote_in seen) in
-      record {
-        span = ap (λ es. Open call es) wrote_is;
-        steps = omega arith;
-        at = subst (λ es. At slots queue (s_then tail) 0 es (calls.Send index) waits_at) wrote_is (refl, refl, refl, refl, told, ((omega arith, low, omega arith, λ e. (s.submission.waiting, refl)), tt));
-      }
+  waits_here x0 x1 x2 x3 x4 x5 x6 = grind arith
 
   module _ (cell : Holds 1 words_of_index (queue + 1) s.submission.cells s.submission.write index 1) (steps : x.steps ≤ 3) where
     publishes_done : length s.submission.waiting < queue → To (s_then (acts ∷ ends ∷ [])) (Done answers.PoppedNone) (effects.PublishesAndActs index)

@@ -210,14 +210,7 @@ module _ {T : Type 0} (code : Coding T) (slots queue : ℕ) (s : Channel T) (lat
   -- ---- what it owes
 
   stays : (q : ℕ) → q ≢ p → Stays slots queue s s_then q
-  stays q ne =
-      record {
-        alive = λ lives. lives;
-        receiver = λ lives e. e;
-        pop = λ lives e room stage known. absurd (ne (e ∙ sym receives));
-        passes = λ lives e i known. absurd (ne (e ∙ sym receives));
-        push = λ i stage known. known;
-      }
+  stays x0 x1 = grind arith
 
   still_at : (q : ℕ) → q ≢ p → q ≢ 0 → (start : Start T) (flight : Flight T) → channel.At s q start flight → channel.At s_then q start flight × (channel.written s_then q flight ≡ channel.written s q flight)
   still_at q ne far (starts.Loan start) (flights.TheVariants.Loan flight) known =

@@ -68,16 +68,14 @@ module _ {T : Type 0} (p value : ℕ) where
     still waits = (record { moves = refl; receiver = λ r. refl; dead = λ q b. refl }, made_still T waits)
 
     pub reclaims_told : (waits : Option ℕ) (b : Bool) → fold reclaims_after b (told waits) ≡ b
-    reclaims_told None b = refl
-    reclaims_told (Some index) b = refl
+    reclaims_told x0 x1 = grind arith
 
     pub receiver_told : (waits : Option ℕ) → receiver_of (events ++ told waits) ≡ receiver_of events
     receiver_told None = fold-append receiver_after 1 events (told None)
     receiver_told (Some index) = fold-append receiver_after 1 events (told (Some index))
 
     pub book_told : (waits : Option ℕ) (book : Book) → fold (book_after {T = T}) book (hands ∷ acts ∷ made waits) ≡ book
-    book_told None book = refl
-    book_told (Some index) book = refl
+    book_told x0 x1 = grind arith
 
     -- ---- where the indices are
 
@@ -108,12 +106,10 @@ module _ {T : Type 0} (p value : ℕ) where
         ((below, waited), (tt, (tt, ((below, spot_stays ((events ++ hands ∷ []) ++ acts ∷ []) acted value refl ∙ (spot_stays (events ++ hands ∷ []) acts value refl ∙ passing)), tt))))
 
     pub begins_told : (waits : Option ℕ) → AreRight BeginsRight events (told waits)
-    begins_told None = (tt, (tt, (tt, tt)))
-    begins_told (Some index) = (tt, (tt, (tt, (tt, tt))))
+    begins_told x0 = grind arith
 
     pub answers_told : (slots : ℕ) (waits : Option ℕ) → AreRight (AnswersRight slots) events (told waits)
-    answers_told slots None = (tt, (tt, (tt, tt)))
-    answers_told slots (Some index) = (tt, (tt, (tt, (tt, tt))))
+    answers_told x0 x1 = grind arith
 
     -- ---- the spans
 

@@ -38,11 +38,7 @@ use Rattle.loan_laws.proofs.StepLaw.{channel, holds_now, ComesWith}
 
 -- an index that is released is one of the channel
 pub gives_below : {T : Type 0} (slots queue : ℕ) (s : Channel T) (index : ℕ) (stage : ReleaseStage) → GivesAt slots queue s index stage → index < slots
-gives_below slots queue s index releases.TheVariants.ClearsFlag gives = gives.0
-gives_below slots queue s index releases.TheVariants.LoadsHead gives = gives
-gives_below slots queue s index (releases.TheVariants.StoresNext head) gives = gives
-gives_below slots queue s index (releases.TheVariants.ExchangesHead head) gives = gives
-gives_below slots queue s index releases.TheVariants.Subtracts gives = gives
+gives_below x0 x1 x2 x3 x4 x5 = grind arith
 
 module _ {T : Type 0} (code : Coding T) (slots queue : ℕ) (t : Trace T) (sound : frame.Sound (channel code slots queue) t) (small : t.world.turns < 2 ^ 64 - 2) (x : Party T) (since index : ℕ) (r : Releasing T slots queue index) (straight : x.backs ≡ 0) where
   abbrev s : Channel T

@@ -1,5 +1,5 @@
 -- The release with which a give-up, a send and a take-back end: of the index that is in passing in the call.
-use Rattle.std.proofs.Common.{◌≡◌, ◌≢◌, ℕ, ◌+◌, ◌-◌, ◌<◌, ◌≤◌, ◌⊎◌, ⊎_elim, inl, Bool, false, Option, Some, None, List, [], ◌∷◌, ◌++◌, fold, set, refl, sym, ap, subst, ◌∙◌, append-nil, arith}
+use Rattle.std.proofs.Common.{◌≡◌, ◌≢◌, ℕ, ◌+◌, ◌<◌, ◌≤◌, ◌⊎◌, ⊎_elim, inl, Bool, false, Option, Some, None, List, [], ◌∷◌, ◌++◌, fold, set, refl, sym, ap, subst, ◌∙◌, append-nil, arith}
 use Rattle.std.proofs.lemmas.Bool.{cases_eq}
 use Rattle.std.proofs.lemmas.List.Sums.{fold-append}
 use Rattle.steps.specs.declared.ask.Ask.{Ask}
@@ -39,7 +39,7 @@ use Rattle.loan_laws.proofs.Knows.{counts, number_of, wrote_in, GivesAt, At, Fli
 use Rattle.loan_laws.proofs.Lists.{lists_stay}
 use Rattle.loan_laws.proofs.OnSet.{OnSet, set_then, set_shows}
 use Rattle.loan_laws.proofs.Parts.{set_words}
-use Rattle.loan_laws.proofs.Placed.{claim_of, Placed, placed_on}
+use Rattle.loan_laws.proofs.Placed.{Placed, placed_on}
 use Rattle.loan_laws.proofs.Sender.{party_then, Steps}
 use Rattle.loan_laws.proofs.SetSteps.{ReleaseLeads, ReleaseStep, claims_then, release_step}
 use Rattle.loan_laws.proofs.Spots.{is_waiting, is_returning, spot_stays, spot_other, spot_moved}
@@ -49,11 +49,7 @@ use Rattle.loan_laws.proofs.Told.{is_reclaiming}
 
 -- each stage takes one operation
 one_step : (slots index : ℕ) (stage : ReleaseStage) → step_count (ask_of (back_asks slots index stage)) ≡ 1
-one_step slots index releases.TheVariants.ClearsFlag = refl
-one_step slots index releases.TheVariants.LoadsHead = refl
-one_step slots index (releases.TheVariants.StoresNext head) = refl
-one_step slots index (releases.TheVariants.ExchangesHead head) = refl
-one_step slots index releases.TheVariants.Subtracts = refl
+one_step x0 x1 x2 = grind arith
 
 -- how a call goes on whose release goes on so
 abbrev pub embedded : {A : Type 0} → (ReleaseStage → LoanFlight) → A → After (Release DefaultMode) ReleaseState → After LoanFlight A
@@ -96,11 +92,7 @@ module _ {T : Type 0} (code : Coding T) (slots queue : ℕ) (s : Channel T) (lat
 
   -- what its step does to the words of the indices
   release_at : (stage : ReleaseStage) → GivesAt slots queue s index stage → ReleaseAt s.claims 0 index stage
-  release_at releases.TheVariants.ClearsFlag gives = h.parts.placed.claimed index below ∙ ap claim_of gives.1
-  release_at releases.TheVariants.LoadsHead gives = tt
-  release_at (releases.TheVariants.StoresNext head) gives = tt
-  release_at (releases.TheVariants.ExchangesHead head) gives = tt
-  release_at releases.TheVariants.Subtracts gives = tt
+  release_at x0 x1 = grind arith
 
   good_at : (stage : ReleaseStage) → Here stage → indices.Good slots s.set s.claims (release_counts stage)
   good_at stage here = subst (λ n. indices.Good slots s.set s.claims n) (ap counted_for here ∙ r.counted stage) h.parts.set
@@ -216,25 +208,13 @@ module _ {T : Type 0} (code : Coding T) (slots queue : ℕ) (s : Channel T) (lat
   -- ---- every later step
 
   gives_for : (s' : Channel T) (stage : ReleaseStage) → release_counts stage ≡ 1 → GivesAt slots queue s' index stage
-  gives_for s' releases.TheVariants.ClearsFlag e = absurd (omega arith)
-  gives_for s' releases.TheVariants.LoadsHead e = below
-  gives_for s' (releases.TheVariants.StoresNext head) e = below
-  gives_for s' (releases.TheVariants.ExchangesHead head) e = below
-  gives_for s' releases.TheVariants.Subtracts e = below
+  gives_for x0 x1 x2 = grind arith
 
   wrote_for : (stage : ReleaseStage) → release_counts stage ≡ 1 → release_wrote {T = T} 0 index stage ≡ Freed 0 index ∷ []
-  wrote_for releases.TheVariants.ClearsFlag e = absurd (omega arith)
-  wrote_for releases.TheVariants.LoadsHead e = refl
-  wrote_for (releases.TheVariants.StoresNext head) e = refl
-  wrote_for (releases.TheVariants.ExchangesHead head) e = refl
-  wrote_for releases.TheVariants.Subtracts e = refl
+  wrote_for x0 x1 = grind arith
 
   claims_for : (stage : ReleaseStage) → release_counts stage ≡ 1 → claims_then index stage s.claims ≡ s.claims
-  claims_for releases.TheVariants.ClearsFlag e = absurd (omega arith)
-  claims_for releases.TheVariants.LoadsHead e = refl
-  claims_for (releases.TheVariants.StoresNext head) e = refl
-  claims_for (releases.TheVariants.ExchangesHead head) e = refl
-  claims_for releases.TheVariants.Subtracts e = refl
+  claims_for x0 x1 = grind arith
 
   module _ (stage : ReleaseStage) (heavy : release_counts stage ≡ 1) (here : Here stage) (gives : GivesAt slots queue s index stage) (from : span_of 0 s.events ≡ spanned stage) (few : x.steps ≤ r.base + release_number stage 0) (straight : x.backs ≡ 0) where
     abbrev ask : Option Ask
@@ -257,14 +237,7 @@ module _ {T : Type 0} (code : Coding T) (slots queue : ℕ) (s : Channel T) (lat
 
     -- what the other parties know stays, as no index moves
     all_stay : (y : Party T) (es : List (Event T)) → ((i : ℕ) → spot_of i (s.events ++ es) ≡ spot_of i s.events) → (q : ℕ) → q ≢ 0 → Stays slots queue s (set_then slots queue s latest turns y words_then s.claims s.book es) q
-    all_stay y es same q ne =
-        record {
-          alive = λ alive. alive;
-          receiver = λ alive e. e;
-          pop = λ alive e room stage known. known;
-          passes = λ alive e i passes. (passes.0, same i ∙ passes.1);
-          push = λ i stage known. known;
-        }
+    all_stay x0 x1 x2 x3 x4 = grind arith
 
     -- ---- it goes on
 

@@ -1,6 +1,6 @@
 -- The last steps of a send's push over a full queue: it moves the read position, and loads the index that so leaves; or a receive
 -- has made room before.
-use Rattle.std.proofs.Common.{◌≡◌, ◌≢◌, ℕ, suc, ◌+◌, ◌-◌, ◌%◌, ◌^◌, ◌<◌, ◌≤◌, ◌==◌, ⊎_elim, inl, inr, true, false, Option, Some, None, List, [], ◌∷◌, ◌++◌, length, get_or, fold, refl, sym, ap, subst, ◌∙◌, append-nil, append_assoc, length-append, arith}
+use Rattle.std.proofs.Common.{◌≡◌, ◌≢◌, ℕ, suc, ◌+◌, ◌-◌, ◌%◌, ◌^◌, ◌<◌, ◌≤◌, ◌==◌, ⊎_elim, inl, inr, true, false, Option, None, List, [], ◌∷◌, ◌++◌, length, get_or, fold, refl, sym, ap, subst, ◌∙◌, append-nil, append_assoc, length-append, arith}
 use Rattle.std.proofs.lemmas.Bool.{cases_eq}
 use Rattle.std.proofs.lemmas.Bool.Decides.{nat_tests}
 use Rattle.std.proofs.lemmas.List.{set-get_or}
@@ -22,7 +22,6 @@ use Rattle.model.specs.declared.event.Item.{Item}
 use Rattle.model.specs.declared.event.Item.TheVariants.{Index}
 use Rattle.model.specs.declared.event.Start.{Start}
 use Rattle.model.specs.declared.event.Start.TheVariants as starts
-use Rattle.model.specs.declared.families.Flight as flights
 use Rattle.model.specs.declared.families.loan.LoanStart.TheVariants as calls
 use Rattle.model.specs.declared.families.loan.calls.LoanFlight.{LoanFlight}
 use Rattle.model.specs.declared.families.loan.effects.Effect.{Effect}
@@ -106,10 +105,7 @@ module _ {T : Type 0} (code : Coding T) (slots queue : ℕ) (s : Channel T) (lat
 
   -- once it has published, a send carries none until it takes one out
   none_carried : {A : Type 0} (i : ℕ) (wrote : List (Event T)) → handed_out wrote ≡ [] → Carries i (Open call (publishes ∷ wrote)) → A
-  none_carried i wrote none carried = ⊎_elim
-      (λ own. let clash : ◌≡◌ {A = List (Item T)} (Index index ∷ published wrote) [] = own.1 in absurd (cc))
-      (λ other. let clash : ◌≡◌ {A = List (Item T)} [] (Index i ∷ []) = sym none ∙ other.0 in absurd (cc))
-      carried
+  none_carried x0 x1 x2 x3 = grind arith
 
   -- ---- it takes the oldest index out
 
@@ -330,9 +326,7 @@ module _ {T : Type 0} (code : Coding T) (slots queue : ℕ) (s : Channel T) (lat
         (cases_eq q 0)
 
     calm : Hangs queue s.submission None
-    calm =
-        let none : hung {T = T} s.submission.read (Some (flights.TheVariants.Loan (pushes_at slots queue (late read) index))) ≡ None = rw apart refl in
-        subst (Hangs queue s.submission) (ap (hung s.submission.read) here ∙ none) h.hangs
+    calm = grind arith
 
     on_queues_end : OnQueues slots queue s latest turns y_end s.submission s.completion s.book (ends ∷ [])
     on_queues_end =

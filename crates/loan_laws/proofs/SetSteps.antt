@@ -167,8 +167,7 @@ AcquireLeads c stage ws ws' hs (Done (Err failures.TheVariants.OutOfIndices)) =
 AcquireLeads c stage ws ws' hs (Done (Err failures.TheVariants.IsLocked)) = ⊥
 
 one_held_most : (o : Option ℕ) → one_held o ≤ 1
-one_held_most None = omega arith
-one_held_most (Some p) = omega arith
+one_held_most x0 = grind arith
 
 -- where as many are held as there are, each is
 all_held : (hs : List (Option ℕ)) (c i : ℕ) → held_below hs c ≡ c → i < c → holder hs i ≢ None

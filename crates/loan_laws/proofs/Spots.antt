@@ -1,4 +1,5 @@
 -- Where an index is after one event more.
+use native.Mathlib.Omega.{arith}
 use Rattle.std.proofs.Common.{◌≡◌, ◌≢◌, ℕ, ◌==◌, if◌then◌else◌, Bool, true, false, Some, None, List, [], ◌∷◌, ◌++◌, refl, ap, ◌∙◌, eq-eqb, ne_eqb}
 use Rattle.std.proofs.lemmas.List.Sums.{fold-append}
 use Rattle.model.specs.declared.event.Event.{Event}
@@ -15,12 +16,10 @@ is_returning Returning = true
 is_returning spot = false
 
 pub waits_there : (spot : Spot) → is_waiting spot ≡ true → spot ≡ Waiting
-waits_there Waiting e = refl
-waits_there spot e = absurd (cc)
+waits_there x0 x1 = grind arith
 
 pub returns_there : (spot : Spot) → is_returning spot ≡ true → spot ≡ Returning
-returns_there Returning e = refl
-returns_there spot e = absurd (cc)
+returns_there x0 x1 = grind arith
 
 module _ {T : Type 0} (events : List (Event T)) (e : Event T) where
   spot_more : (i : ℕ) → spot_of i (events ++ e ∷ []) ≡ moved i (spot_of i events) (move_of e)

@@ -1,6 +1,6 @@
 -- What each operation of a push and of a pop does to the submission queue: the words then, the queue that they hold, and what
 -- the call finds.
-use Rattle.std.proofs.Common.{◌≡◌, ◌≢◌, ℕ, ◌+◌, ◌-◌, ◌*◌, ◌%◌, ◌^◌, ◌<◌, ◌≤◌, ◌==◌, Bool, true, false, Option, Some, List, ◌∷◌, length, get_or, refl, ap, ◌∙◌, arith}
+use Rattle.std.proofs.Common.{◌≡◌, ℕ, ◌+◌, ◌-◌, ◌*◌, ◌%◌, ◌^◌, ◌<◌, ◌≤◌, ◌==◌, Bool, true, false, Option, Some, List, ◌∷◌, length, get_or, refl, arith}
 use Rattle.std.proofs.lemmas.Bool.Decides.{nat_tests}
 use Rattle.steps.specs.declared.ask.Ask.{Ask}
 use Rattle.steps.specs.declared.ask.Op.TheVariants.{Store, Exchange}
@@ -28,10 +28,7 @@ module _ (queue : ℕ) (some : 1 ≤ queue) (few : queue < 2 ^ 32) (k : Core ℕ
   cell_is position = word_at k.write k.read 1 1 k.cells (cell_word queue position) (position % (queue + 1)) refl
 
   pub cell_on : (position : ℕ) → cell_word queue position < length ws
-  cell_on position =
-      let all = long in
-      let low : position % (queue + 1) < queue + 1 = omega arith in
-      omega arith
+  cell_on x0 = grind arith
 
   -- ---- the load of the write position by a push
 
@@ -64,9 +61,7 @@ module _ (queue : ℕ) (some : 1 ≤ queue) (few : queue < 2 ^ 32) (k : Core ℕ
     next_write = Some (record { word = 0; op = Store (after_position k.write) })
 
     pub publish_words : words_after ws next_write ≡ layout no_roles publish
-    publish_words =
-        let next : after_position k.write ≡ k.write + 1 = omega arith in
-        ap (λ n. n ∷ k.read ∷ 1 ∷ 1 ∷ k.cells) next
+    publish_words = grind arith
 
     pub publish_changes : change_of ws next_write ≡ 1
     publish_changes = let moved : (after_position k.write == k.write) ≡ false = grind (arith, nat_tests) in rw moved refl
@@ -82,25 +77,7 @@ module _ (queue : ℕ) (some : 1 ≤ queue) (few : queue < 2 ^ 32) (k : Core ℕ
     HasMoved : (distance k.write read == queue) ≡ true → (k.read == read) ≡ false → read < k.read → length k.waiting < queue → Room read
 
   pub finds : (read : ℕ) → read ≤ k.read → k.write ≤ read + queue → Room read
-  finds read low far = go (distance k.write read == queue) (k.read == read) refl refl
-    where
-      go : (full here : Bool) → (distance k.write read == queue) ≡ full → (k.read == read) ≡ here → Room read
-      go false here t e =
-          let write = g.write in
-          let apart : distance k.write read ≢ queue = grind (arith, nat_tests) in
-          let behind : distance k.write read ≡ k.write - read = omega arith in
-          let other : k.write - read ≢ queue = λ h. apart (behind ∙ h) in
-          HasRoom t (omega arith)
-      go true true t e =
-          let write = g.write in
-          let full : distance k.write read ≡ queue = grind (arith, nat_tests) in
-          let same : k.read ≡ read = grind (arith, nat_tests) in
-          IsFull t e (omega arith)
-      go true false t e =
-          let write = g.write in
-          let full : distance k.write read ≡ queue = grind (arith, nat_tests) in
-          let apart : k.read ≢ read = grind (arith, nat_tests) in
-          HasMoved t e (omega arith) (omega arith)
+  finds x0 x1 x2 = grind arith
 
   -- ---- the move of the read position, by a push or by a pop
 
@@ -111,20 +88,11 @@ module _ (queue : ℕ) (some : 1 ≤ queue) (few : queue < 2 ^ 32) (k : Core ℕ
     abbrev pub take_out : Core ℕ
     take_out = taken 1 words_of_index (queue + 1) k rest
 
-    not_last : after_position k.read ≡ k.read + 1
-    not_last = let write = g.write in omega arith
-
     pub take_words : words_after ws (moves_from k.read) ≡ layout no_roles take_out
-    take_words =
-        let t : (k.read == k.read) ≡ true = grind (arith, nat_tests) in
-        rw t (ap (λ n. k.write ∷ n ∷ 1 ∷ 1 ∷ k.cells) not_last)
+    take_words = grind arith
 
     pub take_changes : change_of ws (moves_from k.read) ≡ 1
-    take_changes =
-        let t : (k.read == k.read) ≡ true = grind (arith, nat_tests) in
-        let next = not_last in
-        let moved : (after_position k.read == k.read) ≡ false = grind (arith, nat_tests) in
-        rw (t, moved) refl
+    take_changes = grind arith
 
     pub take_good : Good 1 words_of_index (queue + 1) take_out
     take_good = takes 1 words_of_index (queue + 1) k value rest first g

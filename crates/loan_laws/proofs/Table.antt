@@ -29,14 +29,10 @@ pub record IsAway (spot : Spot) : Type 0 where
   pub not_passing : spot ≢ Passing 0
 
 pub sent_there : (place : Place) (spot : Spot) → IsIn place spot → IsAway spot → place ≡ places.Sent
-sent_there places.Free spot is away = absurd (away.taken is)
-sent_there places.Loaned spot is away = absurd (⊎_elim away.elsewhere away.not_passing is)
-sent_there places.Sent spot is away = refl
+sent_there x0 x1 x2 x3 = grind arith
 
 loaned_there : (place : Place) → IsIn place (With 0) → place ≡ places.Loaned
-loaned_there places.Free is = let e : With 0 ≡ Free = is in absurd (cc)
-loaned_there places.Loaned is = refl
-loaned_there places.Sent is = absurd (is.1 refl)
+loaned_there x0 x1 = grind arith
 
 pub waiting_away : IsAway Waiting
 waiting_away = record { taken = λ e. absurd (cc); elsewhere = λ e. absurd (cc); not_passing = λ e. absurd (cc) }

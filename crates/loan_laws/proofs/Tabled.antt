@@ -9,7 +9,6 @@ use Rattle.steps.specs.declared.loan.places.Place.{Place}
 use Rattle.steps.specs.declared.loan.places.Place.TheVariants as places
 use Rattle.steps.specs.Loan.Places.{place_at}
 use Rattle.model.specs.declared.event.Answer.{Answer}
-use Rattle.model.specs.declared.event.Answer.TheVariants as answers
 use Rattle.model.specs.declared.event.Event.{Event}
 use Rattle.model.specs.declared.event.Event.TheVariants.{Begun, Published, Claimed, Freed, Died}
 use Rattle.model.specs.declared.event.Item.TheVariants.{Index}
@@ -21,16 +20,14 @@ use Rattle.model.specs.declared.families.Kept.{Kept}
 use Rattle.model.specs.declared.families.Kept as kepts
 use Rattle.model.specs.declared.families.loan.Book.{Book}
 use Rattle.model.specs.declared.families.loan.LoanStart.{LoanStart}
-use Rattle.model.specs.declared.families.loan.LoanStart.TheVariants as calls
 use Rattle.model.specs.declared.party.Doing.{Doing}
 use Rattle.model.specs.declared.party.Doing.TheVariants.{Going, Over}
 use Rattle.model.specs.declared.party.Party.{Party}
 use Rattle.model.specs.declared.turn.Turn.{Turn}
 use Rattle.model.specs.declared.turn.Turn.TheVariants.{Begin, Next, Decide, Die}
 use Rattle.model.specs.Coding.{Coding}
-use Rattle.model.specs.Families.{first_of, step_of, kept_after_begin, kept_after_death}
+use Rattle.model.specs.Families.{first_of, step_of, kept_after_death}
 use Rattle.model.specs.Families.Loan.Calls as rows
-use Rattle.model.specs.Families.Loan.Opening.{asks_for, taken_from}
 use Rattle.model.specs.Families.Loan.Promises.{MovesRight}
 use Rattle.model.specs.Families.Loan.Reading.{place_after, place_of}
 use Rattle.model.specs.Families.Loan.Steps.{book_after, ended_book, effect_of, effects_of}
@@ -58,11 +55,6 @@ set_at table index i v within = ⊎_elim here there (cases_eq index i)
     there ne =
         let t : (index == i) ≡ false = grind (arith, nat_tests) in
         rw t (get_or-set_other table index i v places.Free (λ e. ne (sym e)))
-
--- who gives an index away has it no more, and the table stays
-taken_places : (book : Book) (o : Option ℕ) → (taken_from book o).places ≡ book.places
-taken_places book None = refl
-taken_places book (Some index) = refl
 
 module _ {T : Type 0} where
   -- what the table that is kept says of an index
@@ -101,21 +93,10 @@ module _ {T : Type 0} where
   -- ---- the end of a call changes no place
 
   ended_places : (p : ℕ) (start : LoanStart) (outcome : Option (Answer T)) (book : Book) → (ended_book p start outcome book).places ≡ book.places
-  ended_places p calls.Loan (Some (answers.Index index)) book = refl
-  ended_places p calls.Receive (Some (answers.PoppedIndex index)) book = refl
-  ended_places p calls.Reclaim (Some (answers.Number number)) book = refl
-  ended_places p start outcome book = refl
+  ended_places x0 x1 x2 x3 = grind arith
 
   ending_keeps : (p : ℕ) (start : Start T) (outcome : Option (Answer T)) (book : Book) → fold book_after book (ending_of p start outcome) ≡ book
-  ending_keeps p start None book = refl
-  ending_keeps p start (Some answer) book = refl
-
-  -- ---- a begin and a death change none
-
-  begin_keeps : (code : Coding T) (capacity : ℕ) (start : Start T) (p i : ℕ) (book : Book) → place_in (kept_after_begin code capacity start p (kepts.TheVariants.Loan book)) i ≡ place_at book.places i
-  begin_keeps code capacity (starts.Loan start) p i book = ap (λ table. place_at table i) (taken_places book (asks_for start))
-  begin_keeps code capacity (starts.Container start) p i book = refl
-  begin_keeps code capacity start p i book = refl
+  ending_keeps x0 x1 x2 x3 = grind arith
 
 module _ {T : Type 0} (code : Coding T) (slots queue : ℕ) where
   step_tabled : (i : ℕ) (before : List (Event T)) (z : Coding T) (words : List ℕ) (push : Option (ℕ × ℕ)) (s : Channel T) (p : ℕ) (start : Start T) (flight : Flight T) (old : ℕ) (kept : Kept T) → Fit kept words s → length s.book.places ≡ slots
@@ -143,10 +124,7 @@ module _ {T : Type 0} (code : Coding T) (slots queue : ℕ) where
     as_before i e none = fold-append (place_after i) places.Free t.events (e ∷ []) ∙ none (place_of i t.events)
 
     begun : (p : ℕ) (start : Start T) (o : Option (Flight T)) (i : ℕ) → place_in (after_begin t.world p start o).kept i ≡ place_of i t.events
-    begun p start None i = tabled i
-    begun p start (Some flight) i =
-        subst (λ kept. place_in (kept_after_begin t.world.coding t.world.capacity start p kept) i ≡ place_in kept i) (sym is_kept) (begin_keeps t.world.coding t.world.capacity start p i sound.state.book)
-        ∙ tabled i
+    begun x0 x1 x2 x3 = grind arith
 
     died : (owner i : ℕ) → place_in (kept_after_death t.world.kept owner) i ≡ place_in t.world.kept i
     died owner i = subst (λ kept. place_in (kept_after_death kept owner) i ≡ place_in kept i) (sym is_kept) refl

@@ -1,7 +1,7 @@
 -- A take-back, as steps of the machine: its pop, and the release of the index that it has taken.
-use Rattle.std.proofs.Common.{◌≡◌, ℕ, ◌-◌, ◌^◌, ◌<◌, refl, sym, ap, subst, ◌∙◌}
+use native.Mathlib.Omega.{arith}
+use Rattle.std.proofs.Common.{◌≡◌, ℕ, ◌-◌, ◌^◌, ◌<◌, sym, ap, subst, ◌∙◌}
 use Rattle.steps.specs.declared.ask.After.{After}
-use Rattle.steps.specs.declared.ask.After.TheVariants.{GoOn, Done}
 use Rattle.steps.specs.declared.indices.enums.ReleaseState.{ReleaseState}
 use Rattle.steps.specs.declared.indices.unique.DefaultMode.{DefaultMode}
 use Rattle.steps.specs.declared.indices.unique.Release.{Release}
@@ -46,8 +46,7 @@ module _ (T : Type 0) (slots queue index : ℕ) where
 
   -- a take-back goes on as its release
   goes_so : (stage : ReleaseStage) (release : After (Release DefaultMode) ReleaseState) → as_call TakeBack popped (went_on as_it_is tt tt (take_back_released (call_at stage) index release)) ≡ embedded {A = Answer T} (take_back_frees_at slots queue index) (PoppedIndex index) release
-  goes_so stage (GoOn release) = refl
-  goes_so stage (Done state) = refl
+  goes_so x0 x1 = grind arith
 
 module _ {T : Type 0} (code : Coding T) (slots queue : ℕ) (t : Trace T) (sound : frame.Sound (channel code slots queue) t) (small : t.world.turns < 2 ^ 64 - 2) (x : Party T) (since : ℕ) where
   pub take_back_steps : (stage : TakeBackStage) → Stands code slots queue t sound small x since 0 (starts.TheVariants.Loan calls.TakeBack) (flights.TheVariants.Loan (take_back_at slots queue stage)) → Comes code slots queue t sound small x since 0 (starts.TheVariants.Loan calls.TakeBack) (flights.TheVariants.Loan (take_back_at slots queue stage))

@@ -125,10 +125,7 @@ module _ {T : Type 0} (code : Coding T) (slots queue : ℕ) (s : Channel T) (lat
       ∙ ap (λ ws. s.set ++ (layout no_roles s.submission ++ ws)) is
 
   one_step : (stage : PopStage) → step_count (asked stage) ≡ 1
-  one_step pops.TheVariants.LoadsRead = refl
-  one_step (pops.TheVariants.LoadsWrite read) = refl
-  one_step (pops.TheVariants.LoadsCell read cell at) = refl
-  one_step (pops.TheVariants.StoresRead read) = refl
+  one_step x0 = grind arith
 
   calm : Hangs queue s.submission None
   calm = subst (Hangs queue s.submission) (ap (hung s.submission.read) here) h.hangs

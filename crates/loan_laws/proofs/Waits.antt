@@ -1,7 +1,6 @@
 -- What waits in the two queues by the words is what waits in them, and these are the indices that are there by the events.
-use Rattle.std.proofs.Common.{◌≡◌, ◌≢◌, ℕ, zero, suc, ◌+◌, ◌-◌, ◌*◌, ◌%◌, ◌<◌, ◌≤◌, ◌==◌, ⊎_elim, Bool, true, false, Some, Contains, AllPairs, List, [], ◌∷◌, ◌++◌, length, get_or, map, slice_get, refl, sym, ap, ◌∙◌, append_assoc, append-nil, drop_at, arith}
+use Rattle.std.proofs.Common.{◌≡◌, ◌≢◌, ℕ, zero, suc, ◌+◌, ◌-◌, ◌*◌, ◌%◌, ◌<◌, ◌≤◌, ◌==◌, ⊎_elim, Bool, true, Some, Contains, AllPairs, List, [], ◌∷◌, ◌++◌, length, get_or, map, slice_get, refl, sym, ap, ◌∙◌, append_assoc, append-nil, drop_at, arith}
 use Rattle.std.proofs.lemmas.Bool.{cases_eq}
-use Rattle.std.proofs.lemmas.Bool.Decides.{nat_tests}
 use Rattle.std.proofs.lemmas.List.{get_or_append_left, get_or-map, length-map}
 use Rattle.steps.specs.Loan.Layout.{submission_word, completion_word}
 use Rattle.steps.specs.Queues.Ring.{cell_word}
@@ -27,9 +26,7 @@ use Rattle.loan_laws.proofs.Parts.{set_long, both_long}
 
 -- the place of a cell of one word
 pub cell_place : (c position : ℕ) → 0 < c → cell_word c 1 position ≡ 4 + 1 * (position % c)
-cell_place c position some =
-    let t : (c == 0) ≡ false = grind (arith, nat_tests) in
-    rw t refl
+cell_place x0 x1 x2 = grind arith
 
 module _ {T : Type 0} (code : Coding T) (kd : QueueKind) (reads : (words : List ℕ) (cell : ℕ) → item_at code kd words cell ≡ Index (get_or words cell 0)) (one : words_of_cell code.size kd ≡ 1) where
   stored_is : (c : ℕ) (words : List ℕ) (position : ℕ) (xs : List ℕ) → ((i v : ℕ) → slice_get xs i ≡ Some v → get_or words (cell_of code kd c (position + i)) 0 ≡ v)
