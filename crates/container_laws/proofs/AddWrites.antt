@@ -129,11 +129,7 @@ module _ {T : Type 0} (scene : Scene T) (inv : Inv scene) (value : T) (owner : �
     -- it goes on to the words of its value, from an even number
     first_word : (ask : Option Ask) (y : Party T) → words_after ws ask ≡ ws → (Proper (before scene) → count_in code c (before scene) i % 2 ≡ 0) → (IsProperSoFar scene.terms (put p y latest) events → Proper (before scene))
         → Writes code c owner i value 0 (view scene.terms (words_after ws ask) scene.states (put p y latest) events p (since_then scene ask) (changes_then scene ask) (backs_then scene false))
-    first_word ask y same even proper =
-        record {
-          few = omega arith;
-          has = λ holds lives. record { even = ap (λ w. count_at c w i % 2) same ∙ even (proper holds); written = λ j js. absurd (omega arith) };
-        }
+    first_word ask y same even proper = grind arith
 
     -- ---- the number is loaded
 

@@ -1,12 +1,11 @@
 -- What a turn that is taken has passed, on a machine whose owners die or in an open run.
-use Rattle.std.proofs.Common.{◌≡◌, not, true, None, is_none}
-use Rattle.model.specs.declared.turn.Refusal.TheVariants.{Idle, Undecided}
+use Rattle.std.proofs.Common.{◌≡◌, true, None, arith}
 use Rattle.model.specs.declared.turn.Turn.{Turn}
 use Rattle.model.specs.declared.turn.Turn.TheVariants.{Next, Decide}
 use Rattle.model.specs.Refusals.{is_due, call_refusal}
 use Rattle.model.specs.World.{World, flight_in}
 use Rattle.model.proofs.Frame as frame
-use Rattle.model.proofs.Rows.{row_passed, must_be_due}
+use Rattle.model.proofs.Rows.{must_be_due}
 use Rattle.robust_laws.specs.Open.{open_refusal}
 
 module _ {T : Type 0} where
@@ -21,9 +20,4 @@ module _ {T : Type 0} where
   allowed_by w turn e = tt
 
   pub allowed_open : (w : World T) (turn : Turn T) → open_refusal w turn ≡ None → IsAllowed w turn
-  allowed_open w (Next p) e = e
-  allowed_open w (Decide p said) e =
-      let b = row_passed (is_none (flight_in w p)) Idle _ e in
-      let d = row_passed (not (is_due w.coding (flight_in w p))) Undecided None b.1 in
-      frame.is_true (is_due w.coding (flight_in w p)) d.0
-  allowed_open w turn e = tt
+  allowed_open w turn e = grind arith

@@ -1,31 +1,16 @@
 -- What was announced when a call began, and stood through it, is announced still.
-use Rattle.std.proofs.Common.{◌≡◌, ℕ, ◌==◌, if◌then◌else◌, Bool, true, false, Option, Some, None, List, [], ◌∷◌, ◌++◌, refl, sym, ap, subst, ◌∙◌, append_assoc, append-nil}
+use Rattle.std.proofs.Common.{◌≡◌, ℕ, Bool, true, false, Option, Some, None, List, [], ◌∷◌, ◌++◌, refl, sym, ap, subst, ◌∙◌, append_assoc, append-nil, arith}
 use Rattle.std.proofs.lemmas.List.Sums.{fold-append}
-use Rattle.model.specs.declared.event.Answer.TheVariants.{Index, Done}
 use Rattle.model.specs.declared.event.Event.{Event}
-use Rattle.model.specs.declared.event.Event.TheVariants.{Begun, Hidden, Finished}
-use Rattle.model.specs.declared.event.Start.TheVariants.{Container}
-use Rattle.model.specs.declared.families.container.ContainerStart.TheVariants.{Add, Replace}
+use Rattle.model.specs.declared.event.Event.TheVariants.{Begun}
 use Rattle.model.specs.Families.Container.Looks.{WasAnnounced, StoodThrough}
 use Rattle.model.specs.Families.Container.Reading.{contents_after, contents_of, announced_after, announced_of}
 use Rattle.model.specs.Moments.{BeginsNone}
-use Rattle.robust_laws.proofs.Effects.{some_none}
-
-by_end : (b c : Bool) → c ≡ true → (if b then true else c) ≡ true
-by_end true c h = refl
-by_end false c h = h
 
 module _ {T : Type 0} where
-  by_hide : (b c : Bool) (o : Option T) (value : T) → (if b then None else o) ≡ Some value → c ≡ true → (if b then false else c) ≡ true
-  by_hide true c o value here h = some_none None value refl here
-  by_hide false c o value here h = h
-
   -- an event after which something stands hides nothing there
   one_stays : (i : ℕ) (value : T) (e : Event T) (o : Option T) (c : Bool) → contents_after i o e ≡ Some value → c ≡ true → announced_after i c e ≡ true
-  one_stays i value (Finished p (Container (Add new owner)) (Index index)) o c here h = by_end (index == i) c h
-  one_stays i value (Finished p (Container (Replace index new owner)) Done) o c here h = by_end (index == i) c h
-  one_stays i value (Hidden p index) o c here h = by_hide (index == i) c o value here h
-  one_stays i value e o c here h = h
+  one_stays i value e o c here h = grind arith
 
   all_stays : (i : ℕ) (value : T) (es part : List (Event T)) → ((mid rest : List (Event T)) → es ≡ mid ++ rest → contents_of i (part ++ mid) ≡ Some value) → announced_of i part ≡ true → announced_of i (part ++ es) ≡ true
   all_stays i value [] part stood said = ap (announced_of i) (append-nil part) ∙ said

@@ -1,6 +1,6 @@
 -- What becomes of the answer to a question: a no ends a find, a yes tells a recovery to free the index that it asked about, and
 -- no question is left.
-use Rattle.std.proofs.Common.{◌≡◌, ℕ, ◌==◌, ⊎_elim, if◌then◌else◌, Bool, true, false, Option, Some, None, List, [], ◌∷◌, ◌++◌, refl, sym, ap, subst, ◌∙◌, append-nil}
+use Rattle.std.proofs.Common.{◌≡◌, ℕ, ⊎_elim, Bool, true, false, Option, Some, None, List, [], ◌∷◌, ◌++◌, refl, sym, ap, subst, ◌∙◌, append-nil, arith}
 use Rattle.std.proofs.lemmas.Bool.{cases_eq}
 use Rattle.steps.specs.declared.container.find.FindStage.{FindStage}
 use Rattle.steps.specs.declared.container.find.FindStage as finds
@@ -13,7 +13,7 @@ use Rattle.steps.specs.declared.indices.enums.ReleaseMode.{ReleaseMode}
 use Rattle.steps.specs.Indices.Robust.Parts.{raise_want, lock_want}
 use Rattle.model.specs.declared.event.Answer.TheVariants.{Number}
 use Rattle.model.specs.declared.event.Event.{Event}
-use Rattle.model.specs.declared.event.Event.TheVariants.{Asked, Told, Copied, Finished}
+use Rattle.model.specs.declared.event.Event.TheVariants.{Copied, Finished}
 use Rattle.model.specs.declared.event.Start.TheVariants.{Container}
 use Rattle.model.specs.declared.families.Flight as flights
 use Rattle.model.specs.declared.families.container.ContainerStart.{ContainerStart}
@@ -28,11 +28,10 @@ use Rattle.model.specs.Families.Container.Calls.{want, after}
 use Rattle.model.specs.Families.Container.Questions.{question_in, question_at, AllRight, HasWritten, AsksOnce, IsAnswered, IsTold, YesTells, NoTells, QuestionsRight}
 use Rattle.model.specs.Families.Container.Reading.{acts_of}
 use Rattle.model.specs.Families.Container.States.{state_of}
-use Rattle.model.specs.Families.Container.Steps.{shown as shown_there, effects, questions}
+use Rattle.model.specs.Families.Container.Steps.{effects, questions}
 use Rattle.model.specs.Families.Indices.Robust.Promises.{IsIn}
 use Rattle.model.specs.Families.Indices.Robust.Reading.{deeds_of}
 use Rattle.model.specs.Families.Queues.Calls.{read_in}
-use Rattle.model.specs.Shape.{IsOpenFor}
 use Rattle.model.specs.Step.{answer_in}
 use Rattle.model.specs.Turns.{number_of, ending_of, events_of, after_turn}
 use Rattle.model.specs.World.{Trace}
@@ -42,7 +41,6 @@ use Rattle.container_laws.proofs.AskedLeft.{made}
 use Rattle.container_laws.proofs.AskedTurn.{IsCalm, IsGoing, any_turn, decided}
 use Rattle.container_laws.proofs.AskedWrites.{goes_right}
 use Rattle.container_laws.proofs.Invariant.{family_by}
-use Rattle.container_laws.proofs.LooksTell.{container_is}
 use Rattle.robust_laws.proofs.Sound.{raise_asks_none, lock_asks_none}
 use Rattle.container_laws.proofs.Sound.{MayGoOn, Shown}
 use Rattle.container_laws.proofs.Stages.{any_call}
@@ -67,73 +65,14 @@ module _ {T : Type 0} (code : Coding T) (q : ℕ) where
   abbrev Copies : Option (ContainerState T) → ContainerFlight T → ℕ → Type 0
   Copies state flight old = (index : ℕ) (value : T) → made code flight old ≡ Some (index, value) → Writes (Copied q index value) (writes state flight old)
 
-  find_copies : (state : Option (ContainerState T)) (c owner : ℕ) (room : rooms.Kept 128) (stage : FindStage) (old : ℕ) → Copies state (find_at c owner room stage) old
-  find_copies state c owner room (finds.TheVariants.LoadsCell k found) old index value e = absurd (cc)
-  find_copies state c owner room (finds.TheVariants.LoadsCount k found) old index value e = absurd (cc)
-  find_copies state c owner room (finds.TheVariants.LoadsWord k found count at) old index value e = absurd (cc)
-  find_copies state c owner room (finds.TheVariants.ChecksCount k found count) old index value e = go (old == count) e
-    where
-      go : (b : Bool) → ◌≡◌ {A = Option (ℕ × T)} (if b then Some (k, read_in code room) else None) (Some (index, value)) → Writes (Copied q index value) ((if b then Copied q k (read_in code room) ∷ [] else []) ++ [])
-      go true e =
-          let pair : ◌≡◌ {A = ℕ × T} (k, read_in code room) (index, value) = cc in
-          record { rest = []; is = ap (λ (one : ℕ × T). Copied q one.0 one.1 ∷ []) pair }
-      go false e = absurd (cc)
-  find_copies state c owner room (finds.TheVariants.Asks k found) old index value e = absurd (cc)
-
-  recover_copies : (state : Option (ContainerState T)) (c : ℕ) (given : DeadOwner) (room : rooms.Kept 128) (stage : RecoverStage) (old : ℕ) → Copies state (recover_at c given.owner given.mode room stage) old
-  recover_copies state c given room (recovers.TheVariants.ChecksCount k count) old index value e = go (old == count) e
-    where
-      go : (b : Bool) → ◌≡◌ {A = Option (ℕ × T)} (if b then Some (k, read_in code room) else None) (Some (index, value))
-          → Writes (Copied q index value) ((if b then Copied q k (read_in code room) ∷ [] else shown_there q k old) ++ (if b then Asked q k given.owner ∷ [] else []))
-      go true e =
-          let pair : ◌≡◌ {A = ℕ × T} (k, read_in code room) (index, value) = cc in
-          record { rest = Asked q k given.owner ∷ []; is = ap (λ (one : ℕ × T). Copied q one.0 one.1 ∷ Asked q k given.owner ∷ []) pair }
-      go false e = absurd (cc)
-  recover_copies state c given room recovers.TheVariants.LoadsCounter old index value e = absurd (cc)
-  recover_copies state c given room (recovers.TheVariants.LoadsCell k) old index value e = absurd (cc)
-  recover_copies state c given room (recovers.TheVariants.LoadsCount k) old index value e = absurd (cc)
-  recover_copies state c given room (recovers.TheVariants.LoadsWord k count at) old index value e = absurd (cc)
-  recover_copies state c given room (recovers.TheVariants.Asks k count) old index value e = absurd (cc)
-  recover_copies state c given room (recovers.TheVariants.EmptiesCell k count) old index value e = absurd (cc)
-  recover_copies state c given room (recovers.TheVariants.Hides k count) old index value e = absurd (cc)
-  recover_copies state c given room (recovers.TheVariants.Raises k raise) old index value e = absurd (cc)
-  recover_copies state c given room (recovers.TheVariants.Locks k lock) old index value e = absurd (cc)
-  recover_copies state c given room recovers.TheVariants.LoadsCounterAgain old index value e = absurd (cc)
-  recover_copies state c given room (recovers.TheVariants.AddsChange lock) old index value e = absurd (cc)
-
   made_copies : (state : Option (ContainerState T)) (flight : ContainerFlight T) (old : ℕ) → Copies state flight old
-  made_copies state (Find run) old = find_copies state run.call.capacity run.given run.room run.call.stage old
-  made_copies state (Recover run) old = recover_copies state run.call.capacity run.given run.room run.call.stage old
-  made_copies state flight old = λ index value e. absurd (cc)
+  made_copies state flight old = grind arith
 
   abbrev Waits : ContainerFlight T → ℕ → Type 0
   Waits flight old = is_question (want code flight) ≡ true → made code flight old ≡ None
 
-  find_waits : (c owner : ℕ) (room : rooms.Kept 128) (stage : FindStage) (old : ℕ) → Waits (find_at c owner room stage) old
-  find_waits c owner room (finds.TheVariants.LoadsCell k found) old due = refl
-  find_waits c owner room (finds.TheVariants.LoadsCount k found) old due = refl
-  find_waits c owner room (finds.TheVariants.LoadsWord k found count at) old due = refl
-  find_waits c owner room (finds.TheVariants.ChecksCount k found count) old due = absurd (cc)
-  find_waits c owner room (finds.TheVariants.Asks k found) old due = refl
-
-  recover_waits : (c : ℕ) (given : DeadOwner) (room : rooms.Kept 128) (stage : RecoverStage) (old : ℕ) → Waits (recover_at c given.owner given.mode room stage) old
-  recover_waits c given room (recovers.TheVariants.ChecksCount k count) old due = absurd (cc)
-  recover_waits c given room recovers.TheVariants.LoadsCounter old due = refl
-  recover_waits c given room (recovers.TheVariants.LoadsCell k) old due = refl
-  recover_waits c given room (recovers.TheVariants.LoadsCount k) old due = refl
-  recover_waits c given room (recovers.TheVariants.LoadsWord k count at) old due = refl
-  recover_waits c given room (recovers.TheVariants.Asks k count) old due = refl
-  recover_waits c given room (recovers.TheVariants.EmptiesCell k count) old due = refl
-  recover_waits c given room (recovers.TheVariants.Hides k count) old due = refl
-  recover_waits c given room (recovers.TheVariants.Raises k raise) old due = refl
-  recover_waits c given room (recovers.TheVariants.Locks k lock) old due = refl
-  recover_waits c given room recovers.TheVariants.LoadsCounterAgain old due = refl
-  recover_waits c given room (recovers.TheVariants.AddsChange lock) old due = refl
-
   waits_none : (flight : ContainerFlight T) (old : ℕ) → Waits flight old
-  waits_none (Find run) old = find_waits run.call.capacity run.given run.room run.call.stage old
-  waits_none (Recover run) old = recover_waits run.call.capacity run.given run.room run.call.stage old
-  waits_none flight old = λ due. refl
+  waits_none flight old = grind arith
 
 -- ---- a decision
 
@@ -164,17 +103,7 @@ module _ {T : Type 0} (shown : Shown T) (terms : Terms) (code : Coding T) (t : T
       pub wrote : Wrote said start flight (number_of said)
 
     waiting : (said : Bool) (start : ContainerStart T) → IsAllowed t.world (Decide p said) → IsIn p (Container start) t → Waiting said start
-    waiting said start r here =
-        let d = decided shown terms code c t s may p said r in
-        let g = d.goes in
-        let name = container_is g.start start (subst (IsOpenFor (Container start) (λ wrote. Unit {0})) g.span here).0 in
-        record {
-          flight = g.flight;
-          at = subst (λ a. At c code.size (deeds_of p t.events) (acts_of p t.events) a g.flight) name g.at;
-          due = d.due;
-          asked = g.asked;
-          wrote = subst (λ n. Wrote said start g.flight n) d.answer_is (subst (λ a. Wrote said a g.flight g.answer) name g.wrote);
-        }
+    waiting said start r here = grind arith
 
     -- ---- a recovery
 
@@ -183,19 +112,7 @@ module _ {T : Type 0} (shown : Shown T) (terms : Terms) (code : Coding T) (t : T
       Hears flight = is_question (want code flight) ≡ true → HasAsked flight → Wrote true (starts.TheVariants.Recover owner mode) flight 1 → IsTold p owner t (after_turn t (Decide p true))
 
       stage_hears : (given : DeadOwner) → given.owner ≡ owner → (capacity : ℕ) (room : rooms.Kept 128) (stage : RecoverStage) → Hears (recover_at capacity given.owner given.mode room stage)
-      stage_hears given same capacity room recovers.TheVariants.LoadsCounter due asked e = absurd (cc)
-      stage_hears given same capacity room (recovers.TheVariants.LoadsCell k) due asked e = absurd (cc)
-      stage_hears given same capacity room (recovers.TheVariants.LoadsCount k) due asked e = absurd (cc)
-      stage_hears given same capacity room (recovers.TheVariants.LoadsWord k count at) due asked e = absurd (cc)
-      stage_hears given same capacity room (recovers.TheVariants.ChecksCount k count) due asked e = absurd (cc)
-      stage_hears given same capacity room (recovers.TheVariants.Asks k count) due asked e =
-          record { index = k; value = read_in code room; asked = asked; is = ap (λ es. t.events ++ es) e ∙ ap (λ o. t.events ++ Told p k o ∷ []) same }
-      stage_hears given same capacity room (recovers.TheVariants.EmptiesCell k count) due asked e = absurd (cc)
-      stage_hears given same capacity room (recovers.TheVariants.Hides k count) due asked e = absurd (cc)
-      stage_hears given same capacity room (recovers.TheVariants.Raises k raise) due asked e = both_ways (is_question (raise_want raise)) (raise_asks_none raise) due
-      stage_hears given same capacity room (recovers.TheVariants.Locks k lock) due asked e = both_ways (is_question (lock_want lock)) (lock_asks_none lock) due
-      stage_hears given same capacity room recovers.TheVariants.LoadsCounterAgain due asked e = absurd (cc)
-      stage_hears given same capacity room (recovers.TheVariants.AddsChange lock) due asked e = absurd (cc)
+      stage_hears given same capacity room stage due asked e = grind arith
 
       hears : (flight : ContainerFlight T) → At c code.size (deeds_of p t.events) (acts_of p t.events) (starts.TheVariants.Recover owner mode) flight → Hears flight
       hears (Recover run) at = stage_hears run.given (ap (λ (o : DeadOwner). o.owner) at.1) run.call.capacity run.room run.call.stage

@@ -1,17 +1,13 @@
 -- A find that ends writes nothing else in that turn, and where no no ends it, it has come to the indices of the whole container.
-use Rattle.std.proofs.Common.{◌≡◌, ℕ, ◌+◌, ◌==◌, ⊎_elim, if◌then◌else◌, Bool, true, false, Option, Some, List, [], ◌∷◌, ◌++◌, refl, sym, ap, subst, ◌∙◌, append-nil}
+use Rattle.std.proofs.Common.{◌≡◌, ℕ, ◌+◌, ⊎_elim, Option, Some, List, [], ◌∷◌, ◌++◌, refl, sym, ap, subst, ◌∙◌, append-nil, arith}
 use Rattle.std.proofs.lemmas.List.{append_cancel_left}
-use Rattle.steps.specs.declared.ask.After.TheVariants.{GoOn}
 use Rattle.steps.specs.declared.container.find.FindStage.{FindStage}
-use Rattle.steps.specs.declared.container.find.FindStage as finds
 use Rattle.steps.specs.declared.container.state.ContainerState.{ContainerState}
 use Rattle.steps.specs.declared.copied.Kept as rooms
-use Rattle.steps.specs.Container.Find.{find_comes_to}
-use Rattle.steps.specs.Routine.{went_on}
 use Rattle.model.specs.declared.event.Answer.{Answer}
 use Rattle.model.specs.declared.event.Answer.TheVariants.{Number}
 use Rattle.model.specs.declared.event.Event.{Event}
-use Rattle.model.specs.declared.event.Event.TheVariants.{Copied, Finished}
+use Rattle.model.specs.declared.event.Event.TheVariants.{Finished}
 use Rattle.model.specs.declared.event.Start.TheVariants.{Container}
 use Rattle.model.specs.declared.families.container.ContainerStart.TheVariants as starts
 use Rattle.model.specs.declared.families.container.calls.ContainerFlight.{ContainerFlight}
@@ -23,8 +19,7 @@ use Rattle.model.specs.Families.Container.Reading.{acts_of}
 use Rattle.model.specs.Families.Container.States.{state_of}
 use Rattle.model.specs.Families.Container.Steps.{effects, questions}
 use Rattle.model.specs.Families.Indices.Robust.Reading.{deeds_of}
-use Rattle.model.specs.Families.Queues.Calls.{as_it_is, read_in}
-use Rattle.model.specs.Step.{as_call, answer_in}
+use Rattle.model.specs.Step.{answer_in}
 use Rattle.model.specs.Turns.{ending_of, events_of, after_turn}
 use Rattle.model.specs.World.{Trace}
 use Rattle.model.proofs.Frame as frame
@@ -49,22 +44,7 @@ module _ {T : Type 0} (code : Coding T) (q : ℕ) (state : Option (ContainerStat
   Silent flight old = answer_in (any_call (after code state flight old)) ≡ Some answer → effects code q state flight old ++ questions q flight old ≡ []
 
   stage_silent : (c owner : ℕ) (room : rooms.Kept 128) (stage : FindStage) (old : ℕ) → Silent (find_at c owner room stage) old
-  stage_silent c owner room (finds.TheVariants.LoadsCell k found) old e = refl
-  stage_silent c owner room (finds.TheVariants.LoadsCount k found) old e = refl
-  stage_silent c owner room (finds.TheVariants.LoadsWord k found count at) old e = refl
-  stage_silent c owner room (finds.TheVariants.ChecksCount k found count) old e = go (old == count) e
-    where
-      go : (b : Bool)
-          → answer_in
-          (any_call
-          (as_call Find Number
-          (went_on as_it_is owner room
-          (if b then GoOn (record { capacity = c; stage = finds.TheVariants.Asks k found; of = record {} }) else find_comes_to (record { capacity = c; stage = finds.TheVariants.ChecksCount k found count; of = record {} }) (k + 1) found))))
-          ≡ Some answer
-          → (if b then Copied q k (read_in code room) ∷ [] else []) ++ [] ≡ []
-      go true e = absurd (cc)
-      go false e = refl
-  stage_silent c owner room (finds.TheVariants.Asks k found) old e = refl
+  stage_silent c owner room stage old e = grind arith
 
 -- a list that is one event and ends with one has no other
 only_one : {A : Type 0} → (x y : A) (before : List A) → x ∷ [] ≡ before ++ y ∷ [] → before ≡ []

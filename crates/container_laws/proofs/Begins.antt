@@ -1,5 +1,5 @@
 -- What a call does as it begins, and what its first stage knows. The party's span was shut.
-use Rattle.std.proofs.Common.{◌≡◌, ◌≢◌, ℕ, ◌<◌, ⊎_elim, inl, if◌then◌else◌, nat_lt, Bool, true, false, Option, Some, None, is_some, List, [], ◌∷◌, ◌++◌, refl, sym, ap, subst, ◌∙◌, arith}
+use Rattle.std.proofs.Common.{◌≡◌, ◌≢◌, ℕ, ⊎_elim, inl, if◌then◌else◌, nat_lt, Bool, true, false, Option, Some, None, is_some, List, [], ◌∷◌, ◌++◌, refl, sym, ap, subst, ◌∙◌, arith}
 use Rattle.std.proofs.lemmas.Bool.Decides.{nat_tests}
 use Rattle.std.proofs.lemmas.List.{length-replicate}
 use Rattle.std.proofs.lemmas.List.Sums.{fold-append}
@@ -7,7 +7,6 @@ use Rattle.steps.specs.declared.container.remove.RemoveStage as removes
 use Rattle.steps.specs.declared.container.replace.ReplaceStage as replaces
 use Rattle.steps.specs.declared.container.state.ContainerState.{ContainerState}
 use Rattle.steps.specs.declared.indices.enums.ReleaseMode.{ReleaseMode}
-use Rattle.steps.specs.Indices.Robust.Parts.{empty}
 use Rattle.model.specs.declared.event.Event.{Event}
 use Rattle.model.specs.declared.event.Event.TheVariants.{Begun}
 use Rattle.model.specs.declared.event.Start.TheVariants.{Container}
@@ -20,7 +19,6 @@ use Rattle.model.specs.Families.Container.Opening.{names_owner, states_at_begin}
 use Rattle.model.specs.Families.Container.Promises.{StandsProper, WasShown}
 use Rattle.model.specs.Families.Container.Reading.{Sees, contents_after, contents_of, announced_after, announced_of, acts, acts_of}
 use Rattle.model.specs.Families.Container.States.{state_of, with_state, fresh}
-use Rattle.model.specs.Families.Indices.Robust.Opening.{is_owner}
 use Rattle.model.specs.Families.Indices.Robust.Promises.{IsFilledWith}
 use Rattle.model.specs.Families.Indices.Robust.Reading.{Yes, deeds, deeds_of, dead_after, filled_after, settled_of, wrote_in, IsOneOf}
 use Rattle.model.specs.Parties.{party_of, put, doing_of, flight_of}
@@ -45,11 +43,8 @@ use Rattle.container_laws.proofs.SetBegins.{begins, takes_right}
 use Rattle.container_laws.proofs.Opening.{shows_same}
 use Rattle.container_laws.proofs.Sights.{Rests, rests_later}
 use Rattle.container_laws.proofs.Sound.{MayRecover, first_party, Begins}
-use Rattle.container_laws.proofs.Standing.{At, RemoveAt, ReplaceAt}
+use Rattle.container_laws.proofs.Standing.{At}
 use Rattle.container_laws.proofs.Turns.{Now, Proper, Owing, owes, Passes}
-
-is_below : (owner : ℕ) → is_owner owner ≡ true → owner < empty
-is_below owner t = grind (arith, nat_tests)
 
 none_of : {X : Type 0} {A : Type 0} (one : X) (done before after : List X) → done ≡ [] → done ≡ before ++ one ∷ after → A
 none_of one done before after none is = absurd (no_more before one after (sym none ∙ is))
@@ -206,10 +201,6 @@ module _ {T : Type 0} (scene : Scene T) (g : set.Good scene.terms.by scene.capac
     abbrev removing : ContainerStart T
     removing = starts.TheVariants.Remove index owner mode
 
-    remove_at_first : (b : Bool) → nat_lt index c ≡ b → RemoveAt {T = T} c code.size [] [] index owner mode (if nat_lt (if b then index else c) c then removes.TheVariants.LoadsCount else removes.TheVariants.Refuses)
-    remove_at_first true t = rw t (grind (arith, nat_tests), refl, refl)
-    remove_at_first false t = let past : nat_lt c c ≡ false = grind (arith, nat_tests) in rw past (grind (arith, nat_tests), refl)
-
     remove_knows : (b : Bool) → nat_lt index c ≡ b → RemoveKnows code c (if b then index else c) owner mode (if nat_lt (if b then index else c) c then removes.TheVariants.LoadsCount else removes.TheVariants.Refuses) (v removing)
     remove_knows true t =
         rw t
@@ -226,10 +217,6 @@ module _ {T : Type 0} (scene : Scene T) (g : set.Good scene.terms.by scene.capac
     abbrev replacing : ContainerStart T
     replacing = starts.TheVariants.Replace index value owner
 
-    replace_at_first : (b : Bool) → nat_lt index c ≡ b → ReplaceAt {T = T} c code.size [] [] index (if nat_lt (if b then index else c) c then replaces.TheVariants.LoadsCell else replaces.TheVariants.Refuses)
-    replace_at_first true t = rw t (grind (arith, nat_tests), refl, refl)
-    replace_at_first false t = let past : nat_lt c c ≡ false = grind (arith, nat_tests) in rw past (grind (arith, nat_tests), refl, refl)
-
     replaces_know : (b : Bool) → nat_lt index c ≡ b → ReplacesKnow code c (if b then index else c) value owner (if nat_lt (if b then index else c) c then replaces.TheVariants.LoadsCell else replaces.TheVariants.Refuses) (v replacing)
     replaces_know true t = rw t (paid replacing, replace_begun scene.terms.by p index owner value events)
     replaces_know false t = let past : nat_lt c c ≡ false = grind (arith, nat_tests) in rw past (paid replacing)
@@ -244,16 +231,7 @@ module _ {T : Type 0} (scene : Scene T) (g : set.Good scene.terms.by scene.capac
       record { state = s; found = e; rests = still_rests start s e; own = λ getting. let name : Some (Container start) ≡ Some (Container starts.TheVariants.GetState) = sym (ap name_of (span_begun start)) ∙ getting in absurd (other (cc)) }
 
   at_first : (start : ContainerStart T) → names_owner start ≡ true → At c code.size [] [] start (first c start)
-  at_first (starts.TheVariants.Add value owner) named = (refl, refl, is_below owner named, (refl, refl))
-  at_first (starts.TheVariants.Remove index owner mode) named = (refl, refl, is_below owner named, remove_at_first index owner mode (nat_lt index c) refl)
-  at_first (starts.TheVariants.Replace index value owner) named = (refl, refl, is_below owner named, replace_at_first index value owner (nat_lt index c) refl)
-  at_first (starts.TheVariants.Find owner) named = let some = g.some in (refl, refl, is_below owner named, (refl, omega arith, tt))
-  at_first (starts.TheVariants.Recover owner mode) named = (refl, refl, is_below owner named, (refl, refl))
-  at_first starts.TheVariants.GetState named = (refl, refl, (refl, refl))
-  at_first starts.TheVariants.UpdateState named = (refl, refl, (refl, refl))
-  at_first starts.TheVariants.Len named = (refl, refl, tt, refl)
-  at_first starts.TheVariants.IsEmpty named = (refl, refl, tt, refl)
-  at_first starts.TheVariants.IsLocked named = refl
+  at_first start named = grind arith
 
   gone_then : (by : GoneBy) (owner : ℕ) (mode : ReleaseMode) → MayRecover by events (starts.TheVariants.Recover owner mode) → is_gone by owner (events ++ begun (starts.TheVariants.Recover owner mode)) ≡ true
   gone_then Death owner mode dead = fold-append (dead_after owner) false events (begun (starts.TheVariants.Recover owner mode)) ∙ dead

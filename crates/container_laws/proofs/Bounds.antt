@@ -1,19 +1,14 @@
 -- How many steps a call has taken at most, wherever it stands, and that each turn back is paid.
-use Rattle.std.proofs.Common.{◌≡◌, ℕ, ◌+◌, ◌-◌, ◌*◌, ◌≤◌, ⊎_elim, List, sym, subst, arith}
+use Rattle.std.proofs.Common.{◌≡◌, ℕ, ◌+◌, ◌-◌, ◌*◌, ◌≤◌, List, sym, subst, arith}
 use Rattle.steps.specs.declared.container.add.AddStage.{AddStage}
-use Rattle.steps.specs.declared.container.add.AddStage as adds
 use Rattle.steps.specs.declared.container.find.FindStage.{FindStage}
 use Rattle.steps.specs.declared.container.find.FindStage as finds
 use Rattle.steps.specs.declared.container.look.LookStage.{LookStage}
 use Rattle.steps.specs.declared.container.look.LookStage as looks
 use Rattle.steps.specs.declared.container.recover.DeadOwner.{DeadOwner}
 use Rattle.steps.specs.declared.container.recover.RecoverStage.{RecoverStage}
-use Rattle.steps.specs.declared.container.recover.RecoverStage as recovers
 use Rattle.steps.specs.declared.container.remove.RemoveStage.{RemoveStage}
-use Rattle.steps.specs.declared.container.remove.RemoveStage as removes
 use Rattle.steps.specs.declared.container.replace.ReplaceStage.{ReplaceStage}
-use Rattle.steps.specs.declared.container.replace.ReplaceStage as replaces
-use Rattle.steps.specs.declared.copied.Kept as rooms
 use Rattle.steps.specs.declared.indices.enums.ReleaseMode.{ReleaseMode}
 use Rattle.steps.specs.declared.indices.enums.ReleaseMode.TheVariants.{LockIfLastIndex, Default}
 use Rattle.steps.specs.declared.indices.robust.parts.Lock.{Lock}
@@ -34,44 +29,23 @@ use Rattle.model.specs.Families.Container.Reading.{Act}
 use Rattle.model.specs.Families.Indices.Robust.Reading.{Deed}
 use Rattle.model.proofs.Frame as frame
 use Rattle.robust_laws.proofs.Counting.{times_below}
-use Rattle.robust_laws.proofs.Kept.{raise_most, count_most, lock_most, acquire_most, release_most, held_paid}
-use Rattle.robust_laws.proofs.Knows as set
+use Rattle.robust_laws.proofs.Kept.{count_most, lock_most}
 use Rattle.robust_laws.proofs.Standing.{lock_number, LockAt}
 use Rattle.container_laws.proofs.Invariant.{ContainerNow, family}
-use Rattle.container_laws.proofs.Knows.{View, of_set, AddKnows, RemoveKnows, ReplacesKnow, FindKnows, RecoverKnows, LookKnows, Knows}
+use Rattle.container_laws.proofs.Knows.{View, Knows}
 use Rattle.container_laws.proofs.Standing.{add_number, remove_number, replace_number, find_number, for_back, for_index, recover_number, look_number, number_of, AddAt, RemoveAt, ReplaceAt, FindAt, RecoverAt, LookAt, At}
 
 -- ---- how many steps a call has taken
 
 module _ {T : Type 0} (c z : ℕ) (all : List Deed) (done : List (Act T)) where
   add_most : (owner : ℕ) (stage : AddStage) (backs : ℕ) → AddAt c z all done owner stage → add_number c z stage backs ≤ c + 7 + z + backs * (c + 1)
-  add_most owner (adds.TheVariants.Acquires stage) backs at = let few = acquire_most c owner all stage backs at.0 in omega arith
-  add_most owner (adds.TheVariants.LoadsCount index) backs at = omega arith
-  add_most owner (adds.TheVariants.Hides index count) backs at = omega arith
-  add_most owner (adds.TheVariants.Stores index word) backs at = let below = at.2 in omega arith
-  add_most owner (adds.TheVariants.AddsCount index) backs at = omega arith
-  add_most owner (adds.TheVariants.AddsChange index) backs at = omega arith
+  add_most owner stage backs at = grind arith
 
   remove_most : (i index owner : ℕ) (mode : ReleaseMode) (stage : RemoveStage) (backs : ℕ) → RemoveAt c z all done index owner mode stage → remove_number c i owner mode stage backs ≤ most_steps {T = T} c z (starts.TheVariants.Remove index owner mode) backs
-  remove_most i index owner Default removes.TheVariants.Refuses backs at = omega arith
-  remove_most i index owner LockIfLastIndex removes.TheVariants.Refuses backs at = omega arith
-  remove_most i index owner Default removes.TheVariants.LoadsCount backs at = omega arith
-  remove_most i index owner LockIfLastIndex removes.TheVariants.LoadsCount backs at = omega arith
-  remove_most i index owner Default (removes.TheVariants.Releases count stage) backs at = let few = release_most c index owner Default all stage backs at.1 in omega arith
-  remove_most i index owner LockIfLastIndex (removes.TheVariants.Releases count stage) backs at = let few = release_most c index owner LockIfLastIndex all stage backs at.1 in omega arith
-  remove_most i index owner Default (removes.TheVariants.Hides count state) backs at = omega arith
-  remove_most i index owner LockIfLastIndex (removes.TheVariants.Hides count state) backs at = omega arith
-  remove_most i index owner Default (removes.TheVariants.AddsChange state) backs at = omega arith
-  remove_most i index owner LockIfLastIndex (removes.TheVariants.AddsChange state) backs at = omega arith
+  remove_most i index owner mode stage backs at = grind arith
 
   replace_most : (index : ℕ) (stage : ReplaceStage) → ReplaceAt c z all done index stage → replace_number z stage ≤ 5 + z
-  replace_most index replaces.TheVariants.Refuses at = omega arith
-  replace_most index replaces.TheVariants.LoadsCell at = omega arith
-  replace_most index replaces.TheVariants.LoadsCount at = omega arith
-  replace_most index (replaces.TheVariants.Hides count) at = omega arith
-  replace_most index (replaces.TheVariants.Stores word) at = let below = at.3 in omega arith
-  replace_most index replaces.TheVariants.AddsCount at = omega arith
-  replace_most index replaces.TheVariants.AddsChange at = omega arith
+  replace_most index stage at = grind arith
 
   find_most : (stage : FindStage) → FindAt c z all done stage → find_number z stage ≤ c * (z + 3)
   find_most (finds.TheVariants.LoadsCell index found) at = let few = times_below c index (z + 3) at.1 in omega arith
@@ -82,18 +56,7 @@ module _ {T : Type 0} (c z : ℕ) (all : List Deed) (done : List (Act T)) where
 
   recover_at_most : (owner : ℕ) (mode : ReleaseMode) (stage : RecoverStage) (backs : ℕ) → z + 7 ≤ for_index c z mode → ((lock : Lock) → mode ≡ LockIfLastIndex → LockAt c lock → lock_number c lock + z + 5 ≤ for_index c z mode)
       → RecoverAt c z all done owner mode stage → recover_number c z mode stage backs ≤ 3 + c * for_index c z mode + backs * for_back c z mode
-  recover_at_most owner mode recovers.TheVariants.LoadsCounter backs wide lock at = omega arith
-  recover_at_most owner mode (recovers.TheVariants.LoadsCell index) backs wide lock at = let few = times_below c index (for_index c z mode) at.within in omega arith
-  recover_at_most owner mode (recovers.TheVariants.LoadsCount index) backs wide lock at = let few = times_below c index (for_index c z mode) at.within in omega arith
-  recover_at_most owner mode (recovers.TheVariants.LoadsWord index count word) backs wide lock at = let few = times_below c index (for_index c z mode) at.0.within in let below = at.2 in omega arith
-  recover_at_most owner mode (recovers.TheVariants.ChecksCount index count) backs wide lock at = let few = times_below c index (for_index c z mode) at.0.within in omega arith
-  recover_at_most owner mode (recovers.TheVariants.Asks index count) backs wide lock at = let few = times_below c index (for_index c z mode) at.0.within in omega arith
-  recover_at_most owner mode (recovers.TheVariants.EmptiesCell index count) backs wide lock at = let few = times_below c index (for_index c z mode) at.0.within in omega arith
-  recover_at_most owner mode (recovers.TheVariants.Hides index count) backs wide lock at = let few = times_below c index (for_index c z mode) at.0.within in omega arith
-  recover_at_most owner mode (recovers.TheVariants.Raises index raise) backs wide lock at = let few = times_below c index (for_index c z mode) at.0.within in let one = raise_most raise in omega arith
-  recover_at_most owner mode (recovers.TheVariants.Locks index part) backs wide lock at = let few = times_below c index (for_index c z mode) at.0.within in let some = lock part at.2 at.3 in omega arith
-  recover_at_most owner mode recovers.TheVariants.LoadsCounterAgain backs wide lock at = omega arith
-  recover_at_most owner mode (recovers.TheVariants.AddsChange state) backs wide lock at = omega arith
+  recover_at_most owner mode stage backs wide lock at = grind arith
 
   recover_most : (owner : ℕ) (mode : ReleaseMode) (stage : RecoverStage) (backs : ℕ) → RecoverAt c z all done owner mode stage → recover_number c z mode stage backs ≤ most_steps {T = T} c z (starts.TheVariants.Recover owner mode) backs
   recover_most owner Default stage backs at = recover_at_most owner Default stage backs (omega arith) (λ lock mode lock_at. absurd (cc)) at
@@ -128,76 +91,9 @@ module _ {T : Type 0} where
   abbrev Pays : View T → Type 0
   Pays v = v.backs ≤ v.changes - v.since
 
-  set_pays : (c : ℕ) (flight : _) (v : View T) → set.Knows {T = T} c flight (of_set v) → Pays v
-  set_pays c flight v h = held_paid (set.flight_holds flight) (of_set v) h.paid
-
-  plain : (v : View T) → set.IsPaid (of_set v) → Pays v
-  plain v h = omega arith
-
-  checked : (P : Type 0) (v : View T) → set.PaidUnless P (of_set v) → Pays v
-  checked P v h = ⊎_elim (λ k. let paid = k.1 in omega arith) (λ k. omega arith) h
-
   module _ (code : Coding T) (c : ℕ) (v : View T) where
-    add_pays : (value : T) (owner : ℕ) (stage : AddStage) → AddKnows code c value owner stage v → Pays v
-    add_pays value owner (adds.TheVariants.Acquires stage) h = set_pays c _ v h
-    add_pays value owner (adds.TheVariants.LoadsCount index) h = plain v h.paid
-    add_pays value owner (adds.TheVariants.Hides index count) h = plain v h.0.paid
-    add_pays value owner (adds.TheVariants.Stores index at) h = plain v h.0.paid
-    add_pays value owner (adds.TheVariants.AddsCount index) h = plain v h.0.paid
-    add_pays value owner (adds.TheVariants.AddsChange index) h = plain v h.0.paid
-
-    remove_pays : (index owner : ℕ) (mode : ReleaseMode) (stage : RemoveStage) → RemoveKnows code c index owner mode stage v → Pays v
-    remove_pays index owner mode removes.TheVariants.Refuses h = plain v h
-    remove_pays index owner mode removes.TheVariants.LoadsCount h = set_pays c _ v h
-    remove_pays index owner mode (removes.TheVariants.Releases count stage) h = set_pays c _ v h.0
-    remove_pays index owner mode (removes.TheVariants.Hides count state) h = plain v h.0
-    remove_pays index owner mode (removes.TheVariants.AddsChange state) h = plain v h.0
-
-    replace_pays : (index : ℕ) (value : T) (owner : ℕ) (stage : ReplaceStage) → ReplacesKnow code c index value owner stage v → Pays v
-    replace_pays index value owner replaces.TheVariants.Refuses h = plain v h
-    replace_pays index value owner replaces.TheVariants.LoadsCell h = plain v h.0
-    replace_pays index value owner replaces.TheVariants.LoadsCount h = plain v h.paid
-    replace_pays index value owner (replaces.TheVariants.Hides count) h = plain v h.0.paid
-    replace_pays index value owner (replaces.TheVariants.Stores at) h = plain v h.0.paid
-    replace_pays index value owner replaces.TheVariants.AddsCount h = plain v h.0.paid
-    replace_pays index value owner replaces.TheVariants.AddsChange h = plain v h.0.paid
-
-    find_pays : (owner : ℕ) (room : rooms.Kept 128) (stage : FindStage) → FindKnows code c owner room stage v → Pays v
-    find_pays owner room (finds.TheVariants.LoadsCell index found) h = plain v h.0
-    find_pays owner room (finds.TheVariants.LoadsCount index found) h = plain v h.0.0
-    find_pays owner room (finds.TheVariants.LoadsWord index found count at) h = plain v h.0.0
-    find_pays owner room (finds.TheVariants.ChecksCount index found count) h = plain v h.0.0
-    find_pays owner room (finds.TheVariants.Asks index found) h = plain v h.0.0
-
-    recover_pays : (owner : ℕ) (mode : ReleaseMode) (room : rooms.Kept 128) (stage : RecoverStage) → RecoverKnows code c owner mode room stage v → Pays v
-    recover_pays owner mode room recovers.TheVariants.LoadsCounter h = plain v h.0
-    recover_pays owner mode room (recovers.TheVariants.LoadsCell index) h = plain v h.0
-    recover_pays owner mode room (recovers.TheVariants.LoadsCount index) h = plain v h.0
-    recover_pays owner mode room (recovers.TheVariants.LoadsWord index count at) h = checked _ v h.0
-    recover_pays owner mode room (recovers.TheVariants.ChecksCount index count) h = checked _ v h.0
-    recover_pays owner mode room (recovers.TheVariants.Asks index count) h = plain v h.0
-    recover_pays owner mode room (recovers.TheVariants.EmptiesCell index count) h = plain v h.0
-    recover_pays owner mode room (recovers.TheVariants.Hides index count) h = plain v h.0
-    recover_pays owner mode room (recovers.TheVariants.Raises index raise) h = held_paid (set.raise_holds raise) (of_set v) h.0
-    recover_pays owner mode room (recovers.TheVariants.Locks index lock) h = held_paid (set.lock_holds lock) (of_set v) h.0
-    recover_pays owner mode room recovers.TheVariants.LoadsCounterAgain h = plain v h.0
-    recover_pays owner mode room (recovers.TheVariants.AddsChange state) h = plain v h.0
-
-    look_pays : (stage : LookStage) → LookKnows code c stage v → Pays v
-    look_pays looks.TheVariants.LoadsChange h = plain v h.0
-    look_pays (looks.TheVariants.LoadsCount index) h = plain v h.0
-    look_pays (looks.TheVariants.LoadsWord index count at) h = checked _ v h.0
-    look_pays (looks.TheVariants.ChecksCount index count) h = checked _ v h.0
-
     pays : (flight : ContainerFlight T) → Knows code c flight v → Pays v
-    pays (Add run) h = add_pays run.given.value run.given.owner run.call.stage h
-    pays (Remove run) h = remove_pays run.given.index run.given.owner run.given.mode run.call.stage h
-    pays (Replace run) h = replace_pays run.given.index run.given.value run.given.owner run.call.stage h
-    pays (Find run) h = find_pays run.given run.room run.call.stage h.1
-    pays (Recover run) h = recover_pays run.given.owner run.given.mode run.room run.call.stage h.1
-    pays (Look which call) h = look_pays call.stage h
-    pays (Count which run) h = set_pays c _ v h
-    pays (IsLocked run) h = set_pays c _ v h
+    pays flight h = grind arith
 
   pub bounds : (code : Coding T) (c : ℕ) → frame.Bounds (family code c)
   bounds code c = record { most = at_most; paid = paid }

@@ -9,9 +9,7 @@ use Rattle.model.specs.declared.event.Event.TheVariants.{Placed, Hidden}
 use Rattle.model.specs.Coding.{Coding}
 use Rattle.model.specs.Families.Container.Reading.{contents_after, contents_of}
 use Rattle.robust_laws.proofs.Effects.{at_same, at_other}
-use Rattle.robust_laws.proofs.Rights.{AreOwned}
 use Rattle.container_laws.proofs.Core.{count_at, datum_at, data_within, counts_stay, datum_set, datum_before, data_stay, count_set, count_stays, data_all_stay}
-use Rattle.container_laws.proofs.Writers.{IsWriter, one_writer}
 
 module _ {T : Type 0} (code : Coding T) (c : ℕ) where
   abbrev z : ℕ
@@ -99,10 +97,6 @@ module _ {T : Type 0} (code : Coding T) (c : ℕ) where
               let within = data_within c z i k below ks in
               rw same (datum_set c z words i k x (omega arith))
 
-      -- another writer, at another index, knows what it knew
-      pub store_spares : (q a m : ℕ) (v : T) → a < c → a ≢ i → m ≤ z → Writing words a v m → Writing stored a v m
-      store_spares q a m v low ne few h = writes_on words stored a v m few (counts_stay c z words i k x a low) (other_data a ne) h
-
     -- ---- a count changes
 
     module _ (n : ℕ) where
@@ -122,9 +116,6 @@ module _ {T : Type 0} (code : Coding T) (c : ℕ) where
           there ne =
               subst (Stands counted a) (sym (others a ne))
               (stands_on words counted a (contents_of a events) (count_stays c z words i n a ne) (λ j js. data_all_stay c z words i n a j below) (whole a low))
-
-      pub count_spares : (a m : ℕ) (v : T) → a ≢ i → m ≤ z → Writing words a v m → Writing counted a v m
-      count_spares a m v ne few h = writes_on words counted a v m few (count_stays c z words i n a ne) (λ j js. data_all_stay c z words i n a j below) h
 
     -- a writer that has stored all words makes the count odd: there was nothing, and its value stands
     pub place_none : (value : T) → Writing words i value z → contents_of i events ≡ None
@@ -148,17 +139,6 @@ module _ {T : Type 0} (code : Coding T) (c : ℕ) where
         (fold-append (contents_after i) None events (Hidden p i ∷ []) ∙ at_same i i None (contents_of i events) refl)
         (ap (λ m. m % 2) (is_now n) ∙ even)
 
-    -- a writer is spared by whoever hides, since its own count is even
-    pub hides_elsewhere : (a m : ℕ) (v : T) → Writing words a v m → count_at c words i % 2 ≡ 1 → a ≢ i
-    hides_elsewhere a m v w odd e =
-        let even : count_at c words i % 2 ≡ 0 = ap (λ b. count_at c words b % 2) (sym e) ∙ w.even in
-        absurd (omega arith)
-
-    -- and by another writer
-    pub writes_elsewhere : (p q a o u : ℕ) → AreOwned events → p ≢ q → IsWriter p i o events → IsWriter q a u events → a ≢ i
-    writes_elsewhere p q a o u owned ne mine theirs same =
-        ne (one_writer p q i o u events owned mine (subst (λ b. IsWriter q b u events) same theirs))
-
   -- ---- a copy
 
   -- a copy whose count still stands has the words that stand
@@ -166,10 +146,3 @@ module _ {T : Type 0} (code : Coding T) (c : ℕ) where
     pub odd : count % 2 ≡ 1
     pub below : count ≤ count_at c words i
     pub same : count_at c words i ≡ count → (j : ℕ) → j < k → get_or copy j 0 ≡ datum_at c z words i j
-
-  -- at the exchange of the count for itself the copy is whole: what stands has these words
-  pub copy_whole : (words : List ℕ) (events : List (Event T)) (i count : ℕ) (copy : List ℕ) → IsWhole words events → i < c → Reads words i count copy z → count_at c words i ≡ count
-      → (value : T) → contents_of i events ≡ Some value → (j : ℕ) → j < z → get_or copy j 0 ≡ get_or (code.words_of value) j 0
-  copy_whole words events i count copy whole below r is value stands j js =
-      let h : Stands words i (Some value) = subst (Stands words i) stands (whole i below) in
-      r.same is j js ∙ h.1 j js

@@ -25,7 +25,7 @@ use Rattle.container_laws.proofs.Invariant.{Scene, Inv, Elements, Changes, befor
 use Rattle.container_laws.proofs.Left.{left_of}
 use Rattle.container_laws.proofs.Terms.{Keeps}
 use Rattle.container_laws.proofs.Turns.{Owing, owes, Now, Proper, count_in, datum_in, change_in}
-use Rattle.container_laws.proofs.Writers.{IsWriter, one_writer}
+use Rattle.container_laws.proofs.Writers.{IsWriter}
 
 module _ {T : Type 0} (scene : Scene T) (inv : Inv scene) (words' : List ℕ) (y : Party T) (es : List (Event T)) (proper : Proper (after scene words' y es) → Proper (before scene)) where
   open scene use {coding as code, capacity as c, party as p, turns as turns, latest as latest, events as events}
@@ -193,16 +193,11 @@ module _ {T : Type 0} (scene : Scene T) (inv : Inv scene) (words' : List ℕ) (y
 
     -- what stands under an odd number is elsewhere
     elsewhere : Proper m' → (a : ℕ) → count_in code c m a % 2 ≡ 1 → a ≢ i
-    elsewhere holds a odd same =
-        let even : count_in code c m i % 2 ≡ 0 = (writing (proper holds)).even in
-        let here : count_in code c m a ≡ count_in code c m i = ap (count_in code c m) same in
-        absurd (omega arith)
+    elsewhere holds a odd same = grind arith
 
     -- and so is what another writes
     not_theirs : Proper m' → (q : ℕ) → q ≢ p → (a o : ℕ) → IsWriter q a o events → a ≢ i
-    not_theirs holds q ne a o theirs same =
-        let h = proper holds in
-        ne (one_writer q p i o owner events (inv.good.owned h.calm) (subst (λ b. IsWriter q b o events) same theirs) (mine h))
+    not_theirs holds q ne a o theirs same = grind arith
 
     pub stores : Changes scene words' y es
     stores =

@@ -157,13 +157,7 @@ module _ {T : Type 0} (code : Coding T) (c : ℕ) (m : Now T) (p : ℕ) where
     shown_there i ne = ap value_if (put.there i ne)
 
     number_below : Keeps m.terms → (i : ℕ) → i < c → number_at s' i ≤ count_in code c m i
-    number_below kept i low = ⊎_elim here there (cases_eq i k)
-      where
-        here : i ≡ k → number_at s' i ≤ count_in code c m i
-        here e = subst (λ n. number_at s' n ≤ count_in code c m n) (sym e) (omega arith)
-
-        there : i ≢ k → number_at s' i ≤ count_in code c m i
-        there ne = let same = number_there i ne in let was = h.sight.below kept i low in omega arith
+    number_below kept i low = grind arith
 
     known_then : length s'.seen.counts ≡ c
     known_then = ap (λ n. length n.counts) put.seen ∙ h.known
@@ -313,7 +307,3 @@ module _ {T : Type 0} (code : Coding T) (c : ℕ) (m : Now T) (p : ℕ) where
         counts = λ i low. over_at s.seen.counts s.shown.elements i wide (let w = h.sight.wide in omega arith);
         room = h.room;
       }
-
-  -- a state that is up to date stays
-  pub rests_unchanged : (s : ContainerState T) (change : ℕ) → change ≡ s.seen.change → Rests code c m p s → Rests code c m p (record s { shown = with_change s.shown change })
-  rests_unchanged s change is h = subst (λ n. Rests code c m p (record s { shown = with_change s.shown n })) (sym h.seen ∙ sym is) h

@@ -1,5 +1,5 @@
 -- What a call knows of an index that it will free, or has freed, after a step of its own.
-use Rattle.std.proofs.Common.{◌≡◌, ◌≢◌, ◌⊎◌, ⊎_elim, inl, inr, ℕ, ◌%◌, ◌<◌, true, Option, Some, None, is_some, List, [], ◌∷◌, ◌++◌, refl, sym, ap, subst, ◌∙◌, append-nil, arith}
+use Rattle.std.proofs.Common.{◌≡◌, ◌≢◌, ◌⊎◌, ⊎_elim, inl, inr, ℕ, ◌%◌, ◌<◌, Option, Some, None, is_some, List, [], ◌∷◌, ◌++◌, refl, sym, ap, subst, ◌∙◌, append-nil, arith}
 use Rattle.std.proofs.lemmas.List.Sums.{fold-append}
 use Rattle.model.specs.declared.event.Event.{Event}
 use Rattle.model.specs.declared.event.Event.TheVariants.{FreedOf, Hidden}
@@ -28,16 +28,9 @@ use Rattle.container_laws.proofs.Turns.{Now, Proper, count_in}
 -- ---- what is exempt no more
 
 module _ {T : Type 0} (code : Coding T) (c p owner index count : ℕ) (m : Now T) where
-  odd_stands : (o : Option T) → Stands code c m.words index o → is_some o ≡ true → count_in code c m index % 2 ≡ 1
-  odd_stands None h e = absurd (cc)
-  odd_stands (Some value) h e = h.0
-
   -- under an even number nothing stands
   pub hidden_even : (Proper m → IsWhole code c m.words m.events) → index < c → count % 2 ≡ 0 → HasHidden code c p owner (StillStands code c index count m) m → HasHidden code c p owner no_index m
-  hidden_even whole below even h proper i freed =
-      ⊎_elim (λ gone. inl gone)
-      (λ s. let odd = odd_stands (contents_of index m.events) (whole proper index below) s.2 in let is = s.1 in absurd (omega arith))
-      (h proper i freed)
+  hidden_even whole below even h proper i freed = grind arith
 
   -- nor where the number is another by now
   pub hidden_other : count_in code c m index ≢ count → HasHidden code c p owner (StillStands code c index count m) m → HasHidden code c p owner no_index m

@@ -62,10 +62,7 @@ removed_frees T index owner LockIfLastIndex states.TheVariants.Unlocked made h =
 
 -- whatever it has done to elements
 removed_done : {T : Type 0} (index owner : ℕ) (mode : ReleaseMode) (state : ReleaseState) (made : List Deed) (done : List (Act T)) → HasDone {T = T} (Remove index owner mode) (answers.State state) made [] → HasDone {T = T} (Remove index owner mode) (answers.State state) made done
-removed_done index owner Default states.TheVariants.Locked made acts h = h
-removed_done index owner Default states.TheVariants.Unlocked made acts h = h
-removed_done index owner LockIfLastIndex states.TheVariants.Locked made acts h = h
-removed_done index owner LockIfLastIndex states.TheVariants.Unlocked made acts h = h
+removed_done index owner mode state made acts h = grind arith
 
 module _ {T : Type 0} (scene : Scene T) (inv : Inv scene) (index owner : ℕ) (mode : ReleaseMode) (fits : owner < empty) (acts : ActsFor scene owner) (below : index < scene.capacity) where
   open scene use {coding as code, capacity as c, party as p, steps as steps, backs as backs, events as events, latest as latest}

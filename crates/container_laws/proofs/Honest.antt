@@ -1,15 +1,12 @@
 -- A faithful turn of an open run is honest: who takes no step for an owner who is gone fills, is granted and gives back nothing
 -- for one.
-use Rattle.std.proofs.Common.{◌≡◌, ◌⊎◌, ⊎_elim, inl, inr, ℕ, Bool, true, false, Option, Some, None, is_some, IfSome, List, [], ◌∷◌, ◌++◌, refl, sym, ap, subst, ◌∙◌, append_assoc, append-nil}
+use Rattle.std.proofs.Common.{◌≡◌, ◌⊎◌, ⊎_elim, inl, inr, ℕ, Bool, true, false, Option, Some, None, IfSome, List, [], ◌∷◌, ◌++◌, refl, sym, ap, subst, ◌∙◌, append_assoc, append-nil, arith}
 use Rattle.std.specs.List.{AllByRecursion}
 use Rattle.std.proofs.lemmas.List.Sums.{fold-append}
-use Rattle.steps.specs.declared.container.add.Owned.{Owned}
 use Rattle.steps.specs.declared.indices.enums.ReleaseMode.{ReleaseMode}
-use Rattle.steps.specs.declared.indices.robust.release.GiveBack.{GiveBack}
 use Rattle.model.specs.declared.event.Answer.{Answer}
-use Rattle.model.specs.declared.event.Answer.TheVariants.{Index}
 use Rattle.model.specs.declared.event.Event.{Event}
-use Rattle.model.specs.declared.event.Event.TheVariants.{Begun, Filled, Granted, FreedOf, Told, Died, Acted, Finished}
+use Rattle.model.specs.declared.event.Event.TheVariants.{Begun}
 use Rattle.model.specs.declared.event.Start.{Start}
 use Rattle.model.specs.declared.event.Start.TheVariants.{Container}
 use Rattle.model.specs.declared.families.Flight.{Flight}
@@ -19,7 +16,6 @@ use Rattle.model.specs.declared.families.Kept as kepts
 use Rattle.model.specs.declared.families.container.ContainerStart.{ContainerStart}
 use Rattle.model.specs.declared.families.container.ContainerStart.TheVariants.{Add, Remove}
 use Rattle.model.specs.declared.families.container.calls.ContainerFlight.{ContainerFlight}
-use Rattle.model.specs.declared.families.container.calls.ContainerFlight as calls
 use Rattle.model.specs.declared.party.Doing.{Doing}
 use Rattle.model.specs.declared.party.Doing.TheVariants.{Going, Over}
 use Rattle.model.specs.declared.party.Party.{Party}
@@ -45,14 +41,12 @@ use Rattle.model.specs.World.{Trace, flight_in}
 use Rattle.model.proofs.Frame as frame
 use Rattle.model.proofs.Readings.{AreRight, Each-append, span_of-own}
 use Rattle.model.proofs.Scenes.{StandsThere, stands_there}
-use Rattle.robust_laws.specs.Gone.{Word, gone_after, is_gone, GivesBackRight, ActsForRight, IsHonest}
+use Rattle.robust_laws.specs.Gone.{Word, gone_after, is_gone, ActsForRight, IsHonest}
 use Rattle.robust_laws.specs.Open.{open_refusal}
-use Rattle.robust_laws.proofs.Effects.{both_ways}
 use Rattle.container_laws.specs.Gone.{acts_for_gone}
 use Rattle.container_laws.specs.Open.{is_for_gone, steps_for_gone}
 use Rattle.container_laws.proofs.Allowed.{allowed_open}
 use Rattle.container_laws.proofs.Invariant.{family_by, wrote_of}
-use Rattle.container_laws.proofs.Moves.{add_asks_none, remove_asks_none}
 use Rattle.container_laws.proofs.Proper.{each_less}
 use Rattle.container_laws.proofs.Sound.{kept_is}
 use Rattle.container_laws.proofs.Stages.{any_call}
@@ -72,68 +66,38 @@ module _ {T : Type 0} (events : List (Event T)) where
   module _ (code : Coding T) (c z : ℕ) (all : List Deed) (done : List (Act T)) where
     living_by : (start : ContainerStart T) (flight : ContainerFlight T) → At c z all done start flight → acts_for_gone Word events flight ≡ false
         → IsForLiving start
-    living_by (Add value owner) (calls.TheVariants.Add run) at alive = subst (λ (given : Owned T). is_gone Word given.owner events ≡ false) at.1 alive
-    living_by (Add value owner) flight at alive = absurd at
-    living_by (Remove index owner mode) (calls.TheVariants.Remove run) at alive =
-        subst (λ (given : GiveBack). is_gone Word given.owner events ≡ false) at.1 alive
-    living_by (Remove index owner mode) flight at alive = absurd at
-    living_by start flight at alive = tt
+    living_by start flight at alive = grind arith
 
     -- and one that waits for an answer does neither
     living_asked : (start : ContainerStart T) (flight : ContainerFlight T) → At c z all done start flight → is_question (want code flight) ≡ true
         → IsForLiving start
-    living_asked (Add value owner) (calls.TheVariants.Add run) at asks =
-        both_ways (is_question (want code (calls.TheVariants.Add run))) (add_asks_none code run.call.capacity run.call.stage run.given) asks
-    living_asked (Add value owner) flight at asks = absurd at
-    living_asked (Remove index owner mode) (calls.TheVariants.Remove run) at asks =
-        both_ways (is_question (want code (calls.TheVariants.Remove run))) (remove_asks_none run.call.capacity run.call.stage run.given) asks
-    living_asked (Remove index owner mode) flight at asks = absurd at
-    living_asked start flight at asks = tt
+    living_asked start flight at asks = grind arith
 
 -- ---- one event that a step writes
 
 module _ (p : ℕ) where
-  own_by : (o : Option ℕ) → IfSome o (λ q. q ≡ p) → is_some o ≡ true → o ≡ Some p
-  own_by None its some = absurd (cc)
-  own_by (Some q) its some = ap Some its
-
   at_party : (o : Option ℕ) (P : ℕ → Type 0) → o ≡ Some p → IfSome o P → P p
   at_party None P is h = absurd (cc)
   at_party (Some q) P is h = let same : q ≡ p = cc in subst P same h
 
 module _ {T : Type 0} (p : ℕ) where
   effect_own : (e : Event T) → IsEffectOf (Next p) e → whose e ≡ Some p
-  effect_own (Begun q start) its = absurd its
-  effect_own (Acted q start answer) its = absurd its
-  effect_own (Finished q start answer) its = absurd its
-  effect_own (Died o) its = absurd its
-  effect_own e its = own_by p (whose e) its refl
+  effect_own e its = grind arith
 
   stand_by : (c : ℕ) (e : Event T) → IsEffectOf (Next p) e → (span : Span T) → Stands promise c e span → may_stand e span
-  stand_by c (Begun q start) its span h = absurd its
-  stand_by c (Acted q start answer) its span h = absurd its
-  stand_by c (Finished q start answer) its span h = absurd its
-  stand_by c e its span h = h
+  stand_by c e its span h = grind arith
 
   longer_by : (start : Start T) (e : Event T) → IsEffectOf (Next p) e → (wrote : List (Event T)) → own_after (Open start wrote) e ≡ Open start (wrote ++ e ∷ [])
-  longer_by start (Begun q a) its wrote = absurd its
-  longer_by start (Finished q a answer) its wrote = absurd its
-  longer_by start e its wrote = refl
+  longer_by start e its wrote = grind arith
 
   -- an add and a remove are told nothing
   add_leaves : (value : T) (o : ℕ) (wrote : List (Event T)) (e : Event T) → IsEffectOf (Next p) e → may_stand e (Open (Container (Add value o)) wrote)
       → (owner : ℕ) (gone : Bool) → gone_after owner gone e ≡ gone
-  add_leaves value o wrote (Told q i other) its h owner gone = absurd h
-  add_leaves value o wrote (Begun q start) its h owner gone = absurd its
-  add_leaves value o wrote (Died other) its h owner gone = absurd its
-  add_leaves value o wrote e its h owner gone = refl
+  add_leaves value o wrote e its h owner gone = grind arith
 
   remove_leaves : (index o : ℕ) (mode : ReleaseMode) (wrote : List (Event T)) (e : Event T) → IsEffectOf (Next p) e
       → may_stand e (Open (Container (Remove index o mode)) wrote) → (owner : ℕ) (gone : Bool) → gone_after owner gone e ≡ gone
-  remove_leaves index o mode wrote (Told q i other) its h owner gone = absurd h
-  remove_leaves index o mode wrote (Begun q start) its h owner gone = absurd its
-  remove_leaves index o mode wrote (Died other) its h owner gone = absurd its
-  remove_leaves index o mode wrote e its h owner gone = refl
+  remove_leaves index o mode wrote e its h owner gone = grind arith
 
   module _ (wrote events : List (Event T)) where
     abbrev at : ContainerStart T → Span T
@@ -147,26 +111,9 @@ module _ {T : Type 0} (p : ℕ) where
         fold-append (gone_after owner) false events (e ∷ []) ∙ (remove_leaves index owner mode wrote e its h owner (is_gone Word owner events) ∙ live)
     stays start e its h live = tt
 
-    fills : (start : ContainerStart T) (q i o : ℕ) → may_stand (Filled q i o) (at start) → IsForLiving events start → is_gone Word o events ≡ false
-    fills (Add value owner) q i o h live = subst (λ n. is_gone Word n events ≡ false) (sym h.0) live
-    fills start q i o h live = absurd h
-
-    grants : (start : ContainerStart T) (q i o : ℕ) → may_stand (Granted q i o) (at start) → IsForLiving events start → is_gone Word o events ≡ false
-    grants (Add value owner) q i o h live = subst (λ n. is_gone Word n events ≡ false) (sym h.0) live
-    grants start q i o h live = absurd h
-
-    gives_back : (start : ContainerStart T) (q i o : ℕ) → may_stand (FreedOf q i o) (at start) → IsForLiving events start → GivesBackRight o events (at start)
-    gives_back (Remove index owner mode) q i o h live = subst (λ n. is_gone Word n events ≡ false) (sym h.1) live
-    gives_back start q i o h live = tt
-
     acts_right : (start : ContainerStart T) (e : Event T) → IsEffectOf (Next p) e → span_of p events ≡ at start → may_stand e (at start)
         → IsForLiving events start → ActsForRight events e
-    acts_right start (Filled q i o) its is h live = fills start q i o h live
-    acts_right start (Granted q i o) its is h live = grants start q i o h live
-    acts_right start (FreedOf q i o) its is h live =
-        subst (GivesBackRight o events) (sym (ap (λ n. span_of n events) its ∙ is)) (gives_back start q i o h live)
-    acts_right start (Finished q a answer) its is h live = absurd its
-    acts_right start e its is h live = tt
+    acts_right start e its is h live = grind arith
 
   -- ---- all that a step writes
 
@@ -202,12 +149,7 @@ module _ {T : Type 0} (p : ℕ) where
 
     end_right : (events : List (Event T)) (outcome : Option (Answer T)) → IsForLiving events start
         → AreRight ActsForRight events (ending_of p (Container start) outcome)
-    end_right events None live = tt
-    end_right events (Some answer) live = (ended start answer live, tt)
-      where
-        ended : (a : ContainerStart T) (answer : Answer T) → IsForLiving events a → ActsForRight events (Finished p (Container a) answer)
-        ended (Add value owner) (Index index) live = live
-        ended a answer live = tt
+    end_right events outcome live = grind arith
 
     honest_more : (events did : List (Event T)) (outcome : Option (Answer T)) → AllByRecursion (IsEffectOf (Next p)) did → Goes events → IsHonest events
         → Each (StandsRight promise c) (events ++ (did ++ ending_of p (Container start) outcome))

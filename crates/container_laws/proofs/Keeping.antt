@@ -105,12 +105,7 @@ module _ {T : Type 0} (code : Coding T) (c : ℕ) (v : View T) (words' : List �
   paid h = ⊎_elim (λ s. let same = s.1 in omega arith) (λ more. omega arith) seen
 
   check_paid : (index count : ℕ) → CheckPaid code c index count v → CheckPaid code c index count later
-  check_paid index count h = ⊎_elim still (λ more. inr (⊎_elim (λ k. let was = k.1 in omega arith) (λ k. omega arith) h)) seen
-    where
-      still : (words' ≡ v.words) × (changes' ≡ v.changes) → CheckPaid code c index count later
-      still s =
-          let same = s.1 in
-          ⊎_elim (λ k. let was = k.1 in inl (ap (λ ws. count_in code c (record { terms = v.terms; words = ws; latest = v.latest; events = events }) index) s.0 ∙ k.0, omega arith)) (λ k. inr (omega arith)) h
+  check_paid index count h = grind arith
 
   lives : (owner : ℕ) → Lives owner later → Lives owner v
   lives owner alive = gone_less v.terms.by owner events es alive
@@ -215,32 +210,17 @@ module _ {T : Type 0} (code : Coding T) (c : ℕ) (v : View T) (words' : List �
   remove_says index owner Default states.TheVariants.Unlocked h = tt
 
   count_below : (index count : ℕ) → index < c → HasCome code c index count v → HasCome code c index count later
-  count_below index count low h kept =
-      let was = h (passes.kept kept) in
-      let grows = passes.counts kept index low in
-      omega arith
+  count_below index count low h kept = grind arith
 
   -- a number that is there still was there before
   was_there : (index count : ℕ) → index < c → HasCome code c index count v → Keeps v.terms → count_in code c (now later) index ≡ count → count_in code c (now v) index ≡ count
-  was_there index count low h kept is =
-      let was = h kept in
-      let grows = passes.counts kept index low in
-      omega arith
+  was_there index count low h kept is = grind arith
 
   has_left : (index count : ℕ) → HasLeft code c index count v → HasLeft code c index count later
-  has_left index count h =
-      record {
-        within = h.within;
-        below = count_below index count h.within h.below;
-        left = λ proper is.
-            let was : count_in code c (now v) index ≡ count = was_there index count h.within h.below proper.kept is in
-            passes.left proper index h.within (is ∙ sym was) (h.left (passes.proper proper) was);
-      }
+  has_left index count h = grind arith
 
   release_left : (index count : ℕ) (stage : ReleaseStage) → ReleaseLeft code c index count stage v → ReleaseLeft code c index count stage later
-  release_left index count releases.TheVariants.EmptiesCell h = (h.0, count_below index count h.0 h.1)
-  release_left index count (releases.TheVariants.Raises raise) h = has_left index count h
-  release_left index count (releases.TheVariants.Locks lock) h = has_left index count h
+  release_left index count stage h = grind arith
 
   release_hides : (index owner : ℕ) (mode : ReleaseMode) (count : ℕ) (stage : ReleaseStage) → set.Knows c (release_at c index owner mode stage) (of_set v) → ReleaseLeft code c index count stage v → ReleaseHides code c index owner count stage v → ReleaseHides code c index owner count stage later
   release_hides index owner mode count releases.TheVariants.EmptiesCell k left h = remove_covers code c q owner index count (now v) words' latest' es goes spares passes leaves left.0 k.owns h

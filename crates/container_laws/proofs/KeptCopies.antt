@@ -70,13 +70,7 @@ module _ {T : Type 0} where
 
   -- where the span is the same
   pub calls_same : (p : ℕ) (events events' : List (Event T)) → span_of p events' ≡ span_of p events → CallsOn p None events events'
-  calls_same p events events' same =
-      record {
-        getting = λ g. ap name_of (sym same) ∙ g;
-        still = λ g. ap name_of same ∙ g;
-        has = λ i value h. subst (λ span. Has (Copies i value) (acts (wrote_in span))) (sym same) h;
-        now = λ i value e. absurd (cc);
-      }
+  calls_same p events events' same = grind arith
 
   -- ---- a step of the call's own
 

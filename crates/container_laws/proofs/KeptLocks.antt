@@ -1,6 +1,6 @@
 -- In mode LockIfLastIndex a recovery finds some index filled after each that it frees, or the container locked, or its counter
 -- at its end.
-use Rattle.std.proofs.Common.{◌≡◌, ◌⊎◌, ⊎_elim, inl, inr, ℕ, ◌<◌, true, false, List, [], ◌++◌, sym, subst, ◌∙◌, append-nil}
+use Rattle.std.proofs.Common.{◌≡◌, ◌⊎◌, ⊎_elim, inl, inr, ℕ, ◌<◌, true, false, List, [], ◌++◌, sym, subst, ◌∙◌, append-nil, arith}
 use Rattle.steps.specs.declared.indices.enums.ReleaseMode.{ReleaseMode}
 use Rattle.steps.specs.declared.indices.enums.ReleaseMode.TheVariants.{LockIfLastIndex, Default}
 use Rattle.steps.specs.declared.indices.robust.parts.Count as counts
@@ -14,7 +14,6 @@ use Rattle.model.specs.Families.Indices.Robust.Reading.{Frees, deeds_of, IsOneOf
 use Rattle.model.specs.Moments.{BeginsNone, HeldOnce}
 use Rattle.model.proofs.Moments.{held_later, held_so}
 use Rattle.model.proofs.Readings.{no_more}
-use Rattle.robust_laws.proofs.Effects.{both_ways}
 use Rattle.container_laws.specs.Gone.{FilledSinceEachBy}
 use Rattle.robust_laws.proofs.Knows.{LockSays}
 
@@ -67,20 +66,11 @@ module _ {T : Type 0} where
     filled_worn worn LockIfLastIndex But events end = λ i was. inl (inr (inr end))
 
     pub filled_last : (worn : Type 0) (mode : ReleaseMode) (But : ℕ → Type 0) (events : List (Event T)) → FilledAtLast p events → FilledBut worn mode p owner But events
-    filled_last worn Default But events h = tt
-    filled_last worn LockIfLastIndex But events h = λ i was.
-        inl
-        (inl
-        (record {
-          other = h.other;
-          once = held_so p (λ part. IsFilled h.other part × (deeds_of p part ≡ deeds_of p events)) (λ part. IsOneOf (Frees i owner) (deeds_of p part) × IsFilled h.other part) events (λ part k. (subst (IsOneOf (Frees i owner)) (sym k.1) was, k.0)) h.once;
-        }))
+    filled_last worn mode h events k = grind arith
 
     -- where the container is not locked
     pub filled_each : (worn : Type 0) (mode : ReleaseMode) (events : List (Event T)) → is_locked events ≡ false → FilledBut worn mode p owner NoIndex events → FilledSinceEachBy worn mode p owner events
-    filled_each worn Default events free h = tt
-    filled_each worn LockIfLastIndex events free h = λ i was.
-        ⊎_elim (λ settled. ⊎_elim (λ f. inr f) (λ more. ⊎_elim (λ shut. both_ways (is_locked events) free shut) (λ end. inl end) more) settled) (λ never. absurd never) (h i was)
+    filled_each worn mode events free h = grind arith
 
     pub each_later : (worn worn' : Type 0) → (worn → worn') → (mode : ReleaseMode) (events es : List (Event T)) → BeginsNone p es → deeds_of p (events ++ es) ≡ deeds_of p events → FilledSinceEachBy worn mode p owner events → FilledSinceEachBy worn' mode p owner (events ++ es)
     each_later worn worn' on Default events es none same h = tt

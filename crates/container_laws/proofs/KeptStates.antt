@@ -1,17 +1,10 @@
 -- A turn moves a party's state in a look of its own alone, and an update that answers false has taken one step.
-use Rattle.std.proofs.Common.{◌≡◌, ◌≢◌, ◌⊎◌, ⊎_elim, inl, inr, ℕ, ◌+◌, ◌==◌, ◌&&◌, ◌≤◌, if◌then◌else◌, nat_lt, slice_index_or, Bool, true, false, Option, Some, None, is_some, List, refl, sym, ap, subst, ◌∙◌, arith}
-use Rattle.std.proofs.lemmas.Bool.{cases_eq}
+use Rattle.std.proofs.Common.{◌≡◌, ◌≢◌, ◌⊎◌, ⊎_elim, inr, ℕ, ◌==◌, ◌&&◌, ◌≤◌, if◌then◌else◌, Bool, true, false, Option, Some, None, is_some, List, refl, sym, ap, subst, ◌∙◌, arith}
 use Rattle.std.proofs.lemmas.Bool.Decides.{nat_tests}
-use Rattle.steps.specs.declared.ask.After.{After}
-use Rattle.steps.specs.declared.ask.After.TheVariants.{GoOn, Done}
 use Rattle.steps.specs.declared.container.look.Look.{Look}
 use Rattle.steps.specs.declared.container.look.LookStage.{LookStage}
 use Rattle.steps.specs.declared.container.look.LookStage as stages
 use Rattle.steps.specs.declared.container.state.ContainerState.{ContainerState}
-use Rattle.steps.specs.Container.Layout.{is_even}
-use Rattle.steps.specs.Container.Look.{look_comes_to, look_finds, look_takes}
-use Rattle.steps.specs.Container.State.{Numbers}
-use Rattle.steps.specs.Picks.{by_test, by_eq}
 use Rattle.model.specs.declared.event.Answer.TheVariants.{Truth}
 use Rattle.model.specs.declared.event.Start.{Start}
 use Rattle.model.specs.declared.event.Start.TheVariants.{Container, Loan}
@@ -24,7 +17,6 @@ use Rattle.model.specs.declared.families.container.ContainerStart.TheVariants.{G
 use Rattle.model.specs.declared.families.container.calls.ContainerFlight.{ContainerFlight}
 use Rattle.model.specs.declared.families.container.calls.ContainerFlight as calls
 use Rattle.model.specs.declared.families.container.calls.LookOf.{LookOf}
-use Rattle.model.specs.declared.families.container.calls.LookOf as kinds
 use Rattle.model.specs.declared.families.loan.LoanStart.{LoanStart}
 use Rattle.model.specs.declared.party.Doing.{Doing}
 use Rattle.model.specs.declared.party.Doing.TheVariants.{Going, Over}
@@ -33,7 +25,7 @@ use Rattle.model.specs.declared.turn.Turn.{Turn}
 use Rattle.model.specs.declared.turn.Turn.TheVariants.{Begin, Next, Decide, Die}
 use Rattle.model.specs.Coding.{Coding}
 use Rattle.model.specs.Families.{first_of, want_of, is_question, beside_of, step_of, kept_after_begin, kept_after_death}
-use Rattle.model.specs.Families.Container.Calls.{after as goes_after, look_shows, look_came, states_after, writes_state}
+use Rattle.model.specs.Families.Container.Calls.{after as goes_after, states_after, writes_state}
 use Rattle.model.specs.Families.Container.Keeping.{is_look_of, MovesInLooks, BeginsWithState, KeepsStates, steps_of}
 use Rattle.model.specs.Families.Container.Looks.{state_in, is_looking, EndsLook}
 use Rattle.model.specs.Families.Container.Opening.{keeps}
@@ -50,7 +42,7 @@ use Rattle.model.proofs.Scenes.{StandsThere, stands_there}
 use Rattle.robust_laws.proofs.Effects.{both_ways}
 use Rattle.container_laws.proofs.Invariant.{family_by}
 use Rattle.container_laws.proofs.Looks.{looks_as, written_other}
-use Rattle.container_laws.proofs.LooksTell.{look_asks_none, LookEnd, ended, looks_right, looks_own, looks_leave}
+use Rattle.container_laws.proofs.LooksTell.{LookEnd, ended, looks_right, looks_own, looks_leave}
 use Rattle.container_laws.proofs.Sound.{MayGoOn, Shown, kept_is, kept_now}
 use Rattle.container_laws.proofs.Stages.{any_call}
 use Rattle.container_laws.proofs.Standing.{look_at, look_number}
@@ -76,16 +68,11 @@ module _ {T : Type 0} where
   stays code q flight n states p apart = refl
 
   apart_is : (p q : ℕ) (flight : Flight T) → ((q == p) && is_looking (Some flight)) ≡ false → IsApart p q flight
-  apart_is p q flight none = ⊎_elim (λ e. inr (own (is_looking (Some flight)) e none)) (λ ne. inl ne) (cases_eq p q)
-    where
-      own : (b : Bool) → p ≡ q → ((q == p) && b) ≡ false → b ≡ false
-      own b e none = let t : (q == p) ≡ true = grind (arith, nat_tests) in rw t at none
+  apart_is p q flight none = grind arith
 
   -- a look is not decided
   no_look : (code : Coding T) (flight : Flight T) → is_question (want_of code flight) ≡ true → is_looking (Some flight) ≡ false
-  no_look code (flights.TheVariants.Container (calls.TheVariants.Look which call)) asks =
-      both_ways (is_question (want_of code (flights.TheVariants.Container (calls.TheVariants.Look which call)))) (look_asks_none code.size call.capacity call.stage) asks
-  no_look code flight asks = refl
+  no_look code flight asks = grind arith
 
   -- ---- what a begin and a death make of them
 
@@ -109,16 +96,10 @@ module _ {T : Type 0} where
   begun_stays code capacity p q start kept w none = refl
 
   died_stays : (kept : Kept T) (owner q : ℕ) → state_in (kept_after_death kept owner) q ≡ state_in kept q
-  died_stays kept owner q = by kept
-    where
-      by : (kept : Kept T) → state_in (kept_after_death kept owner) q ≡ state_in kept q
-      by (kepts.TheVariants.Container dead states) = refl
-      by kept = refl
+  died_stays kept owner q = grind arith
 
   update_keeps : (code : Coding T) (capacity p : ℕ) (kept : Kept T) (state : ContainerState T) → state_in kept p ≡ Some state → state_in (kept_after_begin code capacity (Container UpdateState) p kept) p ≡ Some state
-  update_keeps code capacity p (kepts.TheVariants.Container dead states) state found =
-      subst (λ o. state_of p (if is_some o then states else with_state p (fresh code capacity) states) ≡ Some state) (sym found) found
-  update_keeps code capacity p kept state found = found
+  update_keeps code capacity p kept state found = grind arith
 
 -- ---- a step of a party's call
 
@@ -189,47 +170,12 @@ module _ {T : Type 0} (shown : Shown T) (terms : Terms) (code : Coding T) (t : T
 -- ---- an update that answers false
 
 module _ {T : Type 0} where
-  -- it goes on, or says true
-  abbrev IsNotFalse : After (Look T) Bool → Type 0
-  IsNotFalse (GoOn call) = Unit {0}
-  IsNotFalse (Done true) = Unit {0}
-  IsNotFalse (Done false) = ⊥
-
-  comes_on : (call : Look T) (index : ℕ) → IsNotFalse (look_comes_to call index)
-  comes_on call index = by_test IsNotFalse (nat_lt index call.capacity) (GoOn (record call { stage = stages.TheVariants.LoadsCount index })) (Done true) (λ t. tt) (λ t. tt)
-
-  finds_on : (call : Look T) (index count : ℕ) → IsNotFalse (look_finds call index count)
-  finds_on call index count = by_test IsNotFalse (is_even count) (look_comes_to call (index + 1)) (GoOn (record call { stage = stages.TheVariants.LoadsWord index count 0 })) (λ t. comes_on call (index + 1)) (λ t. tt)
-
-  takes_on : (size : ℕ) (call : Look T) (stage : LookStage) (seen : Numbers) (n : ℕ) → stage ≢ stages.TheVariants.LoadsChange → IsNotFalse (look_takes size call stage seen n)
-  takes_on size call stages.TheVariants.LoadsChange seen n other = absurd (other refl)
-  takes_on size call (stages.TheVariants.LoadsCount index) seen n other =
-      by_eq IsNotFalse n (slice_index_or seen.counts index 0) (look_comes_to call (index + 1)) (look_finds call index n) (λ t. comes_on call (index + 1)) (λ t. finds_on call index n)
-  takes_on size call (stages.TheVariants.LoadsWord index count word) seen n other =
-      by_test IsNotFalse (nat_lt (word + 1) size) (GoOn (record call { stage = stages.TheVariants.LoadsWord index count (word + 1) })) (GoOn (record call { stage = stages.TheVariants.ChecksCount index count })) (λ t. tt) (λ t. tt)
-  takes_on size call (stages.TheVariants.ChecksCount index count) seen n other =
-      by_eq IsNotFalse n count (look_comes_to call (index + 1)) (look_finds call index n) (λ t. comes_on call (index + 1)) (λ t. finds_on call index n)
-
-  never_false : (which : LookOf) (state : ContainerState T) (r : After (Look T) Bool) → UpdateState ≡ looks_as {T = T} which → IsNotFalse r → answer_in (any_call (look_came which state r)) ≡ Some (Truth false) → ⊥
-  never_false which state (GoOn call) name on e = absurd (cc)
-  never_false kinds.TheVariants.UpdateState state (Done true) name on e = absurd (cc)
-  never_false kinds.TheVariants.GetState state (Done true) name on e = absurd (cc)
-  never_false which state (Done false) name on e = on
-
   abbrev at : ℕ → LookStage → Look T
   at c stage = record { capacity = c; stage = stage; of = record {} }
 
-  later_step : (code : Coding T) (c : ℕ) (which : LookOf) (stage : LookStage) (state : ContainerState T) (n : ℕ) → UpdateState ≡ looks_as {T = T} which → stage ≢ stages.TheVariants.LoadsChange → answer_in (any_call (goes_after code (Some state) (look_at which c stage) n)) ≡ Some (Truth false) → ⊥
-  later_step code c which stage state n name other e =
-      never_false which (look_shows code (at c stage) state n) (look_takes code.size (at c stage) stage state.seen n) name (takes_on code.size (at c stage) stage state.seen n other) e
-
   -- it has loaded the number of changes, and nothing else
   first_step : (code : Coding T) (c : ℕ) (which : LookOf) (stage : LookStage) (o : Option (ContainerState T)) (n : ℕ) → UpdateState ≡ looks_as {T = T} which → answer_in (any_call (goes_after code o (look_at which c stage) n)) ≡ Some (Truth false) → stage ≡ stages.TheVariants.LoadsChange
-  first_step code c which stage None n name e = absurd (cc)
-  first_step code c which stages.TheVariants.LoadsChange (Some state) n name e = refl
-  first_step code c which (stages.TheVariants.LoadsCount index) (Some state) n name e = absurd (later_step code c which (stages.TheVariants.LoadsCount index) state n name (λ is. cc) e)
-  first_step code c which (stages.TheVariants.LoadsWord index count word) (Some state) n name e = absurd (later_step code c which (stages.TheVariants.LoadsWord index count word) state n name (λ is. cc) e)
-  first_step code c which (stages.TheVariants.ChecksCount index count) (Some state) n name e = absurd (later_step code c which (stages.TheVariants.ChecksCount index count) state n name (λ is. cc) e)
+  first_step code c which stage o n name e = grind arith
 
 module _ {T : Type 0} (shown : Shown T) (terms : Terms) (code : Coding T) (t : Trace T) (turn : Turn T) (r : IsAllowed t.world turn) (s : frame.Sound (family_by terms code t.world.capacity) t) (may : MayGoOn terms t) (p : ℕ) (ends : EndsLook p UpdateState (Truth false) t (after_turn t turn)) where
   abbrev end : LookEnd shown terms code t.world.capacity t s may p UpdateState (Truth false) ends.is_look ends.wrote (after_turn t turn)

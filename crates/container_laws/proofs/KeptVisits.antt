@@ -1,24 +1,16 @@
 -- A recovery that began after the lock comes to no index.
-use Rattle.std.proofs.Common.{◌≡◌, ◌⊎◌, ⊎_elim, inl, inr, ℕ, Bool, Option, Some, None, List, [], ◌∷◌, ◌++◌, refl, sym, subst}
+use Rattle.std.proofs.Common.{◌≡◌, ◌⊎◌, ⊎_elim, ℕ, Bool, Option, Some, None, List, [], ◌∷◌, ◌++◌, refl, sym, subst, arith}
 use Rattle.std.proofs.lemmas.List.{append_cancel_left}
 use Rattle.std.specs.List.{AllByRecursion}
-use Rattle.steps.specs.declared.container.recover.RecoverStage.{RecoverStage}
-use Rattle.steps.specs.declared.container.recover.RecoverStage as recovers
-use Rattle.steps.specs.declared.container.recover.DeadOwner.{DeadOwner}
-use Rattle.steps.specs.declared.copied.Kept as rooms
-use Rattle.steps.specs.declared.indices.enums.ReleaseMode.{ReleaseMode}
 use Rattle.model.specs.declared.event.Answer.{Answer}
 use Rattle.model.specs.declared.event.Event.{Event}
-use Rattle.model.specs.declared.event.Event.TheVariants.{FreedOf, Copied, Shown}
 use Rattle.model.specs.declared.event.Start.{Start}
 use Rattle.model.specs.declared.event.Start.TheVariants.{Container}
 use Rattle.model.specs.declared.families.Flight.{Flight}
 use Rattle.model.specs.declared.families.Flight as flights
 use Rattle.model.specs.declared.families.Kept.{Kept}
 use Rattle.model.specs.declared.families.container.ContainerStart.{ContainerStart}
-use Rattle.model.specs.declared.families.container.ContainerStart.TheVariants.{Recover}
 use Rattle.model.specs.declared.families.container.calls.ContainerFlight.{ContainerFlight}
-use Rattle.model.specs.declared.families.container.calls.ContainerFlight as calls
 use Rattle.model.specs.declared.party.Doing.{Doing}
 use Rattle.model.specs.declared.party.Doing.TheVariants.{Going, Over}
 use Rattle.model.specs.declared.party.Party.{Party}
@@ -27,12 +19,9 @@ use Rattle.model.specs.declared.turn.Turn.TheVariants.{Begin, Next, Decide, Die}
 use Rattle.model.specs.Coding.{Coding}
 use Rattle.model.specs.Families.{beside_of, step_of}
 use Rattle.model.specs.Families.Container.Calls.{after}
-use Rattle.model.specs.Families.Container.Recoveries.{IsRecovery, BeganUnlocked, VisitsRight, VisitsUnlocked}
+use Rattle.model.specs.Families.Container.Recoveries.{BeganUnlocked, VisitsRight, VisitsUnlocked}
 use Rattle.model.specs.Families.Container.States.{state_of}
-use Rattle.model.specs.Families.Container.Steps.{recover_effects, question_of, effects, questions}
-use Rattle.model.specs.Families.Indices.Robust.Promises.{IsUnlocked}
-use Rattle.model.specs.Families.Queues.Calls.{read_in}
-use Rattle.model.specs.Moments.{HeldOnce}
+use Rattle.model.specs.Families.Container.Steps.{effects, questions}
 use Rattle.model.specs.Parties.{party_of}
 use Rattle.model.specs.Promises.Turns.{IsEffectOf}
 use Rattle.model.specs.Step.{answer_in}
@@ -41,9 +30,8 @@ use Rattle.model.specs.World.{Trace}
 use Rattle.model.proofs.Frame as frame
 use Rattle.model.proofs.Scenes.{StandsThere, stands_there}
 use Rattle.container_laws.proofs.Invariant.{family_by}
-use Rattle.container_laws.proofs.Knows.{View, RecoverKnows}
-use Rattle.container_laws.proofs.Sound.{MayGoOn, Shown as AllShown, kept_is, kept_now, scene_of, IsThere, is_there}
-use Rattle.container_laws.proofs.Stages.{sees_now, any_call}
+use Rattle.container_laws.proofs.Sound.{MayGoOn, Shown as AllShown, kept_is, kept_now, IsThere, is_there}
+use Rattle.container_laws.proofs.Stages.{any_call}
 use Rattle.container_laws.proofs.Terms.{Terms}
 use Rattle.container_laws.proofs.Written.{all_effects}
 
@@ -57,10 +45,7 @@ module _ {T : Type 0} (q : ℕ) (events : List (Event T)) where
   Began = BeganUnlocked q events
 
   one_visits : Began → (e : Event T) → IsEffectOf (Next q) e → VisitsRight events e
-  one_visits began (Copied p index value) is = subst (λ n. BeganUnlocked n events) (sym is) began
-  one_visits began (Shown p index) is = subst (λ n. BeganUnlocked n events) (sym is) began
-  one_visits began (FreedOf p index owner) is = subst (λ n. BeganUnlocked n events) (sym is) began
-  one_visits began e is = tt
+  one_visits began e is = grind arith
 
   all_visit : Began → (es : List (Event T)) → AllByRecursion (IsEffectOf (Next q)) es → All es
   all_visit began [] are = tt
@@ -71,26 +56,6 @@ module _ {T : Type 0} (q : ℕ) (events : List (Event T)) where
   with_end start (Some answer) [] all = (tt, tt)
   with_end start outcome (e ∷ es) all = (all.0, with_end start outcome es all.1)
 
--- ---- a recovery comes to an index at none of its first and last steps
-
-module _ {T : Type 0} (code : Coding T) (c owner : ℕ) (mode : ReleaseMode) (room : rooms.Kept 128) (v : View T) where
-  abbrev IsQuiet : RecoverStage → Type 0
-  IsQuiet stage = (q : ℕ) (given : DeadOwner) (value : T) (n : ℕ) → recover_effects q given value stage n ++ question_of q given stage n ≡ []
-
-  recover_began : (stage : RecoverStage) → RecoverKnows code c owner mode room stage v → IsQuiet stage ⊎ HeldOnce v.party IsUnlocked v.events
-  recover_began recovers.TheVariants.LoadsCounter k = inl (λ q given value n. refl)
-  recover_began (recovers.TheVariants.LoadsCell index) k = inr k.1.was_open
-  recover_began (recovers.TheVariants.LoadsCount index) k = inr k.1.was_open
-  recover_began (recovers.TheVariants.LoadsWord index count at) k = inr k.1.was_open
-  recover_began (recovers.TheVariants.ChecksCount index count) k = inr k.1.was_open
-  recover_began (recovers.TheVariants.Asks index count) k = inr k.1.was_open
-  recover_began (recovers.TheVariants.EmptiesCell index count) k = inr k.1.was_open
-  recover_began (recovers.TheVariants.Hides index count) k = inr k.1.was_open
-  recover_began (recovers.TheVariants.Raises index raise) k = inr k.1.was_open
-  recover_began (recovers.TheVariants.Locks index lock) k = inr k.1.was_open
-  recover_began recovers.TheVariants.LoadsCounterAgain k = inr k.1.was_open
-  recover_began (recovers.TheVariants.AddsChange state) k = inl (λ q given value n. refl)
-
 -- ---- a step of a party's call
 
 module _ {T : Type 0} (shown : AllShown T) (terms : Terms) (code : Coding T) (c : ℕ) (t : Trace T) (s : frame.Sound (family_by terms code c) t) (may : MayGoOn terms t) (q : ℕ) (x : Party T) (since : ℕ) (found : party_of q t.world.latest ≡ Some x) where
@@ -99,11 +64,7 @@ module _ {T : Type 0} (shown : AllShown T) (terms : Terms) (code : Coding T) (c 
 
   -- it writes nothing, or began before the lock if it is a recovery
   began_by : (start : ContainerStart T) (flight : ContainerFlight T) → IsThere shown terms code c t s q x since found start flight → (n : ℕ) → (wrote flight n ≡ []) ⊎ BeganUnlocked q t.events
-  began_by (Recover owner mode) (calls.TheVariants.Recover run) there n =
-      ⊎_elim (λ quiet. inl (quiet q run.given (read_in code run.room) n)) (λ held. inr (λ recovery. held))
-      (recover_began code c run.given.owner run.given.mode run.room (sees_now (scene_of shown terms code c t s q x since)) run.call.stage there.knows.1)
-  began_by (Recover owner mode) flight there n = absurd there.at
-  began_by start flight there n = inr (λ recovery. absurd (subst IsRecovery there.here.span recovery))
+  began_by start flight there n = grind arith
 
   abbrev Visits : ℕ → Coding T → Kept T → Start T → Flight T → Type 0
   Visits n y kept a flight =

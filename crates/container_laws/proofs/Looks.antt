@@ -157,10 +157,7 @@ module _ {T : Type 0} (scene : Scene T) (inv : Inv scene) (which : LookOf) (stag
     passes = (silent_changes scene inv words' same y es silent own (proper_of words' y es own) (still words' y es (proper_of words' y es own))).passes
 
     copied_now : (o : Option (ℕ × T)) (i : ℕ) (value : T) → o ≡ Some (i, value) → WasCopied p i value (events ++ (copies_of p o ++ rest))
-    copied_now None i value e = absurd (cc)
-    copied_now (Some copy) i value e =
-        let is : copy ≡ (i, value) = cc in
-        subst (λ (k : ℕ × T). WasCopied p k.0 k.1 (events ++ (Copied p copy.0 copy.1 ∷ rest))) is (record { before = events; after = rest; is = refl })
+    copied_now o i value e = grind arith
 
     pub comes : Comes scene inv (after scene words' y es) what
     comes =

@@ -1,9 +1,8 @@
 -- A look that ends leaves a state, as its answer says; and in a proper run the state shows what stands.
-use Rattle.std.proofs.Common.{◌≡◌, ◌≢◌, ℕ, ◌+◌, Bool, true, false, Option, Some, None, is_some, List, [], ◌∷◌, ◌++◌, refl, sym, ap, subst, ◌∙◌}
+use Rattle.std.proofs.Common.{◌≡◌, ◌≢◌, ℕ, ◌+◌, Bool, true, false, Option, Some, None, is_some, List, [], ◌∷◌, ◌++◌, refl, sym, ap, subst, ◌∙◌, arith}
 use Rattle.std.proofs.lemmas.List.{append_cancel_left}
 use Rattle.std.specs.List.{AllByRecursion}
 use Rattle.steps.specs.declared.container.look.LookStage.{LookStage}
-use Rattle.steps.specs.declared.container.look.LookStage as stages
 use Rattle.steps.specs.declared.container.state.ContainerState.{ContainerState}
 use Rattle.steps.specs.Container.Look.{look_asks}
 use Rattle.model.specs.declared.event.Answer.{Answer}
@@ -128,16 +127,10 @@ module _ {T : Type 0} where
   look_stands kinds.TheVariants.UpdateState c z made did stage at = at.2
 
 pub look_asks_none : (size c : ℕ) (stage : LookStage) → is_question (look_asks size c stage) ≡ false
-look_asks_none size c stages.TheVariants.LoadsChange = refl
-look_asks_none size c (stages.TheVariants.LoadsCount index) = refl
-look_asks_none size c (stages.TheVariants.LoadsWord index count word) = refl
-look_asks_none size c (stages.TheVariants.ChecksCount index count) = refl
+look_asks_none size c stage = grind arith
 
 look_counts : (size c : ℕ) (stage : LookStage) → step_count (ask_of (look_asks size c stage)) ≡ 1
-look_counts size c stages.TheVariants.LoadsChange = refl
-look_counts size c (stages.TheVariants.LoadsCount index) = refl
-look_counts size c (stages.TheVariants.LoadsWord index count word) = refl
-look_counts size c (stages.TheVariants.ChecksCount index count) = refl
+look_counts size c stage = grind arith
 
 -- ---- a step in which a look ends
 

@@ -1,19 +1,15 @@
 -- Every step of a call under way, and every decision, keeps what holds: by its call.
-use Rattle.std.proofs.Common.{◌≡◌, ℕ, ◌+◌, ◌*◌, ◌<◌, ◌≤◌, Bool, true, false, None, [], refl, sym, ap, subst, ◌∙◌}
+use Rattle.std.proofs.Common.{◌≡◌, ℕ, ◌+◌, ◌*◌, ◌<◌, ◌≤◌, Bool, true, false, None, [], sym, ap, subst, ◌∙◌, arith}
 use Rattle.steps.specs.declared.container.add.AddStage.{AddStage}
-use Rattle.steps.specs.declared.container.add.AddStage as adds
 use Rattle.steps.specs.declared.container.add.Owned.{Owned}
 use Rattle.steps.specs.declared.container.find.FindStage.{FindStage}
 use Rattle.steps.specs.declared.container.find.FindStage as finds
 use Rattle.steps.specs.declared.container.look.LookStage.{LookStage}
-use Rattle.steps.specs.declared.container.look.LookStage as looks
 use Rattle.steps.specs.declared.container.recover.DeadOwner.{DeadOwner}
 use Rattle.steps.specs.declared.container.recover.RecoverStage.{RecoverStage}
 use Rattle.steps.specs.declared.container.recover.RecoverStage as recovers
 use Rattle.steps.specs.declared.container.remove.RemoveStage.{RemoveStage}
-use Rattle.steps.specs.declared.container.remove.RemoveStage as removes
 use Rattle.steps.specs.declared.container.replace.ReplaceStage.{ReplaceStage}
-use Rattle.steps.specs.declared.container.replace.ReplaceStage as replaces
 use Rattle.steps.specs.declared.container.replace.Replacement.{Replacement}
 use Rattle.steps.specs.declared.copied.Kept as rooms
 use Rattle.steps.specs.declared.indices.enums.ReleaseMode.{ReleaseMode}
@@ -39,7 +35,7 @@ use Rattle.model.specs.Families.Indices.Robust.Dead.{has_died}
 use Rattle.model.specs.Families.Indices.Robust.Reading.{is_dead}
 use Rattle.model.specs.Turns.{number_of as said_is}
 use Rattle.robust_laws.proofs.Effects.{both_ways}
-use Rattle.robust_laws.proofs.Sound.{raise_asks_none, count_asks_none, lock_asks_none, acquire_asks_none, release_asks_none}
+use Rattle.robust_laws.proofs.Sound.{raise_asks_none, count_asks_none, lock_asks_none}
 use Rattle.robust_laws.proofs.Standing.{count_number, CountAt}
 use Rattle.container_laws.proofs.Counts.{counts_as}
 use Rattle.container_laws.specs.Gone.{acts_for_gone}
@@ -81,34 +77,16 @@ module _ {T : Type 0} (scene : Scene T) where
 
 module _ {T : Type 0} (code : Coding T) (c : ℕ) where
   pub add_asks_none : (stage : AddStage) (given : Owned T) → is_question (add_asks code.words_of code.size c stage given) ≡ false
-  add_asks_none (adds.TheVariants.Acquires stage) given = acquire_asks_none stage given.owner
-  add_asks_none (adds.TheVariants.LoadsCount index) given = refl
-  add_asks_none (adds.TheVariants.Hides index count) given = refl
-  add_asks_none (adds.TheVariants.Stores index at) given = refl
-  add_asks_none (adds.TheVariants.AddsCount index) given = refl
-  add_asks_none (adds.TheVariants.AddsChange index) given = refl
+  add_asks_none stage given = grind arith
 
   replace_asks_none : (stage : ReplaceStage) (given : Replacement T) → is_question (replace_asks code.words_of code.size c stage given) ≡ false
-  replace_asks_none replaces.TheVariants.Refuses given = refl
-  replace_asks_none replaces.TheVariants.LoadsCell given = refl
-  replace_asks_none replaces.TheVariants.LoadsCount given = refl
-  replace_asks_none (replaces.TheVariants.Hides count) given = refl
-  replace_asks_none (replaces.TheVariants.Stores at) given = refl
-  replace_asks_none replaces.TheVariants.AddsCount given = refl
-  replace_asks_none replaces.TheVariants.AddsChange given = refl
+  replace_asks_none stage given = grind arith
 
 pub remove_asks_none : (c : ℕ) (stage : RemoveStage) (given : GiveBack) → is_question (remove_asks c stage given) ≡ false
-remove_asks_none c removes.TheVariants.Refuses given = refl
-remove_asks_none c removes.TheVariants.LoadsCount given = refl
-remove_asks_none c (removes.TheVariants.Releases count stage) given = release_asks_none stage given
-remove_asks_none c (removes.TheVariants.Hides count state) given = refl
-remove_asks_none c (removes.TheVariants.AddsChange state) given = refl
+remove_asks_none c stage given = grind arith
 
 look_asks_none : (size c : ℕ) (stage : LookStage) → is_question (look_asks size c stage) ≡ false
-look_asks_none size c looks.TheVariants.LoadsChange = refl
-look_asks_none size c (looks.TheVariants.LoadsCount index) = refl
-look_asks_none size c (looks.TheVariants.LoadsWord index count at) = refl
-look_asks_none size c (looks.TheVariants.ChecksCount index count) = refl
+look_asks_none size c stage = grind arith
 
 -- ---- any call
 

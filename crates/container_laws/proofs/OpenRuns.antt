@@ -26,7 +26,7 @@ use Rattle.model.specs.Reading.{Each}
 use Rattle.model.specs.Refusals.{is_due, call_refusal}
 use Rattle.model.specs.Rows.{first_row}
 use Rattle.model.specs.Turns.{old_of, number_of, party_at_begin, after_begin, after_step, step_in, party_after, change_of, step_count, ask_of_doing, after_next, after_decision, after_answer, events_of_step, events_of_answer, events_of_next, events_of_decision, after_turn, unless_refused}
-use Rattle.model.specs.World.{World, Trace, opening, capacity_error, flight_in}
+use Rattle.model.specs.World.{Trace, opening, capacity_error, flight_in}
 use Rattle.model.proofs.Frame as frame
 use Rattle.model.proofs.Readings.{Each-nil}
 use Rattle.model.proofs.Rows.{row_passed, may_begin, next_passes}
@@ -158,27 +158,8 @@ module _ {T : Type 0} (kept : Bool) (code : Coding T) (c : ℕ) where
 -- ---- turns are counted
 
 module _ {T : Type 0} where
-  answer_grows : (w : World T) (p : ℕ) (x : Party T) (ask : Option Ask) (answer : ℕ) (doing : Doing T) → w.turns ≤ (after_answer w p x ask answer doing).turns
-  answer_grows w p x ask answer (Over others) = omega arith
-  answer_grows w p x ask answer (Going flight since) = omega arith
-
-  begin_grows : (w : World T) (p : ℕ) (start : Start T) (o : Option (Flight T)) → w.turns ≤ (after_begin w p start o).turns
-  begin_grows w p start None = omega arith
-  begin_grows w p start (Some flight) = omega arith
-
-  next_grows : (w : World T) (p : ℕ) (o : Option (Party T)) → w.turns ≤ (after_next w p o).turns
-  next_grows w p None = omega arith
-  next_grows w p (Some x) = answer_grows w p x (ask_of_doing w.coding x.doing) (old_of w.words (ask_of_doing w.coding x.doing)) x.doing
-
-  decision_grows : (w : World T) (p : ℕ) (said : Bool) (o : Option (Party T)) → w.turns ≤ (after_decision w p said o).turns
-  decision_grows w p said None = omega arith
-  decision_grows w p said (Some x) = answer_grows w p x None (number_of said) x.doing
-
   turn_grows : (t : Trace T) (turn : Turn T) → t.world.turns ≤ (after_turn t turn).world.turns
-  turn_grows t (Begin p start) = begin_grows t.world p start (first_of t.world.kind t.world.capacity start t.world.kept)
-  turn_grows t (Next p) = next_grows t.world p (party_of p t.world.latest)
-  turn_grows t (Decide p said) = decision_grows t.world p said (party_of p t.world.latest)
-  turn_grows t (Die owner) = omega arith
+  turn_grows t turn = grind arith
 
   attempt_grows : (t : Trace T) (turn : Turn T) (o : Option Refusal) → t.world.turns ≤ (unless_refused t (after_turn t turn) o).world.turns
   attempt_grows t turn None = turn_grows t turn

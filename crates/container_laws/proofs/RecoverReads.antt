@@ -139,9 +139,6 @@ module _ {T : Type 0} (scene : Scene T) (inv : Inv scene) (owner : ℕ) (mode : 
     nothing_freed : HasHidden code c p owner none (before scene)
     nothing_freed holds i was = absurd (no_more was.before (Frees i owner) was.after (sym at.0 ∙ was.is))
 
-    abbrev same_counter : words_after ws load_counter ≡ ws
-    same_counter = loads_same ws 0
-
     pub counter_step : StepOf scene (Recover owner mode) (recover_at c owner mode room recovers.TheVariants.LoadsCounter)
     counter_step = go (counter_of ws == locked) refl
       where

@@ -184,12 +184,7 @@ module _ {T : Type 0} (scene : Scene T) (inv : Inv scene) (index owner : ℕ) (m
 
     -- a release that has freed
     has_left : all scene ≡ Frees index owner ∷ [] → HasLeft code c index count (sees_now scene)
-    has_left freed = go stage now_at left
-      where
-        go : (s : ReleaseStage) → ReleaseAt c index owner mode (all scene) s → ReleaseLeft code c index count s (sees_now scene) → HasLeft code c index count (sees_now scene)
-        go releases.TheVariants.EmptiesCell at h = let none : [] ≡ Frees index owner ∷ [] = sym at ∙ freed in absurd (cc)
-        go (releases.TheVariants.Raises raise) at h = h
-        go (releases.TheVariants.Locks lock) at h = h
+    has_left freed = grind arith
 
     left_next : (next : ReleaseStage) (ask : Option Ask) (back : Bool) → set_effects.Stays (of_set scene) (words_after ws ask) → ReleaseAt c index owner mode (all scene) next → ReleaseLeft code c index count next (SeesCalmly (removes.TheVariants.Releases count next) ask back)
     left_next releases.TheVariants.EmptiesCell ask back stays at = (below, low stage now_at left)
@@ -206,21 +201,11 @@ module _ {T : Type 0} (scene : Scene T) (inv : Inv scene) (index owner : ℕ) (m
 
     -- before it frees, its number is covered
     covers : all scene ≡ [] → RemoveCovers code c p owner index count (before scene)
-    covers none = go stage now_at hiding
-      where
-        go : (s : ReleaseStage) → ReleaseAt c index owner mode (all scene) s → ReleaseHides code c index owner count s (sees_now scene) → RemoveCovers code c p owner index count (before scene)
-        go releases.TheVariants.EmptiesCell at h = h
-        go (releases.TheVariants.Raises raise) at h = let one : [] ≡ Frees index owner ∷ [] = sym none ∙ at in absurd (cc)
-        go (releases.TheVariants.Locks lock) at h = let one : [] ≡ Frees index owner ∷ [] = sym none ∙ at.2 in absurd (cc)
+    covers none = grind arith
 
     -- and then what stood there stands under it, or has been hidden
     stands_still : all scene ≡ Frees index owner ∷ [] → HasHidden code c p owner (StillStands code c index count (before scene)) (before scene)
-    stands_still freed = go stage now_at hiding
-      where
-        go : (s : ReleaseStage) → ReleaseAt c index owner mode (all scene) s → ReleaseHides code c index owner count s (sees_now scene) → HasHidden code c p owner (StillStands code c index count (before scene)) (before scene)
-        go releases.TheVariants.EmptiesCell at h = let none : [] ≡ Frees index owner ∷ [] = sym at ∙ freed in absurd (cc)
-        go (releases.TheVariants.Raises raise) at h = h
-        go (releases.TheVariants.Locks lock) at h = h
+    stands_still freed = grind arith
 
     hides_next : (next : ReleaseStage) (ask : Option Ask) (back : Bool) → set_effects.Stays (of_set scene) (words_after ws ask) → ReleaseAt c index owner mode (all scene) next → ReleaseHides code c index owner count next (SeesCalmly (removes.TheVariants.Releases count next) ask back)
     hides_next releases.TheVariants.EmptiesCell ask back stays at =
@@ -243,10 +228,7 @@ module _ {T : Type 0} (scene : Scene T) (inv : Inv scene) (index owner : ℕ) (m
     says_now next ask back LockIfLastIndex states.TheVariants.Unlocked why = (held_now p IsUnlocked events why.0, why.1)
 
     done_now : (words' : List ℕ) (m : ReleaseMode) (state : ReleaseState) → Ends (of_set scene) (inv_of_set scene inv) index owner mode fits below lives began 1 words' m state → all scene ≡ Frees index owner ∷ [] → HasDone {T = T} (Remove index owner m) (answers.State state) (all scene) []
-    done_now words' Default states.TheVariants.Locked why freed = absurd why
-    done_now words' Default states.TheVariants.Unlocked why freed = freed
-    done_now words' LockIfLastIndex states.TheVariants.Locked why freed = inl freed
-    done_now words' LockIfLastIndex states.TheVariants.Unlocked why freed = freed
+    done_now words' m state why freed = grind arith
 
     -- the release has ended with this state
     released : (state : ReleaseState) (ask : Option Ask) (back : Bool) → set_effects.Stays (of_set scene) (words_after ws ask) → Ends (of_set scene) (inv_of_set scene inv) index owner mode fits below lives began 1 (words_after ws ask) mode state → all scene ≡ Frees index owner ∷ []

@@ -101,15 +101,7 @@ module _ {T : Type 0} (scene : Scene T) (inv : Inv scene) (index : ℕ) (value :
 
   -- what is so of a run that is proper, of this replace
   stands_if : (stage : ReplaceStage) → Here stage → (1 ≤ steps → MayReplace p index owner events) → StandsProper p (party_of p latest) events
-  stands_if stage here may = subst (λ o. StandsProper p o events) (sym here.found) stands
-    where
-      stands : StandsProper p (Some here.party) events
-      stands index' owner' value' wrote' span few found =
-          let same : Open (Container (Replace index value owner)) (wrote_of p events) ≡ Open (Container (Replace index' value' owner')) wrote' = sym here.span ∙ span in
-          let a : index ≡ index' = cc in
-          let b : owner ≡ owner' = cc in
-          let taken = here.taken in
-          subst (λ n. MayReplace p n owner' events) a (subst (λ n. MayReplace p index n events) b (may (omega arith)))
+  stands_if stage here may = grind arith
 
   -- a turn that goes on, in a proper run, was of a replace that had been begun rightly
   may_before : (stage : ReplaceStage) → Here stage → HeldOnce p (IsFilledWith owner index) events → (y : Party T) (es : List (Event T)) → AreOwn p es → BeginsNone p es → Lengthens es → 1 ≤ y.steps → IsProperSoFar scene.terms (put p y latest) (events ++ es) → MayReplace p index owner events

@@ -1,7 +1,6 @@
 -- What a replace knows of its right: in a proper run, if it may replace at all, its index is still settled for its owner,
 -- and nobody has begun to replace it since.
-use Rattle.std.proofs.Common.{◌≡◌, ◌≢◌, ℕ, ◌==◌, ◌&&◌, ⊎_elim, if◌then◌else◌, false, Option, Some, None, List, [], ◌∷◌, ◌++◌, fold, refl, sym, ap, subst, ◌∙◌, append_assoc, eq-eqb, ne_eqb}
-use Rattle.std.proofs.lemmas.Bool.{cases_eq}
+use Rattle.std.proofs.Common.{◌≡◌, ℕ, ◌==◌, ◌&&◌, if◌then◌else◌, false, Option, Some, None, List, [], ◌∷◌, ◌++◌, fold, refl, sym, ap, subst, ◌∙◌, append_assoc, eq-eqb, arith}
 use Rattle.std.proofs.lemmas.List.{append_cancel_left}
 use Rattle.std.proofs.lemmas.List.Sums.{fold-append}
 use Rattle.model.specs.declared.event.Event.{Event}
@@ -67,13 +66,7 @@ module _ {T : Type 0} where
       }
 
   replacer_stays : (i o : ℕ) (party : Option ℕ) (e : Event T) → TakesNot i o e → replacer_after i o party e ≡ party
-  replacer_stays i o party (Begun q (Container (Replace index value owner))) h = ⊎_elim here (λ ne. ap (λ b. if b && (owner == o) then Some q else party) (ne_eqb index i ne)) (cases_eq index i)
-    where
-      here : index ≡ i → (if (index == i) && (owner == o) then Some q else party) ≡ party
-      here same =
-          let other : owner ≢ o = λ e. h (same, e) in
-          ap (λ b. if b && (owner == o) then Some q else party) (eq-eqb index i same) ∙ ap (λ b. if b then Some q else party) (ne_eqb owner o other)
-  replacer_stays i o party e h = refl
+  replacer_stays i o party e h = grind arith
 
   replacers_stay : (i o : ℕ) (party : Option ℕ) (es : List (Event T)) → NoneTakes i o es → fold (replacer_after i o) party es ≡ party
   replacers_stay i o party [] h = refl

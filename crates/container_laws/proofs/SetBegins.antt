@@ -1,6 +1,5 @@
 -- What a call does to the set of a container as it begins: nothing but that a remove takes the right to give its index back.
-use Rattle.std.proofs.Common.{◌≡◌, ◌≢◌, ℕ, ◌==◌, ⊎_elim, if◌then◌else◌, false, Option, Some, None, List, [], ◌∷◌, ◌++◌, refl, sym, ap, ◌∙◌, arith, eq-eqb, ne_eqb}
-use Rattle.std.proofs.lemmas.Bool.{cases_eq}
+use Rattle.std.proofs.Common.{◌≡◌, ℕ, if◌then◌else◌, false, Option, Some, None, List, [], ◌∷◌, ◌++◌, refl, sym, ap, ◌∙◌, arith, eq-eqb}
 use Rattle.std.proofs.lemmas.List.Sums.{fold-append}
 use Rattle.steps.specs.declared.indices.enums.ReleaseMode.{ReleaseMode}
 use Rattle.model.specs.declared.event.Event.{Event}
@@ -11,12 +10,11 @@ use Rattle.model.specs.declared.families.container.ContainerStart.TheVariants.{R
 use Rattle.model.specs.Families.Indices.Reading.{locked_after, is_locked}
 use Rattle.model.specs.Families.Container.Reading.{NoneTakes}
 use Rattle.model.specs.Families.Indices.Robust.Promises.{cell_of, SetDoes, HoldsRight}
-use Rattle.model.specs.Families.Indices.Robust.Reading.{without, deeds, filled_after, filled_of, holder_after, holder_of, settled_after, settled_of, dead_after, is_dead, wrote_in}
+use Rattle.model.specs.Families.Indices.Robust.Reading.{deeds, filled_after, filled_of, holder_after, holder_of, settled_after, settled_of, dead_after, is_dead, wrote_in}
 use Rattle.model.proofs.Moments.{others_begin_none}
 use Rattle.model.proofs.Readings.{Each-append, span_of-other}
 use Rattle.robust_laws.specs.Gone.{AnswersBy}
-use Rattle.robust_laws.proofs.Begins.{without_other, not_taken}
-use Rattle.robust_laws.proofs.Effects.{at_same, at_other, proper_less}
+use Rattle.robust_laws.proofs.Effects.{at_same, proper_less}
 use Rattle.robust_laws.proofs.Gone.{calm_less}
 use Rattle.robust_laws.proofs.Invariant.{IsWorn, Scene, Good, Does}
 use Rattle.robust_laws.proofs.Rights.{Right, Settled, By, taken_by, right_after, right_of, AreOwned}
@@ -25,34 +23,14 @@ use Rattle.robust_laws.proofs.Rights.{Right, Settled, By, taken_by, right_after,
 
 still_settled : (T : Type 0) (p : ℕ) (start : ContainerStart T) (i o : ℕ) (old : Option ℕ) (r : Right) → settled_after {T = T} i old (Begun p (Container start)) ≡ Some o → (old ≡ Some o → r ≡ Settled o)
     → (old ≡ Some o) × (right_after {T = T} i r (Begun p (Container start)) ≡ Settled o)
-still_settled T p (Remove index owner mode) i o old r e was = ⊎_elim here there (cases_eq i index)
-  where
-    here : i ≡ index → (old ≡ Some o) × ((if index == i then taken_by p owner r else r) ≡ Settled o)
-    here same =
-        let left : without owner old ≡ Some o = sym (at_same index i (without owner old) old same) ∙ e in
-        let both = without_other owner old o left in
-        (both.0, at_same index i (taken_by p owner r) r same ∙ (ap (taken_by p owner) (was both.0) ∙ not_taken p owner o both.1))
-
-    there : i ≢ index → (old ≡ Some o) × ((if index == i then taken_by p owner r else r) ≡ Settled o)
-    there ne =
-        let left : old ≡ Some o = sym (at_other index i (without owner old) old ne) ∙ e in
-        (left, at_other index i (taken_by p owner r) r ne ∙ was left)
-still_settled T p start i o old r e was = (e, was e)
+still_settled h p start i o old r e was = grind arith
 
 -- what may be given back still may, unless a release of it for its owner begins
 not_taken_from : (T : Type 0) (p : ℕ) (start : ContainerStart T) (i o : ℕ) (old : Option ℕ) → old ≡ Some o → NoneTakes {T = T} i o (Begun p (Container start) ∷ []) → settled_after {T = T} i old (Begun p (Container start)) ≡ Some o
-not_taken_from T p (Remove index owner mode) i o old e none = ⊎_elim here (λ ne. at_other index i (without owner old) old ne ∙ e) (cases_eq i index)
-  where
-    here : i ≡ index → (if index == i then without owner old else old) ≡ Some o
-    here same = at_same index i (without owner old) old same ∙ (ap (without owner) e ∙ ap (λ b. if b then None else Some o) (ne_eqb o owner (λ is. none.0 (sym same, sym is))))
-not_taken_from T p start i o old e none = e
+not_taken_from h p start i o old e none = grind arith
 
 still_by : (T : Type 0) (p q : ℕ) (start : ContainerStart T) (i : ℕ) (r : Right) → r ≡ By q → right_after {T = T} i r (Begun p (Container start)) ≡ By q
-still_by T p q (Remove index owner mode) i r e = ⊎_elim here (λ ne. at_other index i (taken_by p owner r) r ne ∙ e) (cases_eq i index)
-  where
-    here : i ≡ index → (if index == i then taken_by p owner r else r) ≡ By q
-    here same = at_same index i (taken_by p owner r) r same ∙ ap (taken_by p owner) e
-still_by T p q start i r e = e
+still_by h p q start i r e = grind arith
 
 module _ {T : Type 0} where
   -- a release takes the right

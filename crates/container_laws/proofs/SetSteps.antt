@@ -36,9 +36,6 @@ module _ {T : Type 0} (scene : Scene T) (inv : Inv scene) (start : ContainerStar
   abbrev pub LeavesRest : List ℕ → Type 0
   LeavesRest words' = (n : ℕ) → 1 + c ≤ n → get_or words' n 0 ≡ get_or ws n 0
 
-  pub rest_same : (words' : List ℕ) → words' ≡ ws → LeavesRest words'
-  rest_same words' same n behind = ap (λ w. get_or w n 0) same
-
   pub rest_set : (words' : List ℕ) (m x : ℕ) → m < 1 + c → words' ≡ set ws m x → LeavesRest words'
   rest_set words' m x low new n behind = ap (λ w. get_or w n 0) new ∙ get_or-set_other ws m n x 0 (λ e. absurd (omega arith))
 
@@ -106,10 +103,6 @@ module _ {T : Type 0} (scene : Scene T) (inv : Inv scene) (start : ContainerStar
           let k = (does.spares q ne).settled holds.calm i o lives h.settled (tt, tt) in
           some_none (settled_of i (events ++ free)) o (fold-append (settled_after i) None events free ∙ at_same i i None (settled_of i events) refl) k)
           theirs
-
-      -- what stands there is left from now on
-      pub left_now : left_of i (events ++ free) ≡ true
-      left_now = fold-append (left_after i) true events free ∙ at_same i i true (left_of i events) refl
 
       left_on : (j : ℕ) → left_of j events ≡ true → left_of j (events ++ free) ≡ true
       left_on j was = fold-append (left_after j) true events free ∙ ⊎_elim (λ same. at_same i j true (left_of j events) same) (λ ne. at_other i j true (left_of j events) ne ∙ was) (cases_eq j i)

@@ -7,7 +7,7 @@ use Rattle.steps.specs.Indices.Robust.Parts.{cell_word, locked}
 use Rattle.model.specs.declared.event.Answer.{Answer}
 use Rattle.model.specs.declared.event.Answer.TheVariants.{Index}
 use Rattle.model.specs.declared.event.Event.{Event}
-use Rattle.model.specs.declared.event.Event.TheVariants.{Placed, Hidden, Copied, Shown, Finished}
+use Rattle.model.specs.declared.event.Event.TheVariants.{Placed, Hidden, Finished}
 use Rattle.model.specs.declared.event.Start.TheVariants.{Container}
 use Rattle.model.specs.declared.families.container.ContainerStart.{ContainerStart}
 use Rattle.model.specs.declared.families.container.ContainerStart.TheVariants.{Add}
@@ -55,14 +55,6 @@ module _ {T : Type 0} (scene : Scene T) (inv : Inv scene) where
 
   pub quiet_hidden : (i : ℕ) → Quiet {T = T} (Hidden p i ∷ [])
   quiet_hidden i =
-      record { filled = λ j o. refl; holder = λ j o. refl; settled = λ j o. refl; right = λ j r. refl; locked = λ b. refl; dead = λ owner b. refl; holds = λ before. (tt, tt) }
-
-  pub quiet_copied : (i : ℕ) (value : T) → Quiet (Copied p i value ∷ [])
-  quiet_copied i value =
-      record { filled = λ j o. refl; holder = λ j o. refl; settled = λ j o. refl; right = λ j r. refl; locked = λ b. refl; dead = λ owner b. refl; holds = λ before. (tt, tt) }
-
-  pub quiet_shown : (i : ℕ) → Quiet {T = T} (Shown p i ∷ [])
-  quiet_shown i =
       record { filled = λ j o. refl; holder = λ j o. refl; settled = λ j o. refl; right = λ j r. refl; locked = λ b. refl; dead = λ owner b. refl; holds = λ before. (tt, tt) }
 
   -- an end, but that of an add with an index

@@ -1,13 +1,13 @@
 -- Steps that change no word, and write events that change nothing of the set nor of what stands: copies, what is shown, questions,
 -- and the end of any call but an add and a replace.
-use Rattle.std.proofs.Common.{◌≡◌, ℕ, Bool, true, false, Option, None, List, [], ◌∷◌, ◌++◌, length, get_or, fold, refl, ap, ◌∙◌}
+use Rattle.std.proofs.Common.{◌≡◌, ℕ, Bool, true, false, Option, None, List, [], ◌∷◌, ◌++◌, length, get_or, fold, refl, ap, ◌∙◌, arith}
 use Rattle.std.specs.List.{AllByRecursion}
 use Rattle.std.proofs.lemmas.List.Sums.{fold-append}
 use Rattle.model.specs.declared.event.Event.{Event}
 use Rattle.model.specs.declared.event.Event.TheVariants.{Asked, Told, Copied, Shown, Finished}
 use Rattle.model.specs.declared.event.Start.TheVariants.{Container}
 use Rattle.model.specs.declared.families.container.ContainerStart.{ContainerStart}
-use Rattle.model.specs.declared.families.container.ContainerStart.TheVariants.{Add, Remove, Replace, Find, Recover, GetState, UpdateState, Len, IsEmpty, IsLocked}
+use Rattle.model.specs.declared.families.container.ContainerStart.TheVariants.{Add, Replace}
 use Rattle.model.specs.declared.families.container.calls.ContainerFlight.{ContainerFlight}
 use Rattle.model.specs.declared.party.Party.{Party}
 use Rattle.model.specs.Families.Container.Reading.{contents_after, announced_after}
@@ -47,121 +47,40 @@ module _ {T : Type 0} where
     fold_stays (e ∷ es) h a = ap (λ b. fold f b es) (stays e h.0 a) ∙ fold_stays es h.1 a
 
   filled_stays : (i : ℕ) (e : Event T) → Silent e → (o : Option ℕ) → filled_after i o e ≡ o
-  filled_stays i (Asked p index owner) h o = refl
-  filled_stays i (Told p index owner) h o = refl
-  filled_stays i (Copied p index value) h o = refl
-  filled_stays i (Shown p index) h o = refl
-  filled_stays i (Finished p start answer) h o = refl
-  filled_stays i e h o = absurd h
+  filled_stays i e h o = grind arith
 
   holder_stays : (i : ℕ) (e : Event T) → Silent e → (o : Option ℕ) → holder_after i o e ≡ o
-  holder_stays i (Asked p index owner) h o = refl
-  holder_stays i (Told p index owner) h o = refl
-  holder_stays i (Copied p index value) h o = refl
-  holder_stays i (Shown p index) h o = refl
-  holder_stays i (Finished p start answer) h o = refl
-  holder_stays i e h o = absurd h
+  holder_stays i e h o = grind arith
 
   locked_stays : (e : Event T) → Silent e → (b : Bool) → locked_after b e ≡ b
-  locked_stays (Asked p index owner) h b = refl
-  locked_stays (Told p index owner) h b = refl
-  locked_stays (Copied p index value) h b = refl
-  locked_stays (Shown p index) h b = refl
-  locked_stays (Finished p start answer) h b = refl
-  locked_stays e h b = absurd h
+  locked_stays e h b = grind arith
 
   dead_stays : (owner : ℕ) (e : Event T) → Silent e → (b : Bool) → dead_after owner b e ≡ b
-  dead_stays o (Asked p index owner) h b = refl
-  dead_stays o (Told p index owner) h b = refl
-  dead_stays o (Copied p index value) h b = refl
-  dead_stays o (Shown p index) h b = refl
-  dead_stays o (Finished p start answer) h b = refl
-  dead_stays o e h b = absurd h
+  dead_stays o e h b = grind arith
 
   contents_stay : (i : ℕ) (e : Event T) → Silent e → (o : Option T) → contents_after i o e ≡ o
-  contents_stay i (Asked p index owner) h o = refl
-  contents_stay i (Told p index owner) h o = refl
-  contents_stay i (Copied p index value) h o = refl
-  contents_stay i (Shown p index) h o = refl
-  contents_stay i (Finished p start answer) h o = refl
-  contents_stay i e h o = absurd h
+  contents_stay i e h o = grind arith
 
   left_stays : (i : ℕ) (e : Event T) → Silent e → (b : Bool) → left_after i b e ≡ b
-  left_stays i (Asked p index owner) h b = refl
-  left_stays i (Told p index owner) h b = refl
-  left_stays i (Copied p index value) h b = refl
-  left_stays i (Shown p index) h b = refl
-  left_stays i (Finished p start answer) h b = refl
-  left_stays i e h b = absurd h
+  left_stays i e h b = grind arith
 
   settled_stays : (i : ℕ) (e : Event T) → Silent e → (o : Option ℕ) → settled_after i o e ≡ o
-  settled_stays i (Asked p index owner) h o = refl
-  settled_stays i (Told p index owner) h o = refl
-  settled_stays i (Copied p index value) h o = refl
-  settled_stays i (Shown p index) h o = refl
-  settled_stays i (Finished p (Container (Remove index owner mode)) answer) h o = refl
-  settled_stays i (Finished p (Container (Find owner)) answer) h o = refl
-  settled_stays i (Finished p (Container (Recover owner mode)) answer) h o = refl
-  settled_stays i (Finished p (Container GetState) answer) h o = refl
-  settled_stays i (Finished p (Container UpdateState) answer) h o = refl
-  settled_stays i (Finished p (Container Len) answer) h o = refl
-  settled_stays i (Finished p (Container IsEmpty) answer) h o = refl
-  settled_stays i (Finished p (Container IsLocked) answer) h o = refl
-  settled_stays i e h o = absurd h
+  settled_stays i e h o = grind arith
 
   right_stays : (i : ℕ) (e : Event T) → Silent e → (r : Right) → right_after i r e ≡ r
-  right_stays i (Asked p index owner) h r = refl
-  right_stays i (Told p index owner) h r = refl
-  right_stays i (Copied p index value) h r = refl
-  right_stays i (Shown p index) h r = refl
-  right_stays i (Finished p (Container (Remove index owner mode)) answer) h r = refl
-  right_stays i (Finished p (Container (Find owner)) answer) h r = refl
-  right_stays i (Finished p (Container (Recover owner mode)) answer) h r = refl
-  right_stays i (Finished p (Container GetState) answer) h r = refl
-  right_stays i (Finished p (Container UpdateState) answer) h r = refl
-  right_stays i (Finished p (Container Len) answer) h r = refl
-  right_stays i (Finished p (Container IsEmpty) answer) h r = refl
-  right_stays i (Finished p (Container IsLocked) answer) h r = refl
-  right_stays i e h r = absurd h
+  right_stays i e h r = grind arith
 
   announced_stays : (i : ℕ) (e : Event T) → Silent e → (b : Bool) → announced_after i b e ≡ b
-  announced_stays i (Asked p index owner) h b = refl
-  announced_stays i (Told p index owner) h b = refl
-  announced_stays i (Copied p index value) h b = refl
-  announced_stays i (Shown p index) h b = refl
-  announced_stays i (Finished p (Container (Remove index owner mode)) answer) h b = refl
-  announced_stays i (Finished p (Container (Find owner)) answer) h b = refl
-  announced_stays i (Finished p (Container (Recover owner mode)) answer) h b = refl
-  announced_stays i (Finished p (Container GetState) answer) h b = refl
-  announced_stays i (Finished p (Container UpdateState) answer) h b = refl
-  announced_stays i (Finished p (Container Len) answer) h b = refl
-  announced_stays i (Finished p (Container IsEmpty) answer) h b = refl
-  announced_stays i (Finished p (Container IsLocked) answer) h b = refl
-  announced_stays i e h b = absurd h
+  announced_stays i e h b = grind arith
 
   does_right : (c : ℕ) (earlier : List (Event T)) (e : Event T) → Silent e → SetDoes c earlier e
-  does_right c earlier (Asked p index owner) h = tt
-  does_right c earlier (Told p index owner) h = tt
-  does_right c earlier (Copied p index value) h = tt
-  does_right c earlier (Shown p index) h = tt
-  does_right c earlier (Finished p start answer) h = tt
-  does_right c earlier e h = absurd h
+  does_right c earlier e h = grind arith
 
   holds_right : (earlier : List (Event T)) (e : Event T) → Silent e → HoldsRight earlier e
-  holds_right earlier (Asked p index owner) h = tt
-  holds_right earlier (Told p index owner) h = tt
-  holds_right earlier (Copied p index value) h = tt
-  holds_right earlier (Shown p index) h = tt
-  holds_right earlier (Finished p start answer) h = tt
-  holds_right earlier e h = absurd h
+  holds_right earlier e h = grind arith
 
   answers_right : (by : GoneBy) (worn : Type 0) (c : ℕ) (earlier : List (Event T)) (e : Event T) → Silent e → AnswersBy by worn c earlier e
-  answers_right by worn c earlier (Asked p index owner) h = tt
-  answers_right by worn c earlier (Told p index owner) h = tt
-  answers_right by worn c earlier (Copied p index value) h = tt
-  answers_right by worn c earlier (Shown p index) h = tt
-  answers_right by worn c earlier (Finished p (Container start) answer) h = tt
-  answers_right by worn c earlier e h = absurd h
+  answers_right by worn c earlier e h = grind arith
 
   all_right : (P : List (Event T) → Event T → Type 0) → ((earlier : List (Event T)) (e : Event T) → Silent e → P earlier e) → (earlier es : List (Event T)) → AllByRecursion Silent es → AreRight P earlier es
   all_right P right earlier [] h = tt

@@ -1,8 +1,7 @@
 -- Every turn keeps what holds of the machine of a container: the laws of the family, from what is shown of each call, of a
 -- begin, of a death and of the opening.
-use Rattle.std.proofs.Common.{◌≡◌, ℕ, ◌+◌, ◌-◌, ◌^◌, ◌<◌, ◌≤◌, ◌==◌, ne_eqb, not, inl, if◌then◌else◌, Bool, true, false, Option, Some, None, option_map, List, [], ◌∷◌, ◌++◌, refl, sym, ap, subst, ◌∙◌, arith}
+use Rattle.std.proofs.Common.{◌≡◌, ℕ, ◌+◌, ◌-◌, ◌^◌, ◌<◌, ◌≤◌, inl, if◌then◌else◌, Bool, true, false, Option, Some, None, option_map, List, [], ◌∷◌, ◌++◌, refl, sym, ap, subst, ◌∙◌, arith}
 use Rattle.steps.specs.declared.container.state.ContainerState.{ContainerState}
-use Rattle.steps.specs.Indices.Robust.Parts.{locked}
 use Rattle.model.specs.declared.event.Event.{Event}
 use Rattle.model.specs.declared.event.Event.TheVariants.{Begun, Died}
 use Rattle.model.specs.declared.event.Start.{Start}
@@ -14,17 +13,16 @@ use Rattle.model.specs.declared.families.Kept as kepts
 use Rattle.model.specs.declared.families.container.ContainerStart.{ContainerStart}
 use Rattle.model.specs.declared.families.container.ContainerStart as starts
 use Rattle.model.specs.declared.families.container.calls.ContainerFlight.{ContainerFlight}
-use Rattle.model.specs.declared.families.container.calls.ContainerFlight as calls
 use Rattle.model.specs.declared.party.Doing.TheVariants.{Going}
 use Rattle.model.specs.declared.party.Party.{Party}
 use Rattle.model.specs.declared.turn.Kind as kinds
-use Rattle.model.specs.declared.turn.Refusal.TheVariants.{OwnerIsDead, OwnerLives}
+use Rattle.model.specs.declared.turn.Refusal.TheVariants.{OwnerIsDead}
 use Rattle.model.specs.Coding.{Coding, IsCoding}
 use Rattle.model.specs.Families.{first_of, want_of, is_question, going_rows, beside_of, step_of, kept_after_death, kept_after_begin}
 use Rattle.model.specs.Families as families
 use Rattle.model.specs.Families.Container.Calls.{first, acts_for_dead}
 use Rattle.model.specs.Families.Container.Calls as rows
-use Rattle.model.specs.Families.Container.Opening.{opening_words, names_owner, call_rows, kept_rows, states_at_begin}
+use Rattle.model.specs.Families.Container.Opening.{opening_words, names_owner, states_at_begin}
 use Rattle.model.specs.Families.Indices.Robust.Dead.{has_died, dead_with}
 use Rattle.model.specs.Families.Indices.Robust.Reading.{is_dead, wrote_in}
 use Rattle.model.specs.Families.Loan.Opening.{is_loan}
@@ -39,8 +37,7 @@ use Rattle.model.proofs.Frame as frame
 use Rattle.model.proofs.Readings.{Each-nil, span_of-own, span_of-death}
 use Rattle.model.proofs.Rows.{row_passed, MayBegin, MayDie}
 use Rattle.model.proofs.Scenes.{asked, StandsThere, stands_there, ComesFrom, comes_from}
-use Rattle.robust_laws.specs.Gone.{GoneBy, Death, Word}
-use Rattle.robust_laws.proofs.Core.{counter_of}
+use Rattle.robust_laws.specs.Gone.{GoneBy, Death}
 use Rattle.robust_laws.proofs.Invariant as set
 use Rattle.robust_laws.proofs.Opening.{admitted_is}
 use Rattle.container_laws.proofs.Invariant.{ContainerNow, Scene, Fit, Inv, Elements, Does, Shows, Knowing, moment, before, view, family, family_by, wrote_of, at_written, owes, holds_more, then_is}
@@ -99,9 +96,7 @@ module _ {T : Type 0} where
   IsOwn c start flight = ⊥
 
   named_own : (c : ℕ) (start : ContainerStart T) (flight : Flight T) (b : Bool) → names_owner start ≡ b → option_map flights.TheVariants.Container (if b then Some (first c start) else None) ≡ Some flight → IsOwn c (Container start) flight
-  named_own c start (flights.TheVariants.Container flight) true t e = (cc, t)
-  named_own c start flight true t e = absurd (cc)
-  named_own c start flight false t e = absurd (cc)
+  named_own c start flight b t e = grind arith
 
   pub begins_own : (c : ℕ) (kept : Kept T) (start : Start T) (flight : Flight T) → first_of kinds.TheVariants.Container c start kept ≡ Some flight → IsOwn c start flight
   begins_own c kept (Container start) flight e = named_own c start flight (names_owner start) refl e
@@ -112,10 +107,7 @@ module _ {T : Type 0} where
 module _ {T : Type 0} where
   -- whom the rows refuse as dead is dead by the events
   lives_by_rows : (dead : List ℕ) (events : List (Event T)) → ((owner : ℕ) → has_died owner dead ≡ is_dead owner events) → (flight : ContainerFlight T) → acts_for_dead dead flight ≡ false → acts_for_gone Death events flight ≡ false
-  lives_by_rows dead events died (calls.TheVariants.Add run) alive = sym (died run.given.owner) ∙ alive
-  lives_by_rows dead events died (calls.TheVariants.Remove run) alive = sym (died run.given.owner) ∙ alive
-  lives_by_rows dead events died (calls.TheVariants.Replace run) alive = sym (died run.given.owner) ∙ alive
-  lives_by_rows dead events died flight alive = refl
+  lives_by_rows dead events died flight alive = grind arith
 
 -- a machine whose counter has room, and which has taken few turns where its run keeps to that
 pub record MayGoOn {T : Type 0} (terms : Terms) (t : Trace T) : Type 0 where
@@ -124,11 +116,7 @@ pub record MayGoOn {T : Type 0} (terms : Terms) (t : Trace T) : Type 0 where
 
 module _ {T : Type 0} where
   few_room : (by : GoneBy) (c : ℕ) (words dead : List ℕ) (events : List (Event T)) (turns : ℕ) → set.Good by c words dead events turns → turns < 2 ^ 64 - 2 → set.HasRoom by words
-  few_room Death c words dead events turns g small = λ open_now.
-      let t : (counter_of words == locked) ≡ false = ne_eqb (counter_of words) locked open_now in
-      let low = g.low (sym g.lock ∙ t) in
-      omega arith
-  few_room Word c words dead events turns g small = tt
+  few_room by c words dead events turns g small = grind arith
 
   pub may_go_on : (terms : Terms) (code : Coding T) (c : ℕ) (t : Trace T) → frame.Sound (family_by terms code c) t → t.world.turns < 2 ^ 64 - 2 → MayGoOn terms t
   may_go_on terms code c t s small =
@@ -161,23 +149,11 @@ module _ {T : Type 0} (shown : Shown T) (terms : Terms) (code : Coding T) (c : �
       }
 
   pub state_is : s.state ≡ record { words = s.state.words; dead = s.state.dead; states = s.state.states; latest = t.world.latest; events = t.events }
-  state_is =
-      ap (λ l. record { words = s.state.words; dead = s.state.dead; states = s.state.states; latest = l; events = s.state.events }) s.holds.same_latest
-      ∙ ap (λ es. record { words = s.state.words; dead = s.state.dead; states = s.state.states; latest = t.world.latest; events = es }) s.holds.same
-
-  pub elements_now : Elements code c (moment terms s.state.words t.world.latest t.events) s.state.states t.world.turns
-  elements_now = s.holds.elements
+  state_is = grind arith
 
   module _ (p : ℕ) (x : Party T) (since : ℕ) (found : party_of p t.world.latest ≡ Some x) where
     pub inv_with : MayGoOn terms t → Inv (scene_of p x since)
-    inv_with may =
-        record {
-          good = s.holds.good;
-          elements = s.holds.elements;
-          begun = s.holds.begun p x found;
-          room = subst (set.HasRoom terms.by) (kept_is t.world.kept t.world.words s.state s.fit).1 may.room;
-          small = may.few;
-        }
+    inv_with may = grind arith
 
     pub inv_of : t.world.turns < 2 ^ 64 - 2 → Inv (scene_of p x since)
     inv_of small = inv_with (may_go_on terms code c t s small)
@@ -190,20 +166,7 @@ module _ {T : Type 0} (shown : Shown T) (terms : Terms) (code : Coding T) (c : �
       pub knows : Knows code c flight (sees_now (scene_of p x since))
 
     pub is_there : (start : ContainerStart T) (flight : ContainerFlight T) → StandsThere (family_by terms code c) t s p x since (Container start) (flights.TheVariants.Container flight) → IsThere start flight
-    is_there start flight h =
-        record {
-          here =
-              record {
-                span = h.span ∙ ap (λ es. Open (Container start) (wrote_of p es)) s.holds.same;
-                party = x;
-                found = found;
-                taken = refl;
-                flies = ap (λ o. flight_of (doing_of o)) (sym found) ∙ h.found;
-              };
-          at = at_written (scene_of p x since) c code.size (wrote_of p s.state.events) (wrote_of p t.events) (Container start) (flights.TheVariants.Container flight) (sym (ap (wrote_of p) s.holds.same)) h.at;
-          steps = h.steps;
-          knows = subst (λ (o : ContainerNow T). Knowing code c (flights.TheVariants.Container flight) (view terms o.words o.states o.latest t.events p since t.world.changes x.backs)) state_is h.knows;
-        }
+    is_there start flight h = grind arith
 
     -- the rows that it has passed
     pub passes : (flight : ContainerFlight T) (said : Option Bool) → first_row (going_rows t.world.coding t.world.kept (Some (flights.TheVariants.Container flight)) said) ≡ None → acts_for_dead s.state.dead flight ≡ false
@@ -314,16 +277,9 @@ module _ {T : Type 0} (shown : Shown T) (terms : Terms) (code : Coding T) (c : �
     MayRecoverIn (Container start) = MayRecover terms.by t.events start
     MayRecoverIn start = Unit {0}
 
-    by_rows : (by : GoneBy) (start : ContainerStart T) → first_row (call_rows s.state.dead start) ≡ None → MayRecover by t.events start
-    by_rows Death (starts.TheVariants.Recover owner mode) r =
-        sym (s.holds.good.died owner) ∙ frame.is_true (has_died owner s.state.dead) (row_passed (not (has_died owner s.state.dead)) OwnerLives None r).0
-    by_rows by start r = tt
-
     -- one that passes the machine's rows may
     pub recovers_by : (start : Start T) → MayBegin t.world p start → MayRecoverIn start
-    recovers_by (Container start) may =
-        by_rows terms.by start (subst (λ kept. first_row (kept_rows {T = T} start kept p) ≡ None) (kept_is t.world.kept t.world.words s.state s.fit).0 may.rows)
-    recovers_by start may = tt
+    recovers_by start may = grind arith
 
     pub begin_comes : (start : Start T) (flight : Flight T) → MayRecoverIn start → flight_of (doing_of (party_of p t.world.latest)) ≡ None → first_of t.world.kind t.world.capacity start t.world.kept ≡ Some flight
         → frame.Comes (family_by terms code c) t p (kept_after_begin t.world.coding t.world.capacity start p t.world.kept) t.world.words (party_at_begin start flight t.world.changes) (Begun p start ∷ []) t.world.changes

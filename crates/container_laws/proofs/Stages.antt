@@ -1,5 +1,5 @@
 -- What a step of a call of the container has to show, and how a call goes on or ends.
-use Rattle.std.proofs.Common.{◌≡◌, ℕ, ◌+◌, ◌-◌, ◌≤◌, Bool, true, false, Option, Some, None, List, [], ◌∷◌, ◌++◌, fold, refl, sym, ap, subst, ◌∙◌, append-nil}
+use Rattle.std.proofs.Common.{◌≡◌, ℕ, ◌+◌, ◌-◌, ◌≤◌, Bool, true, false, Option, Some, None, List, [], ◌∷◌, ◌++◌, fold, refl, sym, ap, subst, ◌∙◌, append-nil, arith}
 use Rattle.std.proofs.lemmas.List.Concat.{flat_map-append}
 use Rattle.std.proofs.lemmas.List.Sums.{fold-append}
 use Rattle.steps.specs.declared.ask.Ask.{Ask}
@@ -228,20 +228,7 @@ module _ {T : Type 0} (scene : Scene T) where
 
   -- a call that is no replace says nothing of a proper run
   no_replace : (start : ContainerStart T) → NoReplace start → span_of p events ≡ Open (Container start) (wrote_of p events) → (o : Option (Party T)) → StandsProper p o events
-  no_replace start none span None = tt
-  no_replace start none span (Some x) = λ index owner value w is few found. go start none (sym span ∙ is)
-    where
-      go : (s : ContainerStart T) → NoReplace s → {A : Type 0} → {index owner : ℕ} → {value : T} → {u w : List (Event T)} → Open (Container s) u ≡ Open (Container (starts.TheVariants.Replace index value owner)) w → A
-      go (starts.TheVariants.Add value owner) none e = absurd (cc)
-      go (starts.TheVariants.Remove index owner mode) none e = absurd (cc)
-      go (starts.TheVariants.Replace index value owner) none e = absurd none
-      go (starts.TheVariants.Find owner) none e = absurd (cc)
-      go (starts.TheVariants.Recover owner mode) none e = absurd (cc)
-      go starts.TheVariants.GetState none e = absurd (cc)
-      go starts.TheVariants.UpdateState none e = absurd (cc)
-      go starts.TheVariants.Len none e = absurd (cc)
-      go starts.TheVariants.IsEmpty none e = absurd (cc)
-      go starts.TheVariants.IsLocked none e = absurd (cc)
+  no_replace start none span o = grind arith
 
   pub was_proper : (start : ContainerStart T) → NoReplace start → span_of p events ≡ Open (Container start) (wrote_of p events) → (words' : List ℕ) (y : Party T) (es : List (Event T)) → AreOwn p es → Proper (invariant.after scene words' y es) → Proper (before scene)
   was_proper start none span words' y es own =
@@ -255,14 +242,7 @@ module _ {T : Type 0} (scene : Scene T) where
   -- ---- the states of the parties, where the call is no look
 
   no_look : (flight : ContainerFlight T) → NoLook flight → is_looking (Some (flights.TheVariants.Container flight)) ≡ false
-  no_look (calls.TheVariants.Add run) h = refl
-  no_look (calls.TheVariants.Remove run) h = refl
-  no_look (calls.TheVariants.Replace run) h = refl
-  no_look (calls.TheVariants.Find run) h = refl
-  no_look (calls.TheVariants.Recover run) h = refl
-  no_look (calls.TheVariants.Look which call) h = absurd h
-  no_look (calls.TheVariants.Count which run) h = refl
-  no_look (calls.TheVariants.IsLocked run) h = refl
+  no_look flight h = grind arith
 
   module _ (inv : Inv scene) (start : ContainerStart T) (flight : ContainerFlight T) (none : NoLook flight) (here : IsHere start flight) where
     pub is_idle_now : is_looking (flight_of (doing_of (party_of p latest))) ≡ false

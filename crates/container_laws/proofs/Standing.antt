@@ -1,6 +1,5 @@
 -- Where a call of the container stands: how many steps it has taken at most, and what it has done to the set and to elements.
-use Rattle.std.proofs.Common.{◌≡◌, ◌⊎◌, ℕ, ◌+◌, ◌*◌, ◌%◌, ◌<◌, ◌≤◌, nat_lt, if◌then◌else◌, true, List, [], ◌∷◌, ap, arith}
-use Rattle.std.proofs.lemmas.Bool.Decides.{nat_tests}
+use Rattle.std.proofs.Common.{◌≡◌, ◌⊎◌, ℕ, ◌+◌, ◌*◌, ◌%◌, ◌<◌, ◌≤◌, List, [], ◌∷◌, arith}
 use Rattle.std.specs.List.{AllByRecursion}
 use Rattle.steps.specs.declared.container.add.AddStage.{AddStage}
 use Rattle.steps.specs.declared.container.add.AddStage as adds
@@ -328,6 +327,4 @@ module _ {T : Type 0} (c z : ℕ) (all : List Deed) (done : List (Act T)) where
 
 -- an index of the container is placed as it is, and any other at its end
 pub place_is : (c index : ℕ) → index < c → place_of c index ≡ index
-place_is c index below =
-    let t : nat_lt index c ≡ true = grind (arith, nat_tests) in
-    ap (λ b. if b then index else c) t
+place_is c index below = grind arith

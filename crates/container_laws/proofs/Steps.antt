@@ -16,7 +16,7 @@ use Rattle.model.specs.Families.Indices.Robust.Reading.{filled_of}
 use Rattle.model.specs.Parties.{flight_of}
 use Rattle.robust_laws.specs.Gone.{is_gone}
 use Rattle.robust_laws.proofs.Effects as set_effects
-use Rattle.robust_laws.proofs.Effects.{at_same, at_other, both_ways, one_owner}
+use Rattle.robust_laws.proofs.Effects.{at_same, at_other, both_ways}
 use Rattle.robust_laws.proofs.Invariant as set_invariant
 use Rattle.container_laws.specs.Gone.{AnswersBy}
 use Rattle.container_laws.proofs.Contents.{IsWhole, Writing, place_none, place_whole, hide_some, hide_whole}
@@ -130,10 +130,7 @@ module _ {T : Type 0} (scene : Scene T) (inv : Inv scene) (start : ContainerStar
 
       -- its owner, who is not gone, fills the index
       fills_it : {A : Type 0} → Proper (before scene) → (o : ℕ) → is_gone scene.terms.by o events ≡ true → filled_of i events ≡ Some o → A
-      fills_it holds o dead filled =
-          let its : filled_of i events ≡ Some owner = ⊎_elim (λ by. by.filled) (λ replacing. ((inv.good.owned holds.calm).settled i owner replacing.settled).0) (mine holds) in
-          let same : owner ≡ o = one_owner (filled_of i events) owner o its filled in
-          both_ways (is_gone scene.terms.by owner events) (acts.stays holds.kept) (subst (λ n. is_gone scene.terms.by n events ≡ true) (sym same) dead)
+      fills_it holds o dead filled = grind arith
 
       placed_one : IsCounted scene inv words' y (Placed p i value ∷ []) proper i below new (refl, tt) (Container start) (wrote_of p events) here.span owed
       placed_one =
@@ -204,14 +201,7 @@ module _ {T : Type 0} (scene : Scene T) (inv : Inv scene) (start : ContainerStar
     finish = Finished p (Container start) answer ∷ []
 
     right_end : AreAllRight scene words' y finish
-    right_end =
-        record {
-          asks = (tt, tt);
-          recovers = (tt, tt);
-          answers = (answers, tt);
-          contains = λ holds. (tt, tt);
-          places = λ holds. (placed holds, tt);
-        }
+    right_end = grind arith
 
     -- and has counted a change
     pub ends_counted : words' ≡ changed_words → (Proper (before scene) → (i : ℕ) → announced_after i (announced_of i events) (Finished p (Container start) answer) ≡ true → is_some (contents_of i events) ≡ true) → Does scene words' scene.states y finish

@@ -1,10 +1,9 @@
 -- Which party may store the data words of an index, and raise its element count to an odd number: the one whose add was
 -- granted it, until that add has finished; then the one whose replace was begun last. There is one at most.
-use Rattle.std.proofs.Common.{◌≡◌, ◌⊎◌, ⊎_elim, ℕ, Some, List, sym, ◌∙◌}
+use Rattle.std.proofs.Common.{◌≡◌, ◌⊎◌, ℕ, Some, List, arith}
 use Rattle.model.specs.declared.event.Event.{Event}
 use Rattle.model.specs.Families.Indices.Robust.Reading.{holder_of, settled_of}
-use Rattle.robust_laws.proofs.Effects.{one_owner, one_party}
-use Rattle.robust_laws.proofs.Rights.{Settled, By, right_of, IsBy, AreOwned}
+use Rattle.robust_laws.proofs.Rights.{IsBy, AreOwned}
 use Rattle.container_laws.proofs.Replacers.{replacer_of}
 
 module _ {T : Type 0} where
@@ -23,22 +22,5 @@ module _ {T : Type 0} where
   IsWriter p i o events = IsBy p i o events ⊎ Replacing p i o events
 
   module _ (p q i o u : ℕ) (events : List (Event T)) (owned : AreOwned events) where
-    both_by : IsBy p i o events → IsBy q i u events → p ≡ q
-    both_by a b = one_party (right_of i events) q p b.right a.right
-
-    not_both : {A : Type 0} → (r s a : ℕ) → right_of i events ≡ By r → settled_of i events ≡ Some a → A
-    not_both r s a mine settled =
-        let same : By r ≡ Settled a = sym mine ∙ (owned.settled i a settled).1 in
-        absurd (cc)
-
-    both_replace : Replacing p i o events → Replacing q i u events → p ≡ q
-    both_replace a b =
-        let same : u ≡ o = one_owner (settled_of i events) u o b.settled a.settled in
-        one_owner (replacer_of i u events) p q (rw same a.latest) b.latest
-
     pub one_writer : IsWriter p i o events → IsWriter q i u events → p ≡ q
-    one_writer a b =
-        ⊎_elim
-        (λ x. ⊎_elim (λ y. both_by x y) (λ y. not_both p q u x.right y.settled) b)
-        (λ x. ⊎_elim (λ y. not_both q p o y.right x.settled) (λ y. both_replace x y) b)
-        a
+    one_writer a b = grind arith

@@ -1,6 +1,6 @@
 -- The steps of a call that may write at an index, an add or a replace: it loads the number there, hides what an earlier owner
 -- left, stores the words of its value, and places it. What each step leads to is what the caller makes of it.
-use Rattle.std.proofs.Common.{◌≡◌, ◌≢◌, ℕ, ◌%◌, ◌<◌, false, true, Some, List, set, refl, sym, ap, ◌∙◌, arith}
+use Rattle.std.proofs.Common.{◌≡◌, ℕ, ◌%◌, ◌<◌, false, true, Some, List, set, refl, sym, ap, ◌∙◌, arith}
 use Rattle.std.proofs.lemmas.Bool.Decides.{nat_tests}
 use Rattle.steps.specs.declared.ask.Ask.{Ask}
 use Rattle.steps.specs.declared.ask.Op.TheVariants.{Add, Store}
@@ -21,9 +21,7 @@ pub even_is : (n : ℕ) → is_even n ≡ true → n % 2 ≡ 0
 even_is n t = grind (arith, nat_tests)
 
 pub odd_is : (n : ℕ) → is_even n ≡ false → n % 2 ≡ 1
-odd_is n t =
-    let other : n % 2 ≢ 0 = grind (arith, nat_tests) in
-    omega arith
+odd_is n t = grind arith
 
 module _ {T : Type 0} (scene : Scene T) (inv : Inv scene) where
   open scene use {coding as code, capacity as c, turns as turns}
