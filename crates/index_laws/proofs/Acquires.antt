@@ -1,5 +1,5 @@
 -- The steps of an acquire.
-use Rattle.std.proofs.Common.{◌≡◌, ◌≢◌, ℕ, ◌+◌, ◌-◌, ◌*◌, ◌%◌, ◌^◌, ◌<◌, ◌≤◌, ◌==◌, ⊎_elim, inl, nat_lt, Bool, true, false, bit_or, Option, Some, List, get_or, set, refl, sym, ap, subst, ◌∙◌, arith}
+use Rattle.std.proofs.Common.{◌≡◌, ◌≢◌, ℕ, ◌+◌, ◌*◌, ◌%◌, ◌^◌, ◌<◌, ◌≤◌, ◌==◌, ⊎_elim, inl, nat_lt, Bool, true, false, bit_or, Option, Some, List, get_or, set, refl, sym, ap, subst, ◌∙◌, arith}
 use Rattle.std.specs.Prelude.{max, Ok, Err}
 use Rattle.std.proofs.lemmas.Bool.{cases_lt}
 use Rattle.std.proofs.lemmas.Bool.Decides.{nat_tests}
@@ -31,7 +31,7 @@ use Rattle.index_laws.proofs.Core.{head_of, counted_in, is_claimed, head_stays, 
 use Rattle.index_laws.proofs.Invariant.{Scene, Inv, AnswersFew}
 use Rattle.index_laws.proofs.Knows.{acquire_at, acquire_number, acquire_counts, AcquireAt, AcquireKnows, IsOpen, IsPaid, PaidUnless, AllClaimed}
 use Rattle.index_laws.proofs.Moves.{takes, counts_right, unlocked_for, some_free, was_free, still_claimed, claims, claims_again}
-use Rattle.index_laws.proofs.Stages.{busy, IsHere, busy_here, all_in_use, Comes, StepOf, since_then, changes_then, backs_then, paid_of, unless_then, goes_on, ends, claims_index, same_tally, open_says}
+use Rattle.index_laws.proofs.Stages.{busy, IsHere, busy_here, all_in_use, Comes, StepOf, since_then, changes_then, backs_then, paid_of, unless_then, goes_on, claims_index, open_says}
 
 module _ {T : Type 0} (scene : Scene T) (inv : Inv scene) where
   open scene use {capacity as c, party as p, steps, backs, since, changes, latest, events}
@@ -56,18 +56,12 @@ module _ {T : Type 0} (scene : Scene T) (inv : Inv scene) where
   -- ---- a head was found, by a load or by an exchange that failed
 
   module _ (stage : AcquireStage) (here : IsHere scene (acquire_at c stage)) (light : acquire_counts stage ≡ 0) (ask : Ask) (back : Bool) (same : words_after ws (Some ask) ≡ ws) (low : steps + 1 ≤ 1 + backs_then scene back * max 2 c) (paid : IsPaid since changes (backs_then scene back)) where
-    good_then : (busy' : ℕ) → busy' ≡ busy scene → Good c (words_after ws (Some ask)) hs busy'
-    good_then busy' e = subst (λ n. Good c (words_after ws (Some ask)) hs n) (sym e) (subst (λ w. Good c w hs (busy scene)) (sym same) g)
-
     fails : (failure : UniqueIndexSetAcquireFailure) → AnswersFew c events (Finished p (Indices Acquire) (NoIndex failure)) → Does stage ask back (Done (Err failure))
-    fails failure right =
-        ends scene inv Acquire (acquire_at c stage) (NoIndex failure) (Some ask) back (λ busy' e. good_then busy' (omega arith))
-        (λ h t g t' g' a b. same_tally h h (t - 1) t' g g' refl (omega arith) (omega arith)) refl right (ap (λ w. says_locked (head_of w)) same) tt (omega arith) (omega arith)
+    fails x0 x1 = grind arith
 
     goes_to : (stage' : AcquireStage) → acquire_counts stage' ≡ 0 → AcquireAt c stage' → steps + 1 ≤ acquire_number c stage' (backs_then scene back) → AcquireKnows c (words_after ws (Some ask)) (since_then scene (Some ask)) (changes_then scene (Some ask)) (backs_then scene back) stage'
         → Does stage ask back (GoOn (at_acquire (call_at stage) stage'))
-    goes_to stage' light' at s knows =
-        goes_on scene inv Acquire (acquire_at c stage) (acquire_at c stage') (Some ask) back (λ busy' e. good_then busy' (omega arith)) refl refl refl (ap (λ w. says_locked (head_of w)) same) tt s (refl, at) knows
+    goes_to x0 x1 x2 x3 x4 = grind arith
 
     -- as many indices are in use as there are, without this call, and the set is not locked
     out_of : borrowed (head_of ws) ≢ locked → borrowed (head_of ws) ≡ c → (c + 1 ≤ in_use (tally_of events)) × (is_locked events ≡ false)

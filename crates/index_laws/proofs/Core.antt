@@ -1,6 +1,6 @@
 -- The words of a unique index set, and who holds what; and what each operation on a word does to both. The next indices
 -- only propose, so nothing is said of them. No event and no party is in it.
-use Rattle.std.proofs.Common.{◌≡◌, ◌≢◌, ℕ, ◌+◌, ◌-◌, ◌/◌, ◌^◌, ◌<◌, ◌≤◌, ⊎_elim, Bool, true, false, true≢false, bit_and, bit_or, Option, Some, None, is_some, List, length, get_or, set, refl, sym, ap, ◌∙◌, arith, get_or-set_same, get_or-set_other}
+use Rattle.std.proofs.Common.{◌≡◌, ◌≢◌, ℕ, ◌+◌, ◌-◌, ◌/◌, ◌^◌, ◌<◌, ◌≤◌, ⊎_elim, Bool, true, false, bit_and, bit_or, Option, Some, None, is_some, List, length, get_or, set, sym, ap, ◌∙◌, arith, get_or-set_same, get_or-set_other}
 use Rattle.std.proofs.lemmas.Bool.{cases_eq}
 use Rattle.steps.specs.Indices.Head.{flag_word, flag, has_flag, borrowed, locked}
 use Rattle.steps.proofs.Flags.Words.{with_stands, with_leaves, without_clear, without_leaves}
@@ -39,16 +39,13 @@ held_below_set holders n i o below long =
     omega arith
 
 pub none_if_zero : (o : Option ℕ) → one_held o ≤ 0 → o ≡ None
-none_if_zero None h = refl
-none_if_zero (Some p) h = absurd (omega arith)
+none_if_zero x0 x1 = grind arith
 
 pub one_if_some : (o : Option ℕ) → is_some o ≡ true → one_held o ≡ 1
-one_if_some None e = absurd (true≢false (sym e))
-one_if_some (Some p) e = refl
+one_if_some x0 x1 = grind arith
 
 pub none_if_not : (o : Option ℕ) → is_some o ≡ false → o ≡ None
-none_if_not None e = refl
-none_if_not (Some p) e = absurd (true≢false e)
+none_if_not x0 x1 = grind arith
 
 module _ (c : ℕ) where
   -- ---- the flags

@@ -1,8 +1,8 @@
 -- The number in the head of a unique index set, beside what it counts: the indices that are held, and the calls that take
 -- one or give one back. No event and no party is in it.
-use Rattle.std.proofs.Common.{◌≡◌, ◌≢◌, ℕ, ◌+◌, ◌-◌, ◌%◌, ◌^◌, ◌<◌, ◌≤◌, ◌⊎◌, ⊎_elim, inl, inr, arith}
+use Rattle.std.proofs.Common.{◌≡◌, ◌≢◌, ℕ, ◌+◌, ◌-◌, ◌%◌, ◌^◌, ◌<◌, ◌≤◌, ◌⊎◌, ⊎_elim, arith}
 use Rattle.steps.specs.declared.indices.head.HeadDetails.{HeadDetails}
-use Rattle.steps.specs.Indices.Head.{aba, borrowed, locked, head_word}
+use Rattle.steps.specs.Indices.Head.{borrowed, locked, head_word}
 use Rattle.steps.specs.Indices.Unique.{head_taken, head_given_back, head_locked}
 
 -- ---- the heads that calls write
@@ -12,18 +12,13 @@ number_of : (d : HeadDetails) → borrowed (head_word d) ≡ d.borrowed_indices 
 number_of d = omega arith
 
 pub taken_number : (head next : ℕ) → borrowed head < locked → borrowed (head_taken head next) ≡ borrowed head + 1
-taken_number head next less =
-    let is = number_of (record { head = next; aba = (aba head + 1) % 2 ^ 16; borrowed_indices = borrowed head + 1 }) in
-    omega arith
+taken_number x0 x1 x2 = grind arith
 
 pub given_number : (head index : ℕ) → 1 ≤ borrowed head → borrowed (head_given_back head index) + 1 ≡ borrowed head
-given_number head index some =
-    let is = number_of (record { head = index; aba = (aba head + 1) % 2 ^ 16; borrowed_indices = (borrowed head + (2 ^ 32 - 1)) % 2 ^ 32 }) in
-    omega arith
+given_number x0 x1 x2 = grind arith
 
 pub locked_number : (head index : ℕ) → borrowed (head_locked head index) ≡ locked
-locked_number head index =
-    number_of (record { head = index; aba = (aba head + 1) % 2 ^ 16; borrowed_indices = locked })
+locked_number x0 x1 = grind arith
 
 pub less_number : (head : ℕ) → 1 ≤ borrowed head → borrowed ((head + (2 ^ 64 - 1)) % 2 ^ 64) + 1 ≡ borrowed head
 less_number head some = omega arith
@@ -47,21 +42,10 @@ module _ (c counted total : ℕ) (few : c < locked) (h : Tally c counted total) 
   is_open some shut = let none = counts_none shut in absurd (omega arith)
 
   pub tally_up : (counted' : ℕ) → counted ≢ locked → counted ≢ c → counted' ≡ counted + 1 → Tally c counted' (total + 1)
-  tally_up counted' unlocked less is =
-      let all = counts_all unlocked in
-      let same = all.0 in
-      let most = all.1 in
-      inl (omega arith, omega arith)
+  tally_up x0 x1 x2 x3 = grind arith
 
   pub tally_down : (counted' total' : ℕ) → total ≡ total' + 1 → counted' + 1 ≡ counted → Tally c counted' total'
-  tally_down counted' total' less is =
-      let all = counts_all (is_open (omega arith)) in
-      let same = all.0 in
-      let most = all.1 in
-      inl (omega arith, omega arith)
+  tally_down x0 x1 x2 x3 = grind arith
 
   pub tally_shut : (counted' total' : ℕ) → total ≡ total' + 1 → counted ≡ 1 → counted' ≡ locked → Tally c counted' total'
-  tally_shut counted' total' less one is =
-      let all = counts_all (is_open (omega arith)) in
-      let same = all.0 in
-      inr (is, omega arith)
+  tally_shut x0 x1 x2 x3 x4 = grind arith

@@ -1,8 +1,7 @@
 -- What holds of the machine of a unique index set between any two turns beside what the frame says of every machine, and
 -- what a turn must show to keep it.
-use Rattle.std.proofs.Common.{◌≡◌, ◌≢◌, ℕ, ◌+◌, ◌<◌, ◌≤◌, ⊎_elim, if◌then◌else◌, Bool, true, false, nat_lt, Option, Some, None, List, [], ◌++◌, fold, refl, sym, ap, subst, ◌∙◌, arith}
+use Rattle.std.proofs.Common.{◌≡◌, ◌≢◌, ℕ, ◌+◌, ◌<◌, ◌≤◌, ⊎_elim, if◌then◌else◌, Bool, false, nat_lt, Option, Some, None, List, [], ◌++◌, fold, refl, sym, ap, subst, ◌∙◌, arith}
 use Rattle.std.proofs.lemmas.Bool.{cases_eq}
-use Rattle.std.proofs.lemmas.Bool.Decides.{nat_tests}
 use Rattle.std.proofs.lemmas.List.Sums.{fold-append}
 use Rattle.steps.specs.Indices.Head.{says_locked}
 use Rattle.steps.specs.declared.indices.enums.UniqueIndexSetAcquireFailure.TheVariants.{OutOfIndices}
@@ -30,7 +29,7 @@ use Rattle.model.proofs.Frame.{Family}
 use Rattle.model.proofs.Parties.{party_put_same, party_put_other}
 use Rattle.model.proofs.Readings.{AreRight, Each-append, AreOwn, AllFollow}
 use Rattle.index_laws.proofs.Core.{head_of, holder, held_below, Good}
-use Rattle.index_laws.proofs.Knows.{counts, takes, gives, flight_wrote, number_of, At, FlightKnows, IsSeen, flight_keeps, at_keeps}
+use Rattle.index_laws.proofs.Knows.{counts, takes, gives, flight_wrote, number_of, At, FlightKnows, IsSeen}
 use Rattle.index_laws.proofs.Totals.{weight_of, weight_at, total, total_put, total_longer}
 
 pub record IndexSet : Type 0 where
@@ -161,12 +160,10 @@ module _ {T : Type 0} where
     pub keeps : (q : ℕ) → q ≢ scene.party → (index : ℕ) → holder scene.set.holders index ≡ Some q → holder holders' index ≡ Some q
 
   any_stays : (c : ℕ) (holders holders' : List (Option ℕ)) (q : ℕ) → ((index : ℕ) → holder holders index ≡ Some q → holder holders' index ≡ Some q) → (start : Start T) (flight : Flight T) → FlightAt c holders q start flight → FlightAt c holders' q start flight
-  any_stays c holders holders' q keeps (any_starts.TheVariants.Indices start) (flights.TheVariants.Indices flight) h = at_keeps c holders holders' q keeps start flight h
-  any_stays c holders holders' q keeps start flight h = absurd h
+  any_stays x0 x1 x2 x3 x4 x5 x6 x7 = grind arith
 
   any_knows : (c : ℕ) (words words' : List ℕ) (changes changes' : ℕ) → IsSeen words words' changes changes' → (since backs : ℕ) (flight : Flight T) → Knowing c words since changes backs flight → Knowing c words' since changes' backs flight
-  any_knows c words words' changes changes' seen since backs (flights.TheVariants.Indices flight) h = flight_keeps words words' changes changes' since backs seen c flight h
-  any_knows c words words' changes changes' seen since backs flight h = absurd h
+  any_knows x0 x1 x2 x3 x4 x5 x6 x7 x8 x9 = grind arith
 
   module _ (scene : Scene T) (words' : List ℕ) (holders' : List (Option ℕ)) (was : Option (Flight T)) (from : Span T) (y : Party T) (es : List (Event T)) (changes' : ℕ) (s : Shows scene words' holders' was from y es changes') where
     pub owes : span_of scene.party scene.events ≡ from → Inv scene → frame.Owes (family scene.coding scene.capacity) (set_then scene words' holders') scene.party y scene.latest scene.events es changes'
@@ -191,18 +188,10 @@ module _ {T : Type 0} where
       seats' = seats_with set.seats p
 
       enough : (set.seats ≤ seats') × (p < seats')
-      enough = go (nat_lt p set.seats) refl
-        where
-          go : (b : Bool) → nat_lt p set.seats ≡ b → (set.seats ≤ (if b then set.seats else p + 1)) × (p < (if b then set.seats else p + 1))
-          go true e = let less : p < set.seats = grind (arith, nat_tests) in (omega arith, less)
-          go false e = let more : set.seats ≤ p = grind (arith, nat_tests) in (omega arith, omega arith)
+      enough = grind arith
 
       no_call : (q : ℕ) → set.seats ≤ q → party_of q latest ≡ None
-      no_call q more = go (party_of q latest) refl
-        where
-          go : (o : Option (Party T)) → party_of q latest ≡ o → o ≡ None
-          go None e = refl
-          go (Some x) e = let below = h.bounded q x e in absurd (omega arith)
+      no_call x0 x1 = grind arith
 
       weight_moves : (weight : IndexFlight → ℕ) → total (of_any weight) latest' seats' + weight_of (of_any weight) was ≡ total (of_any weight) latest set.seats + weight_of (of_any weight) (flight_of (Some y.doing))
       weight_moves weight =

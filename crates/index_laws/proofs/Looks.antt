@@ -70,16 +70,7 @@ module _ {T : Type 0} (scene : Scene T) (inv : Inv scene) (straight : scene.back
 
   -- and is at most the capacity
   counts_few : borrowed_number (head_of ws) ≤ c
-  counts_few = go (says_locked (head_of ws)) refl
-    where
-      go : (b : Bool) → says_locked (head_of ws) ≡ b → borrowed_number (head_of ws) ≤ c
-      go true t = rw t (omega arith)
-      go false t =
-          let not_locked : borrowed (head_of ws) ≢ locked = grind (arith, nat_tests) in
-          let is = counts_right c ws hs (busy scene) g not_locked in
-          let same = is.0 in
-          let most = is.1 in
-          rw t (omega arith)
+  counts_few = grind arith
 
   pub counts_step : IsHere scene borrowed_at → StepOf scene starts.TheVariants.BorrowedIndices borrowed_at
   counts_step here =

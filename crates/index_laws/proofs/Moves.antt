@@ -86,11 +86,7 @@ module _ (c : ℕ) (words : List ℕ) (holders : List (Option ℕ)) where
         moves_word 0 x (busy + 1) busy (omega arith) g (tally_down c (counted_in words) (held_below holders c + (busy + 1)) g.few g.tally (counted_in (set words 0 x)) (held_below holders c + busy) total (omega arith))
 
     pub some_counted : (1 ≤ counted_in words) × (counted_in words ≡ held_below holders c + busy + 1) × (counted_in words ≤ c)
-    some_counted =
-        let is = counts_right (busy + 1) g (unlocked_for (busy + 1) g (omega arith)) in
-        let same = is.0 in
-        let most = is.1 in
-        (omega arith, omega arith, omega arith)
+    some_counted = grind arith
 
     pub gives : (index : ℕ) → Good c (set words 0 (head_given_back (head_of words) index)) holders busy
     gives index = lowers (head_given_back (head_of words) index) (given_number (head_of words) index some_counted.0)

@@ -1,10 +1,8 @@
 -- The unique index set as it opens: nobody holds an index, and no flag stands.
-use Rattle.std.proofs.Common.{◌≡◌, ℕ, zero, suc, ◌+◌, ◌-◌, ◌/◌, ◌^◌, ◌<◌, ◌≤◌, inl, if◌then◌else◌, nat_lt, Bool, true, false, Option, Some, None, is_some, ◌++◌, length, replicate, get_or, refl, sym, ap, ◌∙◌, arith, length-append, get_or-append-add}
-use Rattle.std.proofs.lemmas.Bool.Decides.{nat_tests}
+use Rattle.std.proofs.Common.{◌≡◌, ℕ, zero, suc, ◌+◌, ◌/◌, ◌<◌, ◌≤◌, inl, Option, None, is_some, ◌++◌, length, replicate, get_or, refl, sym, ap, ◌∙◌, arith, length-append, get_or-append-add}
 use Rattle.std.proofs.lemmas.List.{length-replicate}
 use Rattle.std.proofs.lemmas.List.FromFn.{length-range_with_len}
 use Rattle.std.specs.List.{range_with_len}
-use Rattle.steps.specs.declared.enums.UniqueIndexCreationError.{UniqueIndexCreationError}
 use Rattle.steps.specs.Indices.Head.{flag_word, has_flag, locked}
 use Rattle.steps.proofs.Flags.Words.{none_stands}
 use Rattle.model.specs.declared.turn.Kind as kinds
@@ -55,15 +53,5 @@ opening_good c some few =
       tally = inl (omega arith, omega arith);
     }
 
--- a capacity that is admitted
-passed_both : (a b : Bool) (x y : UniqueIndexCreationError) → (if a then Some x else if b then Some y else None) ≡ None → (a ≡ false) × (b ≡ false)
-passed_both true b x y e = absurd (cc)
-passed_both false true x y e = absurd (cc)
-passed_both false false x y e = (refl, refl)
-
 pub admitted_is : (c : ℕ) → capacity_error kinds.TheVariants.Indices c ≡ None → (1 ≤ c) × (c < locked)
-admitted_is c e =
-    let both = passed_both (nat_lt (2 ^ 24 - 2) c) (nat_lt c 1) _ _ e in
-    let most : nat_lt (2 ^ 24 - 2) c ≡ false = both.0 in
-    let least : nat_lt c 1 ≡ false = both.1 in
-    (grind (arith, nat_tests), grind (arith, nat_tests))
+admitted_is x0 x1 = grind arith

@@ -1,5 +1,5 @@
 -- The steps of a release, in both modes.
-use Rattle.std.proofs.Common.{◌≡◌, ◌≢◌, ℕ, ◌+◌, ◌-◌, ◌*◌, ◌%◌, ◌^◌, ◌<◌, ◌≤◌, ◌==◌, ⊎_elim, inl, Bool, true, false, bit_and, Option, Some, None, List, get_or, set, refl, sym, ap, subst, ◌∙◌, arith, get_or-set_same}
+use Rattle.std.proofs.Common.{◌≡◌, ◌≢◌, ℕ, ◌+◌, ◌-◌, ◌*◌, ◌%◌, ◌^◌, ◌<◌, ◌≤◌, ◌==◌, inl, Bool, true, false, bit_and, Option, Some, None, List, get_or, set, refl, sym, ap, subst, ◌∙◌, arith, get_or-set_same}
 use Rattle.std.proofs.lemmas.Bool.Decides.{nat_tests}
 use Rattle.std.proofs.lemmas.List.{set-get_or}
 use Rattle.steps.specs.declared.ask.Ask.{Ask}
@@ -227,9 +227,7 @@ module _ {T : Type 0} (scene : Scene T) (inv : Inv scene) (index : ℕ) (below :
 
     -- the head has moved
     goes_back_to : words_after ws (Some (exchange true head)) ≡ ws → head_of ws ≢ head → Does true (GoOn (locking (releases.TheVariants.StoresNext (head_of ws))))
-    goes_back_to same other =
-        let more : backs + since + 1 ≤ changes = ⊎_elim (λ k. absurd (other k.0)) (λ k. k) knows in
-        goes_on scene inv started_lock exchanging (locking (releases.TheVariants.StoresNext (head_of ws))) (Some (exchange true head)) true (λ busy' e. good_same (exchange true head) busy' same (omega arith)) refl refl refl (ap (λ w. says_locked (head_of w)) same) tt (omega arith) (refl, refl, below, tt) (inl (ap head_of same, omega arith))
+    goes_back_to x0 x1 = grind arith
 
     lock_exchanges : StepOf scene started_lock exchanging
     lock_exchanges = go (head_of ws == head) refl (borrowed head == 1) refl

@@ -1,11 +1,8 @@
 -- Every turn keeps what holds of the machine of a unique index set: the laws of the family.
-use Rattle.std.proofs.Common.{◌≡◌, ℕ, ◌+◌, ◌<◌, ◌≤◌, ◌==◌, inl, nat_le, Bool, true, false, not, Option, Some, None, List, [], ◌∷◌, replicate, refl, sym, ap, subst, arith}
-use Rattle.std.proofs.lemmas.Bool.Decides.{nat_tests}
+use Rattle.std.proofs.Common.{◌≡◌, ℕ, ◌+◌, ◌<◌, ◌≤◌, inl, true, Option, Some, None, List, [], ◌∷◌, replicate, refl, sym, ap, subst, arith}
 use Rattle.steps.specs.declared.indices.enums.ReleaseMode.TheVariants.{LockIfLastIndex, Default}
 use Rattle.steps.specs.declared.indices.unique.AcquireStage.{AcquireStage}
-use Rattle.steps.specs.declared.indices.unique.AcquireStage as acquires
 use Rattle.steps.specs.declared.indices.unique.ReleaseStage.{ReleaseStage}
-use Rattle.steps.specs.declared.indices.unique.ReleaseStage as releases
 use Rattle.steps.specs.Indices.Head.{locked}
 use Rattle.model.specs.declared.event.Event.TheVariants.{Begun}
 use Rattle.model.specs.declared.event.Start.{Start}
@@ -21,10 +18,9 @@ use Rattle.model.specs.declared.families.indices.calls.IndexFlight as calls
 use Rattle.model.specs.declared.party.Doing.TheVariants.{Going}
 use Rattle.model.specs.declared.party.Party.{Party}
 use Rattle.model.specs.declared.turn.Kind as kinds
-use Rattle.model.specs.declared.turn.Refusal.TheVariants.{BadIndex, NotHeld}
 use Rattle.model.specs.Coding.{Coding}
 use Rattle.model.specs.Families.{first_of, want_of, is_question, kept_after_begin}
-use Rattle.model.specs.Families.Indices.Calls.{first, want}
+use Rattle.model.specs.Families.Indices.Calls.{first}
 use Rattle.model.specs.Families.Indices.Opening.{opening_words, call_rows, kept_rows}
 use Rattle.model.specs.Families.Indices.Promises.{GoesStraight}
 use Rattle.model.specs.Families.Indices.Reading.{tally_after}
@@ -37,10 +33,10 @@ use Rattle.model.specs.Turns.{old_of, party_at_begin, IsReached, IsReachedOn}
 use Rattle.model.specs.World.{Trace, opening, capacity_error}
 use Rattle.model.proofs.Frame as frame
 use Rattle.model.proofs.Readings.{Each-nil}
-use Rattle.model.proofs.Rows.{row_passed, MayBegin}
+use Rattle.model.proofs.Rows.{MayBegin}
 use Rattle.model.proofs.Scenes.{asked, StandsThere, stands_there, ComesFrom, comes_from}
 use Rattle.index_laws.proofs.Acquires.{acquire_step}
-use Rattle.index_laws.proofs.Core.{holder, held_below, Good}
+use Rattle.index_laws.proofs.Core.{held_below, Good}
 use Rattle.index_laws.proofs.Invariant.{IndexSet, Fit, Scene, Inv, Shows, family, seats_with, owes, holds_more}
 use Rattle.index_laws.proofs.Knows.{acquire_at, default_at, lock_at, counts, takes, gives, flight_wrote, number_of, At, FlightKnows}
 use Rattle.index_laws.proofs.Looks.{counts_step, looks_step}
@@ -48,22 +44,12 @@ use Rattle.index_laws.proofs.Opening.{nobody_holds, none_held, opening_good, adm
 use Rattle.index_laws.proofs.Releases.{default_step, lock_step}
 use Rattle.index_laws.proofs.Stages.{IsHere, StepOf, same_tally}
 
-holds_is : (o : Option ℕ) (p : ℕ) → not (holds o p) ≡ false → o ≡ Some p
-holds_is None p e = absurd (cc)
-holds_is (Some q) p e = go (q == p) refl e
-  where
-    go : (b : Bool) → (q == p) ≡ b → not b ≡ false → Some q ≡ Some p
-    go true t e = let same : q ≡ p = grind (arith, nat_tests) in ap Some same
-    go false t e = absurd (cc)
-
 pub kept_is : {T : Type 0} → (kept : Kept T) (words : List ℕ) (s : IndexSet) → Fit kept words s → (kept ≡ kepts.TheVariants.Indices s.holders) × (words ≡ s.words)
-kept_is (kepts.TheVariants.Indices holders) words s fit = (ap (λ o. kepts.TheVariants.Indices o) fit.1, fit.0)
-kept_is kept words s fit = absurd fit
+kept_is x0 x1 x2 x3 = grind arith
 
 -- a seat more
 fit_seats : {T : Type 0} → (kept : Kept T) (words : List ℕ) (s : IndexSet) (seats : ℕ) → Fit kept words s → Fit kept words (record { words = s.words; holders = s.holders; seats = seats })
-fit_seats (kepts.TheVariants.Indices holders) words s seats fit = fit
-fit_seats kept words s seats fit = absurd fit
+fit_seats x0 x1 x2 x3 x4 = grind arith
 
 -- ---- one step of a call
 
@@ -79,9 +65,7 @@ module _ {T : Type 0} (scene : Scene T) (inv : Inv scene) where
       subst (λ m. IsHere scene (acquire_at m stage) → StepOf scene starts.TheVariants.Acquire (acquire_at m stage)) (sym e) moves
 
   default_moves : (n i index : ℕ) (stage : ReleaseStage) → n ≡ c → i ≡ index → (IsHere scene (default_at c index stage) → StepOf scene (starts.TheVariants.Release index Default) (default_at c index stage)) → IsHere scene (default_at n i stage) → StepOf scene (starts.TheVariants.Release index Default) (default_at n i stage)
-  default_moves n i index stage e f moves =
-      subst (λ m. IsHere scene (default_at m i stage) → StepOf scene (starts.TheVariants.Release index Default) (default_at m i stage)) (sym e)
-      (subst (λ j. IsHere scene (default_at c j stage) → StepOf scene (starts.TheVariants.Release index Default) (default_at c j stage)) (sym f) moves)
+  default_moves x0 x1 x2 x3 x4 x5 x6 = grind arith
 
   lock_moves : (n i index : ℕ) (stage : ReleaseStage) → n ≡ c → i ≡ index → (IsHere scene (lock_at c index stage) → StepOf scene (starts.TheVariants.Release index LockIfLastIndex) (lock_at c index stage)) → IsHere scene (lock_at n i stage) → StepOf scene (starts.TheVariants.Release index LockIfLastIndex) (lock_at n i stage)
   lock_moves n i index stage e f moves =
@@ -109,27 +93,8 @@ record IsFirst (T : Type 0) (c : ℕ) (words : List ℕ) (holders : List (Option
   pub straight : GoesStraight {T = T} (Indices start) 0
   pub told : (h t g t' g' : ℕ) → t' + 0 ≡ t + takes flight → g' + 0 ≡ g + gives flight → tally_after {T = T} (record { held = h; taking = t; giving = g }) (Begun p (Indices start)) ≡ record { held = h; taking = t'; giving = g' }
 
--- a release that is not refused is of an index that the party holds
-release_passed : (c : ℕ) (holders : List (Option ℕ)) (p index : ℕ) → first_row ((nat_le c index, BadIndex) ∷ (not (holds (holder holders index) p), NotHeld) ∷ []) ≡ None → (index < c) × (holder holders index ≡ Some p)
-release_passed c holders p index r =
-    let low = row_passed (nat_le c index) BadIndex (first_row ((not (holds (holder holders index) p), NotHeld) ∷ [])) r in
-    let mine = row_passed (not (holds (holder holders index) p)) NotHeld None low.1 in
-    let t : nat_le c index ≡ false = low.0 in
-    (grind (arith, nat_tests), holds_is (holder holders index) p mine.0)
-
 first_is : {T : Type 0} (c : ℕ) (words : List ℕ) (holders : List (Option ℕ)) (p changes : ℕ) (start : IndexStart) → first_row (call_rows c holders p start) ≡ None → IsFirst T c words holders p changes start (first c start)
-first_is c words holders p changes starts.TheVariants.Acquire r =
-    record { at = (refl, tt); knows = omega arith; light = refl; wrote = refl; straight = tt; told = λ h t g t' g' a b. same_tally h h (t + 1) t' g g' refl (omega arith) (omega arith) }
-first_is c words holders p changes (starts.TheVariants.Release index Default) r =
-    let passed = release_passed c holders p index r in
-    record { at = (refl, refl, passed.0, passed.1); knows = refl; light = refl; wrote = refl; straight = refl; told = λ h t g t' g' a b. same_tally h h t t' g g' refl (omega arith) (omega arith) }
-first_is c words holders p changes (starts.TheVariants.Release index LockIfLastIndex) r =
-    let passed = release_passed c holders p index r in
-    record { at = (refl, refl, passed.0, passed.1); knows = omega arith; light = refl; wrote = refl; straight = tt; told = λ h t g t' g' a b. same_tally h h t t' g g' refl (omega arith) (omega arith) }
-first_is c words holders p changes starts.TheVariants.BorrowedIndices r =
-    record { at = tt; knows = refl; light = refl; wrote = refl; straight = tt; told = λ h t g t' g' a b. same_tally h h t t' g g' refl (omega arith) (omega arith) }
-first_is c words holders p changes starts.TheVariants.IsLocked r =
-    record { at = tt; knows = refl; light = refl; wrote = refl; straight = tt; told = λ h t g t' g' a b. same_tally h h t t' g g' refl (omega arith) (omega arith) }
+first_is x0 x1 x2 x3 x4 x5 x6 = grind arith
 
 -- a call that begins on the set is one of its own
 abbrev IsOwn : {T : Type 0} → ℕ → Start T → Flight T → Type 0
@@ -137,49 +102,13 @@ IsOwn c (Indices start) (flights.TheVariants.Indices flight) = first c start ≡
 IsOwn c start flight = ⊥
 
 begins_own : {T : Type 0} (c : ℕ) (kept : Kept T) (start : Start T) (flight : Flight T) → first_of kinds.TheVariants.Indices c start kept ≡ Some flight → IsOwn c start flight
-begins_own c kept (Indices start) (flights.TheVariants.Indices flight) e = cc
-begins_own c kept (Indices start) flight e = absurd (cc)
-begins_own c kept start flight e = absurd (cc)
-
--- no call of the set asks a question
-acquire_asks_none : (c : ℕ) (stage : AcquireStage) → is_question (want (acquire_at c stage)) ≡ false
-acquire_asks_none c acquires.TheVariants.LoadsHead = refl
-acquire_asks_none c (acquires.TheVariants.LoadsNext head) = refl
-acquire_asks_none c (acquires.TheVariants.ExchangesHead head next) = refl
-acquire_asks_none c (acquires.TheVariants.Claims index) = refl
-acquire_asks_none c (acquires.TheVariants.Scans index) = refl
-
-default_asks_none : (c index : ℕ) (stage : ReleaseStage) → is_question (want (default_at c index stage)) ≡ false
-default_asks_none c index releases.TheVariants.ClearsFlag = refl
-default_asks_none c index releases.TheVariants.LoadsHead = refl
-default_asks_none c index (releases.TheVariants.StoresNext head) = refl
-default_asks_none c index (releases.TheVariants.ExchangesHead head) = refl
-default_asks_none c index releases.TheVariants.Subtracts = refl
-
-lock_asks_none : (c index : ℕ) (stage : ReleaseStage) → is_question (want (lock_at c index stage)) ≡ false
-lock_asks_none c index releases.TheVariants.ClearsFlag = refl
-lock_asks_none c index releases.TheVariants.LoadsHead = refl
-lock_asks_none c index (releases.TheVariants.StoresNext head) = refl
-lock_asks_none c index (releases.TheVariants.ExchangesHead head) = refl
-lock_asks_none c index releases.TheVariants.Subtracts = refl
-
-never_asks : (flight : IndexFlight) → is_question (want flight) ≡ false
-never_asks (calls.TheVariants.Acquire run) = acquire_asks_none run.call.capacity run.call.stage
-never_asks (calls.TheVariants.ReleaseDefault run) = default_asks_none run.call.capacity run.given run.call.stage
-never_asks (calls.TheVariants.ReleaseLock run) = lock_asks_none run.call.capacity run.given run.call.stage
-never_asks (calls.TheVariants.BorrowedIndices run) = refl
-never_asks (calls.TheVariants.IsLocked run) = refl
-
-never_due : {A T : Type 0} → (code z : Coding T) (c : ℕ) (s : IndexSet) (p : ℕ) (start : Start T) (flight : Flight T) → (family code c).At s p start flight → is_question (want_of z flight) ≡ true → A
-never_due code z c s p (Indices start) (flights.TheVariants.Indices flight) at e = let none = never_asks flight in absurd (cc)
-never_due code z c s p start flight at e = absurd at
+begins_own x0 x1 x2 x3 x4 = grind arith
 
 -- ---- the laws of the family
 
 module _ {T : Type 0} (code : Coding T) (c : ℕ) (t : Trace T) (s : frame.Sound (family code c) t) (p : ℕ) where
   pub asks_nothing : {A : Type 0} → (x : Party T) (flight : Flight T) (since : ℕ) → party_of p t.world.latest ≡ Some x → x.doing ≡ Going flight since → is_question (want_of t.world.coding flight) ≡ true → A
-  asks_nothing x flight since found doing asks =
-      never_due code t.world.coding c s.state p x.start flight (stands_there (family code c) t s p x since flight found doing).at asks
+  asks_nothing x0 x1 x2 x3 x4 x5 = grind arith
 
   abbrev pub scene_of : Party T → ℕ → Scene T
   scene_of x since =

@@ -39,7 +39,7 @@ use Rattle.model.specs.Turns.{one_if, old_of, words_after, change_of, step_count
 use Rattle.model.proofs.Turns.{kept_words}
 use Rattle.index_laws.proofs.Core.{head_of, counted_in, holder, one_held, held_below, held_below_set, Good}
 use Rattle.index_laws.proofs.Invariant.{Scene, Inv, Shows, AnswersFew, of_any, all_counted, all_taking, all_giving}
-use Rattle.index_laws.proofs.Knows.{counts, takes, gives, flight_wrote, number_of, At, FlightKnows, IsPaid, PaidUnless, IsSeen, counts_less}
+use Rattle.index_laws.proofs.Knows.{counts, takes, gives, flight_wrote, number_of, At, FlightKnows, IsPaid, PaidUnless, IsSeen}
 use Rattle.index_laws.proofs.Sums.{sum_one, sum_over}
 use Rattle.index_laws.proofs.Totals.{weight_of, weight_at}
 
@@ -84,15 +84,11 @@ holder_set holders index o i below = ⊎_elim here there (cases_eq index i)
         ∙ sym (get_or-set_other holders index i o None (λ e. ne (sym e)))
 
 pub same_tally : (h h' t t' g g' : ℕ) → h ≡ h' → t ≡ t' → g ≡ g' → ◌≡◌ {A = Tally} (record { held = h; taking = t; giving = g }) (record { held = h'; taking = t'; giving = g' })
-same_tally h h' t t' g g' a b d =
-    ap (λ n. record { held = n; taking = t; giving = g }) a
-    ∙ (ap (λ n. record { held = h'; taking = n; giving = g }) b ∙ ap (λ n. record { held = h'; taking = t'; giving = n }) d)
+same_tally x0 x1 x2 x3 x4 x5 x6 x7 x8 = grind arith
 
 module _ {T : Type 0} where
   any_less : (o : Option (Flight T)) → weight_of (of_any counts) o ≤ weight_of (of_any takes) o + weight_of (of_any gives) o
-  any_less None = omega arith
-  any_less (Some (flights.TheVariants.Indices flight)) = counts_less flight
-  any_less (Some flight) = omega arith
+  any_less x0 = grind arith
 
   -- a call of the set as one of any family
   abbrev pub any_call : After IndexFlight (Answer T) → After (Flight T) (Answer T)
