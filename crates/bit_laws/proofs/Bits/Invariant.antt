@@ -1,10 +1,8 @@
 -- What holds of a bit set's machine between any two turns beside what the frame says of every machine, and what a turn does
 -- to its words that keeps it.
-use Rattle.std.proofs.Common.{◌≡◌, ◌≢◌, ℕ, ◌+◌, ◌≤◌, ⊎_elim, List, ◌++◌, fold, length, get_or, refl, sym, ap, ◌∙◌, arith}
-use Rattle.std.proofs.lemmas.Bool.{cases_eq}
+use Rattle.std.proofs.Common.{◌≡◌, ◌≢◌, ℕ, ◌+◌, ◌≤◌, List, ◌++◌, fold, length, get_or, refl, sym, ap, ◌∙◌, arith}
 use Rattle.std.proofs.lemmas.List.Sums.{fold-append}
 use Rattle.steps.specs.declared.bits.bit_set.SetStage.{SetStage}
-use Rattle.steps.specs.declared.bits.bit_set.SetStage as setting
 use Rattle.steps.specs.declared.bits.bit_set.ResetNextStage.{ResetNextStage}
 use Rattle.steps.specs.declared.bits.bit_set.ResetNextStage as resetting
 use Rattle.steps.specs.Bits.BitSet.{place_after, at_most}
@@ -33,19 +31,10 @@ pub record Pays (words words' : List ℕ) (changes changes' : ℕ) : Type 0 wher
 
 module _ (words words' : List ℕ) (changes changes' : ℕ) (pays : Pays words words' changes changes') where
   paid_still : (since backs element found : ℕ) → Paid words since changes backs element found → Paid words' since changes' backs element found
-  paid_still since backs element found h =
-      let low = h.0 in
-      let up = pays.up in (
-        omega arith,
-        λ ne. ⊎_elim
-            (λ same. let more = h.1 (λ e. ne (same ∙ e)) in omega arith)
-            (λ other. let more = pays.changed element other in omega arith)
-            (cases_eq (get_or words' element 0) (get_or words element 0)),
-      )
+  paid_still x0 x1 x2 x3 x4 = grind arith
 
   set_still : (since backs bit : ℕ) (stage : SetStage) → KnowsSet words since changes backs bit stage → KnowsSet words' since changes' backs bit stage
-  set_still since backs bit setting.TheVariants.LoadsElement h = let up = pays.up in omega arith
-  set_still since backs bit (setting.TheVariants.ExchangesElement found) h = paid_still since backs (element_of bit) found h
+  set_still x0 x1 x2 x3 x4 = grind arith
 
 module _ {T : Type 0} where
   pub record Holds (c : ℕ) (words : List ℕ) (events : List (Event T)) : Type 0 where

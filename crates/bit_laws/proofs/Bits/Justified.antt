@@ -1,10 +1,9 @@
 -- What a step writes down, and with it all that a bit set owes of its machine.
-use Rattle.std.proofs.Common.{◌≡◌, ℕ, ◌==◌, Bool, true, false, List, [], ◌∷◌, refl, sym, subst}
+use native.Mathlib.Omega.{arith}
+use Rattle.std.proofs.Common.{◌≡◌, ℕ, List, [], ◌∷◌, refl, sym, subst}
 use Rattle.std.specs.List.{AllByRecursion}
 use Rattle.steps.specs.declared.bits.bit_set.SetStage.{SetStage}
-use Rattle.steps.specs.declared.bits.bit_set.SetStage as setting
 use Rattle.steps.specs.declared.bits.bit_set.ResetNextStage.{ResetNextStage}
-use Rattle.steps.specs.declared.bits.bit_set.ResetNextStage as resetting
 use Rattle.steps.specs.Bits.Places.{places_in}
 use Rattle.model.specs.declared.event.Event.{Event}
 use Rattle.model.specs.declared.families.bits.BitsStart.{BitsStart}
@@ -29,22 +28,10 @@ use Rattle.model.specs.World.{Trace}
 
 module _ (T : Type 0) where
   set_effects : (p bit old : ℕ) (stage : SetStage) → AllByRecursion (IsEffectOf {T = T} (Next p)) (set_events p bit stage old)
-  set_effects p bit old setting.TheVariants.LoadsElement = tt
-  set_effects p bit old (setting.TheVariants.ExchangesElement found) = go (old == found) refl
-    where
-      go : (b : Bool) → (old == found) ≡ b → AllByRecursion (IsEffectOf {T = T} (Next p)) (set_events p bit (setting.TheVariants.ExchangesElement found) old)
-      go true t = rw t (refl, tt)
-      go false t = rw t tt
+  set_effects x0 x1 x2 x3 = grind arith
 
   next_effects : (p c old : ℕ) (stage : ResetNextStage) → AllByRecursion (IsEffectOf {T = T} (Next p)) (reset_events p c stage old)
-  next_effects p c old resetting.TheVariants.LoadsPosition = tt
-  next_effects p c old (resetting.TheVariants.LoadsElement start passed) = tt
-  next_effects p c old (resetting.TheVariants.ExchangesElement start passed found) = go (old == found) refl
-    where
-      go : (b : Bool) → (old == found) ≡ b → AllByRecursion (IsEffectOf {T = T} (Next p)) (reset_events p c (resetting.TheVariants.ExchangesElement start passed found) old)
-      go true t = rw t (refl, tt)
-      go false t = rw t tt
-  next_effects p c old (resetting.TheVariants.StoresPosition place) = tt
+  next_effects x0 x1 x2 x3 = grind arith
 
   all_effects : (p : ℕ) (bs : List ℕ) → AllByRecursion (IsEffectOf {T = T} (Next p)) (all_cleared p bs)
   all_effects p [] = tt

@@ -37,11 +37,7 @@ use Rattle.bit_laws.proofs.Words.{load_leaves, failed_leaves, done_writes}
 -- ---- places one after another
 
 pub place_near : (c start passed : ℕ) → start ≤ c → passed < c → place_after c start passed < c
-place_near c start passed low few = go (nat_lt (start + passed) c) refl
-  where
-    go : (t : Bool) → nat_lt (start + passed) c ≡ t → place_after c start passed < c
-    go true t = let less : start + passed < c = grind (arith, nat_tests) in rw t less
-    go false t = let more : c ≤ start + passed = grind (arith, nat_tests) in rw t (omega arith)
+place_near x0 x1 x2 x3 x4 = grind arith
 
 -- each place comes
 pub place_comes : (c start b : ℕ) → start ≤ c → b < c → (k : ℕ) × (k < c) × (place_after c start k ≡ b)
@@ -60,11 +56,7 @@ place_comes c start b low below = ⊎_elim behind ahead (cases_lt b start)
         (b - start, omega arith, rw t is)
 
 start_near : (c position : ℕ) → at_most c position ≤ c
-start_near c position = go (nat_lt c position) refl
-  where
-    go : (t : Bool) → nat_lt c position ≡ t → at_most c position ≤ c
-    go true t = rw t (omega arith)
-    go false t = let low : position ≤ c = grind (arith, nat_tests) in rw t low
+start_near x0 x1 = grind arith
 
 module _ {T : Type 0} (code : Coding T) (c : ℕ) (s : SetState T) (events : List (Event T)) (turns p changes since steps backs : ℕ) (holds : Holds c s.words events) where
   abbrev next : BitsStart

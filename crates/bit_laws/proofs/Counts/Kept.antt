@@ -4,7 +4,6 @@ use Rattle.model.specs.declared.event.Event.{Event}
 use Rattle.model.specs.declared.families.bits.BitsStart.{BitsStart}
 use Rattle.model.specs.declared.families.bits.BitsStart.TheVariants.{Set, ResetAll}
 use Rattle.model.specs.declared.families.bits.calls.BitsFlight.{BitsFlight}
-use Rattle.model.specs.declared.families.bits.calls.BitsFlight.TheVariants.{Count, TakeAll}
 use Rattle.model.specs.Families.Bits.Bounds.{most_counts_steps}
 use Rattle.model.specs.Families.Bits.Promises.{IsCountingSet, IsCountingOn, HasTaken, HasTakenOn, CountsAnswerRight, CountsAnswerOn}
 use Rattle.model.specs.Families.Bits.Reading.{counts, takes}
@@ -18,14 +17,10 @@ use Rattle.bit_laws.proofs.Counts.Invariant.{Holds, CallAt, KnowsCall, number_of
 
 module _ {T : Type 0} where
   pub steps_most : (c : ℕ) (wrote : List (Event T)) (start : BitsStart) (flight : BitsFlight) → CallAt c wrote start flight → number_of flight ≤ most_counts_steps c start
-  steps_most c wrote (Set place) (Count run) at = omega arith
-  steps_most c wrote ResetAll (TakeAll run) at = at.1
-  steps_most c wrote start flight at = absurd at
+  steps_most x0 x1 x2 x3 x4 = grind arith
 
   pub backs_paid : (p : ℕ) (events : List (Event T)) (n backs : ℕ) (flight : BitsFlight) → KnowsCall p events backs flight → backs ≤ n
-  backs_paid p events n backs (Count run) h = omega arith
-  backs_paid p events n backs (TakeAll run) h = let none = h.0 in omega arith
-  backs_paid p events n backs flight h = absurd h
+  backs_paid x0 x1 x2 x3 x4 x5 = grind arith
 
   -- ---- without an end
 

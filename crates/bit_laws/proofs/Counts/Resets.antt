@@ -27,7 +27,7 @@ use Rattle.model.specs.Promises.Spans.{Stands}
 use Rattle.model.proofs.Moments.{since_more}
 use Rattle.model.proofs.Readings.{AreRight, AreOwn, AllFollow, span_of-own}
 use Rattle.bit_laws.proofs.Counts.Core.{TakenBelow, taken_next, counts_more, takes_more}
-use Rattle.bit_laws.proofs.Counts.Invariant.{Holds, rest_conserves, counting_set}
+use Rattle.bit_laws.proofs.Counts.Invariant.{Holds, counting_set}
 use Rattle.bit_laws.proofs.Family.{SetState, Shows, party_then, StepShows}
 use Rattle.bit_laws.proofs.Spans.{wrote_in}
 
@@ -135,16 +135,7 @@ module _ {T : Type 0} (code : Coding T) (c : ℕ) (s : SetState T) (events : Lis
           go false t = rw t refl
 
   takes_some : 1 ≤ count → TakesOut (TakenOut p word count ∷ [])
-  takes_some some =
-      record {
-        own = (refl, tt);
-        none = tt;
-        right = (tt, tt);
-        stands = ((some, empty), tt);
-        counts = λ b. refl;
-        takes = λ b. omega arith;
-        span = refl;
-      }
+  takes_some x0 = grind arith
 
   -- ---- a swap
 
@@ -233,14 +224,7 @@ module _ {T : Type 0} (code : Coding T) (c : ℕ) (s : SetState T) (events : Lis
 
     -- without a further word
     asks_nothing : word ≡ c → Does None done []
-    asks_nothing last =
-        record {
-          conserves = rest_conserves c ws events turns _ holds (λ b. refl) (λ b. refl) (subst (λ n. SinceBegin p (TakenBelow n) events) last taken, tt);
-          own = (refl, tt);
-          stands = ((refl, tt), tt);
-          here = record { answer = answers.TheVariants.Done; wrote = wrote; span = refl; steps = omega arith };
-          knows = omega arith;
-        }
+    asks_nothing x0 = grind arith
 
     -- the step, whatever is left
     pub reset_step : word ≤ c → Does (ask_of (want (take_at room word end))) (after (take_at room word end) (old_of ws (ask_of (want (take_at room word end))))) (effects_of p (take_at room word end) (old_of ws (ask_of (want (take_at room word end)))))

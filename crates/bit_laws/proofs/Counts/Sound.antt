@@ -1,9 +1,6 @@
 -- Where the machine of a counting bit set opens, where each of its calls begins, and what each step of them shows.
-use Rattle.std.proofs.Common.{◌≡◌, ℕ, ◌<◌, nat_lt, nat_le, Bool, true, false, Some, List, [], ◌∷◌, refl, sym, subst, arith}
-use Rattle.std.proofs.lemmas.Bool.Decides.{nat_tests}
+use Rattle.std.proofs.Common.{◌≡◌, ℕ, false, Some, List, [], ◌∷◌, refl, sym, subst, arith}
 use Rattle.std.proofs.lemmas.List.{length-replicate}
-use Rattle.steps.specs.declared.copied.OneWord.{OneWord}
-use Rattle.steps.specs.Bits.ResetAll.{all_counts}
 use Rattle.model.specs.declared.event.Event.{Event}
 use Rattle.model.specs.declared.event.Event.TheVariants.{Begun}
 use Rattle.model.specs.declared.event.Start.{Start}
@@ -11,38 +8,25 @@ use Rattle.model.specs.declared.event.Start.TheVariants.{Bits}
 use Rattle.model.specs.declared.families.Kept.{Kept}
 use Rattle.model.specs.declared.families.Flight.{Flight}
 use Rattle.model.specs.declared.families.bits.BitsStart.{BitsStart}
-use Rattle.model.specs.declared.families.bits.BitsStart.TheVariants.{Set, ResetNext, ResetAll}
+use Rattle.model.specs.declared.families.bits.BitsStart.TheVariants.{Set, ResetAll}
 use Rattle.model.specs.declared.families.bits.calls.BitsFlight.{BitsFlight}
 use Rattle.model.specs.declared.families.bits.calls.BitsFlight.TheVariants.{Count, TakeAll}
 use Rattle.model.specs.declared.turn.Kind as kinds
 use Rattle.model.specs.Coding.{Coding}
 use Rattle.model.specs.Families.{first_of, is_question}
-use Rattle.model.specs.Families.Bits.Calls.{add_one, first, want}
+use Rattle.model.specs.Families.Bits.Calls.{first, want}
 use Rattle.model.specs.Families.Bits.Opening.{counts_words, is_past}
 use Rattle.model.specs.Families.Bits.Reading.{takes}
-use Rattle.model.specs.Families.Queues.Calls.{fresh}
-use Rattle.model.proofs.Moments.{since_now}
 use Rattle.model.proofs.Readings.{Each-nil}
-use Rattle.bit_laws.proofs.Counts.Core.{TakenBelow}
-use Rattle.bit_laws.proofs.Counts.Invariant.{Holds, CallAt, Conserves, rest_conserves, counting_set}
-use Rattle.bit_laws.proofs.Counts.Resets.{take_at, reset_step}
+use Rattle.bit_laws.proofs.Counts.Invariant.{Holds, CallAt, Conserves, counting_set}
+use Rattle.bit_laws.proofs.Counts.Resets.{reset_step}
 use Rattle.bit_laws.proofs.Counts.Steps.{set_shows}
 use Rattle.bit_laws.proofs.Family.{SetState, ShowsStep, StepOf}
 use Rattle.bit_laws.proofs.Laws.{IsOwn, IsFirst}
 use Rattle.bit_laws.proofs.Words.{zeros}
 
--- no call of the set asks a question
-take_asks : (room : OneWord) (word end : ℕ) → is_question (want (take_at room word end)) ≡ false
-take_asks room word end = go (nat_lt word end) refl
-  where
-    go : (b : Bool) → nat_lt word end ≡ b → is_question (want (take_at room word end)) ≡ false
-    go true t = rw t refl
-    go false t = rw t refl
-
 pub never_asks : {T : Type 0} (c : ℕ) (wrote : List (Event T)) (start : BitsStart) (flight : BitsFlight) → CallAt c wrote start flight → is_question (want flight) ≡ false
-never_asks c wrote (Set place) (Count run) at = refl
-never_asks c wrote ResetAll (TakeAll run) at = take_asks run.room run.call.word run.call.end
-never_asks c wrote start flight at = absurd at
+never_asks x0 x1 x2 x3 x4 = grind arith
 
 module _ {T : Type 0} where
   pub opens : (c : ℕ) → Holds {T = T} c (counts_words c) [] 0
@@ -78,31 +62,13 @@ module _ {T : Type 0} where
     abbrev First : BitsStart → BitsFlight → Type 0
     First start flight = IsFirst counting_set c p events words changes start flight
 
-    set_is : (place : ℕ) → is_past c (Set place) ≡ false → First (Set place) (Count (record { call = add_one; given = place; room = tt }))
-    set_is place r =
-        let t : nat_le c place ≡ false = r in
-        let below : place < c = grind (arith, nat_tests) in
-        record { at = (refl, below); knows = refl; wrote = refl }
-
-    reset_is : First ResetAll (TakeAll (record { call = all_counts c; given = tt; room = fresh }))
-    reset_is =
-        record {
-          at = (refl, omega arith, λ b past. refl);
-          knows = (refl, since_now p (TakenBelow 0) events (Bits ResetAll) (λ b below some. absurd (omega arith)));
-          wrote = refl;
-        }
-
     pub first_is : (start : BitsStart) (flight : BitsFlight) → first kinds.TheVariants.Counts c start ≡ Some flight → is_past c start ≡ false → First start flight
-    first_is (Set place) flight e r = subst (First (Set place)) (cc) (set_is place r)
-    first_is ResetAll flight e r = subst (First ResetAll) (cc) reset_is
-    first_is ResetNext flight e r = absurd (cc)
+    first_is x0 x1 x2 x3 = grind arith
 
   -- a call that begins on a counting bit set is one of its own
   pub begins_own : (c : ℕ) (kept : Kept T) (start : Start T) (flight : Flight T) → first_of kinds.TheVariants.Counts c start kept ≡ Some flight → IsOwn start
-  begins_own c kept (Bits start) flight e = tt
-  begins_own c kept start flight e = absurd (cc)
+  begins_own x0 x1 x2 x3 x4 = grind arith
 
   -- to begin changes no count
   pub begins_none : (c p : ℕ) (start : BitsStart) (words : List ℕ) (events : List (Event T)) (turns : ℕ) → Holds c words events turns → Conserves c words events turns words (Begun p (Bits start) ∷ [])
-  begins_none c p start words events turns h =
-      rest_conserves c words events turns (Begun p (Bits start) ∷ []) h (λ b. refl) (λ b. refl) (tt, tt)
+  begins_none x0 x1 x2 x3 x4 x5 x6 = grind arith
