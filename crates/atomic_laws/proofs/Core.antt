@@ -21,10 +21,7 @@ cells_apart size a b i j is js ne e = ⊎_elim less more (cases_lt a b)
 
 -- a word of a cell lies among the cells
 pub cell_within : (size n i : ℕ) → i < size → size * (n % 2) + i < size * 2
-cell_within size n i below =
-    let low : n % 2 < 2 = omega arith in
-    let step : size * (n % 2 + 1) ≤ size * 2 = mul-le-mul_left size (omega arith) in
-    omega arith
+cell_within x0 x1 x2 x3 = grind arith
 
 -- lists that begin with the same words
 pub same_words : (n : ℕ) (xs ys : List ℕ) → length ys ≡ n → n ≤ length xs → ((i : ℕ) → i < n → get_or xs i 0 ≡ get_or ys i 0) → take n xs ≡ ys
@@ -122,10 +119,4 @@ module _ (size : ℕ) where
 
   -- 1 added to the version over a whole cell
   pub stores : (k : Core) (words : List ℕ) → length words ≡ size → Good k → IsFilled k words size → Good (stored k words)
-  stores k words sized g whole =
-      record {
-        some = omega arith;
-        sized = sized;
-        cells = g.cells;
-        held = λ i is. let same : k.version + 1 - 1 ≡ k.version = omega arith in rw same (whole i is);
-      }
+  stores x0 x1 x2 x3 x4 = grind arith

@@ -28,7 +28,7 @@ use Rattle.model.proofs.Readings.{AreRight, Each-append, AreOwn, AllFollow}
 use Rattle.model.proofs.Replays.{calls_of, answers_of, standing_more, legal_more}
 use Rattle.atomic_laws.specs.Stored.{stores, stored}
 use Rattle.atomic_laws.proofs.Core.{Core, Good, GoesUp, layout}
-use Rattle.atomic_laws.proofs.Knows.{number_of, At, KnowsFlight, flight_keeps}
+use Rattle.atomic_laws.proofs.Knows.{number_of, At, KnowsFlight}
 
 -- what the words hold, and who has the producer's role
 pub record Value : Type 0 where
@@ -127,12 +127,10 @@ module _ {T : Type 0} where
   -- what stays of the value's call, as of one of any family
   any_stays : (code : Coding T) (holder holder' : Option ℕ) (k k' : Core) (q : ℕ) → ((start : AtomicStart T) (flight : AtomicFlight T) → At code holder k q start flight → At code holder' k' q start flight)
       → (start : Start T) (flight : Flight T) → FlightAt code holder k q start flight → FlightAt code holder' k' q start flight
-  any_stays code holder holder' k k' q stays (any_starts.TheVariants.Atomic start) (flights.TheVariants.Atomic flight) h = stays start flight h
-  any_stays code holder holder' k k' q stays start flight h = absurd h
+  any_stays x0 x1 x2 x3 x4 x5 x6 x7 x8 x9 = grind arith
 
   any_knows : (k k' : Core) (changes changes' : ℕ) → GoesUp k k' changes changes' → (since backs : ℕ) (flight : Flight T) → Knowing k since changes backs flight → Knowing k' since changes' backs flight
-  any_knows k k' changes changes' up since backs (flights.TheVariants.Atomic flight) h = flight_keeps k k' changes changes' up since backs flight h
-  any_knows k k' changes changes' up since backs flight h = absurd h
+  any_knows x0 x1 x2 x3 x4 x5 x6 x7 x8 = grind arith
 
   module _ (scene : Scene T) (holder' : Option ℕ) (k' : Core) (from : Span T) (y : Party T) (es : List (Event T)) (changes' : ℕ) (s : Shows scene holder' k' from y es changes') where
     pub owes : span_of scene.party scene.events ≡ from → Inv scene → frame.Owes (family scene.coding scene.capacity) (record { holder = holder'; core = k' }) scene.party y scene.latest scene.events es changes'

@@ -1,16 +1,9 @@
 -- What a turn writes down: the act, then the end. A store acts as it adds 1 to the version, a load as it finds the version
 -- unchanged, with the value that stands.
-use Rattle.std.proofs.Common.{◌≡◌, ℕ, ◌+◌, ◌-◌, ◌^◌, ◌<◌, ◌==◌, Bool, true, false, nat_lt, Option, Some, None, List, [], get_or, refl, sym, ap, subst, ◌∙◌, arith}
-use Rattle.std.proofs.lemmas.Bool.Decides.{nat_tests}
+use Rattle.std.proofs.Common.{◌≡◌, ℕ, ◌-◌, ◌^◌, ◌<◌, Option, Some, List, [], refl, sym, ap, subst, arith}
 use Rattle.std.specs.List.{AllByRecursion}
 use Rattle.steps.specs.declared.ask.Ask.{Ask}
-use Rattle.steps.specs.declared.atomic.StoreStage.{StoreStage}
-use Rattle.steps.specs.declared.atomic.StoreStage as storing
-use Rattle.steps.specs.declared.atomic.LoadStage.{LoadStage}
-use Rattle.steps.specs.declared.atomic.LoadStage as loading
-use Rattle.steps.specs.declared.copied.Kept as rooms
 use Rattle.model.specs.declared.event.Answer.{Answer}
-use Rattle.model.specs.declared.event.Answer as answers
 use Rattle.model.specs.declared.event.Event.{Event}
 use Rattle.model.specs.declared.event.Start.{Start}
 use Rattle.model.specs.declared.event.Start.TheVariants.{Atomic}
@@ -19,9 +12,7 @@ use Rattle.model.specs.declared.families.Flight as flights
 use Rattle.model.specs.declared.families.Kept.{Kept}
 use Rattle.model.specs.declared.families.Kept as kepts
 use Rattle.model.specs.declared.families.atomic.AtomicStart.{AtomicStart}
-use Rattle.model.specs.declared.families.atomic.AtomicStart.TheVariants.{AcquireProducer, ReleaseProducer, Store, Load}
 use Rattle.model.specs.declared.families.atomic.calls.AtomicFlight.{AtomicFlight}
-use Rattle.model.specs.declared.families.atomic.calls.AtomicFlight as calls
 use Rattle.model.specs.declared.party.Doing.TheVariants.{Going}
 use Rattle.model.specs.declared.party.Party.{Party}
 use Rattle.model.specs.declared.turn.Kind as kinds
@@ -30,7 +21,7 @@ use Rattle.model.specs.declared.turn.Turn.TheVariants.{Next}
 use Rattle.model.specs.Coding.{Coding}
 use Rattle.model.specs.Families.{ask_of, beside_of, step_of, goes_of}
 use Rattle.model.specs.Families.Atomic.Calls.{want, after}
-use Rattle.model.specs.Families.Atomic.Promises.{AnswersRight, check_of_version, promise}
+use Rattle.model.specs.Families.Atomic.Promises.{AnswersRight, promise}
 use Rattle.model.specs.Families.Atomic.Steps.{acted}
 use Rattle.model.specs.Parties.{party_of}
 use Rattle.model.specs.Promises.{IsTurnBy}
@@ -47,24 +38,13 @@ use Rattle.queue_laws.proofs.Queues.Knows.{any_fresh}
 use Rattle.atomic_laws.proofs.Core.{Core, layout}
 use Rattle.atomic_laws.proofs.Invariant.{Value, Fit, family}
 use Rattle.atomic_laws.proofs.Kept.{kept}
-use Rattle.atomic_laws.proofs.Knows.{At, store_at, load_at}
+use Rattle.atomic_laws.proofs.Knows.{At}
 use Rattle.atomic_laws.proofs.Sound.{kept_is, step_moves, scene_of, inv_of, asks_nothing, reached_sound}
 use Rattle.atomic_laws.proofs.Stages.{told_after, any_call}
 
 module _ {T : Type 0} where
-  store_acts : (p : ℕ) (value : T) (outcome : Option (Answer T)) → AllByRecursion IsAct (acted p (Store value) outcome)
-  store_acts p value None = tt
-  store_acts p value (Some (answers.TheVariants.Truth true)) = (tt, tt)
-  store_acts p value (Some answer) = tt
-
-  load_acts : (p : ℕ) (outcome : Option (Answer T)) → AllByRecursion IsAct (acted p Load outcome)
-  load_acts p None = tt
-  load_acts p (Some answer) = (tt, tt)
-
   all_act : (p : ℕ) (start : AtomicStart T) (outcome : Option (Answer T)) → AllByRecursion IsAct (acted p start outcome)
-  all_act p (Store value) outcome = store_acts p value outcome
-  all_act p Load outcome = load_acts p outcome
-  all_act p start outcome = tt
+  all_act x0 x1 x2 = grind arith
 
 -- ---- what an act tells
 
@@ -78,45 +58,9 @@ module _ {T : Type 0} (t : Trace T) (turn : Turn T) (p : ℕ) (mine : IsParty tu
   abbrev Justified : List (Event T) → Type 0
   Justified es = AllByRecursion (ActsRight promise t turn) es
 
-  store_right : (value : T) (stage : StoreStage) (old : ℕ) → asked ≡ ask_of (want code (store_at value stage)) → Justified (acted p (Store value) (answer_in (after code (store_at value stage) old)))
-  store_right value storing.TheVariants.LoadsVersion old asks = go (old == 2 ^ 64 - 1) refl
-    where
-      go : (b : Bool) → (old == 2 ^ 64 - 1) ≡ b → Justified (acted p (Store value) (answer_in (after code (store_at value storing.TheVariants.LoadsVersion) old)))
-      go true e = rw e tt
-      go false e = rw e tt
-  store_right value (storing.TheVariants.StoresCell cell at) old asks = go (nat_lt (at + 1) code.size) refl
-    where
-      go : (b : Bool) → nat_lt (at + 1) code.size ≡ b → Justified (acted p (Store value) (answer_in (after code (store_at value (storing.TheVariants.StoresCell cell at)) old)))
-      go true e = rw e tt
-      go false e = rw e tt
-  store_right value storing.TheVariants.AddsVersion old asks = ((mine, asks), tt)
-
-  load_right : (room : rooms.Kept 128) (stage : LoadStage) (old : ℕ) → asked ≡ ask_of (want code (load_at room stage)) → old ≡ old_of t.world.words asked
-      → AreRight (AnswersRight code) t.events (told_after p Load (after code (load_at room stage) old)) → Justified (acted p Load (answer_in (after code (load_at room stage) old)))
-  load_right room loading.TheVariants.LoadsVersion old asks found h = tt
-  load_right room (loading.TheVariants.LoadsCell version cell at) old asks found h = go (nat_lt (at + 1) code.size) refl
-    where
-      go : (b : Bool) → nat_lt (at + 1) code.size ≡ b → Justified (acted p Load (answer_in (after code (load_at room (loading.TheVariants.LoadsCell version cell at)) old)))
-      go true e = rw e tt
-      go false e = rw e tt
-  load_right room (loading.TheVariants.ChecksVersion version) old asks found h = go (old == version) refl
-    where
-      go : (b : Bool) → (old == version) ≡ b → Justified (acted p Load (answer_in (after code (load_at room (loading.TheVariants.ChecksVersion version)) old)))
-      go true e =
-          let same : old ≡ version = grind (arith, nat_tests) in
-          let now : get_or t.world.words 0 0 ≡ version = sym (ap (old_of t.world.words) asks) ∙ (sym found ∙ same) in
-          let right = rw e at h in
-          rw e ((mine, asks ∙ ap (λ v. Some (check_of_version v)) (sym now), right.0), tt)
-      go false e = rw e tt
-
   step_right : (holder : Option ℕ) (k : Core) (z : Coding T) (start : AtomicStart T) (flight : AtomicFlight T) (old : ℕ) → At z holder k p start flight → asked ≡ ask_of (want code flight) → old ≡ old_of t.world.words asked
       → AreRight (AnswersRight code) t.events (told_after p start (after code flight old)) → Justified (acted p start (answer_in (after code flight old)))
-  step_right holder k z AcquireProducer (calls.TheVariants.Acquire run) old at asks found h = tt
-  step_right holder k z ReleaseProducer (calls.TheVariants.Release run) old at asks found h = tt
-  step_right holder k z (Store value) (calls.TheVariants.Store run) old at asks found h =
-      subst (λ v. asked ≡ ask_of (want code (store_at v run.call.stage)) → Justified (acted p (Store value) (answer_in (after code (store_at v run.call.stage) old)))) (sym at.1) (store_right value run.call.stage old) asks
-  step_right holder k z Load (calls.TheVariants.Load run) old at asks found h = load_right run.room run.call.stage old asks found h
-  step_right holder k z start flight old at asks found h = absurd at
+  step_right x0 x1 x2 x3 x4 x5 x6 x7 x8 x9 = grind arith
 
 -- ---- every turn
 
@@ -153,9 +97,7 @@ module _ {T : Type 0} (code : Coding T) (c : ℕ) (t : Trace T) (p : ℕ) (s : f
 -- a call of a value goes on as its table says
 told : {T : Type 0} (code z : Coding T) (c : ℕ) (words : List ℕ) (beside : Option (ℕ × ℕ)) (s : Value) (p : ℕ) (start : Start T) (flight : Flight T) (answer : ℕ) (kept : Kept T) → Fit kept words s → (family code c).At s p start flight
     → (step_of z words beside p start flight answer kept).after ≡ goes_of z p flight answer kept
-told y z c words beside s p (Atomic start) (flights.TheVariants.Atomic flight) answer (kepts.TheVariants.Atomic producer) fit at = refl
-told y z c words beside s p (Atomic start) (flights.TheVariants.Atomic flight) answer held fit at = absurd fit
-told y z c words beside s p start flight answer held fit at = absurd at
+told x0 x1 x2 x3 x4 x5 x6 x7 x8 x9 x10 x11 x12 = grind arith
 
 module _ {T : Type 0} where
   orders : (code : Coding T) (c : ℕ) → Orders (family code c)

@@ -91,47 +91,16 @@ KnowsFlight k since changes backs (Load run) = KnowsBacks k since changes backs 
 -- ---- what a step of another party keeps
 
 module _ (k k' : Core) (changes changes' : ℕ) (up : GoesUp k k' changes changes') where
-  backs_keep : (since backs : ℕ) (stage : LoadStage) → KnowsBacks k since changes backs stage → KnowsBacks k' since changes' backs stage
-  backs_keep since backs loading.TheVariants.LoadsVersion h =
-      let more = up.paid in
-      let low = up.version in
-      omega arith
-  backs_keep since backs (loading.TheVariants.LoadsCell version cell at) h =
-      let more = up.paid in
-      let low = up.version in
-      let a = h.0 in
-      let b = h.1 in
-      (omega arith, omega arith)
-  backs_keep since backs (loading.TheVariants.ChecksVersion version) h =
-      let more = up.paid in
-      let low = up.version in
-      let a = h.0 in
-      let b = h.1 in
-      (omega arith, omega arith)
-
   pub flight_keeps : {T : Type 0} (since backs : ℕ) (flight : AtomicFlight T) → KnowsFlight k since changes backs flight → KnowsFlight k' since changes' backs flight
-  flight_keeps since backs (Acquire run) h = h
-  flight_keeps since backs (Release run) h = h
-  flight_keeps since backs (Store run) h = h
-  flight_keeps since backs (Load run) h = backs_keep since backs run.call.stage h
+  flight_keeps x0 x1 x2 x3 = grind arith
 
 -- a store of a word, and the coming or going of the role, leave the version and the value that stands
 pub load_stays : (size : ℕ) (k k' : Core) (room : rooms.Kept 128) (stage : LoadStage) → k'.version ≡ k.version → k'.now ≡ k.now → KnowsLoad size k room stage → KnowsLoad size k' room stage
-load_stays size k k' room loading.TheVariants.LoadsVersion version now h = h
-load_stays size k k' room (loading.TheVariants.LoadsCell loaded cell at) version now h =
-    rw (version, now) h
-load_stays size k k' room (loading.TheVariants.ChecksVersion loaded) version now h =
-    rw (version, now) h
+load_stays x0 x1 x2 x3 x4 x5 x6 x7 = grind arith
 
 -- once the version has moved, the copy is not asked about
 pub load_passed : (size : ℕ) (k k' : Core) (room : rooms.Kept 128) (stage : LoadStage) → k.version < k'.version → KnowsLoad size k room stage → KnowsLoad size k' room stage
-load_passed size k k' room loading.TheVariants.LoadsVersion more h = h
-load_passed size k k' room (loading.TheVariants.LoadsCell loaded cell at) more h =
-    let low = h.3 in
-    (h.0, h.1, h.2, omega arith, λ same. absurd (omega arith))
-load_passed size k k' room (loading.TheVariants.ChecksVersion loaded) more h =
-    let low = h.1 in
-    (h.0, omega arith, λ same. absurd (omega arith))
+load_passed x0 x1 x2 x3 x4 x5 x6 = grind arith
 
 module _ {T : Type 0} (code : Coding T) (ho ho' : Option ℕ) (k k' : Core) (q : ℕ) where
   pub record Keeps : Type 0 where
@@ -140,8 +109,4 @@ module _ {T : Type 0} (code : Coding T) (ho ho' : Option ℕ) (k k' : Core) (q :
     pub load : (room : rooms.Kept 128) (stage : LoadStage) → KnowsLoad code.size k room stage → KnowsLoad code.size k' room stage
 
   pub kept : Keeps → (start : AtomicStart T) (flight : AtomicFlight T) → At code ho k q start flight → At code ho' k' q start flight
-  kept keeps starts.TheVariants.AcquireProducer (Acquire run) h = h
-  kept keeps starts.TheVariants.ReleaseProducer (Release run) h = (h.0, keeps.holder h.1)
-  kept keeps (starts.TheVariants.Store value) (Store run) h = (keeps.holder h.0, h.1, keeps.store h.0 (code.words_of value) run.call.stage h.2)
-  kept keeps starts.TheVariants.Load (Load run) h = keeps.load run.room run.call.stage h
-  kept keeps start flight h = absurd h
+  kept x0 x1 x2 x3 = grind arith

@@ -1,5 +1,5 @@
 -- The steps of a load.
-use Rattle.std.proofs.Common.{◌≡◌, ◌≢◌, ℕ, ◌+◌, ◌-◌, ◌*◌, ◌%◌, ◌^◌, ◌<◌, ◌≤◌, ◌==◌, nat_lt, Bool, true, false, cond, ⊎_elim, Option, Some, [], ◌∷◌, length, get_or, set, take, refl, sym, ap, subst, ◌∙◌, arith, length-set, get_or-set_same, get_or-set_other}
+use Rattle.std.proofs.Common.{◌≡◌, ◌≢◌, ℕ, ◌+◌, ◌*◌, ◌^◌, ◌<◌, ◌≤◌, ◌==◌, nat_lt, Bool, true, false, ⊎_elim, Option, Some, length, get_or, set, take, refl, sym, ap, subst, ◌∙◌, arith, length-set, get_or-set_same, get_or-set_other}
 use Rattle.std.proofs.lemmas.Bool.{cases_lt}
 use Rattle.std.proofs.lemmas.Bool.Decides.{nat_tests}
 use Rattle.std.proofs.lemmas.List.{set-get_or}
@@ -14,20 +14,18 @@ use Rattle.steps.specs.Atomic.{cell_word, before_version, load_begins}
 use Rattle.steps.specs.Queues.Ring.{word_at}
 use Rattle.model.specs.declared.event.Answer.{Answer}
 use Rattle.model.specs.declared.event.Answer as answers
-use Rattle.model.specs.declared.event.Event.TheVariants.{Acted}
 use Rattle.model.specs.declared.event.Start.TheVariants.{Atomic}
 use Rattle.model.specs.declared.families.atomic.AtomicStart as starts
 use Rattle.model.specs.declared.families.atomic.calls.AtomicFlight.{AtomicFlight}
 use Rattle.model.specs.Coding.{IsCoding}
 use Rattle.model.specs.Families.Atomic.Calls.{after, goes_back}
 use Rattle.model.specs.Families.Queues.Calls.{kept_at, read_in}
-use Rattle.model.specs.Turns.{words_after, change_of}
+use Rattle.model.specs.Turns.{change_of}
 use Rattle.atomic_laws.proofs.Core as core
-use Rattle.atomic_laws.proofs.Core.{Core, Good, layout, free, same_words}
+use Rattle.atomic_laws.proofs.Core.{Core, Good, layout, same_words}
 use Rattle.atomic_laws.proofs.Invariant.{Scene, Inv}
 use Rattle.atomic_laws.proofs.Knows.{KnowsLoad, KnowsBacks, IsCopied, load_at, load_number}
 use Rattle.atomic_laws.proofs.Stages.{Comes, StepOf, quiet, changes_then}
-use Rattle.atomic_laws.proofs.Stores.{asked_place}
 
 -- the words of a room that has them all
 whole_room : (size : ℕ) (k : Core) (room : rooms.Kept 128) → size ≤ 128 → length room.words ≡ 128 → length k.now ≡ size → IsCopied k room size → take size room.words ≡ k.now
@@ -48,18 +46,12 @@ module _ {T : Type 0} (scene : Scene T) (inv : Inv scene) (small : scene.core.ve
   abbrev DoesOf : rooms.Kept 128 → LoadStage → Type 0
   DoesOf room stage = StepOf scene starts.TheVariants.Load (load_at room stage)
 
-  abbrev loads_version : Option Ask
-  loads_version = Some (record { word = 0; op = Load })
-
   -- the loads of the version's cell begin
   begins : (room : rooms.Kept 128) → length room.words ≡ 128 → KnowsLoad code.size k room (load_begins code.size k.version)
-  begins room long =
-      let some = coded.some in
-      (long, refl, omega arith, omega arith, λ same i h. absurd (omega arith))
+  begins x0 x1 = grind arith
 
   loads : (room : rooms.Kept 128) → length room.words ≡ 128 → steps ≤ 0 → backs + since ≤ changes → DoesOf room loading.TheVariants.LoadsVersion
-  loads room long s paid =
-      quiet scene inv false starts.TheVariants.Load loads_version (load_at room (load_begins code.size k.version)) k refl refl g refl (omega arith) (begins room long) (omega arith, omega arith) (λ q ne st f h. h)
+  loads x0 x1 x2 x3 = grind arith
 
   -- ---- the cell
 
@@ -78,11 +70,7 @@ module _ {T : Type 0} (scene : Scene T) (inv : Inv scene) (small : scene.core.ve
 
     -- while the version is the same, this is a word of the value that stands
     found_is : version ≡ k.version → found ≡ get_or k.now at 0
-    found_is same =
-        let some = g.some in
-        let before : before_version version ≡ k.version - 1 = omega arith in
-        let here : place ≡ 2 + (code.size * ((k.version - 1) % 2) + at) = rw before (asked_place code.size (k.version - 1) at coded.few below) in
-        core.word_at k.version (free ho) k.cells place (code.size * ((k.version - 1) % 2) + at) here ∙ g.held at below
+    found_is x0 = grind arith
 
     copied_more : version ≡ k.version → IsCopied k room_then (at + 1)
     copied_more same i is = ⊎_elim before here (cases_lt i at)
@@ -130,15 +118,6 @@ module _ {T : Type 0} (scene : Scene T) (inv : Inv scene) (small : scene.core.ve
   abbrev checks : ℕ → Option Ask
   checks version = Some (record { word = 0; op = Exchange version version })
 
-  -- the exchange leaves the words, whether it succeeds or not
-  same_version : (b : Bool) (version : ℕ) → (k.version == version) ≡ b → cond b version k.version ≡ k.version
-  same_version true version t = grind (arith, nat_tests)
-  same_version false version t = refl
-
-  same_after : (version : ℕ) → words_after (layout ho k) (checks version) ≡ layout ho k
-  same_after version =
-      ap (λ n. n ∷ free ho ∷ k.cells) (same_version (k.version == version) version refl)
-
   value_is : (room : rooms.Kept 128) → length room.words ≡ 128 → IsCopied k room code.size → read_in code room ≡ code.value_of k.now
   value_is room long copied =
       let few = coded.few in
@@ -146,39 +125,11 @@ module _ {T : Type 0} (scene : Scene T) (inv : Inv scene) (small : scene.core.ve
       rw t (ap code.value_of (whole_room code.size k room few long g.sized copied))
 
   ends : (version : ℕ) → backs + since ≤ changes → steps ≤ 1 + code.size + backs * (1 + code.size) → Does (checks version) false (Done (answers.TheVariants.Loaded (code.value_of k.now)))
-  ends version paid s =
-      let reached = inv.value.reached in (
-        k,
-        same_after version,
-        record {
-          right = (ap answers.TheVariants.Loaded (sym inv.value.stand), (tt, tt));
-          grants = (tt, (tt, tt));
-          good = g;
-          holders = refl;
-          goes = refl;
-          answers = refl;
-          up = record { version = omega arith; paid = omega arith };
-          reached = omega arith;
-          within = small;
-          counted = omega arith;
-          own = (refl, (refl, tt));
-          stands = ((refl, refl), ((refl, refl), tt));
-          here =
-              record {
-                answer = answers.TheVariants.Loaded (code.value_of k.now);
-                wrote = Acted p (Atomic starts.TheVariants.Load) (answers.TheVariants.Loaded (code.value_of k.now)) ∷ [];
-                span = refl;
-                steps = omega arith;
-              };
-          knows = omega arith;
-          others = λ q ne st f h. h;
-        },
-      )
+  ends x0 x1 x2 = grind arith
 
   goes_again : (room : rooms.Kept 128) (version : ℕ) → length room.words ≡ 128 → version < k.version → backs + since + k.version ≤ changes + version → steps ≤ 1 + code.size + backs * (1 + code.size)
       → Does (checks version) true (GoOn (load_at room (load_begins code.size k.version)))
-  goes_again room version long less paid s =
-      quiet scene inv true starts.TheVariants.Load (checks version) (load_at room (load_begins code.size k.version)) k refl refl g (same_after version) (omega arith) (begins room long) (omega arith, omega arith) (λ q ne st f h. h)
+  goes_again x0 x1 x2 x3 x4 x5 = grind arith
 
   abbrev checking : ℕ → LoadStage
   checking version = loading.TheVariants.ChecksVersion version

@@ -1,13 +1,11 @@
 -- The steps of the calls on the producer's role. Its word is 1 while the role is free.
-use Rattle.std.proofs.Common.{◌≡◌, ℕ, ◌≤◌, true, false, Option, Some, None, refl, ◌∙◌, arith}
+use Rattle.std.proofs.Common.{◌≡◌, ℕ, ◌≤◌, Option, Some, arith}
 use Rattle.steps.specs.declared.ask.Ask.{Ask}
 use Rattle.steps.specs.declared.ask.Op.TheVariants.{Store, Exchange}
-use Rattle.model.specs.declared.event.Answer as answers
 use Rattle.model.specs.declared.families.atomic.AtomicStart.TheVariants.{AcquireProducer, ReleaseProducer}
 use Rattle.model.specs.Families.Atomic.Calls.{first}
 use Rattle.atomic_laws.proofs.Invariant.{Scene, Inv}
-use Rattle.atomic_laws.proofs.Knows.{kept}
-use Rattle.atomic_laws.proofs.Stages.{clash, StepOf, ends}
+use Rattle.atomic_laws.proofs.Stages.{StepOf}
 
 abbrev takes : Option Ask
 takes = Some (record { word = 1; op = Exchange 1 0 })
@@ -22,17 +20,10 @@ module _ {T : Type 0} (scene : Scene T) (s : scene.steps ≤ 0) (b : scene.backs
   open scene use {coding as code, core as k, party as p}
 
   acquire : (holder : Option ℕ) → Inv (held_by scene holder) → StepOf (held_by scene holder) AcquireProducer (first AcquireProducer)
-  acquire None inv =
-      ends (held_by scene None) inv (Some p) AcquireProducer (answers.TheVariants.Truth true) takes refl (rw inv.value.holders refl) refl (omega arith) b refl
-      (λ q ne. kept code None (Some p) k k q (record { holder = λ h. absurd (cc); store = λ h words stage knows. knows; load = λ room stage knows. knows }))
-  acquire (Some r) inv =
-      ends (held_by scene (Some r)) inv (Some r) AcquireProducer (answers.TheVariants.Truth false) takes refl (rw inv.value.holders refl) refl (omega arith) b refl
-      (λ q ne st f h. h)
+  acquire x0 x1 = grind arith
 
   release : (holder : Option ℕ) → holder ≡ Some p → Inv (held_by scene holder) → StepOf (held_by scene holder) ReleaseProducer (first ReleaseProducer)
-  release holder holds inv =
-      ends (held_by scene holder) inv None ReleaseProducer answers.TheVariants.Done gives refl (refl, inv.value.holders ∙ holds) refl (omega arith) b refl
-      (λ q ne. kept code holder None k k q (record { holder = λ h. absurd (clash holder p q ne holds h); store = λ h words stage knows. knows; load = λ room stage knows. knows }))
+  release x0 x1 x2 = grind arith
 
   -- with the holder as it is
   pub acquires : Inv scene → StepOf scene AcquireProducer (first AcquireProducer)

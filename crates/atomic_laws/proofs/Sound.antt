@@ -1,12 +1,6 @@
 -- Every turn keeps what holds of a value's machine: the laws of the family.
-use Rattle.std.proofs.Common.{◌≡◌, ℕ, ◌+◌, ◌-◌, ◌*◌, ◌^◌, ◌<◌, ◌≤◌, ◌==◌, Bool, true, false, not, Option, Some, None, List, [], ◌∷◌, get_or, length, replicate, refl, sym, ap, subst, ◌∙◌, arith}
-use Rattle.std.proofs.lemmas.Bool.Decides.{nat_tests}
+use Rattle.std.proofs.Common.{◌≡◌, ℕ, ◌+◌, ◌-◌, ◌*◌, ◌^◌, ◌<◌, ◌≤◌, true, false, Option, Some, None, List, [], ◌∷◌, get_or, length, replicate, refl, sym, ap, subst, ◌∙◌, arith}
 use Rattle.std.proofs.lemmas.List.{length-replicate}
-use Rattle.steps.specs.declared.atomic.StoreStage.{StoreStage}
-use Rattle.steps.specs.declared.atomic.StoreStage as storing
-use Rattle.steps.specs.declared.atomic.LoadStage.{LoadStage}
-use Rattle.steps.specs.declared.atomic.LoadStage as loading
-use Rattle.steps.specs.declared.copied.Kept as rooms
 use Rattle.model.specs.declared.event.Event.TheVariants.{Begun}
 use Rattle.model.specs.declared.event.Start.{Start}
 use Rattle.model.specs.declared.event.Start.TheVariants.{Atomic}
@@ -38,29 +32,20 @@ use Rattle.model.proofs.Frame as frame
 use Rattle.model.proofs.Readings.{Each-nil}
 use Rattle.model.proofs.Rows.{row_passed, MayBegin}
 use Rattle.model.proofs.Scenes.{asked, StandsThere, stands_there, ComesFrom, comes_from}
-use Rattle.queue_laws.proofs.Queues.Knows.{IsFreshStore, IsFreshCall, any_fresh}
+use Rattle.queue_laws.proofs.Queues.Knows.{IsFreshCall, any_fresh}
 use Rattle.queue_laws.proofs.Queues.Runs.{LawsAt, run_sound}
 use Rattle.queue_laws.proofs.Queues.Sound.{IsFreshTurn, IsFreshRun, fresh_any}
 use Rattle.atomic_laws.specs.Stored.{stored}
 use Rattle.atomic_laws.proofs.Core.{Core, layout, zeros}
 use Rattle.atomic_laws.proofs.Invariant.{Value, Fit, Scene, Inv, Shows, family, owes, holds_more}
-use Rattle.atomic_laws.proofs.Knows.{At, KnowsFlight, number_of, store_at, load_at}
+use Rattle.atomic_laws.proofs.Knows.{At, KnowsFlight, number_of, store_at}
 use Rattle.atomic_laws.proofs.Loads.{load_step}
 use Rattle.atomic_laws.proofs.Roles.{acquires, releases}
 use Rattle.atomic_laws.proofs.Stages.{StepOf}
 use Rattle.atomic_laws.proofs.Stores.{store_step}
 
-holds_is : (o : Option ℕ) (p : ℕ) → not (holds o p) ≡ false → o ≡ Some p
-holds_is None p e = absurd (cc)
-holds_is (Some q) p e = go (q == p) refl e
-  where
-    go : (b : Bool) → (q == p) ≡ b → not b ≡ false → Some q ≡ Some p
-    go true t e = let same : q ≡ p = grind (arith, nat_tests) in ap Some same
-    go false t e = absurd (cc)
-
 pub kept_is : {T : Type 0} → (kept : Kept T) (words : List ℕ) (s : Value) → Fit kept words s → (kept ≡ kepts.TheVariants.Atomic s.holder) × (words ≡ layout s.holder s.core)
-kept_is (kepts.TheVariants.Atomic producer) words s fit = (ap (λ o. kepts.TheVariants.Atomic o) fit.1, fit.0)
-kept_is kept words s fit = absurd fit
+kept_is x0 x1 x2 x3 = grind arith
 
 -- ---- one step of a call
 
@@ -84,10 +69,7 @@ record IsFirst {T : Type 0} (code : Coding T) (holder : Option ℕ) (k : Core) (
   pub knows : KnowsFlight k changes changes 0 flight
 
 first_is : {T : Type 0} (code : Coding T) (holder : Option ℕ) (k : Core) (p changes : ℕ) (start : AtomicStart T) → lacks_role holder p start ≡ false → IsFirst code holder k p changes start (first start)
-first_is code holder k p changes AcquireProducer r = record { at = refl; knows = refl }
-first_is code holder k p changes ReleaseProducer r = record { at = (refl, holds_is holder p r); knows = refl }
-first_is code holder k p changes (Store value) r = record { at = (holds_is holder p r, refl, tt); knows = refl }
-first_is code holder k p changes Load r = record { at = length-replicate {A = ℕ} 128 0; knows = omega arith }
+first_is x0 x1 x2 x3 x4 x5 x6 = grind arith
 
 -- a call that begins on a value is one of its own
 abbrev IsOwn : {T : Type 0} → Start T → Flight T → Type 0
@@ -95,44 +77,12 @@ IsOwn (Atomic start) (flights.TheVariants.Atomic flight) = first start ≡ fligh
 IsOwn start flight = ⊥
 
 begins_own : {T : Type 0} (c : ℕ) (kept : Kept T) (start : Start T) (flight : Flight T) → first_of kinds.TheVariants.Atomic c start kept ≡ Some flight → IsOwn start flight
-begins_own c kept (Atomic start) (flights.TheVariants.Atomic flight) e = cc
-begins_own c kept (Atomic start) flight e = absurd (cc)
-begins_own c kept start flight e = absurd (cc)
-
--- no call of a value asks a question
-store_asks : {T : Type 0} (code : Coding T) (value : T) (stage : StoreStage) → is_question (want code (store_at value stage)) ≡ false
-store_asks code value storing.TheVariants.LoadsVersion = refl
-store_asks code value (storing.TheVariants.StoresCell cell at) = refl
-store_asks code value storing.TheVariants.AddsVersion = refl
-
-load_asks : {T : Type 0} (code : Coding T) (room : rooms.Kept 128) (stage : LoadStage) → is_question (want code (load_at room stage)) ≡ false
-load_asks code room loading.TheVariants.LoadsVersion = refl
-load_asks code room (loading.TheVariants.LoadsCell version cell at) = refl
-load_asks code room (loading.TheVariants.ChecksVersion version) = refl
-
-never_asks : {T : Type 0} (code : Coding T) (flight : AtomicFlight T) → is_question (want code flight) ≡ false
-never_asks code (calls.TheVariants.Acquire run) = refl
-never_asks code (calls.TheVariants.Release run) = refl
-never_asks code (calls.TheVariants.Store run) = store_asks code run.given run.call.stage
-never_asks code (calls.TheVariants.Load run) = load_asks code run.room run.call.stage
-
-never_due : {A T : Type 0} → (code z : Coding T) (c : ℕ) (s : Value) (p : ℕ) (start : Start T) (flight : Flight T) → (family code c).At s p start flight → is_question (want_of z flight) ≡ true → A
-never_due code z c s p (Atomic start) (flights.TheVariants.Atomic flight) at e = let none = never_asks z flight in absurd (cc)
-never_due code z c s p start flight at e = absurd at
+begins_own x0 x1 x2 x3 x4 = grind arith
 
 -- ---- a store that is to load the version finds another than the last
 
--- what a store was found to find by the word that it asks for
-fresh_there : {T : Type 0} (z : Coding T) (words : List ℕ) (value : T) (stage : StoreStage) → IsFreshStore (old_of words (ask_of (want z (store_at value stage)))) stage → IsFreshStore (get_or words 0 0) stage
-fresh_there z words value storing.TheVariants.LoadsVersion h = h
-fresh_there z words value (storing.TheVariants.StoresCell cell at) h = tt
-fresh_there z words value storing.TheVariants.AddsVersion h = tt
-
 found_fresh : {T : Type 0} (z : Coding T) (words : List ℕ) (flight : AtomicFlight T) → IsFreshCall (old_of words (ask_of (want z flight))) (flights.TheVariants.Atomic flight) → IsFreshCall (get_or words 0 0) (flights.TheVariants.Atomic flight)
-found_fresh z words (calls.TheVariants.Acquire run) h = tt
-found_fresh z words (calls.TheVariants.Release run) h = tt
-found_fresh z words (calls.TheVariants.Store run) h = fresh_there z words run.given run.call.stage h
-found_fresh z words (calls.TheVariants.Load run) h = tt
+found_fresh x0 x1 x2 x3 = grind arith
 
 module _ {T : Type 0} (code : Coding T) (c : ℕ) (t : Trace T) (s : frame.Sound (family code c) t) where
   pub version_is : get_or t.world.words 0 0 ≡ s.state.core.version
@@ -150,8 +100,7 @@ module _ {T : Type 0} (code : Coding T) (c : ℕ) (t : Trace T) (s : frame.Sound
 
 module _ {T : Type 0} (code : Coding T) (c : ℕ) (t : Trace T) (s : frame.Sound (family code c) t) (p : ℕ) where
   pub asks_nothing : {A : Type 0} → (x : Party T) (flight : Flight T) (since : ℕ) → party_of p t.world.latest ≡ Some x → x.doing ≡ Going flight since → is_question (want_of t.world.coding flight) ≡ true → A
-  asks_nothing x flight since found doing asks =
-      never_due code t.world.coding c s.state p x.start flight (stands_there (family code c) t s p x since flight found doing).at asks
+  asks_nothing x0 x1 x2 x3 x4 x5 = grind arith
 
   abbrev pub scene_of : Party T → ℕ → Scene T
   scene_of x since =

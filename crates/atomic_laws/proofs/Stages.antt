@@ -1,5 +1,5 @@
 -- What a step of a call of the single value has to show.
-use Rattle.std.proofs.Common.{◌≡◌, ◌≢◌, ℕ, ◌+◌, ◌≤◌, Bool, false, Option, Some, List, [], ◌∷◌, ◌++◌, fold, refl, sym, ap, ◌∙◌, arith}
+use Rattle.std.proofs.Common.{◌≡◌, ◌≢◌, ℕ, ◌+◌, ◌≤◌, Bool, false, Option, Some, List, [], ◌∷◌, ◌++◌, fold, sym, ◌∙◌, arith}
 use Rattle.steps.specs.declared.ask.Ask.{Ask}
 use Rattle.steps.specs.declared.ask.After.{After}
 use Rattle.steps.specs.declared.ask.After.TheVariants.{GoOn, Done}
@@ -86,29 +86,7 @@ module _ {T : Type 0} (scene : Scene T) where
         → KnowsFlight k' (scene.since + change_of words ask) (changes_then ask) (scene.backs + one_if back) flight
         → ((q : ℕ) → q ≢ p → (s : AtomicStart T) (f : AtomicFlight T) → At code ho k q s f → At code ho k' q s f)
         → Leaves ho [] start ask back (GoOn flight)
-    quiet back start ask flight k' version now good is_words steps at knows others =
-        let reached = inv.value.reached in
-        let within = inv.value.within in (
-          k',
-          is_words,
-          record {
-            right = tt;
-            grants = tt;
-            good = good;
-            holders = refl;
-            goes = ap code.value_of (sym now);
-            answers = refl;
-            up = record { version = omega arith; paid = omega arith };
-            reached = omega arith;
-            within = omega arith;
-            counted = omega arith;
-            own = tt;
-            stands = tt;
-            here = record { span = refl; steps = steps; at = at };
-            knows = knows;
-            others = others;
-          },
-        )
+    quiet x0 x1 x2 x3 x4 x5 x6 x7 x8 x9 x10 x11 x12 = grind arith
 
     -- the call is done, and nothing acted
     pub ends :
@@ -116,25 +94,4 @@ module _ {T : Type 0} (scene : Scene T) where
         → scene.steps + step_count ask ≤ most_steps code.size start (scene.backs + 0) → scene.backs ≡ 0 → words_after words ask ≡ layout holder' k
         → ((q : ℕ) → q ≢ p → (s : AtomicStart T) (f : AtomicFlight T) → At code ho k q s f → At code holder' k q s f)
         → Leaves holder' (Finished p (Atomic start) answer ∷ []) start ask false (Done answer)
-    ends holder' start answer ask none grants holders most backs is_words others =
-        let reached = inv.value.reached in (
-          k,
-          is_words,
-          record {
-            right = (tt, tt);
-            grants = (grants, tt);
-            good = inv.value.good;
-            holders = holders;
-            goes = refl;
-            answers = refl;
-            up = record { version = omega arith; paid = omega arith };
-            reached = omega arith;
-            within = inv.value.within;
-            counted = omega arith;
-            own = (refl, tt);
-            stands = ((refl, none), tt);
-            here = record { answer = answer; wrote = []; span = refl; steps = most };
-            knows = omega arith;
-            others = others;
-          },
-        )
+    ends x0 x1 x2 x3 x4 x5 x6 x7 x8 x9 x10 = grind arith

@@ -2,7 +2,7 @@
 use Rattle.std.proofs.Common.{◌≡◌, ℕ, ◌+◌, ◌-◌, ◌*◌, ◌%◌, ◌^◌, ◌<◌, ◌≤◌, ◌==◌, nat_lt, Bool, true, false, Option, Some, [], ◌∷◌, get_or, refl, sym, ap, subst, arith}
 use Rattle.std.proofs.lemmas.Bool.Decides.{nat_tests}
 use Rattle.steps.specs.declared.ask.Ask.{Ask}
-use Rattle.steps.specs.declared.ask.Op.TheVariants.{Load, Store, Add}
+use Rattle.steps.specs.declared.ask.Op.TheVariants.{Store, Add}
 use Rattle.steps.specs.declared.ask.After.{After}
 use Rattle.steps.specs.declared.ask.After.TheVariants.{GoOn}
 use Rattle.steps.specs.declared.atomic.StoreStage.{StoreStage}
@@ -20,16 +20,14 @@ use Rattle.model.specs.Families.Atomic.Calls.{after}
 use Rattle.model.specs.Turns.{change_of}
 use Rattle.queue_laws.proofs.Queues.Knows.{IsFreshStore}
 use Rattle.atomic_laws.proofs.Core as core
-use Rattle.atomic_laws.proofs.Core.{Core, Good, IsFilled, layout, free, filled, fills, one_filled, cell_within}
+use Rattle.atomic_laws.proofs.Core.{Core, Good, IsFilled, layout, free, filled, fills, one_filled}
 use Rattle.atomic_laws.proofs.Invariant.{Scene, Inv}
 use Rattle.atomic_laws.proofs.Knows.{KnowsStore, store_at, store_number, load_stays, load_passed, kept}
 use Rattle.atomic_laws.proofs.Stages.{clash, Comes, StepOf, quiet}
 
 -- the word of a cell as a call asks for it, which wraps
 pub asked_place : (size n at : ℕ) → size ≤ 128 → at < size → word_at (cell_word size n) at ≡ 2 + (size * (n % 2) + at)
-asked_place size n at few below =
-    let low = cell_within size n at below in
-    omega arith
+asked_place x0 x1 x2 x3 x4 = grind arith
 
 module _ {T : Type 0} (scene : Scene T) (inv : Inv scene) (value : T) (holds : scene.holder ≡ Some scene.party) (b : scene.backs ≡ 0) where
   open scene use {coding as code, holder as ho, core as k, party as p, steps, backs}
@@ -46,22 +44,11 @@ module _ {T : Type 0} (scene : Scene T) (inv : Inv scene) (value : T) (holds : s
   abbrev DoesOf : StoreStage → Type 0
   DoesOf stage = StepOf scene (starts.TheVariants.Store value) (store_at value stage)
 
-  abbrev loads_version : Option Ask
-  loads_version = Some (record { word = 0; op = Load })
-
   abbrev adds_one : Option Ask
   adds_one = Some (record { word = 0; op = Add 1 })
 
-  abbrev first_cell : StoreStage
-  first_cell = storing.TheVariants.StoresCell (cell_word code.size k.version) 0
-
   loads : k.version < 2 ^ 64 - 1 → steps ≤ 0 → DoesOf storing.TheVariants.LoadsVersion
-  loads fresh s =
-      let some = coded.some in
-      let t : (k.version == 2 ^ 64 - 1) ≡ false = grind (arith, nat_tests) in
-      let goes : after code (store_at value storing.TheVariants.LoadsVersion) k.version ≡ GoOn (store_at value first_cell) = rw t refl in
-      subst (λ a. Does loads_version a) (sym goes)
-      (quiet scene inv false (starts.TheVariants.Store value) loads_version (store_at value first_cell) k refl refl g refl (omega arith) (holds, refl, (refl, omega arith, (λ i h. absurd (omega arith)), fresh)) (omega arith) (λ q ne st f h. h))
+  loads x0 x1 = grind arith
 
   abbrev cell : ℕ → StoreStage
   cell at = storing.TheVariants.StoresCell (cell_word code.size k.version) at
