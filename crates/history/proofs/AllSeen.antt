@@ -6,8 +6,8 @@ use Rattle.std.proofs.lemmas.Bool.Decides.{nat_tests}
 use mathlib.Core.Option.{some, some-injective, some-ne-none}
 use lib.ListN.{get_elem?}
 use Rattle.atomic_table.proofs.Lists.{at_longer, set_here, set_else}
-use Rattle.lock_free_sp.specs.Shares.{Shares, IsAll, all_shares}
-use Rattle.lock_free_sp.proofs.Shares.{shares_alone, shares_stay, shares_split, shares_join, others_none, positive}
+use Rattle.threaded.specs.Shares.{Shares, IsAll, all_shares}
+use Rattle.threaded.proofs.Shares.{shares_alone, shares_stay, shares_split, shares_join, others_none, positive}
 use Rattle.model.specs.declared.event.Event.{Event}
 use Rattle.model.specs.Reading.{whose}
 use Rattle.model.specs.World.{Trace}
@@ -74,7 +74,7 @@ module _ {T : Type 0} where
 
   -- ---- what all seats know
 
-  abbrev share_of : View T → Rattle.lock_free_sp.specs.declared.share.Share.Share
+  abbrev share_of : View T → Rattle.threaded.specs.declared.share.Share.Share
   share_of v = v.share
 
   abbrev SpentIn : List (View T) → Type 0

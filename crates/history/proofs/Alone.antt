@@ -24,8 +24,8 @@ use Rattle.model.specs.Turns.{after_turn, events_of, ending_of}
 use Rattle.model.specs.Families.Container.Looks.{state_in}
 use Rattle.model.specs.World.{World, Trace, capacity_error}
 use Rattle.model.specs.World as worlds
-use Rattle.queue_laws.proofs.Queues.Knows.{IsFreshCall}
-use Rattle.lock_free_sp.specs.Shares.{all_shares}
+use Rattle.laws_queues.proofs.Queues.Knows.{IsFreshCall}
+use Rattle.threaded.specs.Shares.{all_shares}
 use Rattle.history.specs.declared.view.View.{View}
 use Rattle.history.specs.History.{IsMachine, call_in}
 use Rattle.history.specs.Known.{owned, events_by}

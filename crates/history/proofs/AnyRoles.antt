@@ -8,7 +8,7 @@ use Rattle.steps.specs.Queues.Lengths.{first_len}
 use Rattle.model.specs.declared.event.Event.{Event}
 use Rattle.model.specs.declared.event.Start.TheVariants.{Queues}
 use Rattle.model.specs.declared.families.Flight.{Flight}
-use Rattle.model.specs.declared.families.Kept.{Kept}
+use Rattle.model.specs.declared.families.Registry.{Registry}
 use Rattle.model.specs.declared.families.queues.QueueKind.{QueueKind}
 use Rattle.model.specs.declared.families.queues.QueueKind.TheVariants.{IndexQueue, Overflow, Queue}
 use Rattle.model.specs.declared.families.queues.Roles.{Roles}
@@ -17,7 +17,7 @@ use Rattle.model.specs.declared.families.queues.calls.LengthOf.TheVariants.{Len,
 use Rattle.model.specs.Coding.{Coding}
 use Rattle.model.specs.Families.{first_of, opening_of}
 use Rattle.model.specs.Families.Queues.Opening.{lacks_role}
-use Rattle.queue_laws.proofs.Queues.Invariant.{machine_kind}
+use Rattle.laws_queues.proofs.Queues.Invariant.{machine_kind}
 use Rattle.history.specs.declared.view.View.{View}
 use Rattle.history.specs.Queues.{takes_role, gives_role, length_start, counts_waiting}
 use Rattle.history.specs.Roles.{role_word, holder, acquire_start, release_start, HasRole}
@@ -46,7 +46,7 @@ wider code effects some more want after kept call low h =
     }
 
 module _ {T : Type 0} where
-  acquire_is : (kd : QueueKind) (r : Role) (c : ℕ) (m : Unit {0}) (kept : Kept T)
+  acquire_is : (kd : QueueKind) (r : Role) (c : ℕ) (m : Unit {0}) (kept : Registry T)
       → ◌≡◌ {A = Option (Flight T)} (first_of (machine_kind kd) c (Queues (acquire_start r)) kept)
       (Some ((takes_role r).flight (record { word = role_word r }) m))
   acquire_is IndexQueue Producer c m kept = refl
@@ -56,7 +56,7 @@ module _ {T : Type 0} where
   acquire_is Queue Producer c m kept = refl
   acquire_is Queue Consumer c m kept = refl
 
-  release_is : (kd : QueueKind) (r : Role) (c : ℕ) (m : Unit {0}) (kept : Kept T)
+  release_is : (kd : QueueKind) (r : Role) (c : ℕ) (m : Unit {0}) (kept : Registry T)
       → ◌≡◌ {A = Option (Flight T)} (first_of (machine_kind kd) c (Queues (release_start r)) kept)
       (Some ((gives_role r).flight (record { word = role_word r }) m))
   release_is IndexQueue Producer c m kept = refl
@@ -66,7 +66,7 @@ module _ {T : Type 0} where
   release_is Queue Producer c m kept = refl
   release_is Queue Consumer c m kept = refl
 
-  len_is : (kd : QueueKind) (which : LengthOf) (c : ℕ) (m : Unit {0}) (kept : Kept T)
+  len_is : (kd : QueueKind) (which : LengthOf) (c : ℕ) (m : Unit {0}) (kept : Registry T)
       → ◌≡◌ {A = Option (Flight T)} (first_of (machine_kind kd) c (Queues (length_start which)) kept)
       (Some ((counts_waiting which c).flight (first_len c) m))
   len_is IndexQueue Len c m kept = refl

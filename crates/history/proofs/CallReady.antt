@@ -8,7 +8,7 @@ use Rattle.model.specs.declared.event.Event.{Event}
 use Rattle.model.specs.declared.event.Event.TheVariants.{Begun}
 use Rattle.model.specs.declared.event.Start.{Start}
 use Rattle.model.specs.declared.families.Flight.{Flight}
-use Rattle.model.specs.declared.families.Kept.{Kept}
+use Rattle.model.specs.declared.families.Registry.{Registry}
 use Rattle.model.specs.declared.turn.Kind.{Kind}
 use Rattle.model.specs.declared.turn.Turn.TheVariants.{Begin}
 use Rattle.model.specs.Coding.{Coding}
@@ -17,7 +17,7 @@ use Rattle.model.specs.Families.Container.Looks.{state_in}
 use Rattle.model.specs.Rows.{first_row}
 use Rattle.model.specs.Turns.{after_turn}
 use Rattle.model.specs.World.{World, Trace}
-use Rattle.lock_free_sp.specs.Shares.{IsAll}
+use Rattle.threaded.specs.Shares.{IsAll}
 use Rattle.history.specs.declared.view.View.{View}
 use Rattle.history.specs.Known.{events_by, by_party, owned}
 use Rattle.history.specs.History.{IsRun, IsMachine, Fits, IsLate, call_in}
@@ -61,7 +61,7 @@ module _ {T C M E : Type 0} (code : Coding T) (kind : Kind) (effects : World T �
     pub prior : Prior p call.start (wrote ++ late) base events made
 
   -- what is kept where it has just begun
-  pub record Began (key p : ℕ) (v : View T) (now : Kept T) : Type 0 where
+  pub record Began (key p : ℕ) (v : View T) (now : Registry T) : Type 0 where
     pub t : Trace T
     pub run : IsRun code kind key t
     pub kept : now ≡ kept_after_begin code key call.start p t.world.kept

@@ -21,12 +21,12 @@ use Rattle.model.specs.Step.{answer_in}
 use Rattle.model.specs.Reading.{span_of, own_after, Open}
 use Rattle.model.specs.Turns.{after_turn, events_of, ending_of, words_after, old_of, step_in}
 use Rattle.model.specs.World.{World, Trace}
-use Rattle.lock_free_sp.specs.Shares.{IsAll}
+use Rattle.threaded.specs.Shares.{IsAll}
 use Rattle.history.specs.declared.view.View.{View}
 use Rattle.history.specs.Known.{events_by}
 use Rattle.history.specs.History.{IsRun, IsLate, IsOfParties, call_in}
 use Rattle.history.specs.Stages.{Calling, LeavesState, Since, opened, IsUnderWay, At, Ends}
-use Rattle.queue_laws.proofs.Queues.Knows.{IsFreshCall}
+use Rattle.laws_queues.proofs.Queues.Knows.{IsFreshCall}
 use Rattle.history.proofs.Known.{by_more}
 use Rattle.history.proofs.Calls.{stands, call_then, next_no_look}
 use Rattle.history.proofs.Reached.{next_as}

@@ -12,8 +12,8 @@ use Rattle.model.specs.declared.event.Start.TheVariants.{Container}
 use Rattle.model.specs.declared.families.container.ContainerStart.TheVariants.{GetState, UpdateState}
 use Rattle.model.specs.declared.families.Flight.{Flight}
 use Rattle.model.specs.declared.families.Flight as flights
-use Rattle.model.specs.declared.families.Kept.{Kept}
-use Rattle.model.specs.declared.families.Kept as kepts
+use Rattle.model.specs.declared.families.Registry.{Registry}
+use Rattle.model.specs.declared.families.Registry as registries
 use Rattle.model.specs.declared.party.Doing.{Doing}
 use Rattle.model.specs.declared.party.Doing.TheVariants.{Going, Over}
 use Rattle.model.specs.declared.party.Party.{Party}
@@ -109,20 +109,20 @@ module _ {T : Type 0} where
   -- ---- what is kept
 
   -- no call goes on by it
-  abbrev pub IsStateless : Kept T → Type 0
-  IsStateless (kepts.TheVariants.Container dead states) = ⊥
-  IsStateless (kepts.TheVariants.Loan book) = ⊥
+  abbrev pub IsStateless : Registry T → Type 0
+  IsStateless (registries.TheVariants.Container dead states) = ⊥
+  IsStateless (registries.TheVariants.Loan book) = ⊥
   IsStateless kept = Unit {0}
 
-  pub goes_alike : (code : Coding T) (p : ℕ) (flight : Flight T) (n : ℕ) (kept : Kept T) → IsStateless kept
+  pub goes_alike : (code : Coding T) (p : ℕ) (flight : Flight T) (n : ℕ) (kept : Registry T) → IsStateless kept
       → goes_of code p flight n kept ≡ after_of code flight n
-  goes_alike code p (flights.TheVariants.Container flight) n (kepts.TheVariants.Container dead states) none = absurd none
-  goes_alike code p (flights.TheVariants.Loan flight) n (kepts.TheVariants.Loan book) none = absurd none
+  goes_alike code p (flights.TheVariants.Container flight) n (registries.TheVariants.Container dead states) none = absurd none
+  goes_alike code p (flights.TheVariants.Loan flight) n (registries.TheVariants.Loan book) none = absurd none
   goes_alike code p flight n kept none = refl
 
   -- no party has a state then
-  pub stateless_none : (kept : Kept T) (p : ℕ) → IsStateless kept → state_in kept p ≡ None
-  stateless_none (kepts.TheVariants.Container dead states) p none = absurd none
+  pub stateless_none : (kept : Registry T) (p : ℕ) → IsStateless kept → state_in kept p ≡ None
+  stateless_none (registries.TheVariants.Container dead states) p none = absurd none
   stateless_none kept p none = refl
 
   pub opens_without : (kind : Kind) (capacity p : ℕ) → state_in {T = T} ((opening_of kind).kept capacity) p ≡ None
@@ -197,7 +197,7 @@ module _ {T : Type 0} where
       (same : (x : Party T) (n : ℕ) → party_of p w.latest ≡ Some x → (step_in w p x flight n).wrote ≡ writes n) where
     -- handed this, where it asked for that
     module _ (ask : Option Ask) (old : ℕ) where
-      abbrev s : Step (Flight T) (Kept T) T
+      abbrev s : Step (Flight T) (Registry T) T
       s = step_in w p h.x flight old
 
       abbrev after : After (Flight T) (Answer T)

@@ -20,13 +20,13 @@ use Rattle.model.specs.Families.{want_of, after_of, goes_of, ask_of, is_question
 use Rattle.model.specs.Reading.{whose, is_party, span_of, span_after, own_after, Span, Never, Open}
 use Rattle.model.specs.Turns.{old_of}
 use Rattle.model.specs.World.{World, Trace}
-use Rattle.lock_free_sp.specs.Driver.{answered}
-use Rattle.lock_free_sp.specs.Shares.{IsAll}
+use Rattle.threaded.specs.Driver.{answered}
+use Rattle.threaded.specs.Shares.{IsAll}
 use Rattle.history.specs.declared.view.View.{View}
 use Rattle.history.specs.Known.{events_by}
 use Rattle.history.specs.History.{IsRun, IsLate, call_in}
 use Rattle.history.specs.Stages.{Calling, opened}
-use Rattle.queue_laws.proofs.Queues.Knows.{IsFreshCall}
+use Rattle.laws_queues.proofs.Queues.Knows.{IsFreshCall}
 use Rattle.history.proofs.Known.{AreOf, by_mine}
 
 pub by_bool : {A : Type 0} → (b : Bool) → (b ≡ true → A) → (b ≡ false → A) → A

@@ -38,8 +38,8 @@ use Rattle.model.specs.Families.Container.Steps.{hidden, placed, add_effects, re
 use Rattle.model.specs.Families.Indices.Robust.Steps.{acquire_effects}
 use Rattle.model.specs.Families.Queues.Calls.{as_it_is}
 use Rattle.model.specs.Step.{as_call}
-use Rattle.container_laws.proofs.Core.{data_within}
-use Rattle.lock_free_sp.specs.Driver.{answered, KeepsRule}
+use Rattle.laws_container.proofs.Core.{data_within}
+use Rattle.threaded.specs.Driver.{answered, KeepsRule}
 use Rattle.history.specs.declared.view.View.{View}
 use Rattle.history.specs.Container.{when, HasCleared, HasPut, AddIn, taken, AddedAt, HasAdded, adds_value, ReplaceIn, ReplacedAt, HasReplaced, replaces_value}
 use Rattle.history.specs.History.{IsMachine}

@@ -37,7 +37,7 @@ use Rattle.model.specs.Families.Container.Steps.{remove_effects}
 use Rattle.model.specs.Families.Indices.Robust.Steps.{release_effects}
 use Rattle.model.specs.Families.Queues.Calls.{as_it_is}
 use Rattle.model.specs.Step.{as_call}
-use Rattle.lock_free_sp.specs.Driver.{answered, KeepsRule}
+use Rattle.threaded.specs.Driver.{answered, KeepsRule}
 use Rattle.history.specs.declared.view.View.{View}
 use Rattle.history.specs.Container.{RemoveIn, HasRemovedIt, RemovedAt, HasRemoved, removes_value, count_start, counts_values, sees_lock}
 use Rattle.history.specs.History.{IsMachine}

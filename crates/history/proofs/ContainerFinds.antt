@@ -18,7 +18,7 @@ use Rattle.steps.specs.declared.ask.Want.TheVariants as wants
 use Rattle.steps.specs.declared.container.find.Find.{Find as Finding}
 use Rattle.steps.specs.declared.container.find.FindStage.{FindStage}
 use Rattle.steps.specs.declared.container.find.FindStage.TheVariants as finds
-use Rattle.steps.specs.declared.copied.Kept as rooms
+use Rattle.steps.specs.declared.copied.Buffer as buffers
 use Rattle.model.specs.declared.event.Answer.{Answer}
 use Rattle.model.specs.declared.event.Answer.TheVariants as answers
 use Rattle.model.specs.declared.event.Event.{Event}
@@ -39,7 +39,7 @@ use Rattle.model.specs.Families.Queues.Calls.{as_it_is, fresh_cell, kept_at, rea
 use Rattle.model.specs.Reading.{own_after, Open}
 use Rattle.model.specs.Step.{as_call}
 use Rattle.model.specs.Turns.{number_of}
-use Rattle.lock_free_sp.specs.Driver.{KeepsRule, Owes, Told, answered}
+use Rattle.threaded.specs.Driver.{KeepsRule, Owes, Told, answered}
 use Rattle.history.specs.declared.view.View.{View}
 use Rattle.history.specs.ContainerFind.{FindIn, copies_of, copies_after, find_copies, finds_values}
 use Rattle.history.specs.History.{IsMachine}
@@ -85,7 +85,7 @@ module _ {T R : Type 0} (code : Coding T) (law : IsCoding code) (words_in : R �
   abbrev finding : Calling T (Finding T R) Room ℕ
   finding = finds_values code words_in owner
 
-  abbrev room : R → rooms.Kept 128
+  abbrev room : R → buffers.Buffer 128
   room m = room_of code.size (words_in m)
 
   abbrev want : Finding T R → Want (Unit {0})
@@ -97,11 +97,11 @@ module _ {T R : Type 0} (code : Coding T) (law : IsCoding code) (words_in : R �
   abbrev kept : Finding T R → Room → ℕ → Room
   kept = find_copies code words_in with_word
 
-  abbrev call_at : ℕ → FindStage → Finding T (rooms.Kept 128)
+  abbrev call_at : ℕ → FindStage → Finding T (buffers.Buffer 128)
   call_at capacity stage = record { capacity = capacity; stage = stage; of = record {} }
 
   -- how a find of the model goes on
-  abbrev as_model : rooms.Kept 128 → After (Finding T (rooms.Kept 128)) ℕ → After (Flight T) (Answer T)
+  abbrev as_model : buffers.Buffer 128 → After (Finding T (buffers.Buffer 128)) ℕ → After (Flight T) (Answer T)
   as_model x r = as_call flights.Container (λ (answer : Answer T). answer) (as_call calls.Find answers.Number (went_on as_it_is owner x r))
 
   put_there : (m : R) (at n : ℕ) → at < code.size → kept_at (room m) at n ≡ room (with_word m at n)

@@ -20,8 +20,8 @@ use Rattle.model.specs.declared.event.Event.{Event}
 use Rattle.model.specs.declared.event.Event.TheVariants.{Copied}
 use Rattle.model.specs.declared.event.Start.TheVariants.{Container}
 use Rattle.model.specs.declared.families.Flight.TheVariants as flights
-use Rattle.model.specs.declared.families.Kept.{Kept}
-use Rattle.model.specs.declared.families.Kept.TheVariants as kepts
+use Rattle.model.specs.declared.families.Registry.{Registry}
+use Rattle.model.specs.declared.families.Registry.TheVariants as registries
 use Rattle.model.specs.declared.families.container.ContainerStart.{ContainerStart}
 use Rattle.model.specs.declared.families.container.calls.ContainerFlight.TheVariants as calls
 use Rattle.model.specs.declared.families.container.calls.LookOf.{LookOf}
@@ -31,9 +31,9 @@ use Rattle.model.specs.Families.Container.Calls.{look_came, settled_if}
 use Rattle.model.specs.Families.Container.Steps.{look_effects, look_effects_of}
 use Rattle.model.specs.Step.{as_call}
 use Rattle.model.specs.World.{World}
-use Rattle.container_laws.proofs.Core.{data_within}
-use Rattle.container_laws.proofs.Looks.{written_same}
-use Rattle.lock_free_sp.specs.Driver.{answered}
+use Rattle.laws_container.proofs.Core.{data_within}
+use Rattle.laws_container.proofs.Looks.{written_same}
+use Rattle.threaded.specs.Driver.{answered}
 use Rattle.history.specs.ContainerFind.{HasCopied}
 use Rattle.history.specs.ContainerLooks.{LookIn, state_of_look, HasState, LookedAt, HasLookedAll, looks_at}
 use Rattle.history.specs.Stages.{Calling}
@@ -124,17 +124,17 @@ module _ {T : Type 0} (code : Coding T) (which : LookOf) (capacity : ℕ) (seen 
   came_so m (Done changed) = refl
 
   -- the look goes on from it as its drive does
-  pub look_goes_so : (c : Looking T) (m : Showing T) (n : ℕ) (kept : Kept T) → HasState kept p (state_of_look capacity seen m)
+  pub look_goes_so : (c : Looking T) (m : Showing T) (n : ℕ) (kept : Registry T) → HasState kept p (state_of_look capacity seen m)
       → goes_of code p (flights.Container (calls.Look which c)) n kept ≡ goes drives (look_after code.size c seen n) (kept_shown c m n)
-  look_goes_so c m n (kepts.Container dead states) has = rw has (came_so (kept_shown c m n) (look_after code.size c seen n))
+  look_goes_so c m n (registries.Container dead states) has = rw has (came_so (kept_shown c m n) (look_after code.size c seen n))
   look_goes_so c m n kept has = absurd (cc)
 
   -- and writes into it what the drive's room has then
-  pub look_keeps_so : (words : List ℕ) (beside : Option (ℕ × ℕ)) (start : ContainerStart T) (c : Looking T) (m : Showing T) (n : ℕ) (kept : Kept T)
+  pub look_keeps_so : (words : List ℕ) (beside : Option (ℕ × ℕ)) (start : ContainerStart T) (c : Looking T) (m : Showing T) (n : ℕ) (kept : Registry T)
       → HasState kept p (state_of_look capacity seen m)
       → HasState (step_of code words beside p (Container start) (flights.Container (calls.Look which c)) n kept).kept p
       (settled_if (look_after code.size c seen n) (state_of_look capacity seen (kept_shown c m n)))
-  look_keeps_so words beside start c m n (kepts.Container dead states) has =
+  look_keeps_so words beside start c m n (registries.Container dead states) has =
       let then : ContainerState T = settled_if (look_after code.size c seen n) (state_of_look capacity seen (kept_shown c m n)) in
       rw has (written_same p then (state_of_look capacity seen m) states has)
   look_keeps_so words beside start c m n kept has = absurd (cc)

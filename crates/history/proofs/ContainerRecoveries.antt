@@ -16,7 +16,7 @@ use Rattle.steps.specs.declared.container.recover.DeadOwner.{DeadOwner}
 use Rattle.steps.specs.declared.container.recover.Recover.{Recover as Recovering}
 use Rattle.steps.specs.declared.container.recover.RecoverStage.{RecoverStage}
 use Rattle.steps.specs.declared.container.recover.RecoverStage.TheVariants as recovers
-use Rattle.steps.specs.declared.copied.Kept as rooms
+use Rattle.steps.specs.declared.copied.Buffer as buffers
 use Rattle.steps.specs.declared.indices.enums.ReleaseMode.{ReleaseMode}
 use Rattle.steps.specs.declared.indices.enums.ReleaseMode.TheVariants.{LockIfLastIndex, Default}
 use Rattle.steps.specs.declared.indices.enums.ReleaseState.{ReleaseState}
@@ -41,8 +41,8 @@ use Rattle.model.specs.Families.Queues.Calls.{as_it_is, fresh_cell, kept_at, rea
 use Rattle.model.specs.Reading.{own_after, Open}
 use Rattle.model.specs.Step.{as_call}
 use Rattle.model.specs.Turns.{number_of}
-use Rattle.robust_laws.proofs.Sound.{raise_asks_none, lock_asks_none}
-use Rattle.lock_free_sp.specs.Driver.{KeepsRule}
+use Rattle.laws_robust.proofs.Sound.{raise_asks_none, lock_asks_none}
+use Rattle.threaded.specs.Driver.{KeepsRule}
 use Rattle.history.specs.declared.view.View.{View}
 use Rattle.history.specs.ContainerRecovery.{RecoverIn, Came, wrote_visits, visits_after, VisitsAt, told_yet, recover_visits, recovers_values}
 use Rattle.history.specs.History.{IsMachine}
@@ -80,17 +80,17 @@ module _ {T R : Type 0} (code : Coding T) (law : IsCoding code) (words_in : R �
   has_words : 0 < code.size
   has_words = (let some = law.some in omega arith)
 
-  abbrev room_in : R → rooms.Kept 128
+  abbrev room_in : R → buffers.Buffer 128
   room_in m = room_of code.size (words_in m)
 
   -- ---- it goes on as the model's
 
   -- at this stage, with this room
-  abbrev flight_at : ℕ → RecoverStage → rooms.Kept 128 → Flight T
+  abbrev flight_at : ℕ → RecoverStage → buffers.Buffer 128 → Flight T
   flight_at capacity stage room =
       flights.Container (calls.Recover (record { call = record { capacity = capacity; stage = stage; of = record {} }; given = given; room = room }))
 
-  abbrev goes_with : rooms.Kept 128 → After (Recovering T R) ReleaseState → After (Flight T) (Answer T)
+  abbrev goes_with : buffers.Buffer 128 → After (Recovering T R) ReleaseState → After (Flight T) (Answer T)
   goes_with room (GoOn d) = GoOn (flight_at d.capacity d.stage room)
   goes_with room (Done e) = Done (State e)
 
@@ -98,10 +98,10 @@ module _ {T R : Type 0} (code : Coding T) (law : IsCoding code) (words_in : R �
   goes_is m (GoOn d) = refl
   goes_is m (Done e) = refl
 
-  abbrev model_call : Recovering T R → Recovering T (rooms.Kept 128)
+  abbrev model_call : Recovering T R → Recovering T (buffers.Buffer 128)
   model_call c = record { capacity = c.capacity; stage = c.stage; of = record {} }
 
-  module _ (c : Recovering T R) (n : ℕ) (room : rooms.Kept 128) where
+  module _ (c : Recovering T R) (n : ℕ) (room : buffers.Buffer 128) where
     abbrev SameTakes : RecoverStage → Type 0
     SameTakes stage =
         after_of code (flight_at c.capacity stage room) n ≡ goes_with (recover_keeps kept_at stage room n) (recover_takes code.size c stage given n)

@@ -25,10 +25,10 @@ use Rattle.model.specs.Coding.{Coding}
 use Rattle.model.specs.Families.{want_of, goes_of, is_question}
 use Rattle.model.specs.Turns.{number_of}
 use Rattle.model.specs.World.{World}
-use Rattle.robust_laws.proofs.Sound.{count_asks_none, raise_asks_none, lock_asks_none}
-use Rattle.container_laws.proofs.LooksTell.{look_asks_none}
-use Rattle.container_laws.proofs.Moves.{add_asks_none, remove_asks_none}
-use Rattle.lock_free_sp.specs.Driver.{KeepsRule}
+use Rattle.laws_robust.proofs.Sound.{count_asks_none, raise_asks_none, lock_asks_none}
+use Rattle.laws_container.proofs.LooksTell.{look_asks_none}
+use Rattle.laws_container.proofs.Moves.{add_asks_none, remove_asks_none}
+use Rattle.threaded.specs.Driver.{KeepsRule}
 use Rattle.history.specs.declared.view.View.{View}
 use Rattle.history.specs.History.{IsMachine, IsLate}
 use Rattle.history.specs.Settled.{IsResting, Settles, AtRested, EndsRested}

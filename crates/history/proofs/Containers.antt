@@ -10,8 +10,8 @@ use Rattle.model.specs.declared.event.Start.{Start}
 use Rattle.model.specs.declared.event.Start.TheVariants.{Container}
 use Rattle.model.specs.declared.families.Flight.{Flight}
 use Rattle.model.specs.declared.families.Flight as flights
-use Rattle.model.specs.declared.families.Kept.{Kept}
-use Rattle.model.specs.declared.families.Kept as kepts
+use Rattle.model.specs.declared.families.Registry.{Registry}
+use Rattle.model.specs.declared.families.Registry as registries
 use Rattle.model.specs.declared.families.container.ContainerStart.{ContainerStart}
 use Rattle.model.specs.declared.families.container.ContainerStart.TheVariants.{Add, Remove, Replace, Find, Recover}
 use Rattle.model.specs.declared.families.container.ContainerStart.TheVariants.{GetState, UpdateState, Len, IsEmpty}
@@ -37,17 +37,17 @@ use Rattle.model.specs.Turns.{step_in, after_turn}
 use Rattle.model.specs.World.{World, Trace}
 use Rattle.model.proofs.Frame as frame
 use Rattle.model.proofs.Scenes.{stands_there}
-use Rattle.robust_laws.specs.Gone.{Word}
-use Rattle.robust_laws.specs.Open.{open_refusal}
-use Rattle.robust_laws.proofs.Alive.{AllLive}
-use Rattle.container_laws.specs.Open.{IsOpenContainer}
-use Rattle.container_laws.proofs.Invariant.{ContainerNow, Fit, FlightAt, family_by}
-use Rattle.container_laws.proofs.Living.{has_not_died, step_is_free}
-use Rattle.container_laws.proofs.OpenRuns.{reached_open_sound, reached_open_lives, reached_open_wide, reached_open_kept, reached_open_tells}
-use Rattle.container_laws.proofs.Sound.{kept_is}
-use Rattle.container_laws.proofs.Terms.{Terms}
-use Rattle.container_laws.proofs.Written.{all_effects}
-use Rattle.lock_free_sp.specs.Driver.{KeepsRule}
+use Rattle.laws_robust.specs.Gone.{Word}
+use Rattle.laws_robust.specs.Open.{open_refusal}
+use Rattle.laws_robust.proofs.Alive.{AllLive}
+use Rattle.laws_container.specs.Open.{IsOpenContainer}
+use Rattle.laws_container.proofs.Invariant.{ContainerNow, Represents, FlightAt, family_by}
+use Rattle.laws_container.proofs.Living.{has_not_died, step_is_free}
+use Rattle.laws_container.proofs.OpenRuns.{reached_open_sound, reached_open_lives, reached_open_wide, reached_open_kept, reached_open_tells}
+use Rattle.laws_container.proofs.Sound.{kept_is}
+use Rattle.laws_container.proofs.Terms.{Terms}
+use Rattle.laws_container.proofs.Written.{all_effects}
+use Rattle.threaded.specs.Driver.{KeepsRule}
 use Rattle.history.specs.declared.view.View.{View}
 use Rattle.history.specs.History.{IsRun, IsMachine, call_in}
 use Rattle.history.specs.Known.{owned}
@@ -62,7 +62,7 @@ use Rattle.history.proofs.Turns.{StepsOn, KeptLaws, all_someone}
 
 module _ {T : Type 0} where
   -- what a step of a container's call writes, where this is kept
-  abbrev kept_effects : Coding T → Kept T → ℕ → Flight T → ℕ → List (Event T)
+  abbrev kept_effects : Coding T → Registry T → ℕ → Flight T → ℕ → List (Event T)
   kept_effects code kept p (flights.TheVariants.Container flight) old = effects code p (state_in kept p) flight old ++ questions p flight old
   kept_effects code kept p flight old = []
 
@@ -74,7 +74,7 @@ module _ {T : Type 0} where
   plain_effects code p (flights.TheVariants.Container flight) old = effects code p None flight old ++ questions p flight old
   plain_effects code p flight old = []
 
-  pub effects_of_party : (code : Coding T) (kept : Kept T) (p : ℕ) (flight : Flight T) (n : ℕ) → AreOf p (kept_effects code kept p flight n)
+  pub effects_of_party : (code : Coding T) (kept : Registry T) (p : ℕ) (flight : Flight T) (n : ℕ) → AreOf p (kept_effects code kept p flight n)
   effects_of_party code kept p (flights.TheVariants.Container flight) n = effects_own p _ (all_effects (Next p) p refl code (state_in kept p) flight n)
   effects_of_party code kept p flight n = tt
 
@@ -89,25 +89,25 @@ module _ {T : Type 0} where
   IsPlain (flights.TheVariants.Container flight) = Unit {0}
   IsPlain flight = ⊥
 
-  plain_writes : (code : Coding T) (kept : Kept T) (p : ℕ) (flight : ContainerFlight T) (n : ℕ) → IsPlain (flights.TheVariants.Container flight)
+  plain_writes : (code : Coding T) (kept : Registry T) (p : ℕ) (flight : ContainerFlight T) (n : ℕ) → IsPlain (flights.TheVariants.Container flight)
       → kept_effects code kept p (flights.TheVariants.Container flight) n ≡ plain_effects code p (flights.TheVariants.Container flight) n
   plain_writes code kept p (calls.Look which call) n plain = absurd plain
   plain_writes code kept p flight n plain = refl
 
   -- it writes by itself
-  writes_alike : (code : Coding T) (kept : Kept T) (p : ℕ) (flight : Flight T) (n : ℕ) → IsPlain flight
+  writes_alike : (code : Coding T) (kept : Registry T) (p : ℕ) (flight : Flight T) (n : ℕ) → IsPlain flight
       → kept_effects code kept p flight n ≡ plain_effects code p flight n
   writes_alike code kept p (flights.TheVariants.Container flight) n plain = plain_writes code kept p flight n plain
   writes_alike code kept p flight n plain = absurd plain
 
-  plain_goes : (code : Coding T) (p : ℕ) (flight : ContainerFlight T) (n : ℕ) (kept : Kept T) → IsPlain (flights.TheVariants.Container flight)
+  plain_goes : (code : Coding T) (p : ℕ) (flight : ContainerFlight T) (n : ℕ) (kept : Registry T) → IsPlain (flights.TheVariants.Container flight)
       → goes_of code p (flights.TheVariants.Container flight) n kept ≡ after_of code (flights.TheVariants.Container flight) n
   plain_goes code p (calls.Look which call) n kept plain = absurd plain
-  plain_goes code p flight n (kepts.TheVariants.Container dead states) plain = refl
+  plain_goes code p flight n (registries.TheVariants.Container dead states) plain = refl
   plain_goes code p flight n kept plain = refl
 
   -- and goes on by itself
-  pub goes_plain : (code : Coding T) (p : ℕ) (flight : Flight T) (n : ℕ) (kept : Kept T) → IsPlain flight
+  pub goes_plain : (code : Coding T) (p : ℕ) (flight : Flight T) (n : ℕ) (kept : Registry T) → IsPlain flight
       → goes_of code p flight n kept ≡ after_of code flight n
   goes_plain code p (flights.TheVariants.Container flight) n kept plain = plain_goes code p flight n kept plain
   goes_plain code p flight n kept plain = absurd plain
@@ -140,7 +140,7 @@ module _ {T : Type 0} (code : Coding T) (capacity : ℕ) where
 
   -- nobody has died
   pub kept_there : (t : Trace T) → IsOn t → (dead : List ℕ) × (states : List (ℕ × ContainerState T))
-      × (t.world.kept ≡ kepts.TheVariants.Container dead states) × ((owner : ℕ) → has_died owner dead ≡ false)
+      × (t.world.kept ≡ registries.TheVariants.Container dead states) × ((owner : ℕ) → has_died owner dead ≡ false)
   kept_there t r =
       let s = container_sound t r in (
         s.state.dead,
@@ -160,19 +160,19 @@ module _ {T : Type 0} (code : Coding T) (capacity : ℕ) where
       step_is_free by_word t.world.coding t.world.capacity t (container_sound t r) (all_live t r) flight
   no_rows t r c z all done start flight at = absurd at
 
-  writes_there : (y : Coding T) (words ws : List ℕ) (beside : Option (ℕ × ℕ)) (c z p old : ℕ) (all : List Deed) (done : List (Act T)) (kept : Kept T)
-      (s : ContainerNow T) (start : Start T) (flight : Flight T) → Fit kept ws s → FlightAt c z all done start flight
+  writes_there : (y : Coding T) (words ws : List ℕ) (beside : Option (ℕ × ℕ)) (c z p old : ℕ) (all : List Deed) (done : List (Act T)) (kept : Registry T)
+      (s : ContainerNow T) (start : Start T) (flight : Flight T) → Represents kept ws s → FlightAt c z all done start flight
       → (step_of y words beside p start flight old kept).wrote ≡ kept_effects y kept p flight old
-  writes_there y words ws beside c z p old all done (kepts.TheVariants.Container dead states) s (Container start)
+  writes_there y words ws beside c z p old all done (registries.TheVariants.Container dead states) s (Container start)
       (flights.TheVariants.Container flight) fit at =
       refl
   writes_there y words ws beside c z p old all done kept s (Container start) (flights.TheVariants.Container flight) fit at = absurd fit
   writes_there y words ws beside c z p old all done kept s start flight fit at = absurd at
 
-  goes_there : (y : Coding T) (words ws : List ℕ) (beside : Option (ℕ × ℕ)) (c z p old : ℕ) (all : List Deed) (done : List (Act T)) (kept : Kept T)
-      (s : ContainerNow T) (start : Start T) (flight : Flight T) → Fit kept ws s → FlightAt c z all done start flight
+  goes_there : (y : Coding T) (words ws : List ℕ) (beside : Option (ℕ × ℕ)) (c z p old : ℕ) (all : List Deed) (done : List (Act T)) (kept : Registry T)
+      (s : ContainerNow T) (start : Start T) (flight : Flight T) → Represents kept ws s → FlightAt c z all done start flight
       → (step_of y words beside p start flight old kept).after ≡ goes_of y p flight old kept
-  goes_there y words ws beside c z p old all done (kepts.TheVariants.Container dead states) s (Container start)
+  goes_there y words ws beside c z p old all done (registries.TheVariants.Container dead states) s (Container start)
       (flights.TheVariants.Container flight) fit at =
       refl
   goes_there y words ws beside c z p old all done kept s (Container start) (flights.TheVariants.Container flight) fit at = absurd fit
@@ -217,7 +217,7 @@ module _ {T : Type 0} (code : Coding T) (capacity : ℕ) where
 -- what is tested of a begin, where nobody has died
 module _ {T : Type 0} (capacity p : ℕ) (dead : List ℕ) (states : List (ℕ × ContainerState T)) (lives : (owner : ℕ) → has_died owner dead ≡ false) where
   abbrev FreeTo : ContainerStart T → Type 0
-  FreeTo start = first_row (rows_as kinds.Container capacity (kepts.TheVariants.Container dead states) p (Container start)) ≡ None
+  FreeTo start = first_row (rows_as kinds.Container capacity (registries.TheVariants.Container dead states) p (Container start)) ≡ None
 
   may_begin : (start : ContainerStart T) → names_owner start ≡ true → FreeTo start
   may_begin (Add value owner) named = rw (named, lives owner) refl
@@ -235,7 +235,7 @@ module _ {T : Type 0} (capacity p : ℕ) (dead : List ℕ) (states : List (ℕ �
 module _ {T C M E : Type 0} (code : Coding T) (base : View T) (call : Calling T C M E) (start : ContainerStart T) (c : C) (m : M)
     (is_named : call.start ≡ Container start) (by_last : (o : Option ℕ) (p : ℕ) → IfSome o (λ q. q ≡ p) → call.by o p)
     (named : names_owner start ≡ true) (flies : flights.TheVariants.Container (first base.capacity start) ≡ call.flight c m) where
-  pub container_first : (kept : Kept T) → first_of kinds.Container base.capacity call.start kept ≡ Some (call.flight c m)
+  pub container_first : (kept : Registry T) → first_of kinds.Container base.capacity call.start kept ≡ Some (call.flight c m)
   container_first kept = rw is_named (rw named (ap Some flies))
 
   pub container_starts : (t : Trace T) (owner : ℕ → ℕ) (j : ℕ) → IsOn code base.capacity t → owner j ≡ j → IfSome base.party (λ p. owner p ≡ j)
@@ -246,7 +246,7 @@ module _ {T C M E : Type 0} (code : Coding T) (base : View T) (call : Calling T 
       (λ p. rw is_named (subst (λ k. first_row (rows_as kinds.Container base.capacity k p (Container start)) ≡ None) (sym kept.2)
       (may_begin base.capacity p kept.0 kept.1 kept.3 start named)))
     where
-      kept : (dead : List ℕ) × (states : List (ℕ × ContainerState T)) × (t.world.kept ≡ kepts.TheVariants.Container dead states)
+      kept : (dead : List ℕ) × (states : List (ℕ × ContainerState T)) × (t.world.kept ≡ registries.TheVariants.Container dead states)
           × ((owner : ℕ) → has_died owner dead ≡ false)
       kept = kept_there code base.capacity t run
 

@@ -19,13 +19,13 @@ use Rattle.model.specs.Coding.{Coding}
 use Rattle.model.specs.Families.{want_of, after_of, goes_of, is_question}
 use Rattle.model.specs.Turns.{after_turn}
 use Rattle.model.specs.World.{World, Trace}
-use Rattle.lock_free_sp.specs.Driver.{answered, Owes, Next as NextKnown, Told, KeepsRule}
+use Rattle.threaded.specs.Driver.{answered, Owes, Next as NextKnown, Told, KeepsRule}
 use Rattle.history.specs.declared.view.View.{View}
 use Rattle.history.specs.Known.{events_by}
 use Rattle.history.specs.History.{IsRun, IsMachine, IsLate, call_in}
 use Rattle.history.specs.Stages.{Calling, IsFirst, At, Ends, LeftOut, Over}
 use Rattle.history.specs.Views.{Looks}
-use Rattle.queue_laws.proofs.Queues.Knows.{IsFreshCall}
+use Rattle.laws_queues.proofs.Queues.Knows.{IsFreshCall}
 use Rattle.history.proofs.Known.{by_mine, late_none, AreOf}
 use Rattle.history.proofs.Calls.{get_left}
 use Rattle.history.proofs.Turns.{KindLaws, KeptLaws, MachineLaws, kept_laws, goes_on_alike, machine_laws, Between}

@@ -23,7 +23,7 @@ use Rattle.model.specs.World.{Trace, flight_in}
 use Rattle.model.proofs.Frame.{Family, Sound, is_true}
 use Rattle.model.proofs.Rows.{row_passed}
 use Rattle.model.proofs.Readings.{AreRight, Each-append}
-use Rattle.queue_laws.proofs.Queues.Runs.{LawsAt, AllMay, attempt_sound}
+use Rattle.laws_queues.proofs.Queues.Runs.{LawsAt, AllMay, attempt_sound}
 
 -- what a call is handed as it goes on: what stands in its word, or a decision
 abbrev pub IsHanded : {T : Type 0} → Trace T → Flight T → ℕ → Type 0

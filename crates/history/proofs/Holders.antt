@@ -20,8 +20,8 @@ use Rattle.model.specs.declared.event.Start.{Start}
 use Rattle.model.specs.declared.event.Start.TheVariants.{Queues}
 use Rattle.model.specs.declared.families.Flight.{Flight}
 use Rattle.model.specs.declared.families.Flight as flights
-use Rattle.model.specs.declared.families.Kept.{Kept}
-use Rattle.model.specs.declared.families.Kept as kepts
+use Rattle.model.specs.declared.families.Registry.{Registry}
+use Rattle.model.specs.declared.families.Registry as registries
 use Rattle.model.specs.declared.families.queues.QueueKind.TheVariants.{IndexQueue, Queue}
 use Rattle.model.specs.declared.families.queues.QueueStart.{QueueStart}
 use Rattle.model.specs.declared.families.queues.QueueStart.TheVariants.{AcquireProducer, ReleaseProducer}
@@ -52,16 +52,16 @@ use Rattle.model.specs.World.{Trace, opening, capacity_error}
 use Rattle.model.proofs.Frame as frame
 use Rattle.model.proofs.Readings.{AreRight, Each-append, Each-nil}
 use Rattle.model.proofs.Scenes.{stands_there}
-use Rattle.queue_laws.proofs.Queues.Core.{Core}
-use Rattle.queue_laws.proofs.Queues.Invariant.{family, machine_kind, waiting_is}
-use Rattle.queue_laws.proofs.Queues.Values as values
-use Rattle.queue_laws.proofs.Queues.Values.{Val}
-use Rattle.queue_laws.proofs.Ring.Kinds.{Ring, of_indices, of_values, kind_of}
+use Rattle.laws_queues.proofs.Queues.Core.{Core}
+use Rattle.laws_queues.proofs.Queues.Invariant.{family, machine_kind, waiting_is}
+use Rattle.laws_queues.proofs.Queues.Values as values
+use Rattle.laws_queues.proofs.Queues.Values.{Val}
+use Rattle.laws_queues.proofs.Ring.Kinds.{Ring, of_indices, of_values, kind_of}
 use Rattle.steps.specs.Copied.{value_in}
-use Rattle.queue_laws.proofs.Ring.Knows.{KnowsPush, KnowsPop}
-use Rattle.queue_laws.proofs.Queues.Knows.{At}
-use Rattle.queue_laws.proofs.Queues.Runs.{AllMay, attempt_sound}
-use Rattle.queue_laws.proofs.Queues.Sound.{kept_is, opening_sound, admitted_fits, fresh_laws, IsFreshTurn}
+use Rattle.laws_queues.proofs.Ring.Knows.{KnowsPush, KnowsPop}
+use Rattle.laws_queues.proofs.Queues.Knows.{At}
+use Rattle.laws_queues.proofs.Queues.Runs.{AllMay, attempt_sound}
+use Rattle.laws_queues.proofs.Queues.Sound.{kept_is, opening_sound, admitted_fits, fresh_laws, IsFreshTurn}
 use Rattle.history.specs.History.{IsRun, IsHistory}
 use Rattle.history.specs.Roles.{ByHolder, ByHolderOf, role_after, marks}
 use Rattle.history.specs.Known.{events_by}
@@ -157,7 +157,7 @@ module _ {T : Type 0} (c : ℕ) where
     flight_right : (r : Ring) (k : Core (Val T (kind_of r)))
         → waiting before ≡ map (values.item (kind_of r)) k.waiting → (start : QueueStart T) (flight : QueueFlight T)
         → At {T = T} en (kind_of r) c ro k p start flight
-        → Right before (step_of en words waits p (Queues start) (flights.TheVariants.Queues flight) n (kepts.TheVariants.Queues ro)).wrote
+        → Right before (step_of en words waits p (Queues start) (flights.TheVariants.Queues flight) n (registries.TheVariants.Queues ro)).wrote
     flight_right of_indices k same (PushIndex v) (Indices (rings.TheVariants.Push run)) at =
         push_right of_indices p v _ run.call.stage _ before (producers ∙ at.0)
         (room_at one_word (values.item IndexQueue) k before same v run.call.stage at.3)
@@ -184,8 +184,8 @@ module _ {T : Type 0} (c : ℕ) where
     SoundAt t = frame.Sound (family en (kind_of r) c) t
 
     module _ (t : Trace T) (s : SoundAt t) where
-      any_right : (p n : ℕ) (waits : Option (ℕ × ℕ)) (start : Start T) (flight : Flight T) (kept : Kept T)
-          → kept ≡ kepts.TheVariants.Queues s.state.roles → (family en (kind_of r) c).At s.state p start flight
+      any_right : (p n : ℕ) (waits : Option (ℕ × ℕ)) (start : Start T) (flight : Flight T) (kept : Registry T)
+          → kept ≡ registries.TheVariants.Queues s.state.roles → (family en (kind_of r) c).At s.state p start flight
           → Right t.events (step_of t.world.coding t.world.words waits p start flight n kept).wrote
       any_right p n waits (Queues start) (flights.TheVariants.Queues flight) kept e at =
           subst (λ z. Right t.events (step_of z t.world.words waits p (Queues start) (flights.TheVariants.Queues flight) n kept).wrote) (sym s.coding)

@@ -38,8 +38,8 @@ use Rattle.model.specs.Families.Indices.Calls.{acquire_answer}
 use Rattle.model.specs.Families.Indices.Steps.{ended}
 use Rattle.model.specs.Families.Queues.Calls.{as_it_is}
 use Rattle.model.specs.Step.{as_call, answer_in}
-use Rattle.index_laws.proofs.Core as core
-use Rattle.lock_free_sp.specs.Driver.{answered, KeepsRule}
+use Rattle.laws_indices.proofs.Core as core
+use Rattle.threaded.specs.Driver.{answered, KeepsRule}
 use Rattle.history.specs.declared.view.View.{View}
 use Rattle.history.specs.Held.{Holds}
 use Rattle.history.specs.History.{IsMachine}

@@ -11,8 +11,8 @@ use Rattle.model.specs.declared.event.Start.{Start}
 use Rattle.model.specs.declared.event.Start.TheVariants.{Indices}
 use Rattle.model.specs.declared.families.Flight.{Flight}
 use Rattle.model.specs.declared.families.Flight as flights
-use Rattle.model.specs.declared.families.Kept.{Kept}
-use Rattle.model.specs.declared.families.Kept as kepts
+use Rattle.model.specs.declared.families.Registry.{Registry}
+use Rattle.model.specs.declared.families.Registry as registries
 use Rattle.model.specs.declared.families.indices.IndexStart.{IndexStart}
 use Rattle.model.specs.declared.families.indices.IndexStart.TheVariants.{Release}
 use Rattle.model.specs.declared.party.Party.{Party}
@@ -31,10 +31,10 @@ use Rattle.model.specs.Turns.{step_in}
 use Rattle.model.specs.World.{Trace}
 use Rattle.model.proofs.Frame as frame
 use Rattle.model.proofs.Scenes.{stands_there}
-use Rattle.index_laws.proofs.Core as core
-use Rattle.index_laws.proofs.Invariant.{IndexSet, Fit, FlightAt, family}
-use Rattle.index_laws.proofs.Kept.{kept_on}
-use Rattle.index_laws.proofs.Sound.{kept_is, reached_on_sound}
+use Rattle.laws_indices.proofs.Core as core
+use Rattle.laws_indices.proofs.Invariant.{IndexSet, Represents, FlightAt, family}
+use Rattle.laws_indices.proofs.Kept.{kept_on}
+use Rattle.laws_indices.proofs.Sound.{kept_is, reached_on_sound}
 use Rattle.history.specs.declared.view.View.{View}
 use Rattle.history.specs.Held.{Holds}
 use Rattle.history.specs.History.{IsRun, call_in}
@@ -78,24 +78,24 @@ module _ {T : Type 0} (code : Coding T) (capacity : ℕ) where
       let s = sound t r in
       ap length (kept_is t.world.kept t.world.words s.state s.fit).1 ∙ (s.holds.good.wide ∙ ap core.size r.sized)
 
-  no_rows : (z : Coding T) (c : ℕ) (kept : Kept T) (holders : List (Option ℕ)) (p : ℕ) (start : Start T) (flight : Flight T)
+  no_rows : (z : Coding T) (c : ℕ) (kept : Registry T) (holders : List (Option ℕ)) (p : ℕ) (start : Start T) (flight : Flight T)
       → FlightAt c holders p start flight → first_row (going_rows z kept (Some flight) None) ≡ None
   no_rows z c kept holders p (Indices start) (flights.TheVariants.Indices flight) at = refl
   no_rows z c kept holders p start flight at = absurd at
 
-  writes_there : (z : Coding T) (words ws : List ℕ) (beside : Option (ℕ × ℕ)) (c p old : ℕ) (kept : Kept T)
+  writes_there : (z : Coding T) (words ws : List ℕ) (beside : Option (ℕ × ℕ)) (c p old : ℕ) (kept : Registry T)
       (s : IndexSet) (start : Start T) (flight : Flight T)
-      → Fit kept ws s → FlightAt c s.holders p start flight
+      → Represents kept ws s → FlightAt c s.holders p start flight
       → (step_of z words beside p start flight old kept).wrote ≡ index_effects p flight old
-  writes_there z words ws beside c p old (kepts.TheVariants.Indices holders) s (Indices start) (flights.TheVariants.Indices flight) fit at = refl
+  writes_there z words ws beside c p old (registries.TheVariants.Indices holders) s (Indices start) (flights.TheVariants.Indices flight) fit at = refl
   writes_there z words ws beside c p old kept s (Indices start) (flights.TheVariants.Indices flight) fit at = absurd fit
   writes_there z words ws beside c p old kept s start flight fit at = absurd at
 
-  goes_there : (z : Coding T) (words ws : List ℕ) (beside : Option (ℕ × ℕ)) (c p old : ℕ) (kept : Kept T)
+  goes_there : (z : Coding T) (words ws : List ℕ) (beside : Option (ℕ × ℕ)) (c p old : ℕ) (kept : Registry T)
       (s : IndexSet) (start : Start T) (flight : Flight T)
-      → Fit kept ws s → FlightAt c s.holders p start flight
+      → Represents kept ws s → FlightAt c s.holders p start flight
       → (step_of z words beside p start flight old kept).after ≡ after_of z flight old
-  goes_there z words ws beside c p old (kepts.TheVariants.Indices holders) s (Indices start) (flights.TheVariants.Indices flight) fit at = refl
+  goes_there z words ws beside c p old (registries.TheVariants.Indices holders) s (Indices start) (flights.TheVariants.Indices flight) fit at = refl
   goes_there z words ws beside c p old kept s (Indices start) (flights.TheVariants.Indices flight) fit at = absurd fit
   goes_there z words ws beside c p old kept s start flight fit at = absurd at
 
@@ -142,13 +142,13 @@ module _ {T : Type 0} (code : Coding T) (base : View T) where
   abbrev IsOn : Trace T → Type 0
   IsOn t = IsRun code kinds.TheVariants.Indices base.capacity t
 
-  kept_there : (t : Trace T) → IsOn t → (holders : List (Option ℕ)) × (t.world.kept ≡ kepts.TheVariants.Indices holders)
+  kept_there : (t : Trace T) → IsOn t → (holders : List (Option ℕ)) × (t.world.kept ≡ registries.TheVariants.Indices holders)
   kept_there t r = let s = sound code base.capacity t r in (s.state.holders, (kept_is t.world.kept t.world.words s.state s.fit).0)
 
   -- a call that names no index always may, as the party that the pass was last
   module _ {C M E : Type 0} (call : Calling T C M E) (start : IndexStart) (c : C) (m : M)
       (named : call.start ≡ Indices start) (by_last : (o : Option ℕ) (p : ℕ) → IfSome o (λ q. q ≡ p) → call.by o p)
-      (first_is : (kept : Kept T) → first_of kinds.TheVariants.Indices base.capacity (Indices start) kept ≡ Some (call.flight c m))
+      (first_is : (kept : Registry T) → first_of kinds.TheVariants.Indices base.capacity (Indices start) kept ≡ Some (call.flight c m))
       (free : (holders : List (Option ℕ)) (p : ℕ) → first_row (call_rows base.capacity holders p start) ≡ None) where
     pub plain_starts : (t : Trace T) (owner : ℕ → ℕ) (j : ℕ) → IsOn t → owner j ≡ j
         → IfSome base.party (λ p. owner p ≡ j)
@@ -157,7 +157,7 @@ module _ {T : Type 0} (code : Coding T) (base : View T) where
     plain_starts t owner j run self party sums =
         starts_by_last code kinds.TheVariants.Indices call base c m t owner j by_last self party first_here may
       where
-        kept : (holders : List (Option ℕ)) × (t.world.kept ≡ kepts.TheVariants.Indices holders)
+        kept : (holders : List (Option ℕ)) × (t.world.kept ≡ registries.TheVariants.Indices holders)
         kept = kept_there t run
 
         is_some : is_none (first_of kinds.TheVariants.Indices base.capacity (Indices start) t.world.kept) ≡ false
@@ -172,7 +172,7 @@ module _ {T : Type 0} (code : Coding T) (base : View T) where
   -- a release may, as that of the pass's parties which holds the index
   module _ {C M E : Type 0} (call : Calling T C M E) (index : ℕ) (mode : ReleaseMode) (c : C) (m : M)
       (named : call.start ≡ Indices (Release index mode)) (by_any : (o : Option ℕ) (p : ℕ) → call.by o p)
-      (first_is : (kept : Kept T)
+      (first_is : (kept : Registry T)
       → first_of kinds.TheVariants.Indices base.capacity (Indices (Release index mode)) kept ≡ Some (call.flight c m))
       (below : index < base.capacity) (held : Holds index base.made) where
     pub release_starts : (t : Trace T) (owner : ℕ → ℕ) (j : ℕ) → IsOn t → owner j ≡ j
@@ -183,7 +183,7 @@ module _ {T : Type 0} (code : Coding T) (base : View T) where
         let set = is_index_set t run.of_kind run.reached in
         let kept = kept_there t run in
         let by = held_by owner j t.world.capacity index t.events base.made set.holds sums held in
-        let keeps : KeepsHolders (kepts.TheVariants.Indices kept.0) t.events = subst (λ k. KeepsHolders k t.events) kept.1 set.holders in
+        let keeps : KeepsHolders (registries.TheVariants.Indices kept.0) t.events = subst (λ k. KeepsHolders k t.events) kept.1 set.holders in
         let mine : slice_index_or kept.0 index None ≡ Some by.0 = keeps index ∙ by.2 in
         let past : nat_le base.capacity index ≡ false = grind (arith, nat_tests) in
         let it : (by.0 == by.0) ≡ true = grind (arith, nat_tests) in

@@ -64,3 +64,4 @@ pub mod OverflowHolders
 pub mod Settling
 pub mod ContainerFinds
 pub mod ContainerRests
+pub mod Acts

@@ -41,12 +41,12 @@ use Rattle.model.specs.Reading.{Open, longer, own_after}
 use Rattle.model.specs.Turns.{old_of}
 use Rattle.model.specs.World.{World, Trace}
 use Rattle.model.proofs.Scenes.{stands_there}
-use Rattle.queue_laws.proofs.Overflow.Knows.{IsFreshOver, overflow_wrote}
-use Rattle.queue_laws.proofs.Queues.Core.{Core, word_at}
-use Rattle.queue_laws.proofs.Queues.Invariant.{family}
-use Rattle.queue_laws.proofs.Queues.Knows.{layout, free}
-use Rattle.queue_laws.proofs.Queues.Sound.{kept_is}
-use Rattle.lock_free_sp.specs.Driver.{answered, KeepsRule}
+use Rattle.laws_queues.proofs.Overflow.Knows.{IsFreshOver, overflow_wrote}
+use Rattle.laws_queues.proofs.Queues.Core.{Core, word_at}
+use Rattle.laws_queues.proofs.Queues.Invariant.{family}
+use Rattle.laws_queues.proofs.Queues.Knows.{layout, free}
+use Rattle.laws_queues.proofs.Queues.Sound.{kept_is}
+use Rattle.threaded.specs.Driver.{answered, KeepsRule}
 use Rattle.history.specs.declared.view.View.{View}
 use Rattle.history.specs.History.{IsMachine, IsRun}
 use Rattle.history.specs.Known.{events_by}

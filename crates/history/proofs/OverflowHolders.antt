@@ -45,13 +45,13 @@ use Rattle.model.specs.World.{Trace, opening, capacity_error}
 use Rattle.model.proofs.Frame as frame
 use Rattle.model.proofs.Readings.{AreRight, Each-nil}
 use Rattle.model.proofs.Scenes.{stands_there}
-use Rattle.queue_laws.proofs.Overflow.Core.{oldest}
-use Rattle.queue_laws.proofs.Overflow.Knows.{KnowsOverflowPush, KnowsOverflowPop}
-use Rattle.queue_laws.proofs.Overflow.Waiting.{Pushing}
-use Rattle.queue_laws.proofs.Queues.Core.{Core, Good, word_at}
-use Rattle.queue_laws.proofs.Queues.Invariant.{family, waiting_is}
-use Rattle.queue_laws.proofs.Queues.Knows.{layout, free}
-use Rattle.queue_laws.proofs.Queues.Sound.{kept_is, opening_sound, admitted_fits, fresh_laws, IsFreshTurn}
+use Rattle.laws_queues.proofs.Overflow.Core.{oldest}
+use Rattle.laws_queues.proofs.Overflow.Knows.{KnowsOverflowPush, KnowsOverflowPop}
+use Rattle.laws_queues.proofs.Overflow.Waiting.{Pushing}
+use Rattle.laws_queues.proofs.Queues.Core.{Core, Good, word_at}
+use Rattle.laws_queues.proofs.Queues.Invariant.{family, waiting_is}
+use Rattle.laws_queues.proofs.Queues.Knows.{layout, free}
+use Rattle.laws_queues.proofs.Queues.Sound.{kept_is, opening_sound, admitted_fits, fresh_laws, IsFreshTurn}
 use Rattle.history.specs.History.{IsRun, IsHistory}
 use Rattle.history.specs.Overflow.{ByOverHolder}
 use Rattle.history.specs.Roles.{ByHolderOf}

@@ -34,13 +34,13 @@ use Rattle.model.specs.Families.Queues.Steps.{effects_of, overflow_pop_effect, t
 use Rattle.model.specs.Turns.{old_of}
 use Rattle.model.specs.World.{World, Trace}
 use Rattle.model.proofs.Scenes.{stands_there}
-use Rattle.queue_laws.proofs.Overflow.Core.{oldest}
-use Rattle.queue_laws.proofs.Overflow.Knows.{KnowsOverflowPop}
-use Rattle.queue_laws.proofs.Queues.Core.{word_at}
-use Rattle.queue_laws.proofs.Queues.Invariant.{family}
-use Rattle.queue_laws.proofs.Queues.Knows.{free}
-use Rattle.queue_laws.proofs.Queues.Sound.{kept_is}
-use Rattle.lock_free_sp.specs.Driver.{answered, KeepsRule}
+use Rattle.laws_queues.proofs.Overflow.Core.{oldest}
+use Rattle.laws_queues.proofs.Overflow.Knows.{KnowsOverflowPop}
+use Rattle.laws_queues.proofs.Queues.Core.{word_at}
+use Rattle.laws_queues.proofs.Queues.Invariant.{family}
+use Rattle.laws_queues.proofs.Queues.Knows.{free}
+use Rattle.laws_queues.proofs.Queues.Sound.{kept_is}
+use Rattle.threaded.specs.Driver.{answered, KeepsRule}
 use Rattle.history.specs.declared.view.View.{View}
 use Rattle.history.specs.History.{IsMachine, call_in}
 use Rattle.history.specs.Known.{events_by}

@@ -10,7 +10,7 @@ use Rattle.steps.specs.Queues.Roles.{acquire_want, acquire_after, release_want, 
 use Rattle.model.specs.declared.families.queues.calls.LengthOf.{LengthOf}
 use Rattle.model.specs.declared.turn.Kind.TheVariants as kinds
 use Rattle.model.specs.Coding.{Coding, IsCoding}
-use Rattle.lock_free_sp.specs.Driver.{KeepsRule}
+use Rattle.threaded.specs.Driver.{KeepsRule}
 use Rattle.history.specs.declared.view.View.{View}
 use Rattle.history.specs.History.{IsMachine}
 use Rattle.history.specs.Queues.{takes_role, gives_role, counts_waiting}

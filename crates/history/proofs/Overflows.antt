@@ -13,8 +13,8 @@ use Rattle.model.specs.declared.event.Start.{Start}
 use Rattle.model.specs.declared.event.Start.TheVariants.{Queues}
 use Rattle.model.specs.declared.families.Flight.{Flight}
 use Rattle.model.specs.declared.families.Flight as flights
-use Rattle.model.specs.declared.families.Kept.{Kept}
-use Rattle.model.specs.declared.families.Kept as kepts
+use Rattle.model.specs.declared.families.Registry.{Registry}
+use Rattle.model.specs.declared.families.Registry as registries
 use Rattle.model.specs.declared.families.queues.QueueKind as queues
 use Rattle.model.specs.declared.families.queues.QueueStart.{QueueStart}
 use Rattle.model.specs.declared.families.queues.QueueStart.TheVariants.{PushIndex, Pop}
@@ -39,11 +39,11 @@ use Rattle.model.specs.Step.{answer_in}
 use Rattle.model.specs.World.{World, Trace}
 use Rattle.model.proofs.Frame as frame
 use Rattle.model.proofs.Scenes.{stands_there}
-use Rattle.queue_laws.proofs.Queues.Core.{Core}
-use Rattle.queue_laws.proofs.Queues.Invariant.{family}
-use Rattle.queue_laws.proofs.Queues.Knows.{At}
-use Rattle.queue_laws.proofs.Queues.Sound.{kept_is}
-use Rattle.queue_laws.proofs.Overflow.Waiting.{pending_is, IsPending, Pushing}
+use Rattle.laws_queues.proofs.Queues.Core.{Core}
+use Rattle.laws_queues.proofs.Queues.Invariant.{family}
+use Rattle.laws_queues.proofs.Queues.Knows.{At}
+use Rattle.laws_queues.proofs.Queues.Sound.{kept_is}
+use Rattle.laws_queues.proofs.Overflow.Waiting.{pending_is, IsPending, Pushing}
 use Rattle.history.specs.History.{IsLate, IsLateFor, call_at, call_of, call_in}
 use Rattle.history.specs.Known.{events_by, of_none}
 use Rattle.history.proofs.Known.{AreOf, by_mine, by_other, by_more, none_late}
@@ -161,7 +161,7 @@ module _ {T : Type 0} (code : Coding T) (capacity : ℕ) where
   size t run = sized_so code capacity queues.TheVariants.Overflow t run ∙ omega arith
 
   -- the step of a call that stands so
-  pub record Facts (w : World T) (p n : ℕ) (start : Start T) (flight : Flight T) (kept : Kept T) : Type 0 where
+  pub record Facts (w : World T) (p n : ℕ) (start : Start T) (flight : Flight T) (kept : Registry T) : Type 0 where
     pub may : first_row (going_rows w.coding kept (Some flight) None) ≡ None
     pub writes : (step_of w.coding w.words (beside_of w.words w.kept w.latest p) p start flight n kept).wrote ≡ over_effects w p flight n
     pub goes : (step_of w.coding w.words (beside_of w.words w.kept w.latest p) p start flight n kept).after ≡ after_of w.coding flight n
@@ -169,7 +169,7 @@ module _ {T : Type 0} (code : Coding T) (capacity : ℕ) where
   module _ (w : World T) (en : Coding T) (c p n : ℕ) (ro : Roles) (k : Core ℕ) where
     writes_it : (start : QueueStart T) (flight : QueueFlight T) → At {T = T} en queues.TheVariants.Overflow c ro k p start flight
         → (step_of w.coding w.words (beside_of w.words w.kept w.latest p) p (Queues start)
-        (flights.TheVariants.Queues flight) n (kepts.TheVariants.Queues ro)).wrote
+        (flights.TheVariants.Queues flight) n (registries.TheVariants.Queues ro)).wrote
         ≡ over_flight_effects w p flight n
     writes_it (PushIndex v) (Overflow (overflows.TheVariants.Push run)) at =
         ap (λ z. effects_of p (PushIndex z)
@@ -183,7 +183,7 @@ module _ {T : Type 0} (code : Coding T) (capacity : ℕ) where
     writes_it start (Values call) at = absurd at
     writes_it start (Overflow call) at = absurd at
 
-    pub facts : (start : Start T) (flight : Flight T) (kept : Kept T) → kept ≡ kepts.TheVariants.Queues ro
+    pub facts : (start : Start T) (flight : Flight T) (kept : Registry T) → kept ≡ registries.TheVariants.Queues ro
         → (family en queues.TheVariants.Overflow c).At (record { roles = ro; core = k }) p start flight
         → Facts w p n start flight kept
     facts (Queues start) (flights.TheVariants.Queues flight) kept e at =
@@ -219,8 +219,8 @@ module _ {T : Type 0} (code : Coding T) (capacity : ℕ) where
         }
 
     -- whom `beside` names waits
-    pub beside_waits : (kept : Kept T) (p q v : ℕ) → beside_of t.world.words kept t.world.latest p ≡ Some (q, v)
-        → kept ≡ kepts.TheVariants.Queues s.state.roles → Waits t q v
+    pub beside_waits : (kept : Registry T) (p q v : ℕ) → beside_of t.world.words kept t.world.latest p ≡ Some (q, v)
+        → kept ≡ registries.TheVariants.Queues s.state.roles → Waits t q v
     beside_waits kept p q v e is = go (holds s.state.roles.consumer p) (subst (λ z. beside_of t.world.words z t.world.latest p ≡ Some (q, v)) is e)
       where
         go : (b : Bool) → cond b (pending (slice_index t.world.words read_word) s.state.roles.producer t.world.latest) None ≡ Some (q, v) → Waits t q v

@@ -28,8 +28,8 @@ use Rattle.model.specs.Coding.{Coding}
 use Rattle.model.specs.Families.{after_of}
 use Rattle.model.specs.Families.Queues.Calls.{words_of_index, popped}
 use Rattle.model.specs.Families.Queues.Steps.{effects_of, push_effect, pop_effect}
-use Rattle.lock_free_sp.specs.Driver.{answered, KeepsRule}
-use Rattle.queue_laws.proofs.Ring.Knows.{IsFresh}
+use Rattle.threaded.specs.Driver.{answered, KeepsRule}
+use Rattle.laws_queues.proofs.Ring.Knows.{IsFresh}
 use Rattle.history.specs.Stages.{Calling, At, Ends, Over}
 use Rattle.model.specs.declared.turn.Kind.TheVariants as kinds
 use Rattle.history.specs.declared.view.View.{View}

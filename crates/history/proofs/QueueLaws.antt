@@ -8,8 +8,8 @@ use Rattle.model.specs.Linearizable.{IsLinearizable}
 use Rattle.model.specs.Linearized.{as_list, IsLinearized}
 use Rattle.model.proofs.Linearizable.Kinds.{run_linearizable}
 use Rattle.model.specs.World.{Trace}
-use Rattle.queue_laws.proofs.Queues.Invariant.{machine_kind}
-use Rattle.queue_laws.proofs.Queues.Kept.{kept_on}
+use Rattle.laws_queues.proofs.Queues.Invariant.{machine_kind}
+use Rattle.laws_queues.proofs.Queues.Kept.{kept_on}
 use Rattle.history.specs.History.{IsHistory}
 use Rattle.history.proofs.Reached.{queue_run}
 

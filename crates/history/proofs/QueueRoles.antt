@@ -11,7 +11,7 @@ use Rattle.model.specs.declared.families.Flight.{Flight}
 use Rattle.model.specs.Coding.{Coding}
 use Rattle.model.specs.Families.{after_of, first_of, opening_of}
 use Rattle.model.specs.Families.Queues.Calls.{length_answer}
-use Rattle.lock_free_sp.specs.Driver.{answered, KeepsRule}
+use Rattle.threaded.specs.Driver.{answered, KeepsRule}
 use Rattle.history.specs.Stages.{Calling, At, Ends}
 use Rattle.model.specs.declared.turn.Kind.TheVariants as kinds
 use Rattle.history.specs.declared.view.View.{View}
@@ -25,7 +25,7 @@ use Rattle.steps.specs.declared.queues.roles.AcquireRole.{AcquireRole}
 use Rattle.steps.specs.declared.queues.roles.ReleaseRole.{ReleaseRole}
 use Rattle.steps.specs.declared.queues.roles.Role.{Role}
 use Rattle.steps.specs.declared.queues.roles.Role.TheVariants.{Producer, Consumer}
-use Rattle.model.specs.declared.families.Kept.{Kept}
+use Rattle.model.specs.declared.families.Registry.{Registry}
 use Rattle.model.specs.declared.families.queues.QueueKind.TheVariants.{IndexQueue}
 use Rattle.model.specs.declared.families.queues.Roles.{Roles}
 use Rattle.model.specs.declared.families.queues.calls.LengthOf.{LengthOf}
@@ -89,7 +89,7 @@ module _ {T : Type 0} (code : Coding T) (role : Role) where
         wrote = λ p. refl;
       })
     where
-      first_is : (kept : Kept T) (r : Role)
+      first_is : (kept : Registry T) (r : Role)
           → ◌≡◌ {A = Option (Flight T)} (first_of kinds.IndexQueue x.capacity (Queues (acquire_start r)) kept)
           (Some ((takes_role r).flight (record { word = role_word r }) m))
       first_is kept Producer = refl
@@ -137,7 +137,7 @@ module _ {T : Type 0} (code : Coding T) (role : Role) where
         wrote = λ p. refl;
       })
     where
-      first_is : (kept : Kept T) (r : Role)
+      first_is : (kept : Registry T) (r : Role)
           → ◌≡◌ {A = Option (Flight T)} (first_of kinds.IndexQueue x.capacity (Queues (release_start r)) kept)
           (Some ((gives_role r).flight (record { word = role_word r }) m))
       first_is kept Producer = refl
@@ -237,7 +237,7 @@ module _ {T : Type 0} (code : Coding T) (which : LengthOf) (size : ℕ) where
         wrote = λ p. refl;
       })
     where
-      first_is : (kept : Kept T) (k : LengthOf)
+      first_is : (kept : Registry T) (k : LengthOf)
           → ◌≡◌ {A = Option (Flight T)} (first_of kinds.IndexQueue x.capacity (Queues (length_start k)) kept)
           (Some ((counts_waiting k size).flight (first_len size) m))
       first_is kept measures.TheVariants.Len = rw same refl

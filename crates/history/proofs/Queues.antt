@@ -10,8 +10,8 @@ use Rattle.model.specs.declared.event.Start.{Start}
 use Rattle.model.specs.declared.event.Start.TheVariants.{Queues}
 use Rattle.model.specs.declared.families.Flight.{Flight}
 use Rattle.model.specs.declared.families.Flight as flights
-use Rattle.model.specs.declared.families.Kept.{Kept}
-use Rattle.model.specs.declared.families.Kept as kepts
+use Rattle.model.specs.declared.families.Registry.{Registry}
+use Rattle.model.specs.declared.families.Registry as registries
 use Rattle.model.specs.declared.families.queues.QueueKind.{QueueKind}
 use Rattle.model.specs.declared.families.queues.QueueKind as queues
 use Rattle.model.specs.declared.families.queues.QueueKind.TheVariants.{IndexQueue}
@@ -39,13 +39,13 @@ use Rattle.model.specs.Step.{answer_in, Step}
 use Rattle.model.specs.World.{Trace}
 use Rattle.model.proofs.Frame as frame
 use Rattle.model.proofs.Scenes.{stands_there}
-use Rattle.queue_laws.proofs.Queues.Core.{Core}
-use Rattle.queue_laws.proofs.Queues.Invariant.{Queue, family, machine_kind}
-use Rattle.queue_laws.proofs.Queues.Kept.{kept_on, promised_by}
-use Rattle.queue_laws.proofs.Queues.Knows.{free, At}
-use Rattle.queue_laws.proofs.Queues.Sound.{kept_is, sound_on}
-use Rattle.queue_laws.proofs.Queues.Values.{Val, encoded}
-use Rattle.queue_laws.proofs.Ring.Kinds.{Ring, of_indices, of_values, kind_of}
+use Rattle.laws_queues.proofs.Queues.Core.{Core}
+use Rattle.laws_queues.proofs.Queues.Invariant.{Queue, family, machine_kind}
+use Rattle.laws_queues.proofs.Queues.Kept.{kept_on, promised_by}
+use Rattle.laws_queues.proofs.Queues.Knows.{free, At}
+use Rattle.laws_queues.proofs.Queues.Sound.{kept_is, sound_on}
+use Rattle.laws_queues.proofs.Queues.Values.{Val, encoded}
+use Rattle.laws_queues.proofs.Ring.Kinds.{Ring, of_indices, of_values, kind_of}
 use Rattle.history.specs.declared.view.View.{View}
 use Rattle.history.specs.Known.{owned}
 use Rattle.history.specs.Roles.{holder, role_after, HasRole}
@@ -58,7 +58,7 @@ use Rattle.history.proofs.Reached.{queue_run}
 use Rattle.history.proofs.Turns.{CallGoesOn, KindLaws}
 
 held_there : {T : Type 0} (role : Role) (roles : Roles) (events : List (Event T))
-    → KeepsHolders (kepts.TheVariants.Queues roles) events → holder role roles ≡ fold (role_after role) None events
+    → KeepsHolders (registries.TheVariants.Queues roles) events → holder role roles ≡ fold (role_after role) None events
 held_there Producer roles events keeps = keeps.0
 held_there Consumer roles events keeps = keeps.1
 
@@ -114,8 +114,8 @@ module _ {T : Type 0} (code : Coding T) where
   -- ---- a step of a call that the queue has
 
   module _ (words : List ℕ) (waits : Option (ℕ × ℕ)) (c p n : ℕ) (ro : Roles) where
-    abbrev step_now : QueueStart T → QueueFlight T → Step (Flight T) (Kept T) T
-    step_now start flight = step_of code words waits p (Queues start) (flights.TheVariants.Queues flight) n (kepts.TheVariants.Queues ro)
+    abbrev step_now : QueueStart T → QueueFlight T → Step (Flight T) (Registry T) T
+    step_now start flight = step_of code words waits p (Queues start) (flights.TheVariants.Queues flight) n (registries.TheVariants.Queues ro)
 
     writes_it : (r : Ring) (k : Core (Val T (kind_of r))) (start : QueueStart T) (flight : QueueFlight T)
         → At {T = T} code (kind_of r) c ro k p start flight → (step_now start flight).wrote ≡ ring_effects p flight n
@@ -180,14 +180,14 @@ module _ {T : Type 0} (code : Coding T) (capacity : ℕ) (r : Ring) where
   size t run = sized_so code capacity (kind_of r) t run ∙ ap (λ n. 4 + words_of_cell code.size (kind_of r) * n) (as_many r)
 
   -- the step of a call that stands so, whatever its name
-  record Facts (z : Coding T) (words : List ℕ) (waits : Option (ℕ × ℕ)) (p n : ℕ) (start : Start T) (flight : Flight T) (kept : Kept T) : Type 0 where
+  record Facts (z : Coding T) (words : List ℕ) (waits : Option (ℕ × ℕ)) (p n : ℕ) (start : Start T) (flight : Flight T) (kept : Registry T) : Type 0 where
     pub may : first_row (going_rows z kept (Some flight) None) ≡ None
     pub writes : (step_of z words waits p start flight n kept).wrote ≡ queue_effects z p flight n
     pub goes : (step_of z words waits p start flight n kept).after ≡ after_of z flight n
 
   facts : (z : Coding T) (words : List ℕ) (waits : Option (ℕ × ℕ)) (c p n : ℕ) (q : Queue (Val T (kind_of r)))
-      (start : Start T) (flight : Flight T) (kept : Kept T)
-      → kept ≡ kepts.TheVariants.Queues q.roles → (family z (kind_of r) c).At q p start flight
+      (start : Start T) (flight : Flight T) (kept : Registry T)
+      → kept ≡ registries.TheVariants.Queues q.roles → (family z (kind_of r) c).At q p start flight
       → Facts z words waits p n start flight kept
   facts z words waits c p n q (Queues start) (flights.TheVariants.Queues flight) kept e at =
       subst (λ k. Facts z words waits p n (Queues start) (flights.TheVariants.Queues flight) k) (sym e)
@@ -249,7 +249,7 @@ module _ {T : Type 0} (code : Coding T) (kd : QueueKind) (base : View T) where
   queue_goes_on t r = (let on = queue_run code base.capacity kd t r in
       (subst (λ P. IsKeptBy P t) (promised_by kd t r.of_kind) (kept_on kd t r.of_kind on.reached.coded on.reached.admitted on.fresh)).promised)
 
-  kept_there : (t : Trace T) → IsOn t → (roles : Roles) × (t.world.kept ≡ kepts.TheVariants.Queues roles)
+  kept_there : (t : Trace T) → IsOn t → (roles : Roles) × (t.world.kept ≡ registries.TheVariants.Queues roles)
   kept_there t r = let s = sound_of code base.capacity kd t r in (s.state.roles, (kept_is t.world.kept t.world.words s.state s.fit).0)
 
   abbrev AllOf : Trace T → (ℕ → ℕ) → ℕ → Type 0
@@ -257,9 +257,9 @@ module _ {T : Type 0} (code : Coding T) (kd : QueueKind) (base : View T) where
 
   -- a party that lacks no role for it may begin
   module _ {C M E : Type 0} (call : Calling T C M E) (start : QueueStart T) (c : C) (m : M) (named : call.start ≡ Queues start)
-      (first_is : (kept : Kept T) → first_of (machine_kind kd) base.capacity (Queues start) kept ≡ Some (call.flight c m))
+      (first_is : (kept : Registry T) → first_of (machine_kind kd) base.capacity (Queues start) kept ≡ Some (call.flight c m))
       (t : Trace T) (owner : ℕ → ℕ) (j p : ℕ) (run : IsOn t) (mine : owner p ≡ j) (by : call.by base.party p)
-      (roles : Roles) (is : t.world.kept ≡ kepts.TheVariants.Queues roles)
+      (roles : Roles) (is : t.world.kept ≡ registries.TheVariants.Queues roles)
       (lacks : lacks_role roles p start ≡ false) where
     as_party : Starts code (machine_kind kd) call base c m t owner j
     as_party =
@@ -281,14 +281,14 @@ module _ {T : Type 0} (code : Coding T) (kd : QueueKind) (base : View T) where
         rows queues.TheVariants.Queue e = rw e kept_free
 
   module _ {C M E : Type 0} (call : Calling T C M E) (start : QueueStart T) (c : C) (m : M) (named : call.start ≡ Queues start)
-      (first_is : (kept : Kept T) → first_of (machine_kind kd) base.capacity (Queues start) kept ≡ Some (call.flight c m)) where
+      (first_is : (kept : Registry T) → first_of (machine_kind kd) base.capacity (Queues start) kept ≡ Some (call.flight c m)) where
     -- a call that needs no role, as the party that the pass was last
     pub plain_starts : ((o : Option ℕ) (p : ℕ) → IfSome o (λ q. q ≡ p) → call.by o p) → ((roles : Roles) (p : ℕ) → lacks_role roles p start ≡ false)
         → (t : Trace T) (owner : ℕ → ℕ) (j : ℕ) → IsOn t → owner j ≡ j → IfSome base.party (λ p. owner p ≡ j)
         → AllOf t owner j → Starts code (machine_kind kd) call base c m t owner j
     plain_starts by_last free t owner j run self party sums = go base.party refl party
       where
-        kept : (roles : Roles) × (t.world.kept ≡ kepts.TheVariants.Queues roles)
+        kept : (roles : Roles) × (t.world.kept ≡ registries.TheVariants.Queues roles)
         kept = kept_there t run
 
         go : (o : Option ℕ) → base.party ≡ o → IfSome o (λ p. owner p ≡ j) → Starts code (machine_kind kd) call base c m t owner j
@@ -311,6 +311,6 @@ module _ {T : Type 0} (code : Coding T) (kd : QueueKind) (base : View T) where
         let queue = queue_goes_on t run in
         let kept = kept_there t run in
         let by = role_by owner j role t.events base.made queue.roles sums has in
-        let keeps : KeepsHolders (kepts.TheVariants.Queues kept.0) t.events = subst (λ k. KeepsHolders k t.events) kept.1 queue.holders in
+        let keeps : KeepsHolders (registries.TheVariants.Queues kept.0) t.events = subst (λ k. KeepsHolders k t.events) kept.1 queue.holders in
         as_party call start c m named first_is t owner j by.0 run by.1 (by_any base.party by.0) kept.0 kept.1
         (free kept.0 by.0 (held_there role kept.0 t.events keeps ∙ by.2))

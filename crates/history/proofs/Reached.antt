@@ -4,7 +4,7 @@ use Rattle.model.specs.declared.event.Start.{Start}
 use Rattle.model.specs.declared.event.Start.TheVariants.{Container}
 use Rattle.model.specs.declared.families.container.ContainerStart.TheVariants.{Recover}
 use Rattle.model.specs.declared.families.Flight.{Flight}
-use Rattle.model.specs.declared.families.Kept.{Kept}
+use Rattle.model.specs.declared.families.Registry.{Registry}
 use Rattle.model.specs.declared.families.queues.QueueKind.{QueueKind}
 use Rattle.model.specs.declared.families.queues.QueueKind as queues
 use Rattle.model.specs.declared.turn.Kind.{Kind}
@@ -21,11 +21,11 @@ use Rattle.model.specs.Turns.{IsReachedOn, after_turn}
 use Rattle.model.specs.World.{World, Trace, opening, capacity_error, flight_in}
 use Rattle.model.proofs.Reached.{reached_on_more, reached_on_opening}
 use Rattle.model.proofs.Rows.{row_passed}
-use Rattle.queue_laws.specs.Fresh.{IsFreshTurn, IsFreshRun}
-use Rattle.queue_laws.proofs.Queues.Invariant.{machine_kind}
-use Rattle.queue_laws.proofs.Queues.Sound.{fresh_more, fresh_opening}
-use Rattle.robust_laws.specs.Open.{open_refusal}
-use Rattle.robust_laws.proofs.OpenRuns.{reached_open_more, reached_open_opening}
+use Rattle.laws_queues.specs.Fresh.{IsFreshTurn, IsFreshRun}
+use Rattle.laws_queues.proofs.Queues.Invariant.{machine_kind}
+use Rattle.laws_queues.proofs.Queues.Sound.{fresh_more, fresh_opening}
+use Rattle.laws_robust.specs.Open.{open_refusal}
+use Rattle.laws_robust.proofs.OpenRuns.{reached_open_more, reached_open_opening}
 use Rattle.history.specs.History.{IsReachedAs, IsFreshAs, IsRun}
 use Rattle.history.specs.Stages.{rows_as}
 
@@ -45,7 +45,7 @@ module _ {T : Type 0} where
   refusal_as kind w turn = call_refusal w turn
 
   -- of its rows are those of a begin in a history
-  pub rows_free : (kind : Kind) (capacity : ℕ) (kept : Kept T) (p : ℕ) (start : Start T) → first_row (begin_rows kind capacity kept p start) ≡ None
+  pub rows_free : (kind : Kind) (capacity : ℕ) (kept : Registry T) (p : ℕ) (start : Start T) → first_row (begin_rows kind capacity kept p start) ≡ None
       → first_row (rows_as kind capacity kept p start) ≡ None
   rows_free kinds.Container capacity kept p (Container (Recover owner mode)) e =
       let has = row_passed (is_none (first_of kinds.Container capacity (Container (Recover owner mode)) kept)) WrongCall _ e in

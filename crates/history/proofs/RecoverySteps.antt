@@ -27,9 +27,9 @@ use Rattle.model.specs.declared.event.Event.TheVariants.{FreedOf, Asked, Told, L
 use Rattle.model.specs.Coding.{Coding}
 use Rattle.model.specs.Families.{is_question}
 use Rattle.model.specs.Families.Container.Steps.{hidden, recover_effects, question_of}
-use Rattle.robust_laws.proofs.Sound.{raise_asks_none, lock_asks_none}
-use Rattle.container_laws.proofs.Core.{data_within}
-use Rattle.lock_free_sp.specs.Driver.{answered}
+use Rattle.laws_robust.proofs.Sound.{raise_asks_none, lock_asks_none}
+use Rattle.laws_container.proofs.Core.{data_within}
+use Rattle.threaded.specs.Driver.{answered}
 use Rattle.history.specs.Container.{when}
 use Rattle.history.specs.ContainerRecovery.{RecoverIn, Came, HasAsked, HasFound, HasFreed, wrote_found, wrote_of}
 use Rattle.history.specs.ContainerRecovery.{wrote_visits, with_last, told, freed, hides, came_locked, seen_under}

@@ -47,7 +47,7 @@ use Rattle.model.specs.Families.Indices.Robust.Calls.{acquire_answer, release_an
 use Rattle.model.specs.Families.Indices.Robust.Steps.{granted, acquire_effects, release_effects}
 use Rattle.model.specs.Families.Queues.Calls.{as_it_is}
 use Rattle.model.specs.Step.{as_call}
-use Rattle.lock_free_sp.specs.Driver.{answered, KeepsRule}
+use Rattle.threaded.specs.Driver.{answered, KeepsRule}
 use Rattle.history.specs.declared.view.View.{View}
 use Rattle.history.specs.History.{IsMachine}
 use Rattle.history.specs.Robust.{AcquireIn, ReleaseIn, filled_at, AcquireWrote, takes_owned, freed_at, ReleaseWrote, gives_owned, counts_owned, looks_owned}

@@ -17,7 +17,7 @@ use Rattle.steps.specs.declared.indices.robust.parts.Lock.{Lock}
 use Rattle.steps.specs.declared.indices.robust.parts.Lock.TheVariants as locks
 use Rattle.steps.specs.declared.indices.robust.parts.Raise.{Raise}
 use Rattle.steps.specs.declared.indices.robust.parts.Raise.TheVariants as raises
-use Rattle.lock_free_sp.specs.Driver.{answered}
+use Rattle.threaded.specs.Driver.{answered}
 use Rattle.history.specs.Robust.{CountIn, LockIn}
 use Rattle.history.proofs.CallsIn.{AsksFor}
 

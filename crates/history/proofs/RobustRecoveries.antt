@@ -39,8 +39,8 @@ use Rattle.model.specs.Families.Indices.Robust.Steps.{recover_effects}
 use Rattle.model.specs.Families.Queues.Calls.{as_it_is}
 use Rattle.model.specs.Step.{as_call}
 use Rattle.model.specs.Turns.{number_of}
-use Rattle.robust_laws.proofs.Sound.{raise_asks_none, lock_asks_none}
-use Rattle.lock_free_sp.specs.Driver.{answered, Owes, Next as NextKnown, Told as ToldOf, KeepsRule}
+use Rattle.laws_robust.proofs.Sound.{raise_asks_none, lock_asks_none}
+use Rattle.threaded.specs.Driver.{answered, Owes, Next as NextKnown, Told as ToldOf, KeepsRule}
 use Rattle.history.specs.declared.view.View.{View}
 use Rattle.history.specs.History.{IsMachine}
 use Rattle.history.specs.Robust.{RecoverIn, Came, HasAsked, WasTold, HasFreed, HasLocked, Visit, visit, AreVisits}

@@ -5,8 +5,8 @@ use Rattle.model.specs.declared.event.Start.{Start}
 use Rattle.model.specs.declared.event.Start.TheVariants.{Robust}
 use Rattle.model.specs.declared.families.Flight.{Flight}
 use Rattle.model.specs.declared.families.Flight as flights
-use Rattle.model.specs.declared.families.Kept.{Kept}
-use Rattle.model.specs.declared.families.Kept as kepts
+use Rattle.model.specs.declared.families.Registry.{Registry}
+use Rattle.model.specs.declared.families.Registry as registries
 use Rattle.model.specs.declared.families.indices.robust.RobustStart.{RobustStart}
 use Rattle.model.specs.declared.party.Party.{Party}
 use Rattle.model.specs.declared.turn.Kind.TheVariants as kinds
@@ -22,15 +22,15 @@ use Rattle.model.specs.Turns.{step_in}
 use Rattle.model.specs.World.{Trace}
 use Rattle.model.proofs.Frame as frame
 use Rattle.model.proofs.Scenes.{stands_there}
-use Rattle.robust_laws.specs.Gone.{Word}
-use Rattle.robust_laws.specs.Open.{IsOpenSet}
-use Rattle.robust_laws.proofs.Alive.{AllLive}
-use Rattle.robust_laws.proofs.Invariant.{RobustSet, Fit, FlightAt, family_by}
-use Rattle.robust_laws.proofs.Living.{has_not_died, step_is_free}
-use Rattle.robust_laws.proofs.OpenRuns.{reached_open_sound, reached_open_lives, reached_open_kept}
-use Rattle.robust_laws.proofs.Sound.{kept_is}
-use Rattle.robust_laws.proofs.Wide.{reached_open_wide}
-use Rattle.robust_laws.proofs.Written.{effects_hold}
+use Rattle.laws_robust.specs.Gone.{Word}
+use Rattle.laws_robust.specs.Open.{IsOpenSet}
+use Rattle.laws_robust.proofs.Alive.{AllLive}
+use Rattle.laws_robust.proofs.Invariant.{RobustSet, Represents, FlightAt, family_by}
+use Rattle.laws_robust.proofs.Living.{has_not_died, step_is_free}
+use Rattle.laws_robust.proofs.OpenRuns.{reached_open_sound, reached_open_lives, reached_open_kept}
+use Rattle.laws_robust.proofs.Sound.{kept_is}
+use Rattle.laws_robust.proofs.Wide.{reached_open_wide}
+use Rattle.laws_robust.proofs.Written.{effects_hold}
 use Rattle.history.specs.declared.view.View.{View}
 use Rattle.history.specs.History.{IsRun, call_in}
 use Rattle.history.specs.Known.{owned}
@@ -88,17 +88,17 @@ module _ {T : Type 0} (code : Coding T) (capacity : ℕ) where
       (all_live t r) flight
   no_rows t r c all start flight at = absurd at
 
-  writes_there : (z : Coding T) (words ws : List ℕ) (beside : Option (ℕ × ℕ)) (c p old : ℕ) (all : List Deed) (kept : Kept T) (s : RobustSet T)
-      (start : Start T) (flight : Flight T) → Fit kept ws s → FlightAt c all start flight
+  writes_there : (z : Coding T) (words ws : List ℕ) (beside : Option (ℕ × ℕ)) (c p old : ℕ) (all : List Deed) (kept : Registry T) (s : RobustSet T)
+      (start : Start T) (flight : Flight T) → Represents kept ws s → FlightAt c all start flight
       → (step_of z words beside p start flight old kept).wrote ≡ robust_effects p flight old
-  writes_there z words ws beside c p old all (kepts.TheVariants.Owners dead) s (Robust start) (flights.TheVariants.Robust flight) fit at = refl
+  writes_there z words ws beside c p old all (registries.TheVariants.Owners dead) s (Robust start) (flights.TheVariants.Robust flight) fit at = refl
   writes_there z words ws beside c p old all kept s (Robust start) (flights.TheVariants.Robust flight) fit at = absurd fit
   writes_there z words ws beside c p old all kept s start flight fit at = absurd at
 
-  goes_there : (z : Coding T) (words ws : List ℕ) (beside : Option (ℕ × ℕ)) (c p old : ℕ) (all : List Deed) (kept : Kept T) (s : RobustSet T)
-      (start : Start T) (flight : Flight T) → Fit kept ws s → FlightAt c all start flight
+  goes_there : (z : Coding T) (words ws : List ℕ) (beside : Option (ℕ × ℕ)) (c p old : ℕ) (all : List Deed) (kept : Registry T) (s : RobustSet T)
+      (start : Start T) (flight : Flight T) → Represents kept ws s → FlightAt c all start flight
       → (step_of z words beside p start flight old kept).after ≡ after_of z flight old
-  goes_there z words ws beside c p old all (kepts.TheVariants.Owners dead) s (Robust start) (flights.TheVariants.Robust flight) fit at = refl
+  goes_there z words ws beside c p old all (registries.TheVariants.Owners dead) s (Robust start) (flights.TheVariants.Robust flight) fit at = refl
   goes_there z words ws beside c p old all kept s (Robust start) (flights.TheVariants.Robust flight) fit at = absurd fit
   goes_there z words ws beside c p old all kept s start flight fit at = absurd at
 
@@ -139,7 +139,7 @@ module _ {T : Type 0} (code : Coding T) (base : View T) where
   IsOn t = IsRun code kinds.Robust base.capacity t
 
   -- nobody is kept as dead
-  kept_there : (t : Trace T) → IsOn t → (dead : List ℕ) × (t.world.kept ≡ kepts.TheVariants.Owners dead) × ((owner : ℕ) → has_died owner dead ≡ false)
+  kept_there : (t : Trace T) → IsOn t → (dead : List ℕ) × (t.world.kept ≡ registries.TheVariants.Owners dead) × ((owner : ℕ) → has_died owner dead ≡ false)
   kept_there t r =
       let s = robust_sound code base.capacity t r in (
         s.state.dead,
@@ -151,7 +151,7 @@ module _ {T : Type 0} (code : Coding T) (base : View T) where
   -- each call that the set has may, as the party that the pass was last
   module _ {C M E : Type 0} (call : Calling T C M E) (start : RobustStart) (c : C) (m : M) (named : call.start ≡ Robust start)
       (by_last : (o : Option ℕ) (p : ℕ) → IfSome o (λ q. q ≡ p) → call.by o p)
-      (first_is : (kept : Kept T) → first_of kinds.Robust base.capacity (Robust start) kept ≡ Some (call.flight c m))
+      (first_is : (kept : Registry T) → first_of kinds.Robust base.capacity (Robust start) kept ≡ Some (call.flight c m))
       (free : (dead : List ℕ) → ((owner : ℕ) → has_died owner dead ≡ false) → first_row (call_rows base.capacity dead start) ≡ None) where
     pub robust_starts : (t : Trace T) (owner : ℕ → ℕ) (j : ℕ) → IsOn t → owner j ≡ j → IfSome base.party (λ p. owner p ≡ j)
         → ((f : Event T → ℕ) → sum_by f base.made ≡ sum_by (owned owner j f) t.events)
@@ -159,7 +159,7 @@ module _ {T : Type 0} (code : Coding T) (base : View T) where
     robust_starts t owner j run self party sums =
         starts_by_last code kinds.Robust call base c m t owner j by_last self party first_here may
       where
-        kept : (dead : List ℕ) × (t.world.kept ≡ kepts.TheVariants.Owners dead) × ((owner : ℕ) → has_died owner dead ≡ false)
+        kept : (dead : List ℕ) × (t.world.kept ≡ registries.TheVariants.Owners dead) × ((owner : ℕ) → has_died owner dead ≡ false)
         kept = kept_there t run
 
         is_some : is_none (first_of kinds.Robust base.capacity (Robust start) t.world.kept) ≡ false

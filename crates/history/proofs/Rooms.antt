@@ -3,7 +3,7 @@ use Rattle.std.proofs.Common.{◌≡◌, ℕ, zero, suc, ◌+◌, ◌-◌, ◌<�
 use Rattle.std.proofs.Common.{length, set, replicate, refl, sym, ap, ◌∙◌, arith, length-set, length-append}
 use Rattle.std.proofs.lemmas.Bool.Decides.{nat_tests}
 use Rattle.std.proofs.lemmas.List.{length-replicate, take-append-le}
-use Rattle.steps.specs.declared.copied.Kept as rooms
+use Rattle.steps.specs.declared.copied.Buffer as buffers
 use Rattle.steps.specs.Copied.{value_in}
 use Rattle.model.specs.Coding.{Coding}
 use Rattle.model.specs.Families.Queues.Calls.{kept_at, read_in}
@@ -26,7 +26,7 @@ room_set size at word words below = go (nat_lt (length words) size) refl
     go false t =
         let now : nat_lt (length (set words at word)) size ≡ false = same ∙ t in
         let long : at < length words = grind (arith, nat_tests) in
-        let is : ◌≡◌ {A = rooms.Kept 128}
+        let is : ◌≡◌ {A = buffers.Buffer 128}
         (record { words = set (words ++ replicate (128 - length words) 0) at word })
         (record { words = set words at word ++ replicate (128 - length (set words at word)) 0 }) =
         ap (λ zs. record { words = zs })
@@ -57,7 +57,7 @@ room_fresh size n low few =
     let long : length {A = ℕ} (replicate n 0) ≡ n = length-replicate n 0 in
     let t : nat_lt (length {A = ℕ} (replicate n 0)) size ≡ false = grind (arith, nat_tests) in
     let all : n + (128 - length {A = ℕ} (replicate n 0)) ≡ 128 = omega arith in
-    let is : ◌≡◌ {A = rooms.Kept 128}
+    let is : ◌≡◌ {A = buffers.Buffer 128}
     (record { words = replicate n 0 ++ replicate (128 - length {A = ℕ} (replicate n 0)) 0 })
     (record { words = replicate 128 0 }) =
     ap (λ zs. record { words = zs }) (replicate_both n (128 - length {A = ℕ} (replicate n 0)) 0 ∙ ap (λ k. replicate k 0) all)

@@ -11,8 +11,8 @@ use Rattle.model.specs.declared.event.Start.{Start}
 use Rattle.model.specs.declared.event.Start.TheVariants.{Bits}
 use Rattle.model.specs.declared.families.Flight.{Flight}
 use Rattle.model.specs.declared.families.Flight as flights
-use Rattle.model.specs.declared.families.Kept.{Kept}
-use Rattle.model.specs.declared.families.Kept as kepts
+use Rattle.model.specs.declared.families.Registry.{Registry}
+use Rattle.model.specs.declared.families.Registry as registries
 use Rattle.model.specs.declared.families.bits.BitsStart.{BitsStart}
 use Rattle.model.specs.declared.families.bits.calls.BitsFlight.{BitsFlight}
 use Rattle.model.specs.declared.party.Party.{Party}
@@ -28,14 +28,14 @@ use Rattle.model.specs.Turns.{step_in, IsReachedOn}
 use Rattle.model.specs.World.{Trace}
 use Rattle.model.proofs.Frame as frame
 use Rattle.model.proofs.Scenes.{stands_there}
-use Rattle.bit_laws.proofs.Family.{SetKind, FlightAt, family}
-use Rattle.bit_laws.proofs.Laws.{SetLaws, sound_on}
-use Rattle.bit_laws.proofs.Laws as sets
-use Rattle.bit_laws.proofs.Spans.{wrote_in}
-use Rattle.bit_laws.proofs.Counts.Invariant.{counting_set}
-use Rattle.bit_laws.proofs.Counts.Justified.{laws as counts_laws}
-use Rattle.bit_laws.proofs.Bits.Invariant.{bit_set}
-use Rattle.bit_laws.proofs.Bits.Justified.{laws as bits_laws}
+use Rattle.laws_bits.proofs.Family.{SetKind, FlightAt, family}
+use Rattle.laws_bits.proofs.Laws.{SetLaws, sound_on}
+use Rattle.laws_bits.proofs.Laws as sets
+use Rattle.laws_bits.proofs.Spans.{wrote_in}
+use Rattle.laws_bits.proofs.Counts.Invariant.{counting_set}
+use Rattle.laws_bits.proofs.Counts.Justified.{laws as counts_laws}
+use Rattle.laws_bits.proofs.Bits.Invariant.{bit_set}
+use Rattle.laws_bits.proofs.Bits.Justified.{laws as bits_laws}
 use Rattle.history.specs.History.{IsRun, IsMachine, IsReachedAs, call_in, IsLate}
 use Rattle.history.specs.declared.view.View.{View}
 use Rattle.history.specs.Known.{owned}
@@ -106,15 +106,15 @@ module _ {T : Type 0} (K : SetKind T) (laws : (code : Coding T) (c : ℕ) → Se
   no_rows t At start flight at = absurd at
 
   -- a call of the set goes on alike whatever is kept
-  as_told : (code : Coding T) (p n : ℕ) (At : BitsStart → BitsFlight → Type 0) (kept : Kept T) (start : Start T) (flight : Flight T)
+  as_told : (code : Coding T) (p n : ℕ) (At : BitsStart → BitsFlight → Type 0) (kept : Registry T) (start : Start T) (flight : Flight T)
       → FlightAt At start flight → goes_of code p flight n kept ≡ after_of code flight n
   as_told code p n At kept (Bits start) (flights.TheVariants.Bits flight) at = refl
   as_told code p n At kept start flight at = absurd at
 
-  writes_there : (t : Trace T) (p old : ℕ) (At : BitsStart → BitsFlight → Type 0) (kept : Kept T) (start : Start T) (flight : Flight T)
-      → kept ≡ kepts.TheVariants.Nothing → FlightAt At start flight
+  writes_there : (t : Trace T) (p old : ℕ) (At : BitsStart → BitsFlight → Type 0) (kept : Registry T) (start : Start T) (flight : Flight T)
+      → kept ≡ registries.TheVariants.Nothing → FlightAt At start flight
       → (step_of t.world.coding t.world.words (beside_of t.world.words t.world.kept t.world.latest p) p start flight old kept).wrote ≡ set_effects p flight old
-  writes_there t p old At kepts.TheVariants.Nothing (Bits start) (flights.TheVariants.Bits flight) none at = refl
+  writes_there t p old At registries.TheVariants.Nothing (Bits start) (flights.TheVariants.Bits flight) none at = refl
   writes_there t p old At kept (Bits start) (flights.TheVariants.Bits flight) none at = absurd (cc)
   writes_there t p old At kept start flight none at = absurd at
 

@@ -24,8 +24,8 @@ use Rattle.model.specs.Coding.{Coding}
 use Rattle.model.specs.Families.{want_of, goes_of, is_question}
 use Rattle.model.specs.Turns.{after_turn, events_of, number_of}
 use Rattle.model.specs.World.{World, Trace}
-use Rattle.lock_free_sp.specs.Driver.{Owes, OwesAsk, Next as NextKnown, Told, KeepsRule}
-use Rattle.lock_free_sp.specs.Shares.{IsAll}
+use Rattle.threaded.specs.Driver.{Owes, OwesAsk, Next as NextKnown, Told, KeepsRule}
+use Rattle.threaded.specs.Shares.{IsAll}
 use Rattle.history.specs.declared.view.View.{View}
 use Rattle.history.specs.Known.{events_by}
 use Rattle.history.specs.History.{IsRun, IsMachine, Fits, IsLate, call_in}

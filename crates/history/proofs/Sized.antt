@@ -6,7 +6,7 @@ use Rattle.steps.specs.declared.ask.Want.{Want}
 use Rattle.steps.specs.declared.ask.Want.TheVariants as wants
 use Rattle.model.specs.declared.turn.Kind.{Kind}
 use Rattle.model.specs.Coding.{Coding}
-use Rattle.lock_free_sp.specs.Driver.{Owes, Next as NextKnown, Told, KeepsRule}
+use Rattle.threaded.specs.Driver.{Owes, Next as NextKnown, Told, KeepsRule}
 use Rattle.history.specs.declared.view.View.{View}
 use Rattle.history.specs.History.{IsMachine}
 use Rattle.history.specs.Stages.{Calling, At, Ends}

@@ -22,8 +22,8 @@ use Rattle.model.specs.declared.event.Event.{Event}
 use Rattle.model.specs.declared.event.Start.TheVariants.{Container}
 use Rattle.model.specs.declared.families.Flight.{Flight}
 use Rattle.model.specs.declared.families.Flight.TheVariants as flights
-use Rattle.model.specs.declared.families.Kept.{Kept}
-use Rattle.model.specs.declared.families.Kept.TheVariants as kepts
+use Rattle.model.specs.declared.families.Registry.{Registry}
+use Rattle.model.specs.declared.families.Registry.TheVariants as registries
 use Rattle.model.specs.declared.families.container.calls.LookOf.{LookOf}
 use Rattle.model.specs.declared.families.container.calls.LookOf.TheVariants as which_looks
 use Rattle.model.specs.declared.turn.Kind.TheVariants as kinds
@@ -38,7 +38,7 @@ use Rattle.model.specs.Families.Container.Steps.{look_effects}
 use Rattle.model.specs.Turns.{after_turn}
 use Rattle.model.specs.World.{flight_in}
 use Rattle.model.proofs.Parties.{found_put_same}
-use Rattle.lock_free_sp.specs.Driver.{answered, Owes, Next as NextKnown, Told, KeepsRule}
+use Rattle.threaded.specs.Driver.{answered, Owes, Next as NextKnown, Told, KeepsRule}
 use Rattle.history.specs.declared.view.View.{View}
 use Rattle.history.specs.ContainerFind.{HasCopied}
 use Rattle.history.specs.ContainerLooks.{look_start, state_of_look, HasState, LookedAt, ShowsCopied, looking, BeginsWith, StateLooks, StateLooked}
@@ -84,8 +84,8 @@ module _ {T : Type 0} (code : Coding T) (law : IsCoding code) (which : LookOf) (
 
   -- ---- the state with which it begins
 
-  begins_with : (w : LookOf) (p : ℕ) (base : View T) (m : Showing T) (k : Kept T) (dead : List ℕ) (states : List (ℕ × ContainerState T))
-      → k ≡ kepts.Container dead states → (base.party ≡ Some p → state_in k p ≡ base.state) → IfSome base.party (λ q. q ≡ p)
+  begins_with : (w : LookOf) (p : ℕ) (base : View T) (m : Showing T) (k : Registry T) (dead : List ℕ) (states : List (ℕ × ContainerState T))
+      → k ≡ registries.Container dead states → (base.party ≡ Some p → state_in k p ≡ base.state) → IfSome base.party (λ q. q ≡ p)
       → BeginsWith code which cells seen w base m
       → HasState (kept_after_begin code cells (Container (look_start w)) p k) p (state_of_look cells seen m)
   begins_with which_looks.GetState p base m k dead states is stated by h =

@@ -14,7 +14,7 @@ use Rattle.model.specs.declared.families.container.calls.LookOf.TheVariants as w
 use Rattle.model.specs.declared.turn.Kind.TheVariants as kinds
 use Rattle.model.specs.Coding.{Coding, IsCoding}
 use Rattle.model.specs.Families.{want_of, is_question}
-use Rattle.container_laws.proofs.LooksTell.{look_asks_none}
+use Rattle.laws_container.proofs.LooksTell.{look_asks_none}
 use Rattle.history.specs.declared.view.View.{View}
 use Rattle.history.specs.ContainerLooks.{look_start, looking, BeginsWith, StateLooks, StateLooked, BeginsLook, RestedLooks, RestedLooked}
 use Rattle.history.specs.Settled.{IsResting, Settles}

@@ -33,9 +33,9 @@ use Rattle.model.specs.World.{World, Trace, flight_in}
 use Rattle.model.specs.Reading.{whose}
 use Rattle.model.proofs.Reached.{turn_making}
 use Rattle.model.proofs.Turns.{writes_one_word}
-use Rattle.queue_laws.proofs.Queues.Knows.{IsFreshCall}
-use Rattle.queue_laws.proofs.Queues.Sound.{IsFreshTurn}
-use Rattle.lock_free_sp.specs.Shares.{Shares, IsAll}
+use Rattle.laws_queues.proofs.Queues.Knows.{IsFreshCall}
+use Rattle.laws_queues.proofs.Queues.Sound.{IsFreshTurn}
+use Rattle.threaded.specs.Shares.{Shares, IsAll}
 use Rattle.history.specs.declared.view.View.{View}
 use Rattle.history.specs.Known.{events_by, owned, of_none}
 use Rattle.history.specs.History.{IsRun, IsMachine, Fits, call_in, IsLate}

@@ -12,7 +12,7 @@ use Rattle.steps.specs.declared.atomic.Load.{Load as Loading}
 use Rattle.steps.specs.declared.atomic.LoadStage as loads
 use Rattle.steps.specs.declared.atomic.Store.{Store as Storing}
 use Rattle.steps.specs.declared.atomic.StoreStage as stores
-use Rattle.steps.specs.declared.copied.Kept as rooms
+use Rattle.steps.specs.declared.copied.Buffer as buffers
 use Rattle.steps.specs.Atomic.{cell_word, before_version, first_store, at_store, store_asks, store_want, store_takes}
 use Rattle.steps.specs.Atomic.{store_after, first_load, at_load, load_asks, load_begins, load_want, load_takes}
 use Rattle.steps.specs.Atomic.{load_after, load_keeps, load_kept}
@@ -31,9 +31,9 @@ use Rattle.model.specs.Coding.{Coding, IsCoding}
 use Rattle.model.specs.Families.{after_of}
 use Rattle.model.specs.Families.Atomic.Calls.{producer_word, fresh}
 use Rattle.model.specs.Families.Queues.Calls.{kept_at}
-use Rattle.lock_free_sp.specs.Driver.{answered, KeepsRule}
-use Rattle.atomic_laws.proofs.Core.{cell_within}
-use Rattle.queue_laws.proofs.Queues.Knows.{IsFreshStore}
+use Rattle.threaded.specs.Driver.{answered, KeepsRule}
+use Rattle.laws_value.proofs.Core.{cell_within}
+use Rattle.laws_queues.proofs.Queues.Knows.{IsFreshStore}
 use Rattle.history.specs.declared.view.View.{View}
 use Rattle.history.specs.History.{IsMachine}
 use Rattle.history.specs.Rooms.{room_of}
@@ -284,7 +284,7 @@ module _ {T R : Type 0} (code : Coding T) (law : IsCoding code) (words_in : R �
   keeps_word = load_kept with_word
 
   -- a load at this stage, with this room
-  abbrev flight_at : loads.LoadStage → rooms.Kept 128 → Flight T
+  abbrev flight_at : loads.LoadStage → buffers.Buffer 128 → Flight T
   flight_at stage room =
       flights.TheVariants.Atomic
       (calls.TheVariants.Load (record { call = record { stage = stage; of = record {} }; given = tt; room = room }))

@@ -12,8 +12,8 @@ use Rattle.model.specs.declared.event.Start.{Start}
 use Rattle.model.specs.declared.event.Start.TheVariants.{Atomic}
 use Rattle.model.specs.declared.families.Flight.{Flight}
 use Rattle.model.specs.declared.families.Flight as flights
-use Rattle.model.specs.declared.families.Kept.{Kept}
-use Rattle.model.specs.declared.families.Kept as kepts
+use Rattle.model.specs.declared.families.Registry.{Registry}
+use Rattle.model.specs.declared.families.Registry as registries
 use Rattle.model.specs.declared.families.atomic.AtomicStart.{AtomicStart}
 use Rattle.model.specs.declared.families.atomic.AtomicStart.TheVariants.{AcquireProducer, ReleaseProducer, Store, Load}
 use Rattle.model.specs.declared.families.atomic.calls.AtomicFlight.{AtomicFlight}
@@ -33,12 +33,12 @@ use Rattle.model.specs.World.{Trace, opening}
 use Rattle.model.proofs.Frame as frame
 use Rattle.model.proofs.Readings.{AreRight, Each-nil}
 use Rattle.model.proofs.Scenes.{stands_there}
-use Rattle.queue_laws.proofs.Queues.Sound.{IsFreshTurn}
-use Rattle.atomic_laws.specs.Stored.{stores}
-use Rattle.atomic_laws.proofs.Core.{Core}
-use Rattle.atomic_laws.proofs.Invariant.{family}
-use Rattle.atomic_laws.proofs.Knows.{At}
-use Rattle.atomic_laws.proofs.Sound.{kept_is, opening_sound, fresh_laws}
+use Rattle.laws_queues.proofs.Queues.Sound.{IsFreshTurn}
+use Rattle.laws_value.specs.Stored.{stores}
+use Rattle.laws_value.proofs.Core.{Core}
+use Rattle.laws_value.proofs.Invariant.{family}
+use Rattle.laws_value.proofs.Knows.{At}
+use Rattle.laws_value.proofs.Sound.{kept_is, opening_sound, fresh_laws}
 use Rattle.history.specs.History.{IsRun, IsHistory}
 use Rattle.history.specs.Known.{events_by}
 use Rattle.history.specs.Value.{ByProducer}
@@ -60,7 +60,7 @@ module _ {T : Type 0} where
   flight_right : (z en : Coding T) (words : List ℕ) (waits : Option (ℕ × ℕ)) (p n : ℕ) (holder : Option ℕ)
       (k : Core) (before : List (Event T))
       → holder_of before ≡ holder → (start : AtomicStart T) (flight : AtomicFlight T) → At en holder k p start flight
-      → Right before (step_of z words waits p (Atomic start) (flights.TheVariants.Atomic flight) n (kepts.TheVariants.Atomic holder)).wrote
+      → Right before (step_of z words waits p (Atomic start) (flights.TheVariants.Atomic flight) n (registries.TheVariants.Atomic holder)).wrote
   flight_right z en words waits p n holder k before holds AcquireProducer (calls.TheVariants.Acquire run) at = tt
   flight_right z en words waits p n holder k before holds ReleaseProducer (calls.TheVariants.Release run) at = tt
   flight_right z en words waits p n holder k before holds (Store value) (calls.TheVariants.Store run) at = store_right p value _ before (holds ∙ at.0)
@@ -68,8 +68,8 @@ module _ {T : Type 0} where
   flight_right z en words waits p n holder k before holds start flight at = absurd at
 
   module _ (en : Coding T) (c : ℕ) (t : Trace T) (s : frame.Sound (family en c) t) where
-    any_right : (p n : ℕ) (waits : Option (ℕ × ℕ)) (start : Start T) (flight : Flight T) (kept : Kept T)
-        → kept ≡ kepts.TheVariants.Atomic s.state.holder → (family en c).At s.state p start flight
+    any_right : (p n : ℕ) (waits : Option (ℕ × ℕ)) (start : Start T) (flight : Flight T) (kept : Registry T)
+        → kept ≡ registries.TheVariants.Atomic s.state.holder → (family en c).At s.state p start flight
         → Right t.events (step_of t.world.coding t.world.words waits p start flight n kept).wrote
     any_right p n waits (Atomic start) (flights.TheVariants.Atomic flight) kept e at =
         subst (λ k. Right t.events (step_of t.world.coding t.world.words waits p (Atomic start) (flights.TheVariants.Atomic flight) n k).wrote) (sym e)

@@ -16,10 +16,10 @@ use Rattle.model.specs.Linearized.{as_list, as_value, IsLinearized}
 use Rattle.model.specs.Reading.{Each, moments}
 use Rattle.model.specs.World.{Trace}
 use Rattle.model.proofs.Linearizable.Kinds.{run_linearizable}
-use Rattle.atomic_laws.specs.Stored.{stored}
-use Rattle.atomic_laws.proofs.Kept.{kept_on}
-use Rattle.atomic_laws.proofs.Sound.{version_counts}
-use Rattle.queue_laws.proofs.Queues.Kept.{kept_on as queue_kept_on}
+use Rattle.laws_value.specs.Stored.{stored}
+use Rattle.laws_value.proofs.Kept.{kept_on}
+use Rattle.laws_value.proofs.Sound.{version_counts}
+use Rattle.laws_queues.proofs.Queues.Kept.{kept_on as queue_kept_on}
 use Rattle.history.specs.History.{IsRun, IsHistory}
 use Rattle.history.specs.Value.{last_or, IsLast}
 use Rattle.history.proofs.Values.{value_sound, value_goes_on}

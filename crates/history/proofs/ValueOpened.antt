@@ -22,9 +22,9 @@ use Rattle.model.specs.declared.turn.Kind.TheVariants as kinds
 use Rattle.model.specs.Coding.{Coding, IsCoding}
 use Rattle.model.specs.Families.Atomic.Calls.{producer_word}
 use Rattle.model.specs.World.{World}
-use Rattle.atomic_laws.proofs.Core as core
-use Rattle.atomic_laws.proofs.Core.{cell_within}
-use Rattle.atomic_laws.proofs.Stores.{asked_place}
+use Rattle.laws_value.proofs.Core as core
+use Rattle.laws_value.proofs.Core.{cell_within}
+use Rattle.laws_value.proofs.Stores.{asked_place}
 use Rattle.history.specs.declared.view.View.{View}
 use Rattle.history.specs.History.{IsMachine}
 use Rattle.history.specs.Known.{owned}

@@ -10,7 +10,7 @@ use Rattle.steps.specs.declared.ask.Op.TheVariants.{Load, Store}
 use Rattle.steps.specs.declared.ask.After.{After}
 use Rattle.steps.specs.declared.ask.After.TheVariants.{GoOn, Done}
 use Rattle.steps.specs.declared.ask.Want.TheVariants as wants
-use Rattle.steps.specs.declared.copied.Kept as rooms
+use Rattle.steps.specs.declared.copied.Buffer as buffers
 use Rattle.steps.specs.declared.queues.ring.Pop.{Pop as Popping}
 use Rattle.steps.specs.declared.queues.ring.PopStage as pops
 use Rattle.steps.specs.declared.queues.ring.Push.{Push as Pushing}
@@ -35,8 +35,8 @@ use Rattle.model.specs.Coding.{Coding, IsCoding}
 use Rattle.model.specs.Families.{after_of}
 use Rattle.model.specs.Families.Queues.Calls.{fresh_cell, kept_at}
 use Rattle.model.specs.Families.Queues.Steps.{effects_of, push_effect}
-use Rattle.lock_free_sp.specs.Driver.{answered, KeepsRule}
-use Rattle.queue_laws.proofs.Ring.Knows.{IsFresh}
+use Rattle.threaded.specs.Driver.{answered, KeepsRule}
+use Rattle.laws_queues.proofs.Ring.Knows.{IsFresh}
 use Rattle.history.specs.declared.view.View.{View}
 use Rattle.history.specs.History.{IsMachine}
 use Rattle.history.specs.Queues.{push_skips}
@@ -246,13 +246,13 @@ module _ {T R : Type 0} (code : Coding T) (law : IsCoding code) (words_in : R �
   keeps_word = pop_kept with_word
 
   -- a pop at this stage, with this room
-  abbrev flight_at : ℕ → pops.PopStage → rooms.Kept 128 → Flight T
+  abbrev flight_at : ℕ → pops.PopStage → buffers.Buffer 128 → Flight T
   flight_at capacity stage room =
       flights.TheVariants.Queues
       (Values
       (rings.TheVariants.Pop (record { call = record { capacity = capacity; stage = stage; of = record {} }; given = tt; room = room })))
 
-  abbrev room_in : R → rooms.Kept 128
+  abbrev room_in : R → buffers.Buffer 128
   room_in m = room_of code.size (words_in m)
 
   put_there : (m : R) (at n : ℕ) → at < code.size → kept_at (room_in m) at n ≡ room_in (with_word m at n)

@@ -8,8 +8,8 @@ use Rattle.model.specs.declared.event.Start.{Start}
 use Rattle.model.specs.declared.event.Start.TheVariants.{Atomic}
 use Rattle.model.specs.declared.families.Flight.{Flight}
 use Rattle.model.specs.declared.families.Flight as flights
-use Rattle.model.specs.declared.families.Kept.{Kept}
-use Rattle.model.specs.declared.families.Kept as kepts
+use Rattle.model.specs.declared.families.Registry.{Registry}
+use Rattle.model.specs.declared.families.Registry as registries
 use Rattle.model.specs.declared.families.atomic.AtomicStart.{AtomicStart}
 use Rattle.model.specs.declared.families.atomic.AtomicStart.TheVariants.{AcquireProducer, ReleaseProducer, Store, Load}
 use Rattle.model.specs.declared.families.atomic.calls.AtomicFlight.{AtomicFlight}
@@ -33,10 +33,10 @@ use Rattle.model.specs.Step.{answer_in}
 use Rattle.model.specs.World.{Trace}
 use Rattle.model.proofs.Frame as frame
 use Rattle.model.proofs.Scenes.{stands_there}
-use Rattle.atomic_laws.proofs.Invariant.{Value, family}
-use Rattle.atomic_laws.proofs.Kept.{kept_on}
-use Rattle.atomic_laws.proofs.Knows.{At}
-use Rattle.atomic_laws.proofs.Sound.{kept_is, sound_on}
+use Rattle.laws_value.proofs.Invariant.{Value, family}
+use Rattle.laws_value.proofs.Kept.{kept_on}
+use Rattle.laws_value.proofs.Knows.{At}
+use Rattle.laws_value.proofs.Sound.{kept_is, sound_on}
 use Rattle.history.specs.declared.view.View.{View}
 use Rattle.history.specs.History.{IsRun, IsOfParties, call_in}
 use Rattle.history.specs.Known.{owned}
@@ -88,14 +88,14 @@ module _ {T : Type 0} where
   named code s p start flight at = absurd at
 
   -- the step of a call that stands so, whatever its name
-  record Facts (z : Coding T) (words : List ℕ) (waits : Option (ℕ × ℕ)) (p n : ℕ) (start : Start T) (flight : Flight T) (kept : Kept T) : Type 0 where
+  record Facts (z : Coding T) (words : List ℕ) (waits : Option (ℕ × ℕ)) (p n : ℕ) (start : Start T) (flight : Flight T) (kept : Registry T) : Type 0 where
     pub may : first_row (going_rows z kept (Some flight) None) ≡ None
     pub writes : (step_of z words waits p start flight n kept).wrote ≡ value_effects z p flight n
     pub goes : (step_of z words waits p start flight n kept).after ≡ after_of z flight n
 
   facts : (z : Coding T) (words : List ℕ) (waits : Option (ℕ × ℕ)) (c p n : ℕ) (s : Value) (start : Start T)
-      (flight : Flight T) (kept : Kept T)
-      → kept ≡ kepts.TheVariants.Atomic s.holder → (family z c).At s p start flight
+      (flight : Flight T) (kept : Registry T)
+      → kept ≡ registries.TheVariants.Atomic s.holder → (family z c).At s p start flight
       → Facts z words waits p n start flight kept
   facts z words waits c p n s (Atomic start) (flights.TheVariants.Atomic flight) kept e at =
       subst (λ k. Facts z words waits p n (Atomic start) (flights.TheVariants.Atomic flight) k) (sym e)
@@ -185,19 +185,19 @@ producer_once v each h = at_most takes_producer gives_producer holder_after h.ow
 
 module _ {T C M E : Type 0} (code : Coding T) (base : View T) (call : Calling T C M E) (start : AtomicStart T)
     (c : C) (m : M) (is_named : call.start ≡ Atomic start)
-    (first_is : (kept : Kept T) → first_of kinds.Atomic base.capacity (Atomic start) kept ≡ Some (call.flight c m)) where
+    (first_is : (kept : Registry T) → first_of kinds.Atomic base.capacity (Atomic start) kept ≡ Some (call.flight c m)) where
   abbrev IsAt : Trace T → Type 0
   IsAt t = IsRun code kinds.Atomic base.capacity t
 
   abbrev AllOf : Trace T → (ℕ → ℕ) → ℕ → Type 0
   AllOf t owner j = (f : Event T → ℕ) → sum_by f base.made ≡ sum_by (owned owner j f) t.events
 
-  kept_there : (t : Trace T) → IsAt t → (holder : Option ℕ) × (t.world.kept ≡ kepts.TheVariants.Atomic holder)
+  kept_there : (t : Trace T) → IsAt t → (holder : Option ℕ) × (t.world.kept ≡ registries.TheVariants.Atomic holder)
   kept_there t r = let s = value_sound code base.capacity t r in (s.state.holder, (kept_is t.world.kept t.world.words s.state s.fit).0)
 
   -- a party that lacks no role for it may begin
   as_party : (t : Trace T) (owner : ℕ → ℕ) (j p : ℕ) → IsAt t → owner p ≡ j → call.by base.party p
-      → (holder : Option ℕ) → t.world.kept ≡ kepts.TheVariants.Atomic holder → lacks_role holder p start ≡ false
+      → (holder : Option ℕ) → t.world.kept ≡ registries.TheVariants.Atomic holder → lacks_role holder p start ≡ false
       → Starts code kinds.Atomic call base c m t owner j
   as_party t owner j p run mine by holder is lacks =
       let free : first_row (kept_rows start t.world.kept p) ≡ None = subst (λ k. first_row (kept_rows start k p) ≡ None) (sym is) (rw lacks refl) in
@@ -215,7 +215,7 @@ module _ {T C M E : Type 0} (code : Coding T) (base : View T) (call : Calling T 
       → AllOf t owner j → Starts code kinds.Atomic call base c m t owner j
   plain_starts by_last free t owner j run self party sums = go base.party refl party
     where
-      kept : (holder : Option ℕ) × (t.world.kept ≡ kepts.TheVariants.Atomic holder)
+      kept : (holder : Option ℕ) × (t.world.kept ≡ registries.TheVariants.Atomic holder)
       kept = kept_there t run
 
       go : (o : Option ℕ) → base.party ≡ o → IfSome o (λ p. owner p ≡ j) → Starts code kinds.Atomic call base c m t owner j
@@ -237,5 +237,5 @@ module _ {T C M E : Type 0} (code : Coding T) (base : View T) (call : Calling T 
       let value = value_goes_on code base.capacity t run in
       let kept = kept_there t run in
       let by = producer_by owner j t.events base.made value.roles sums has in
-      let keeps : KeepsHolder (kepts.TheVariants.Atomic kept.0) t.events = subst (λ k. KeepsHolder k t.events) kept.1 value.holder in
+      let keeps : KeepsHolder (registries.TheVariants.Atomic kept.0) t.events = subst (λ k. KeepsHolder k t.events) kept.1 value.holder in
       as_party t owner j by.0 run by.1 (by_any base.party by.0) kept.0 kept.1 (free kept.0 by.0 (keeps ∙ by.2))

@@ -10,7 +10,7 @@ use Rattle.steps.specs.declared.container.state.ContainerState.{ContainerState}
 use Rattle.model.specs.declared.event.Event.{Event}
 use Rattle.model.specs.declared.event.Start.TheVariants.{Container}
 use Rattle.model.specs.declared.families.Flight as flights
-use Rattle.model.specs.declared.families.Kept.{Kept}
+use Rattle.model.specs.declared.families.Registry.{Registry}
 use Rattle.model.specs.declared.families.container.ContainerStart.{ContainerStart}
 use Rattle.model.specs.declared.families.container.ContainerStart.TheVariants.{GetState, UpdateState}
 use Rattle.model.specs.declared.families.container.calls.ContainerFlight.TheVariants as calls
@@ -43,7 +43,7 @@ module _ {T : Type 0} where
       record { container = 0; capacity = capacity; seen = seen; shown = shown }
 
   -- the machine has it so for the party
-  abbrev pub HasState : Kept T → ℕ → ContainerState T → Type 0
+  abbrev pub HasState : Registry T → ℕ → ContainerState T → Type 0
   HasState kept p state = state_in kept p ≡ Some state
 
   -- what it has written at this stage

@@ -23,9 +23,9 @@ use Rattle.model.specs.Families.Container.Looks.{state_in}
 use Rattle.model.specs.Parties.{party_of}
 use Rattle.model.specs.Turns.{IsReachedOn}
 use Rattle.model.specs.World.{World, Trace}
-use Rattle.queue_laws.specs.Fresh.{IsFreshRun}
-use Rattle.robust_laws.specs.Open.{IsReachedOpen}
-use Rattle.lock_free_sp.specs.Shares.{IsAll}
+use Rattle.laws_queues.specs.Fresh.{IsFreshRun}
+use Rattle.laws_robust.specs.Open.{IsReachedOpen}
+use Rattle.threaded.specs.Shares.{IsAll}
 use Rattle.history.specs.Known.{Known, events_by, by_party, owned}
 use Rattle.history.specs.declared.view.View.{View}
 

@@ -2,7 +2,7 @@
 use Rattle.std.specs.Prelude.{◌≡◌, ◌<◌, ◌⊎◌, ℕ, ◌==◌, Option, Some, None, List, [], ◌∷◌, ◌++◌, sum_by, if◌then◌else◌}
 use mathlib.Core.Option.{some}
 use lib.ListN.{get_elem?}
-use Rattle.lock_free_sp.specs.Shares.{Shares}
+use Rattle.threaded.specs.Shares.{Shares}
 use Rattle.model.specs.declared.event.Event.{Event}
 use Rattle.model.specs.Reading.{whose, is_party}
 use Rattle.history.specs.declared.view.View.{View}

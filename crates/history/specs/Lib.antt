@@ -19,3 +19,5 @@ pub mod Passes
 pub mod Finds
 pub mod Settled
 pub mod ContainerFind
+pub mod Acts
+pub mod Order

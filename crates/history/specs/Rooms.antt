@@ -1,9 +1,9 @@
 -- The room of a threaded call as one of the model, which has 128 words.
 use Rattle.std.specs.Prelude.{ℕ, ◌-◌, List, ◌++◌, length, replicate, nat_lt, if◌then◌else◌}
-use Rattle.steps.specs.declared.copied.Kept as rooms
+use Rattle.steps.specs.declared.copied.Buffer as buffers
 
 -- zeros come after the words of a room in which a value of so many words fits
-abbrev pub room_of : ℕ → List ℕ → rooms.Kept 128
+abbrev pub room_of : ℕ → List ℕ → buffers.Buffer 128
 room_of size words =
     if nat_lt (length words) size
     then record { words = words }

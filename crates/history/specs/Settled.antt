@@ -8,12 +8,12 @@ use Rattle.model.specs.declared.event.Event.{Event}
 use Rattle.model.specs.declared.event.Event.TheVariants.{Finished}
 use Rattle.model.specs.declared.event.Start.{Start}
 use Rattle.model.specs.declared.families.Flight.{Flight}
-use Rattle.model.specs.declared.families.Kept.{Kept}
+use Rattle.model.specs.declared.families.Registry.{Registry}
 use Rattle.model.specs.declared.turn.Kind.{Kind}
 use Rattle.model.specs.Coding.{Coding}
 use Rattle.model.specs.Families.{want_of, goes_of, is_question}
 use Rattle.model.specs.Turns.{number_of}
-use Rattle.lock_free_sp.specs.Shares.{IsAll}
+use Rattle.threaded.specs.Shares.{IsAll}
 use Rattle.history.specs.declared.view.View.{View}
 use Rattle.history.specs.Known.{events_by}
 use Rattle.history.specs.History.{IsHistory, IsOfParties}
@@ -29,7 +29,7 @@ module _ {T : Type 0} (code : Coding T) where
     pub going : v.going ≡ Some (start, flight)
     pub asks : is_question (want_of code flight) ≡ true
     pub answer : Answer T
-    pub ends : (kept : Kept T) → goes_of code party flight (number_of false) kept ≡ Done answer
+    pub ends : (kept : Registry T) → goes_of code party flight (number_of false) kept ≡ Done answer
     pub alone : v.other ≡ []
     pub some : 0 < v.share.part
 

@@ -7,7 +7,7 @@ use Rattle.model.specs.declared.event.Start.{Start}
 use Rattle.model.specs.declared.event.Start.TheVariants.{Container}
 use Rattle.model.specs.declared.families.container.ContainerStart.TheVariants.{GetState, UpdateState, Recover}
 use Rattle.model.specs.declared.families.Flight.{Flight}
-use Rattle.model.specs.declared.families.Kept.{Kept}
+use Rattle.model.specs.declared.families.Registry.{Registry}
 use Rattle.model.specs.declared.turn.Kind.{Kind}
 use Rattle.model.specs.declared.turn.Kind.TheVariants as kinds
 use Rattle.model.specs.declared.turn.Refusal.{Refusal}
@@ -22,7 +22,7 @@ use Rattle.model.specs.Families.Container.Looks.{is_looking}
 use Rattle.model.specs.Rows.{first_row}
 use Rattle.model.specs.Turns.{number_of}
 use Rattle.model.specs.World.{Trace}
-use Rattle.lock_free_sp.specs.Shares.{IsAll}
+use Rattle.threaded.specs.Shares.{IsAll}
 use Rattle.history.specs.declared.view.View.{View}
 use Rattle.history.specs.Known.{events_by, owned}
 use Rattle.history.specs.History.{IsHistory, IsOfParties, IsRun}
@@ -76,7 +76,7 @@ module _ {T : Type 0} where
     pub made : v.made ≡ base.made ++ (opened p start base.going ++ (wrote ++ last))
 
   -- what is tested of a begin, which for a container's recovery is only that the kind has the call
-  abbrev pub rows_as : Kind → ℕ → Kept T → ℕ → Start T → List (Bool × Refusal)
+  abbrev pub rows_as : Kind → ℕ → Registry T → ℕ → Start T → List (Bool × Refusal)
   rows_as kinds.Container capacity kept p (Container (Recover owner mode)) =
       (is_none (first_of kinds.Container capacity (Container (Recover owner mode)) kept), WrongCall) ∷ []
   rows_as kind capacity kept p start = begin_rows kind capacity kept p start

@@ -6,7 +6,7 @@ use Rattle.model.specs.declared.event.Event.TheVariants.{Begun, Acted, Finished}
 use Rattle.model.specs.declared.event.Start.TheVariants.{Atomic}
 use Rattle.model.specs.declared.families.atomic.AtomicStart.TheVariants.{AcquireProducer, ReleaseProducer, Store}
 use Rattle.model.specs.Coding.{Coding}
-use Rattle.lock_free_sp.specs.Shares.{all_shares}
+use Rattle.threaded.specs.Shares.{all_shares}
 use Rattle.history.specs.declared.view.View.{View}
 
 -- a value opens with one store at least: as many as its version is above 1

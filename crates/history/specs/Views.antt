@@ -7,7 +7,7 @@ use Rattle.model.specs.declared.turn.Kind.{Kind}
 use Rattle.model.specs.declared.turn.Kind as kinds
 use Rattle.model.specs.Coding.{Coding}
 use Rattle.model.specs.World.{Trace}
-use Rattle.lock_free_sp.specs.Shares.{all_shares, no_share, half_of, both_of, IsAll}
+use Rattle.threaded.specs.Shares.{all_shares, no_share, half_of, both_of, IsAll}
 use Rattle.history.specs.declared.view.View.{View}
 use Rattle.history.specs.Known.{events_by}
 use Rattle.history.specs.History.{IsBeginning, IsHistory, IsOfParties, IsRun}

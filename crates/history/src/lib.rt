@@ -2,5 +2,6 @@
 //! knows where its own call stands there, and what it has seen is a beginning of that machine's events.
 #![tactic(auto)]
 
+pub mod laws;
 pub mod plays;
 pub mod view;

@@ -1,9 +1,9 @@
 //! What a seat knows. No value of this type is made: it is for contracts and proofs.
-use lock_free_sp::share::Share;
 use model::event::{Event, Start};
 use model::families::Flight;
 use std::collections::LinkedList;
 use steps::container::state::ContainerState;
+use threaded::share::Share;
 
 /// What a seat has seen of the history of its table, and where its own call stands.
 pub struct View<T> {

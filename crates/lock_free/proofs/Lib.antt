@@ -6,8 +6,8 @@ pub use Rattle.lock_free_queues.proofs.Queues.Promised as QueuePromises
 pub use Rattle.lock_free_queues.proofs.Queues.Sums as QueueSums
 pub use Rattle.lock_free_queues.proofs.Queues.Whole as QueueWhole
 pub use Rattle.lock_free_queues.proofs.Queues.Wrote as QueueWrote
-pub use Rattle.lock_free_sp.proofs.Fractions
-pub use Rattle.lock_free_sp.proofs.Shares
+pub use Rattle.threaded.proofs.Fractions
+pub use Rattle.threaded.proofs.Shares
 pub mod Sums
 pub mod Unique
 pub mod Loan

@@ -1,6 +1,6 @@
 -- The words of the public contracts.
-pub use Rattle.lock_free_sp.specs.Shares
-pub use Rattle.lock_free_sp.specs.Parts
+pub use Rattle.threaded.specs.Shares
+pub use Rattle.threaded.specs.Parts
 pub use Rattle.lock_free_owners.specs.Robust
 pub use Rattle.lock_free_owners.specs.RobustUniqueIndexSet
 pub use Rattle.lock_free_owners.specs.Container
@@ -21,7 +21,7 @@ pub use Rattle.model.specs.declared.event.Event
 pub use Rattle.history.specs.declared.view as HistoryView
 pub use Rattle.lock_free_queues.specs.declared.spsc.ring as QueueEnds
 pub use Rattle.lock_free.specs.declared.spsc.loan.places.Place
-pub use Rattle.lock_free_sp.specs.declared.share.Share
+pub use Rattle.threaded.specs.declared.share.Share
 pub use Rattle.steps.specs.declared.enums.UniqueIndexCreationError
 pub use Rattle.steps.specs.declared.enums.CallbackProgression
 pub use Rattle.steps.specs.declared.indices.enums.ReleaseMode

@@ -1,5 +1,5 @@
 -- The single value.
-pub use Rattle.atomic_laws.specs.Stored
+pub use Rattle.laws_value.specs.Stored
 pub use Rattle.history.specs.Value as Reading
 pub use Rattle.history.specs.ValueOpened as Opened
 pub use Rattle.lock_free_value.specs.Calls

@@ -6,6 +6,6 @@ pub mod spsc;
 
 pub use lock_free_owners::laws as owner_laws;
 pub use lock_free_queues::laws as spsc_laws;
-pub use lock_free_sp::laws;
 pub use lock_free_value::{laws as value_laws, spmc};
 pub use steps::words;
+pub use threaded::laws;

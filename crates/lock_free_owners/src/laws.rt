@@ -4,8 +4,8 @@ ghost use Rattle.std.specs.Prelude.{ℕ, List};
 ghost use Rattle.model.specs.declared.event.Event.{Event};
 ghost use Rattle.model.specs.declared.turn.Kind.TheVariants as kinds;
 ghost use Rattle.model.specs.Coding.{Coding, one_word};
-ghost use Rattle.model.specs.Families.Container.Promises.{IsProperRun, IsContained};
-ghost use Rattle.container_laws.specs.Open.{IsFaithfulRun};
+ghost use Rattle.model.specs.Families.Container.Promises.{IsWellFormedRun, IsContained};
+ghost use Rattle.laws_container.specs.Open.{IsFaithfulRun};
 ghost use Rattle.history.specs.History.{IsHistory};
 ghost use Rattle.lock_free_owners.specs.Robust.Told.{IsSound};
 ghost use Rattle.lock_free_owners.specs.Container.Told as containers;
@@ -31,5 +31,5 @@ pub fn container_histories_are_sound<T>()
 pub fn container_histories_are_contained<T>()
     ensures { (code : Coding T) (capacity : ℕ) (events : List (Event T))
         → (h : IsHistory code kinds.Container capacity events)
-        → IsProperRun h.trace → IsFaithfulRun h.trace h.run.reached → IsContained h.trace }
+        → IsWellFormedRun h.trace → IsFaithfulRun h.trace h.run.reached → IsContained h.trace }
 {}

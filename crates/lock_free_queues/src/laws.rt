@@ -14,7 +14,7 @@ ghost use Rattle.model.specs.Families.Queues.Reading.{published, handed_out};
 ghost use Rattle.model.specs.Linearizable.{IsLinearizable};
 ghost use Rattle.model.specs.Linearized.{as_list};
 ghost use Rattle.model.specs.Progress.{KeepsGuarantees};
-ghost use Rattle.lock_free_sp.specs.Shares.{IsAll};
+ghost use Rattle.threaded.specs.Shares.{IsAll};
 ghost use Rattle.history.specs.declared.view.View.{View};
 ghost use Rattle.history.specs.History.{IsBeginning, IsHistory};
 ghost use Rattle.lock_free_queues.specs.Queues.Bounded.{IsBounded, machine_of};

@@ -23,8 +23,8 @@ use Rattle.model.specs.Coding.{Coding}
 use Rattle.model.specs.Families.Atomic.Reading.{holder_after, holder_of}
 use Rattle.model.specs.Families.Atomic.Roles.{GrantsRight}
 use Rattle.model.specs.Reading.{Each, whose, is_party}
-use Rattle.atomic_laws.specs.Stored.{stores, stored}
-use Rattle.lock_free_sp.specs.Shares.{IsAll}
+use Rattle.laws_value.specs.Stored.{stores, stored}
+use Rattle.threaded.specs.Shares.{IsAll}
 use Rattle.history.specs.declared.view.View.{View}
 use Rattle.history.specs.History.{IsHistory, Called, IsBeginning}
 use Rattle.history.specs.Known.{events_by}

@@ -11,10 +11,10 @@ use Rattle.model.specs.declared.event.Event.TheVariants.{Begun, Finished}
 use Rattle.model.specs.declared.event.Start.TheVariants.{Atomic}
 use Rattle.model.specs.declared.families.atomic.AtomicStart.TheVariants.{ReleaseProducer}
 use Rattle.model.specs.Coding.{Coding, IsCoding}
-use Rattle.atomic_laws.specs.Stored.{stores, stored}
+use Rattle.laws_value.specs.Stored.{stores, stored}
 use Rattle.history.specs.Value.{takes_producer, gives_producer, HasProducer}
 use Rattle.lock_free_value.specs.Roles.{LacksProducer}
-use Rattle.atomic_laws.proofs.Core.{set_at, zeros as zero_there}
+use Rattle.laws_value.proofs.Core.{set_at, zeros as zero_there}
 use Rattle.history.specs.ValueOpened.{first_stores, stored_once, stored_times, opened_view, opened_cells}
 use Rattle.history.proofs.Calls.{set_left}
 use Rattle.history.proofs.Rooms.{replicate_both}

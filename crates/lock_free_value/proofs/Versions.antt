@@ -12,12 +12,12 @@ use Rattle.model.specs.declared.turn.Kind.TheVariants as kinds
 use Rattle.model.specs.Coding.{Coding}
 use Rattle.model.specs.Families.Atomic.Roles.{GrantsRight}
 use Rattle.model.specs.Reading.{Each}
-use Rattle.atomic_laws.specs.Stored.{stores, stored}
+use Rattle.laws_value.specs.Stored.{stores, stored}
 use Rattle.history.specs.declared.view.View.{View}
 use Rattle.history.specs.History.{IsBeginning, IsHistory}
 use Rattle.history.specs.Value.{last_or, IsLast}
 use Rattle.history.proofs.Known.{sum_first}
-use Rattle.lock_free_sp.specs.Shares.{IsAll}
+use Rattle.threaded.specs.Shares.{IsAll}
 use Rattle.lock_free_value.specs.Calls.{MissesNothing}
 use Rattle.history.proofs.ValueHolders.{history_by_producers}
 use Rattle.history.proofs.ValueLaws.{answers_right, load_tells}

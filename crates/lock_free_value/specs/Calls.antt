@@ -1,7 +1,7 @@
 -- Which value a pass is for, and what it knows of the value's history.
 use Rattle.std.specs.Prelude.{◌≡◌, ℕ, ◌+◌, ◌-◌, ◌^◌, length}
 use Rattle.std.specs.Arc.{arc_value}
-use Rattle.atomic_laws.specs.Stored.{stored}
+use Rattle.laws_value.specs.Stored.{stored}
 use Rattle.atomic_table.specs.Seated.{TableId}
 use Rattle.steps.specs.declared.words.Words.{Ghosts}
 use Rattle.model.specs.declared.turn.Kind.TheVariants as kinds

@@ -1,5 +1,5 @@
 -- The values that were stored, for those who use the crate.
-pub use Rattle.atomic_laws.specs.Stored
+pub use Rattle.laws_value.specs.Stored
 pub mod Roles
 pub mod Told
 pub mod Calls

@@ -4,9 +4,9 @@ use Rattle.steps.specs.declared.ask.After.{After}
 use Rattle.steps.specs.declared.atomic.Load.{Load}
 use Rattle.model.specs.declared.turn.Kind.TheVariants as kinds
 use Rattle.model.specs.Coding.{Coding}
-use Rattle.lock_free_sp.specs.declared.driver.seated.Seated.{Seated}
-use Rattle.lock_free_sp.specs.Driver.{Next}
-use Rattle.lock_free_sp.specs.Seats.{seen, table_of}
+use Rattle.threaded.specs.declared.driver.seated.Seated.{Seated}
+use Rattle.threaded.specs.Driver.{Next}
+use Rattle.threaded.specs.Seats.{seen, table_of}
 use Rattle.history.specs.declared.view.View.{View}
 use Rattle.history.specs.Stages.{At, Ends}
 use Rattle.history.specs.Value.{loads_value}

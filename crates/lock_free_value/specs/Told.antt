@@ -1,6 +1,6 @@
 -- What the calls on a value add to the history, and what they answer.
 use Rattle.std.specs.Prelude.{◌≡◌, ℕ, Bool, true, Some, List, [], ◌∷◌, ◌++◌}
-use Rattle.atomic_laws.specs.Stored.{stored}
+use Rattle.laws_value.specs.Stored.{stored}
 use Rattle.model.specs.declared.event.Answer.TheVariants.{Truth, Loaded, Done}
 use Rattle.model.specs.declared.event.Event.{Event}
 use Rattle.model.specs.declared.event.Event.TheVariants.{Acted}

@@ -1,6 +1,6 @@
 -- Versions of a value, by a history: how many stores came before.
 use Rattle.std.specs.Prelude.{◌≡◌, ◌+◌, ℕ, List, ◌∷◌, ◌++◌, true, length}
-use Rattle.atomic_laws.specs.Stored.{stored}
+use Rattle.laws_value.specs.Stored.{stored}
 use Rattle.model.specs.declared.event.Answer.TheVariants.{Truth, Loaded}
 use Rattle.model.specs.declared.event.Event.{Event}
 use Rattle.model.specs.declared.event.Event.TheVariants.{Acted}

@@ -1,7 +1,7 @@
 //! What one history of a value says: laws of every history that a pass has seen. These functions do nothing: the contract
 //! of each is a law, whose proof is a lemma that a client's proof can cite.
 ghost use Rattle.std.specs.Prelude.{◌≡◌, ◌<◌, ◌≤◌, ◌+◌, ℕ, List, length};
-ghost use Rattle.atomic_laws.specs.Stored.{stored};
+ghost use Rattle.laws_value.specs.Stored.{stored};
 ghost use Rattle.model.specs.declared.event.Event.{Event};
 ghost use Rattle.model.specs.declared.turn.Kind.TheVariants as kinds;
 ghost use Rattle.model.specs.Coding.{Coding};
@@ -10,7 +10,7 @@ ghost use Rattle.model.specs.Linearized.{as_value};
 ghost use Rattle.model.specs.Progress.{KeepsGuarantees};
 ghost use Rattle.history.specs.declared.view.View.{View};
 ghost use Rattle.history.specs.History.{IsBeginning, IsHistory};
-ghost use Rattle.lock_free_sp.specs.Shares.{IsAll};
+ghost use Rattle.threaded.specs.Shares.{IsAll};
 ghost use Rattle.history.specs.Value.{IsLast};
 ghost use Rattle.lock_free_value.specs.Calls.{MissesNothing};
 ghost use Rattle.lock_free_value.specs.Told.{HasStored, HasLoaded};

@@ -3,14 +3,14 @@ use Rattle.model.specs.declared.turn.Kind.{Kind}
 use Rattle.model.specs.declared.turn.Kind.TheVariants.{IndexQueue, Overflow, Queue, Atomic, Bits, Counts, Indices, Robust, Container, Loan}
 use Rattle.model.specs.declared.families.queues.QueueKind as queue_kinds
 use Rattle.model.proofs.Orders.{Keeps}
-use Rattle.atomic_laws.proofs.Justified.{value_keeps}
-use Rattle.bit_laws.proofs.Bits.Justified.{bits_keep}
-use Rattle.bit_laws.proofs.Counts.Justified.{counts_keep}
-use Rattle.container_laws.proofs.Everything.{container_keeps}
-use Rattle.index_laws.proofs.Justified.{index_keeps}
-use Rattle.loan_laws.proofs.Justified.{loan_keeps}
-use Rattle.queue_laws.proofs.Queues.Justified.{queue_keeps}
-use Rattle.robust_laws.proofs.Justified.{robust_keeps}
+use Rattle.laws_value.proofs.Justified.{value_keeps}
+use Rattle.laws_bits.proofs.Bits.Justified.{bits_keep}
+use Rattle.laws_bits.proofs.Counts.Justified.{counts_keep}
+use Rattle.laws_container.proofs.Everything.{container_keeps}
+use Rattle.laws_indices.proofs.Justified.{index_keeps}
+use Rattle.laws_loan.proofs.Justified.{loan_keeps}
+use Rattle.laws_queues.proofs.Queues.Justified.{queue_keeps}
+use Rattle.laws_robust.proofs.Justified.{robust_keeps}
 
 pub laws_of : {T : Type 0} (kind : Kind) → Keeps T kind
 laws_of IndexQueue = queue_keeps queue_kinds.TheVariants.IndexQueue

@@ -1,8 +1,8 @@
 -- What is found where the state of a party of a container is looked up.
 use Rattle.std.specs.Prelude.{◌≡◌, ℕ, ◌<◌, ◌≤◌, Option, Some, None, []}
 use Rattle.steps.specs.declared.container.state.ContainerState.{ContainerState}
-use Rattle.model.specs.declared.families.Kept.{Kept}
-use Rattle.model.specs.declared.families.Kept as kepts
+use Rattle.model.specs.declared.families.Registry.{Registry}
+use Rattle.model.specs.declared.families.Registry as registries
 use Rattle.model.specs.Families.Container.States.{state_of}
 
 module _ {T : Type 0} where
@@ -17,7 +17,7 @@ module _ {T : Type 0} where
   IsFound parties p found None = (p < parties → ShowsNothing found) × (parties ≤ p → found ≡ None)
 
   -- in what a machine of so many parties keeps; other kinds have no states
-  abbrev pub IsStateIn : Kept T → ℕ → ℕ → Option (ContainerState T) → Type 0
-  IsStateIn (kepts.TheVariants.Container dead states) parties p found =
+  abbrev pub IsStateIn : Registry T → ℕ → ℕ → Option (ContainerState T) → Type 0
+  IsStateIn (registries.TheVariants.Container dead states) parties p found =
       IsFound parties p found (state_of p states)
   IsStateIn kept parties p found = found ≡ None

@@ -7,7 +7,7 @@ ghost use Rattle.std.specs.Prelude.{◌≡◌, [], ◌≤◌, ◌<◌, None, OnO
 pub mod theorems;
 
 use event::Event;
-use families::Kept;
+use families::Registry;
 use model::coding::Coded;
 pub use model::{event, families, party, turn};
 use parts::parts::Parts;
@@ -63,7 +63,7 @@ impl<T: Words> Machine<T> {
     ghost use Rattle.model.specs.Turns.{after_turn, after_turns, AreAllowed};
     ghost use Rattle.model.specs.Linearized.{IsLinearizableRun};
     ghost use Rattle.model.specs.Progress.{KeepsGuarantees};
-    ghost use Rattle.model.specs.declared.families.Kept.TheVariants as kepts;
+    ghost use Rattle.model.specs.declared.families.Registry.TheVariants as registries;
     ghost use Rattle.model.specs.declared.families.loan.Book.{Book};
     ghost use Rattle.machine.specs.States.{IsStateIn};
     ghost use Rattle.model.specs.Promises.{IsKept, WritesEvents, TellsBeside, AreTurns};
@@ -112,7 +112,7 @@ impl<T: Words> Machine<T> {
     ) -> Result<Machine<T>, UniqueIndexCreationError>
         ensures ok { IfOk result (λ m. trace_in ⟦<T as Coded>⟧.coding m
             ≡ loan_opening ⟦<T as Coded>⟧.coding slots queue parties) }
-        ensures queue { IfOk result (λ m. (book : Book) × (m.kept ≡ kepts.Loan book) × (book.queue ≡ queue)) }
+        ensures queue { IfOk result (λ m. (book : Book) × (m.kept ≡ registries.Loan book) × (book.queue ≡ queue)) }
         ensures admitted { OnOk result (loan_error slots queue ≡ None) }
         ensures refused { IfErr result (IsLoanError slots queue) }
     {
@@ -268,7 +268,7 @@ impl<T: Words> Machine<T> {
     pub fn state(&self, party: u32) -> Option<&ContainerState<T>>
         ensures { IsStateIn self.now.kept self.now.parties party (option_copied result) }
     {
-        let Kept::Container(_, states) = &self.parts.kept else {
+        let Registry::Container(_, states) = &self.parts.kept else {
             return None;
         };
         match states.get(party) {

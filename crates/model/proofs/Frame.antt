@@ -1,5 +1,6 @@
 -- What holds of a machine of any family between two turns, how a turn keeps it, and so that every run has it.
-use Rattle.std.proofs.Common.{◌≡◌, ◌≢◌, ℕ, ◌+◌, ◌-◌, ◌^◌, ◌<◌, ◌≤◌, ⊎_elim, Bool, true, false, not, Option, Some, None, List, [], ◌∷◌, ◌++◌, fold, refl, sym, ap, subst, ◌∙◌, append-nil, arith}
+use Rattle.std.proofs.Common.{◌≡◌, ◌≢◌, ℕ, ◌+◌, ◌-◌, ◌^◌, ◌<◌, ◌≤◌, ⊎_elim, Bool, true, false, not, Option, Some, None}
+use Rattle.std.proofs.Common.{List, [], ◌∷◌, ◌++◌, fold, refl, sym, ap, subst, ◌∙◌, append-nil, arith}
 use Rattle.std.proofs.lemmas.Bool.{cases_eq}
 use Rattle.steps.specs.declared.ask.Ask.{Ask}
 use Rattle.model.specs.declared.event.Answer.{Answer}
@@ -7,7 +8,7 @@ use Rattle.model.specs.declared.event.Event.{Event}
 use Rattle.model.specs.declared.event.Event.TheVariants.{Begun, Died}
 use Rattle.model.specs.declared.event.Start.{Start}
 use Rattle.model.specs.declared.families.Flight.{Flight}
-use Rattle.model.specs.declared.families.Kept.{Kept}
+use Rattle.model.specs.declared.families.Registry.{Registry}
 use Rattle.model.specs.declared.party.Doing.{Doing}
 use Rattle.model.specs.declared.party.Doing.TheVariants.{Going, Over}
 use Rattle.model.specs.declared.party.Party.{Party}
@@ -25,7 +26,10 @@ use Rattle.model.specs.Reading.{Each, Span, Never, Open, Ended, own_after, span_
 use Rattle.model.specs.Refusals.{call_refusal, is_due}
 use Rattle.model.specs.Rows.{first_row}
 use Rattle.model.specs.Shape.{IsShut}
-use Rattle.model.specs.Turns.{old_of, words_after, change_of, step_count, number_of, ask_of_doing, party_at_begin, after_begin, party_after, after_step, step_in, after_answer, after_next, after_decision, after_turn, events_of_step, events_of_answer, events_of_next, events_of_decision, IsReached, IsReachedOn}
+use Rattle.model.specs.Turns.{old_of, words_after, change_of, step_count, number_of, ask_of_doing, party_at_begin}
+use Rattle.model.specs.Turns.{after_begin, party_after, after_step, step_in, after_answer, after_next, after_decision}
+use Rattle.model.specs.Turns.{after_turn, events_of_step, events_of_answer, events_of_next, events_of_decision}
+use Rattle.model.specs.Turns.{IsReached, IsReachedOn}
 use Rattle.model.specs.World.{Trace, opening, opened, queue_error, flight_in}
 use Rattle.model.proofs.Openings.{opened_others}
 use Rattle.model.proofs.Parties.{party_put_same, party_put_other}
@@ -44,7 +48,7 @@ pub record Family (T : Type 0) : Type 1 where
   pub promise : Promise T
   pub capacity : ℕ
   pub State : Type 0  -- what the words and what is kept beside them hold
-  pub Fit : Kept T → List ℕ → State → Type 0  -- they hold it
+  pub Represents : Registry T → List ℕ → State → Type 0  -- they hold it
   pub Holds : State → List (ℕ × Party T) → List (Event T) → ℕ → Type 0  -- what is so of it and of the events, after so many turns
   pub written : State → ℕ → Flight T → List (Event T)  -- what a party's call under way has written since its begin
   pub number : List (Event T) → Flight T → ℕ → ℕ  -- how many steps it has taken at most, having written this and turned back so often
@@ -96,7 +100,8 @@ module _ {T : Type 0} (F : Family T) where
     pub others : (q : ℕ) → q ≢ p → Fits s q (party_of q latest) (span_of q (events ++ es))
     pub others_know : (q : ℕ) → q ≢ p → KnowsParty s q (events ++ es) changes (party_of q latest)
 
-  pub advance : (s s' : F.State) (p : ℕ) (y : Party T) (latest : List (ℕ × Party T)) (events es : List (Event T)) (changes changes' : ℕ) → Inv s latest events changes → Owes s' p y latest events es changes'
+  pub advance : (s s' : F.State) (p : ℕ) (y : Party T) (latest : List (ℕ × Party T)) (events es : List (Event T)) (changes changes' : ℕ)
+      → Inv s latest events changes → Owes s' p y latest events es changes'
       → Inv s' (put p y latest) (events ++ es) changes'
   advance s s' p y latest events es changes changes' inv owes =
       record {
@@ -129,22 +134,32 @@ module _ {T : Type 0} (F : Family T) where
     pub stands : AllFollow (Stands F.promise F.capacity) from es
     pub here : Fits s' p (Some y) (fold own_after from es)
     pub knows : KnowsDoing s' p (events ++ es) changes' y.backs y.doing
-    pub others : (q : ℕ) → q ≢ p → (start : Start T) (flight : Flight T) → F.At s q start flight → F.At s' q start flight × (F.written s' q flight ≡ F.written s q flight)
-    pub others_know : (q : ℕ) → q ≢ p → (since backs : ℕ) (flight : Flight T) → F.Knows s q events since changes backs flight → F.Knows s' q (events ++ es) since changes' backs flight
+    pub others : (q : ℕ) → q ≢ p → (start : Start T) (flight : Flight T) → F.At s q start flight
+        → F.At s' q start flight × (F.written s' q flight ≡ F.written s q flight)
+    pub others_know : (q : ℕ) → q ≢ p → (since backs : ℕ) (flight : Flight T)
+        → F.Knows s q events since changes backs flight → F.Knows s' q (events ++ es) since changes' backs flight
 
   -- a call of another party stays where its span does
-  module _ (s s' : F.State) (q : ℕ) (others : (start : Start T) (flight : Flight T) → F.At s q start flight → F.At s' q start flight × (F.written s' q flight ≡ F.written s q flight)) where
+  module _ (s s' : F.State) (q : ℕ)
+      (others : (start : Start T) (flight : Flight T) → F.At s q start flight
+      → F.At s' q start flight × (F.written s' q flight ≡ F.written s q flight)) where
     doing_fits : (x : Party T) (doing : Doing T) (span : Span T) → FitsDoing s q x doing span → FitsDoing s' q x doing span
     doing_fits x (Going flight since) span h =
         let both = others x.start flight h.at in
-        record { span = h.span ∙ ap (λ es. Open x.start es) (sym both.1); steps = subst (λ es. x.steps ≤ F.number es flight x.backs) (sym both.1) h.steps; at = both.0 }
+        record {
+          span = h.span ∙ ap (λ es. Open x.start es) (sym both.1);
+          steps = subst (λ es. x.steps ≤ F.number es flight x.backs) (sym both.1) h.steps;
+          at = both.0;
+        }
     doing_fits x (Over others) span h = record { answer = h.answer; wrote = h.wrote; span = h.span; steps = h.steps }
 
     pub still_fits : (o : Option (Party T)) (span : Span T) → Fits s q o span → Fits s' q o span
     still_fits None span h = h
     still_fits (Some x) span h = doing_fits x x.doing span h
 
-  module _ (s s' : F.State) (q : ℕ) (events es : List (Event T)) (changes changes' : ℕ) (others : (since backs : ℕ) (flight : Flight T) → F.Knows s q events since changes backs flight → F.Knows s' q (events ++ es) since changes' backs flight) where
+  module _ (s s' : F.State) (q : ℕ) (events es : List (Event T)) (changes changes' : ℕ)
+      (others : (since backs : ℕ) (flight : Flight T) → F.Knows s q events since changes backs flight
+      → F.Knows s' q (events ++ es) since changes' backs flight) where
     doing_knows : (backs : ℕ) (doing : Doing T) → KnowsDoing s q events changes backs doing → KnowsDoing s' q (events ++ es) changes' backs doing
     doing_knows backs (Going flight since) h = others since backs flight h
     doing_knows backs (Over others) h = h
@@ -153,7 +168,9 @@ module _ {T : Type 0} (F : Family T) where
     still_knows None h = tt
     still_knows (Some x) h = doing_knows x.backs x.doing h
 
-  pub owes : (s s' : F.State) (from : Span T) (p : ℕ) (y : Party T) (latest : List (ℕ × Party T)) (events es : List (Event T)) (changes changes' : ℕ) → span_of p events ≡ from → Inv s latest events changes
+  pub owes : (s s' : F.State) (from : Span T) (p : ℕ) (y : Party T) (latest : List (ℕ × Party T))
+      (events es : List (Event T)) (changes changes' : ℕ)
+      → span_of p events ≡ from → Inv s latest events changes
       → Shows s s' from p y events es changes changes' → Owes s' p y latest events es changes'
   owes s s' from p y latest events es changes changes' is inv shows =
       let span : span_of p (events ++ es) ≡ fold own_after from es = span_of-own p events es shows.own ∙ ap (λ a. fold own_after a es) is in
@@ -176,10 +193,13 @@ module _ {T : Type 0} (F : Family T) where
       go (Going flight since) e h = absurd (cc)
       go (Over others) e h = subst IsShut (sym h.span) tt
 
-  pub under_way : (s : F.State) (p : ℕ) (x : Party T) (doing : Doing T) (flight : Flight T) (since : ℕ) (seen : Span T) → doing ≡ Going flight since → FitsDoing s p x doing seen → IsUnderWay s p x flight seen
+  pub under_way : (s : F.State) (p : ℕ) (x : Party T) (doing : Doing T) (flight : Flight T) (since : ℕ) (seen : Span T)
+      → doing ≡ Going flight since → FitsDoing s p x doing seen → IsUnderWay s p x flight seen
   under_way s p x doing flight since seen e h = subst (λ d. FitsDoing s p x d seen) e h
 
-  pub knows_now : (s : F.State) (p : ℕ) (events : List (Event T)) (changes : ℕ) (o : Option (Party T)) (x : Party T) (flight : Flight T) (since : ℕ) → o ≡ Some x → x.doing ≡ Going flight since → KnowsParty s p events changes o
+  pub knows_now : (s : F.State) (p : ℕ) (events : List (Event T)) (changes : ℕ) (o : Option (Party T)) (x : Party T)
+      (flight : Flight T) (since : ℕ)
+      → o ≡ Some x → x.doing ≡ Going flight since → KnowsParty s p events changes o
       → F.Knows s p events since changes x.backs flight
   knows_now s p events changes o x flight since found doing h =
       subst (KnowsDoing s p events changes x.backs) doing (subst (KnowsParty s p events changes) found h)
@@ -191,32 +211,38 @@ module _ {T : Type 0} (F : Family T) where
     pub kind : t.world.kind ≡ F.kind
     pub capacity : t.world.capacity ≡ F.capacity
     pub state : F.State
-    pub fit : F.Fit t.world.kept t.world.words state
+    pub fit : F.Represents t.world.kept t.world.words state
     pub holds : F.Holds state t.world.latest t.events t.world.turns
     pub inv : Inv state t.world.latest t.events t.world.changes
 
   -- what a turn comes to that leaves these words, this beside them, and the party so
-  pub record Comes (t : Trace T) (p : ℕ) (kept : Kept T) (words : List ℕ) (y : Party T) (es : List (Event T)) (changes : ℕ) : Type 0 where
+  pub record Comes (t : Trace T) (p : ℕ) (kept : Registry T) (words : List ℕ) (y : Party T) (es : List (Event T)) (changes : ℕ) : Type 0 where
     pub state : F.State
-    pub fit : F.Fit kept words state
+    pub fit : F.Represents kept words state
     pub holds : F.Holds state (put p y t.world.latest) (t.events ++ es) (t.world.turns + 1)
     pub owes : Owes state p y t.world.latest t.events es changes
 
   -- the step of a party's call from this answer, with this operation
   abbrev pub ComesByStep : Trace T → ℕ → Party T → Flight T → ℕ → Option Ask → ℕ → Type 0
   ComesByStep t p x flight since ask answer =
-      Comes t p (step_in t.world p x flight answer).kept (words_after t.world.words ask) (party_after x since t.world.changes (step_count ask) (change_of t.world.words ask) (step_in t.world p x flight answer)) (events_of_step p x.start (step_in t.world p x flight answer)) (t.world.changes + change_of t.world.words ask)
+      Comes t p (step_in t.world p x flight answer).kept (words_after t.world.words ask)
+      (party_after x since t.world.changes (step_count ask) (change_of t.world.words ask) (step_in t.world p x flight answer))
+      (events_of_step p x.start (step_in t.world p x flight answer)) (t.world.changes + change_of t.world.words ask)
 
   -- what a death comes to: no party's call goes on
   pub record ComesByDeath (t : Trace T) (s : Sound t) (owner : ℕ) : Type 0 where
     pub state : F.State
-    pub fit : F.Fit (kept_after_death t.world.kept owner) t.world.words state
+    pub fit : F.Represents (kept_after_death t.world.kept owner) t.world.words state
     pub holds : F.Holds state t.world.latest (t.events ++ Died owner ∷ []) (t.world.turns + 1)
-    pub calls : (q : ℕ) (start : Start T) (flight : Flight T) → F.At s.state q start flight → F.At state q start flight × (F.written state q flight ≡ F.written s.state q flight)
-    pub calls_know : (q since backs : ℕ) (flight : Flight T) → F.Knows s.state q t.events since t.world.changes backs flight → F.Knows state q (t.events ++ Died owner ∷ []) since t.world.changes backs flight
+    pub calls : (q : ℕ) (start : Start T) (flight : Flight T) → F.At s.state q start flight
+        → F.At state q start flight × (F.written state q flight ≡ F.written s.state q flight)
+    pub calls_know : (q since backs : ℕ) (flight : Flight T)
+        → F.Knows s.state q t.events since t.world.changes backs flight
+        → F.Knows state q (t.events ++ Died owner ∷ []) since t.world.changes backs flight
 
   -- where a family keeps no owners none dies
-  pub no_death : ((kept : Kept T) (words : List ℕ) (state : F.State) → F.Fit kept words state → has_owners kept ≡ false) → (t : Trace T) (owner : ℕ) (s : Sound t) → MayDie t.world owner → ComesByDeath t s owner
+  pub no_death : ((kept : Registry T) (words : List ℕ) (state : F.State) → F.Represents kept words state → has_owners kept ≡ false)
+      → (t : Trace T) (owner : ℕ) (s : Sound t) → MayDie t.world owner → ComesByDeath t s owner
   no_death none t owner s may =
       let owners = is_true (has_owners t.world.kept) may.owners in
       let without = none t.world.kept t.world.words s.state s.fit in
@@ -224,17 +250,28 @@ module _ {T : Type 0} (F : Family T) where
 
   -- what a family owes, of a call that passes its rows, in a machine of which this holds
   pub record LawsWhere (May : Trace T → Type 0) : Type 0 where
-    pub step : (t : Trace T) (p : ℕ) (x : Party T) (flight : Flight T) (since : ℕ) → Sound t → May t → first_row (going_rows t.world.coding t.world.kept (Some flight) None) ≡ None → party_of p t.world.latest ≡ Some x → x.doing ≡ Going flight since
+    pub step : (t : Trace T) (p : ℕ) (x : Party T) (flight : Flight T) (since : ℕ) → Sound t → May t
+        → first_row (going_rows t.world.coding t.world.kept (Some flight) None) ≡ None
+        → party_of p t.world.latest ≡ Some x → x.doing ≡ Going flight since
         → ComesByStep t p x flight since (ask_of (want_of t.world.coding flight)) (old_of t.world.words (ask_of (want_of t.world.coding flight)))
-    pub decision : (t : Trace T) (p : ℕ) (x : Party T) (flight : Flight T) (since : ℕ) (said : Bool) → Sound t → May t → first_row (going_rows t.world.coding t.world.kept (Some flight) (Some said)) ≡ None → party_of p t.world.latest ≡ Some x → x.doing ≡ Going flight since → is_question (want_of t.world.coding flight) ≡ true
+    pub decision : (t : Trace T) (p : ℕ) (x : Party T) (flight : Flight T) (since : ℕ) (said : Bool) → Sound t
+        → May t → first_row (going_rows t.world.coding t.world.kept (Some flight) (Some said)) ≡ None
+        → party_of p t.world.latest ≡ Some x → x.doing ≡ Going flight since
+        → is_question (want_of t.world.coding flight) ≡ true
         → ComesByStep t p x flight since None (number_of said)
-    pub begin : (t : Trace T) (p : ℕ) (start : Start T) (flight : Flight T) → Sound t → May t → MayBegin t.world p start → first_of t.world.kind t.world.capacity start t.world.kept ≡ Some flight
-        → Comes t p (kept_after_begin t.world.coding t.world.capacity start p t.world.kept) t.world.words (party_at_begin start flight t.world.changes) (Begun p start ∷ []) t.world.changes
+    pub begin : (t : Trace T) (p : ℕ) (start : Start T) (flight : Flight T) → Sound t → May t
+        → MayBegin t.world p start → first_of t.world.kind t.world.capacity start t.world.kept ≡ Some flight
+        → Comes t p (kept_after_begin t.world.coding t.world.capacity start p t.world.kept) t.world.words
+        (party_at_begin start flight t.world.changes) (Begun p start ∷ []) t.world.changes
     pub death : (t : Trace T) (owner : ℕ) (s : Sound t) → MayDie t.world owner → ComesByDeath t s owner
 
   module _ (May : Trace T → Type 0) (laws : LawsWhere May) where
-    step_sound : (t : Trace T) (p : ℕ) (x : Party T) (flight : Flight T) (since : ℕ) (ask : Option Ask) (answer : ℕ) → Sound t → ComesByStep t p x flight since ask answer
-        → Sound record { world = after_step t.world p x since ask (step_in t.world p x flight answer); events = t.events ++ events_of_step p x.start (step_in t.world p x flight answer) }
+    step_sound : (t : Trace T) (p : ℕ) (x : Party T) (flight : Flight T) (since : ℕ) (ask : Option Ask) (answer : ℕ)
+        → Sound t → ComesByStep t p x flight since ask answer
+        → Sound record {
+          world = after_step t.world p x since ask (step_in t.world p x flight answer);
+          events = t.events ++ events_of_step p x.start (step_in t.world p x flight answer);
+        }
     step_sound t p x flight since ask answer s comes =
         let w = t.world in
         let y = party_after x since w.changes (step_count ask) (change_of w.words ask) (step_in w p x flight answer) in
@@ -245,38 +282,57 @@ module _ {T : Type 0} (F : Family T) where
           state = comes.state;
           fit = comes.fit;
           holds = comes.holds;
-          inv = advance s.state comes.state p y w.latest t.events (events_of_step p x.start (step_in w p x flight answer)) w.changes (w.changes + change_of w.words ask) s.inv comes.owes;
+          inv =
+              advance s.state comes.state p y w.latest t.events (events_of_step p x.start (step_in w p x flight answer))
+              w.changes (w.changes + change_of w.words ask) s.inv comes.owes;
         }
 
     same : (t : Trace T) → Sound t → Sound record { world = t.world; events = t.events ++ [] }
     same t s = subst (λ es. Sound record { world = t.world; events = es }) (sym (append-nil t.events)) s
 
-    next_sound : (t : Trace T) (p : ℕ) → May t → first_row (going_rows t.world.coding t.world.kept (flight_in t.world p) None) ≡ None → Sound t → (o : Option (Party T)) → party_of p t.world.latest ≡ o → Sound record { world = after_next t.world p o; events = t.events ++ events_of_next t.world p o }
+    next_sound : (t : Trace T) (p : ℕ) → May t
+        → first_row (going_rows t.world.coding t.world.kept (flight_in t.world p) None) ≡ None → Sound t
+        → (o : Option (Party T)) → party_of p t.world.latest ≡ o
+        → Sound record { world = after_next t.world p o; events = t.events ++ events_of_next t.world p o }
     next_sound t p may rows s None e = same t s
     next_sound t p may rows s (Some x) e = go x.doing refl
       where
-        go : (doing : Doing T) → x.doing ≡ doing → Sound record { world = after_answer t.world p x (ask_of_doing t.world.coding doing) (old_of t.world.words (ask_of_doing t.world.coding doing)) doing; events = t.events ++ events_of_answer t.world p x (old_of t.world.words (ask_of_doing t.world.coding doing)) doing }
+        go : (doing : Doing T) → x.doing ≡ doing → Sound record {
+          world =
+              after_answer t.world p x (ask_of_doing t.world.coding doing) (old_of t.world.words (ask_of_doing t.world.coding doing)) doing;
+          events = t.events ++ events_of_answer t.world p x (old_of t.world.words (ask_of_doing t.world.coding doing)) doing;
+        }
         go (Over others) d = same t s
         go (Going flight since) d =
             let here : flight_in t.world p ≡ Some flight = ap (λ o. flight_of (doing_of o)) e ∙ ap (λ d. flight_of (Some d)) d in
-            let passed : first_row (going_rows t.world.coding t.world.kept (Some flight) None) ≡ None = subst (λ o. first_row (going_rows t.world.coding t.world.kept o None) ≡ None) here rows in
+            let passed : first_row (going_rows t.world.coding t.world.kept (Some flight) None) ≡ None =
+            subst (λ o. first_row (going_rows t.world.coding t.world.kept o None) ≡ None) here rows in
             step_sound t p x flight since (ask_of (want_of t.world.coding flight)) (old_of t.world.words (ask_of (want_of t.world.coding flight))) s
             (laws.step t p x flight since s may passed e d)
 
-    decision_sound : (t : Trace T) (p : ℕ) (said : Bool) → May t → first_row (going_rows t.world.coding t.world.kept (flight_in t.world p) (Some said)) ≡ None → is_due t.world.coding (flight_in t.world p) ≡ true → Sound t → (o : Option (Party T)) → party_of p t.world.latest ≡ o
+    decision_sound : (t : Trace T) (p : ℕ) (said : Bool) → May t
+        → first_row (going_rows t.world.coding t.world.kept (flight_in t.world p) (Some said)) ≡ None
+        → is_due t.world.coding (flight_in t.world p) ≡ true → Sound t → (o : Option (Party T))
+        → party_of p t.world.latest ≡ o
         → Sound record { world = after_decision t.world p said o; events = t.events ++ events_of_decision t.world p said o }
     decision_sound t p said may rows due s None e = same t s
     decision_sound t p said may rows due s (Some x) e = go x.doing refl
       where
-        go : (doing : Doing T) → x.doing ≡ doing → Sound record { world = after_answer t.world p x None (number_of said) doing; events = t.events ++ events_of_answer t.world p x (number_of said) doing }
+        go : (doing : Doing T) → x.doing ≡ doing → Sound record {
+          world = after_answer t.world p x None (number_of said) doing;
+          events = t.events ++ events_of_answer t.world p x (number_of said) doing;
+        }
         go (Over others) d = same t s
         go (Going flight since) d =
             let here : flight_in t.world p ≡ Some flight = ap (λ o. flight_of (doing_of o)) e ∙ ap (λ d. flight_of (Some d)) d in
             let asks : is_question (want_of t.world.coding flight) ≡ true = rw here at due in
-            let passed : first_row (going_rows t.world.coding t.world.kept (Some flight) (Some said)) ≡ None = subst (λ o. first_row (going_rows t.world.coding t.world.kept o (Some said)) ≡ None) here rows in
+            let passed : first_row (going_rows t.world.coding t.world.kept (Some flight) (Some said)) ≡ None =
+            subst (λ o. first_row (going_rows t.world.coding t.world.kept o (Some said)) ≡ None) here rows in
             step_sound t p x flight since None (number_of said) s (laws.decision t p x flight since said s may passed e d asks)
 
-    begin_sound : (t : Trace T) (p : ℕ) (start : Start T) → May t → MayBegin t.world p start → Sound t → (o : Option (Flight T)) → first_of t.world.kind t.world.capacity start t.world.kept ≡ o → Sound record { world = after_begin t.world p start o; events = t.events ++ Begun p start ∷ [] }
+    begin_sound : (t : Trace T) (p : ℕ) (start : Start T) → May t → MayBegin t.world p start → Sound t
+        → (o : Option (Flight T)) → first_of t.world.kind t.world.capacity start t.world.kept ≡ o
+        → Sound record { world = after_begin t.world p start o; events = t.events ++ Begun p start ∷ [] }
     begin_sound t p start small may s None e =
         let call = rw e at may.call in
         absurd (cc)
@@ -290,7 +346,9 @@ module _ {T : Type 0} (F : Family T) where
           state = comes.state;
           fit = comes.fit;
           holds = comes.holds;
-          inv = advance s.state comes.state p (party_at_begin start flight w.changes) w.latest t.events (Begun p start ∷ []) w.changes w.changes s.inv comes.owes;
+          inv =
+              advance s.state comes.state p (party_at_begin start flight w.changes) w.latest t.events
+              (Begun p start ∷ []) w.changes w.changes s.inv comes.owes;
         }
 
     death_sound : (t : Trace T) (owner : ℕ) → MayDie t.world owner → Sound t → Sound (after_turn t (Die owner))
@@ -316,10 +374,13 @@ module _ {T : Type 0} (F : Family T) where
         }
 
     pub turn_sound : (t : Trace T) (turn : Turn T) → call_refusal t.world turn ≡ None → May t → Sound t → Sound (after_turn t turn)
-    turn_sound t (Begin p start) e may s = begin_sound t p start may (may_begin t.world p start e) s (first_of t.world.kind t.world.capacity start t.world.kept) refl
+    turn_sound t (Begin p start) e may s =
+        begin_sound t p start may (may_begin t.world p start e) s (first_of t.world.kind t.world.capacity start t.world.kept) refl
     turn_sound t (Next p) e may s = next_sound t p may (next_passes t.world p e) s (party_of p t.world.latest) refl
     turn_sound t (Decide p said) e may s =
-        decision_sound t p said may (decision_passes t.world p said e) (is_true (is_due t.world.coding (flight_in t.world p)) (must_be_due t.world p said e)) s (party_of p t.world.latest) refl
+        decision_sound t p said may (decision_passes t.world p said e)
+        (is_true (is_due t.world.coding (flight_in t.world p)) (must_be_due t.world p said e)) s
+        (party_of p t.world.latest) refl
     turn_sound t (Die owner) e may s = death_sound t owner (may_die t.world owner e) s
 
   -- the laws of a machine that can take a turn more
@@ -331,12 +392,18 @@ module _ {T : Type 0} (F : Family T) where
   LawsOn = LawsWhere (λ t. Unit {0})
 
   -- from the opening at any second number that is admitted
-  pub reached_from : Laws → (t : Trace T) → ((queue : ℕ) → queue_error t.world.kind queue ≡ None → Sound (opened t.world.coding t.world.kind t.world.capacity queue t.world.parties)) → IsReached t → Sound t
+  pub reached_from : Laws → (t : Trace T)
+      → ((queue : ℕ) → queue_error t.world.kind queue ≡ None
+      → Sound (opened t.world.coding t.world.kind t.world.capacity queue t.world.parties))
+      → IsReached t → Sound t
   reached_from laws t first r =
-      kept_by_runs Sound (λ u turn e h. turn_sound (λ t. t.world.turns < 2 ^ 64 - 2) laws u turn (passes u.world turn e).on (passes u.world turn e).turns h) t first r
+      kept_by_runs Sound (λ u turn e h. turn_sound (λ t. t.world.turns < 2 ^ 64 - 2) laws u turn (passes u.world turn e).on
+      (passes u.world turn e).turns h)
+      t first r
 
   -- where there is none
-  pub reached_sound : Laws → (t : Trace T) → is_loan t.world.kind ≡ false → Sound (opening t.world.coding t.world.kind t.world.capacity t.world.parties) → IsReached t → Sound t
+  pub reached_sound : Laws → (t : Trace T) → is_loan t.world.kind ≡ false
+      → Sound (opening t.world.coding t.world.kind t.world.capacity t.world.parties) → IsReached t → Sound t
   reached_sound laws t other first r =
       let w = t.world in
       reached_from laws t (λ queue admitted. subst Sound (sym (opened_others w.coding w.kind w.capacity queue w.parties other)) first) r
@@ -358,14 +425,20 @@ module _ {T : Type 0} (F : Family T) where
 
   -- what a family says of the counts of a call under way
   pub record Bounds : Type 0 where
-    pub most : (s : F.State) (p backs : ℕ) (start : Start T) (flight : Flight T) → F.At s p start flight → F.number (F.written s p flight) flight backs ≤ F.promise.most_steps F.capacity F.coding.size start backs
-    pub paid : (s : F.State) (p : ℕ) (events : List (Event T)) (since changes backs : ℕ) (flight : Flight T) → F.Knows s p events since changes backs flight → backs ≤ changes - since
+    pub most : (s : F.State) (p backs : ℕ) (start : Start T) (flight : Flight T) → F.At s p start flight
+        → F.number (F.written s p flight) flight backs ≤ F.promise.most_steps F.capacity F.coding.size start backs
+    pub paid : (s : F.State) (p : ℕ) (events : List (Event T)) (since changes backs : ℕ) (flight : Flight T)
+        → F.Knows s p events since changes backs flight → backs ≤ changes - since
 
-  pub progresses : Bounds → (s : F.State) (p : ℕ) (events : List (Event T)) (changes : ℕ) (o : Option (Party T)) (seen : Span T) → Fits s p o seen → KnowsParty s p events changes o → Progresses F.promise F.capacity F.coding.size seen (progress_after changes o)
+  pub progresses : Bounds → (s : F.State) (p : ℕ) (events : List (Event T)) (changes : ℕ) (o : Option (Party T)) (seen : Span T)
+      → Fits s p o seen → KnowsParty s p events changes o
+      → Progresses F.promise F.capacity F.coding.size seen (progress_after changes o)
   progresses bounds s p events changes None seen h knows = subst (λ a. Progresses {T = T} F.promise F.capacity F.coding.size a None) (sym h) tt
   progresses bounds s p events changes (Some x) seen h knows = go x.doing refl h knows
     where
-      go : (doing : Doing T) → x.doing ≡ doing → FitsDoing s p x doing seen → KnowsDoing s p events changes x.backs doing → Progresses F.promise F.capacity F.coding.size seen (progress_after changes (Some x))
+      go : (doing : Doing T) → x.doing ≡ doing → FitsDoing s p x doing seen
+          → KnowsDoing s p events changes x.backs doing
+          → Progresses F.promise F.capacity F.coding.size seen (progress_after changes (Some x))
       go (Going flight since) e h knows =
           let most = bounds.most s p x.backs x.start flight h.at in
           let steps = h.steps in

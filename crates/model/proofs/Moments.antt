@@ -4,7 +4,7 @@ use Rattle.std.proofs.Common.{◌≡◌, ◌≢◌, ℕ, List, [], ◌∷◌, �
 use Rattle.model.specs.declared.event.Event.{Event}
 use Rattle.model.specs.declared.event.Event.TheVariants.{Begun}
 use Rattle.model.specs.declared.event.Start.{Start}
-use Rattle.model.specs.Moments.{BeginsNone, HeldOnce, SinceBegin}
+use Rattle.model.specs.Moments.{BeginsNone, HeldSometime, SinceBegin}
 use Rattle.model.proofs.Readings.{AreOwn}
 
 module _ {T : Type 0} where
@@ -21,10 +21,11 @@ module _ {T : Type 0} where
       ((λ e. ne (sym e ∙ theirs)), others_begin_none p q es ne own.1)
   others_begin_none p q (e ∷ es) ne own = others_begin_none p q es ne own.1
 
-  pub held_now : (p : ℕ) (P : List (Event T) → Type 0) (events : List (Event T)) → P events → HeldOnce p P events
+  pub held_now : (p : ℕ) (P : List (Event T) → Type 0) (events : List (Event T)) → P events → HeldSometime p P events
   held_now p P events h = record { part = events; rest = []; is = sym (append-nil events); within = tt; held = h }
 
-  pub held_later : (p : ℕ) (P : List (Event T) → Type 0) (events es : List (Event T)) → BeginsNone p es → HeldOnce p P events → HeldOnce p P (events ++ es)
+  pub held_later : (p : ℕ) (P : List (Event T) → Type 0) (events es : List (Event T)) → BeginsNone p es
+      → HeldSometime p P events → HeldSometime p P (events ++ es)
   held_later p P events es none h =
       record {
         part = h.part;
@@ -35,12 +36,14 @@ module _ {T : Type 0} where
       }
 
   -- what follows from what held, held as well
-  pub held_so : (p : ℕ) (P Q : List (Event T) → Type 0) (events : List (Event T)) → ((part : List (Event T)) → P part → Q part) → HeldOnce p P events → HeldOnce p Q events
+  pub held_so : (p : ℕ) (P Q : List (Event T) → Type 0) (events : List (Event T))
+      → ((part : List (Event T)) → P part → Q part) → HeldSometime p P events → HeldSometime p Q events
   held_so p P Q events f h = record { part = h.part; rest = h.rest; is = h.is; within = h.within; held = f h.part h.held }
 
   -- ---- since the latest call began
 
-  pub since_more : (p : ℕ) (P Q : List (Event T) → List (Event T) → Type 0) (events es : List (Event T)) → BeginsNone p es → (h : SinceBegin p P events) → Q h.before (h.since ++ es) → SinceBegin p Q (events ++ es)
+  pub since_more : (p : ℕ) (P Q : List (Event T) → List (Event T) → Type 0) (events es : List (Event T))
+      → BeginsNone p es → (h : SinceBegin p P events) → Q h.before (h.since ++ es) → SinceBegin p Q (events ++ es)
   since_more p P Q events es none h holds =
       record {
         before = h.before;
@@ -51,6 +54,7 @@ module _ {T : Type 0} where
         holds = holds;
       }
 
-  pub since_now : (p : ℕ) (P : List (Event T) → List (Event T) → Type 0) (events : List (Event T)) (start : Start T) → P events [] → SinceBegin p P (events ++ Begun p start ∷ [])
+  pub since_now : (p : ℕ) (P : List (Event T) → List (Event T) → Type 0) (events : List (Event T)) (start : Start T)
+      → P events [] → SinceBegin p P (events ++ Begun p start ∷ [])
   since_now p P events start holds =
       record { before = events; start = start; since = []; is = refl; within = tt; holds = holds }

@@ -17,7 +17,8 @@ module _ {T : Type 0} where
   opened_at_one code kind c parties = refl
 
   -- another kind than the loan channel has no second number
-  pub opened_others : (code : Coding T) (kind : Kind) (c queue parties : ℕ) → is_loan kind ≡ false → opened code kind c queue parties ≡ opening code kind c parties
+  pub opened_others : (code : Coding T) (kind : Kind) (c queue parties : ℕ) → is_loan kind ≡ false
+      → opened code kind c queue parties ≡ opening code kind c parties
   opened_others code Loan c queue parties e = absurd (cc)
   opened_others code kind c queue parties e = refl
 
@@ -38,7 +39,8 @@ neither true b e = absurd (cc)
 neither false b e = (refl, e)
 
 -- a capacity that passes both tests is not refused
-passes : (a b : Bool) → a ≡ false → b ≡ false → (if a then Some ProvidedCapacityGreaterThanMaxCapacity else if b then Some ProvidedCapacityIsZero else None) ≡ None
+passes : (a b : Bool) → a ≡ false → b ≡ false
+    → (if a then Some ProvidedCapacityGreaterThanMaxCapacity else if b then Some ProvidedCapacityIsZero else None) ≡ None
 passes a b e f = passes_both a b ProvidedCapacityGreaterThanMaxCapacity ProvidedCapacityIsZero e f
 
 -- a number of slots is also a capacity of a submission queue

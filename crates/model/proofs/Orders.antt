@@ -15,7 +15,8 @@ use Rattle.model.specs.Parties.{party_of, doing_of, flight_of}
 use Rattle.model.specs.Promises.{IsTurnBy, IsTurn, AreTurns, IsKept}
 use Rattle.model.specs.Promises.Turns.{IsParty, IsEndOf, WritesInOrder, WritesDown}
 use Rattle.model.specs.Refusals.{refusal_of, is_due}
-use Rattle.model.specs.Turns.{old_of, ask_of_doing, number_of, step_in, events_of_step, events_of_answer, events_of_next, events_of_decision, after_turn, ending_of, AreAllowed, IsReached}
+use Rattle.model.specs.Turns.{old_of, ask_of_doing, number_of, step_in, events_of_step, events_of_answer}
+use Rattle.model.specs.Turns.{events_of_next, events_of_decision, after_turn, ending_of, AreAllowed, IsReached}
 use Rattle.model.specs.World.{Trace, flight_in}
 use Rattle.model.proofs.Frame.{Family, Sound, is_true}
 use Rattle.model.proofs.Reached.{reached_more}
@@ -24,18 +25,26 @@ use Rattle.model.proofs.Small.{reached_small}
 use Rattle.model.proofs.Turns.{one_turn_later, writes_one_word, goes_on, counts_turn, counts_others}
 
 -- the end of a call is its party's own
-pub ends_end : {T : Type 0} (turn : Turn T) (p : ℕ) (start : Start T) (outcome : Option (Answer T)) → IsParty turn p → AllByRecursion (IsEndOf turn) (ending_of p start outcome)
+pub ends_end : {T : Type 0} (turn : Turn T) (p : ℕ) (start : Start T) (outcome : Option (Answer T)) → IsParty turn p
+    → AllByRecursion (IsEndOf turn) (ending_of p start outcome)
 ends_end turn p start None mine = tt
 ends_end turn p start (Some answer) mine = (mine, tt)
 
 module _ {T : Type 0} (F : Family T) where
   -- what a family owes of a step and of a decision: the order of what is written down, and that the call goes on as its table says
   pub record Orders : Type 0 where
-    pub step : (t : Trace T) (p : ℕ) (x : Party T) (flight : Flight T) (since : ℕ) → Sound F t → t.world.turns < 2 ^ 64 - 2 → party_of p t.world.latest ≡ Some x → x.doing ≡ Going flight since
-        → WritesInOrder F.promise t (Next p) (t.events ++ events_of_step p x.start (step_in t.world p x flight (old_of t.world.words (ask_of (want_of t.world.coding flight)))))
-    pub decision : (t : Trace T) (p : ℕ) (x : Party T) (flight : Flight T) (since : ℕ) (said : Bool) → Sound F t → t.world.turns < 2 ^ 64 - 2 → party_of p t.world.latest ≡ Some x → x.doing ≡ Going flight since → is_question (want_of t.world.coding flight) ≡ true
+    pub step : (t : Trace T) (p : ℕ) (x : Party T) (flight : Flight T) (since : ℕ) → Sound F t
+        → t.world.turns < 2 ^ 64 - 2 → party_of p t.world.latest ≡ Some x → x.doing ≡ Going flight since
+        → WritesInOrder F.promise t (Next p)
+        (t.events
+        ++ events_of_step p x.start (step_in t.world p x flight (old_of t.world.words (ask_of (want_of t.world.coding flight)))))
+    pub decision : (t : Trace T) (p : ℕ) (x : Party T) (flight : Flight T) (since : ℕ) (said : Bool) → Sound F t
+        → t.world.turns < 2 ^ 64 - 2 → party_of p t.world.latest ≡ Some x → x.doing ≡ Going flight since
+        → is_question (want_of t.world.coding flight) ≡ true
         → WritesInOrder F.promise t (Decide p said) (t.events ++ events_of_step p x.start (step_in t.world p x flight (number_of said)))
-    pub after : (t : Trace T) (p : ℕ) (x : Party T) (flight : Flight T) (since answer : ℕ) → Sound F t → party_of p t.world.latest ≡ Some x → x.doing ≡ Going flight since → (step_in t.world p x flight answer).after ≡ goes_of t.world.coding p flight answer t.world.kept
+    pub after : (t : Trace T) (p : ℕ) (x : Party T) (flight : Flight T) (since answer : ℕ) → Sound F t
+        → party_of p t.world.latest ≡ Some x → x.doing ≡ Going flight since
+        → (step_in t.world p x flight answer).after ≡ goes_of t.world.coding p flight answer t.world.kept
     pub tells : (t : Trace T) (turn : Turn T) → refusal_of t.world turn ≡ None → Sound F t → F.promise.tells t turn (after_turn t turn)
 
   nothing : (t : Trace T) (turn : Turn T) → WritesInOrder F.promise t turn (t.events ++ [])
@@ -46,11 +55,15 @@ module _ {T : Type 0} (F : Family T) where
     next_in_order None e = nothing t (Next p)
     next_in_order (Some x) e = go x.doing refl
       where
-        go : (doing : Doing T) → x.doing ≡ doing → WritesInOrder F.promise t (Next p) (t.events ++ events_of_answer t.world p x (old_of t.world.words (ask_of_doing t.world.coding doing)) doing)
+        go : (doing : Doing T) → x.doing ≡ doing
+            → WritesInOrder F.promise t (Next p)
+            (t.events ++ events_of_answer t.world p x (old_of t.world.words (ask_of_doing t.world.coding doing)) doing)
         go (Over others) d = nothing t (Next p)
         go (Going flight since) d = orders.step t p x flight since s small e d
 
-    decision_in_order : (said : Bool) → is_due t.world.coding (flight_in t.world p) ≡ true → (o : Option (Party T)) → party_of p t.world.latest ≡ o → WritesInOrder F.promise t (Decide p said) (t.events ++ events_of_decision t.world p said o)
+    decision_in_order : (said : Bool) → is_due t.world.coding (flight_in t.world p) ≡ true → (o : Option (Party T))
+        → party_of p t.world.latest ≡ o
+        → WritesInOrder F.promise t (Decide p said) (t.events ++ events_of_decision t.world p said o)
     decision_in_order said due None e = nothing t (Decide p said)
     decision_in_order said due (Some x) e = go x.doing refl
       where
@@ -64,10 +77,13 @@ module _ {T : Type 0} (F : Family T) where
   writes_down orders t (Begin p start) e s = refl
   writes_down orders t (Next p) e s = next_in_order orders t s (passes t.world (Next p) e).turns p (party_of p t.world.latest) refl
   writes_down orders t (Decide p said) e s =
-      decision_in_order orders t s (passes t.world (Decide p said) e).turns p said (is_true (is_due t.world.coding (flight_in t.world p)) (must_be_due t.world p said (passes t.world (Decide p said) e).on)) (party_of p t.world.latest) refl
+      decision_in_order orders t s (passes t.world (Decide p said) e).turns p said
+      (is_true (is_due t.world.coding (flight_in t.world p)) (must_be_due t.world p said (passes t.world (Decide p said) e).on))
+      (party_of p t.world.latest) refl
   writes_down orders t (Die owner) e s = refl
 
-  pub turn_is : Orders → (t : Trace T) (turn : Turn T) → refusal_of t.world turn ≡ None → IsReached t → Sound F t → IsTurnBy F.promise t turn (after_turn t turn)
+  pub turn_is : Orders → (t : Trace T) (turn : Turn T) → refusal_of t.world turn ≡ None → IsReached t → Sound F t
+      → IsTurnBy F.promise t turn (after_turn t turn)
   turn_is orders t turn e r s =
       record {
         later = one_turn_later t.world turn (passes t.world turn e).on;
@@ -98,6 +114,7 @@ module _ {T : Type 0} (laws : (kind : Kind) → Keeps T kind) where
       (reached_turn t turn all.0 r, reached_turns (after_turn t turn) turns (reached_more t turn all.0 r) all.1)
 
   -- the same of a machine that is seen as `now`
-  pub step_turn : (inside now new : Trace T) (turn : Turn T) → inside ≡ now → IsReached inside → refusal_of inside.world turn ≡ None → new ≡ after_turn inside turn → IsTurn now turn new
+  pub step_turn : (inside now new : Trace T) (turn : Turn T) → inside ≡ now → IsReached inside
+      → refusal_of inside.world turn ≡ None → new ≡ after_turn inside turn → IsTurn now turn new
   step_turn inside now new turn is r free goes =
       subst (λ t. IsTurn t turn new) is (subst (λ t. IsTurn inside turn t) (sym goes) (reached_turn inside turn free r))

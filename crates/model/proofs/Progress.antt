@@ -23,7 +23,9 @@ use Rattle.model.specs.Families.Loan.Promises as loan_promises
 use Rattle.model.specs.Families.Indices.Promises as index_promises
 use Rattle.model.specs.Families.Indices.Robust.Promises as robust_promises
 use Rattle.model.specs.Families.Queues.Promises as queue_promises
-use Rattle.model.specs.Progress.{Guarantee, WaitFree, ObstructionFree, IsGuaranteed, of_push, of_pop, in_queue, in_value, in_bits, in_counts, in_indices, in_robust, in_container, in_loan, guarantee_of, IsWithin, LatestIsWithin, KeepsGuarantees}
+use Rattle.model.specs.Progress.{Guarantee, WaitFree, ObstructionFree, IsGuaranteed, of_push, of_pop, in_queue}
+use Rattle.model.specs.Progress.{in_value, in_bits, in_counts, in_indices, in_robust, in_container, in_loan}
+use Rattle.model.specs.Progress.{guarantee_of, IsWithin, LatestIsWithin, KeepsGuarantees}
 use Rattle.model.specs.Promise.{Promise}
 use Rattle.model.specs.Promises.{IsKept}
 use Rattle.model.specs.Promises.Bounds.{IsBounded, Progresses}
@@ -50,7 +52,8 @@ module _ {T : Type 0} where
   abbrev popping : Start T
   popping = starts.Queues queues.Pop
 
-  queue_guaranteed : (kind : QueueKind) (capacity size : ℕ) (start : Start T) → IsGuaranteed (queue_promises.promise kind) capacity size start (in_queue size kind start)
+  queue_guaranteed : (kind : QueueKind) (capacity size : ℕ) (start : Start T)
+      → IsGuaranteed (queue_promises.promise kind) capacity size start (in_queue size kind start)
   queue_guaranteed kind capacity size (starts.Queues start) = of_call kind start
     where
       push : (kind : QueueKind) (index : ℕ) → IsGuaranteed (queue_promises.promise kind) capacity size (pushing index) (of_push size kind)
@@ -58,7 +61,8 @@ module _ {T : Type 0} where
       push queue_kinds.TheVariants.Overflow index = λ backs. at_most _
       push queue_kinds.TheVariants.Queue index = λ backs. at_most _
 
-      push_value : (kind : QueueKind) (value : T) → IsGuaranteed (queue_promises.promise kind) capacity size (starts.Queues (queues.Push value)) (of_push size kind)
+      push_value : (kind : QueueKind) (value : T)
+          → IsGuaranteed (queue_promises.promise kind) capacity size (starts.Queues (queues.Push value)) (of_push size kind)
       push_value queue_kinds.TheVariants.IndexQueue value = λ backs. at_most _
       push_value queue_kinds.TheVariants.Overflow value = λ backs. at_most _
       push_value queue_kinds.TheVariants.Queue value = λ backs. at_most _
@@ -68,7 +72,8 @@ module _ {T : Type 0} where
       pop queue_kinds.TheVariants.Overflow = λ backs. omega arith
       pop queue_kinds.TheVariants.Queue = λ backs. at_most _
 
-      of_call : (kind : QueueKind) (start : QueueStart T) → IsGuaranteed (queue_promises.promise kind) capacity size (starts.Queues start) (in_queue size kind (starts.Queues start))
+      of_call : (kind : QueueKind) (start : QueueStart T)
+          → IsGuaranteed (queue_promises.promise kind) capacity size (starts.Queues start) (in_queue size kind (starts.Queues start))
       of_call kind queues.AcquireProducer = λ backs. at_most _
       of_call kind queues.ReleaseProducer = λ backs. at_most _
       of_call kind queues.AcquireConsumer = λ backs. at_most _
@@ -144,7 +149,8 @@ module _ {T : Type 0} where
   loan_guaranteed capacity size (starts.Loan loans.Reclaim) = λ backs. at_most _
   loan_guaranteed capacity size other = λ backs. at_most _
 
-pub guaranteed : {T : Type 0} (kind : Kind) (capacity size : ℕ) (start : Start T) → IsGuaranteed (promise_of kind) capacity size start (guarantee_of kind capacity size start)
+pub guaranteed : {T : Type 0} (kind : Kind) (capacity size : ℕ) (start : Start T)
+    → IsGuaranteed (promise_of kind) capacity size start (guarantee_of kind capacity size start)
 guaranteed IndexQueue capacity size start = queue_guaranteed queue_kinds.TheVariants.IndexQueue capacity size start
 guaranteed Overflow capacity size start = queue_guaranteed queue_kinds.TheVariants.Overflow capacity size start
 guaranteed Queue capacity size start = queue_guaranteed queue_kinds.TheVariants.Queue capacity size start
@@ -159,7 +165,9 @@ guaranteed Loan capacity size start = loan_guaranteed capacity size start
 module _ {T : Type 0} where
   -- ---- every run
 
-  within : (promise : Promise T) (capacity size : ℕ) (start : Start T) (g : Progress) (guarantee : Guarantee) → IsGuaranteed promise capacity size start guarantee → IsBounded promise capacity size start g → IsWithin guarantee g
+  within : (promise : Promise T) (capacity size : ℕ) (start : Start T) (g : Progress) (guarantee : Guarantee)
+      → IsGuaranteed promise capacity size start guarantee → IsBounded promise capacity size start g
+      → IsWithin guarantee g
   within promise capacity size start g (WaitFree most) h bounded =
       let steps = bounded.steps in
       let bound = h g.backs in
@@ -170,13 +178,16 @@ module _ {T : Type 0} where
       let changes = paid g.backs g.others retry bounded.backs in
       omega arith
 
-  latest_within : (promise : Promise T) (capacity size : ℕ) (guarantee : Start T → Guarantee) → ((start : Start T) → IsGuaranteed promise capacity size start (guarantee start)) → (span : Span T) (g : Option Progress) → Progresses promise capacity size span g
+  latest_within : (promise : Promise T) (capacity size : ℕ) (guarantee : Start T → Guarantee)
+      → ((start : Start T) → IsGuaranteed promise capacity size start (guarantee start))
+      → (span : Span T) (g : Option Progress) → Progresses promise capacity size span g
       → LatestIsWithin guarantee span g
   latest_within promise capacity size guarantee all Never g h = tt
   latest_within promise capacity size guarantee all (Open start wrote) None h = tt
   latest_within promise capacity size guarantee all (Open start wrote) (Some g) h = within promise capacity size start g (guarantee start) (all start) h.0
   latest_within promise capacity size guarantee all (Ended start answer wrote) None h = tt
-  latest_within promise capacity size guarantee all (Ended start answer wrote) (Some g) h = within promise capacity size start g (guarantee start) (all start) h.0
+  latest_within promise capacity size guarantee all (Ended start answer wrote) (Some g) h =
+      within promise capacity size start g (guarantee start) (all start) h.0
 
   pub keeps_guarantees : (t : Trace T) → IsKept t → KeepsGuarantees t
   keeps_guarantees t kept p =

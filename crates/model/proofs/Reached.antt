@@ -16,7 +16,9 @@ use Rattle.model.specs.Families.{first_of}
 use Rattle.model.specs.Parties.{party_of}
 use Rattle.model.specs.World.{World, Trace, opening, opened, loan_opening, capacity_error, queue_error, loan_error}
 use Rattle.model.specs.Refusals.{refusal_of, call_refusal}
-use Rattle.model.specs.Turns.{after_begin, after_answer, after_next, after_decision, world_after, after_turn, unless_refused, attempt, run, attempt_on, run_on, IsReachedOn, after_turns, AreAllowed, IsReached, ask_of_doing, old_of, number_of}
+use Rattle.model.specs.Turns.{after_begin, after_answer, after_next, after_decision, world_after, after_turn}
+use Rattle.model.specs.Turns.{unless_refused, attempt, run, attempt_on, run_on, IsReachedOn, after_turns, AreAllowed}
+use Rattle.model.specs.Turns.{IsReached, ask_of_doing, old_of, number_of}
 use Rattle.model.proofs.Openings.{opened_at_one, queue_admitted, loan_admitted}
 
 module _ {T : Type 0} where
@@ -66,7 +68,9 @@ module _ {T : Type 0} where
   reached_more t turn e r =
       let making = turn_making t.world turn in
       let more : after_turn t turn ≡ run (r.turns ++ turn ∷ []) (opened t.world.coding t.world.kind t.world.capacity r.queue t.world.parties) =
-      sym (attempt_allowed t turn e) ∙ (ap (λ u. attempt u turn) r.is ∙ sym (run_more r.turns turn (opened t.world.coding t.world.kind t.world.capacity r.queue t.world.parties)))
+      sym (attempt_allowed t turn e)
+      ∙ (ap (λ u. attempt u turn) r.is
+      ∙ sym (run_more r.turns turn (opened t.world.coding t.world.kind t.world.capacity r.queue t.world.parties)))
       in
       record {
         coded = rw making.coding r.coded;
@@ -77,7 +81,8 @@ module _ {T : Type 0} where
         is = rw (making.coding, making.kind, making.capacity, making.parties) more;
       }
 
-  pub reached_opening : (code : Coding T) (kind : Kind) (capacity parties : ℕ) → IsCoding code → capacity_error kind capacity ≡ None → IsReached (opening code kind capacity parties)
+  pub reached_opening : (code : Coding T) (kind : Kind) (capacity parties : ℕ) → IsCoding code
+      → capacity_error kind capacity ≡ None → IsReached (opening code kind capacity parties)
   reached_opening code kind capacity parties coded e =
       record {
         coded = coded;
@@ -88,7 +93,8 @@ module _ {T : Type 0} where
         is = sym (opened_at_one code kind capacity parties);
       }
 
-  pub reached_loan : (code : Coding T) (slots queue parties : ℕ) → IsCoding code → loan_error slots queue ≡ None → IsReached (loan_opening code slots queue parties)
+  pub reached_loan : (code : Coding T) (slots queue parties : ℕ) → IsCoding code → loan_error slots queue ≡ None
+      → IsReached (loan_opening code slots queue parties)
   reached_loan code slots queue parties coded e =
       let both = loan_admitted slots queue e in
       record { coded = coded; admitted = both.0; queue = queue; queued = both.1; turns = []; is = refl }
@@ -102,7 +108,8 @@ module _ {T : Type 0} where
   after_turns_more t [] turn = refl
   after_turns_more t (x ∷ xs) turn = after_turns_more (after_turn t x) xs turn
 
-  pub AreAllowed-more : (t : Trace T) (turns : List (Turn T)) (turn : Turn T) → AreAllowed t turns → refusal_of (after_turns t turns).world turn ≡ None → AreAllowed t (turns ++ turn ∷ [])
+  pub AreAllowed-more : (t : Trace T) (turns : List (Turn T)) (turn : Turn T) → AreAllowed t turns
+      → refusal_of (after_turns t turns).world turn ≡ None → AreAllowed t (turns ++ turn ∷ [])
   AreAllowed-more t [] turn all e = (e, tt)
   AreAllowed-more t (x ∷ xs) turn all e = (all.0, AreAllowed-more (after_turn t x) xs turn all.1 e)
 
@@ -131,7 +138,10 @@ module _ {T : Type 0} where
     run_keeps [] t h = h
     run_keeps (turn ∷ turns) t h = run_keeps turns (attempt t turn) (attempt_keeps t turn (refusal_of t.world turn) refl h)
 
-    pub kept_by_runs : (t : Trace T) → ((queue : ℕ) → queue_error t.world.kind queue ≡ None → P (opened t.world.coding t.world.kind t.world.capacity queue t.world.parties)) → IsReached t → P t
+    pub kept_by_runs : (t : Trace T)
+        → ((queue : ℕ) → queue_error t.world.kind queue ≡ None
+        → P (opened t.world.coding t.world.kind t.world.capacity queue t.world.parties))
+        → IsReached t → P t
     kept_by_runs t first r =
         subst P (sym r.is) (run_keeps r.turns (opened t.world.coding t.world.kind t.world.capacity r.queue t.world.parties) (first r.queue r.queued))
 
@@ -148,7 +158,9 @@ module _ {T : Type 0} where
   reached_on_more t turn e r =
       let making = turn_making t.world turn in
       let more : after_turn t turn ≡ run_on (r.turns ++ turn ∷ []) (opening t.world.coding t.world.kind t.world.capacity t.world.parties) =
-      sym (attempt_on_allowed t turn e) ∙ (ap (λ u. attempt_on u turn) r.is ∙ sym (run_on_more r.turns turn (opening t.world.coding t.world.kind t.world.capacity t.world.parties)))
+      sym (attempt_on_allowed t turn e)
+      ∙ (ap (λ u. attempt_on u turn) r.is
+      ∙ sym (run_on_more r.turns turn (opening t.world.coding t.world.kind t.world.capacity t.world.parties)))
       in
       record {
         coded = rw making.coding r.coded;
@@ -157,7 +169,8 @@ module _ {T : Type 0} where
         is = rw (making.coding, making.kind, making.capacity, making.parties) more;
       }
 
-  pub reached_on_opening : (code : Coding T) (kind : Kind) (capacity parties : ℕ) → IsCoding code → capacity_error kind capacity ≡ None → IsReachedOn (opening code kind capacity parties)
+  pub reached_on_opening : (code : Coding T) (kind : Kind) (capacity parties : ℕ) → IsCoding code
+      → capacity_error kind capacity ≡ None → IsReachedOn (opening code kind capacity parties)
   reached_on_opening code kind capacity parties coded e = record { coded = coded; admitted = e; turns = []; is = refl }
 
   module _ (P : Trace T → Type 0) (keeps : (t : Trace T) (turn : Turn T) → call_refusal t.world turn ≡ None → P t → P (after_turn t turn)) where

@@ -1,5 +1,6 @@
 -- How readings of events go on as a run grows. No kind is in it.
-use Rattle.std.proofs.Common.{◌≡◌, ◌≢◌, ℕ, ◌==◌, true, false, Some, IfSome, List, [], ◌∷◌, ◌++◌, fold, refl, sym, ap, subst, ◌∙◌, append_assoc, append-nil, arith}
+use Rattle.std.proofs.Common.{◌≡◌, ◌≢◌, ℕ, ◌==◌, true, false, Some, IfSome, List, [], ◌∷◌, ◌++◌, fold, refl, sym, ap}
+use Rattle.std.proofs.Common.{subst, ◌∙◌, append_assoc, append-nil, arith}
 use Rattle.std.proofs.lemmas.Bool.Decides.{nat_tests}
 use Rattle.std.proofs.lemmas.List.Sums.{fold-append}
 use Rattle.model.specs.declared.event.Event.{Event}
@@ -92,7 +93,8 @@ module _ {T : Type 0} where
   AllFollow R span [] = Unit {0}
   AllFollow R span (e ∷ es) = R e span × AllFollow R (own_after span e) es
 
-  pub spans_right : (R : Event T → Span T → Type 0) (p : ℕ) (events es : List (Event T)) (span : Span T) → span_of p events ≡ span → AreOwn p es → AllFollow R span es
+  pub spans_right : (R : Event T → Span T → Type 0) (p : ℕ) (events es : List (Event T)) (span : Span T)
+      → span_of p events ≡ span → AreOwn p es → AllFollow R span es
       → AreRight (λ before e. IfSome (whose e) (λ q. R e (span_of q before))) events es
   spans_right R p events [] span is own all = tt
   spans_right R p events (e ∷ es) span is own all =

@@ -104,7 +104,8 @@ module _ {T : Type 0} where
       let d = row_passed (is_due w.coding (flight_in w p)) Undecided _ c.1 in
       d.1
 
-  pub decision_passes : (w : World T) (p : ℕ) (said : Bool) → call_refusal w (Decide p said) ≡ None → first_row (going_rows w.coding w.kept (flight_in w p) (Some said)) ≡ None
+  pub decision_passes : (w : World T) (p : ℕ) (said : Bool) → call_refusal w (Decide p said) ≡ None
+      → first_row (going_rows w.coding w.kept (flight_in w p) (Some said)) ≡ None
   decision_passes w p said e =
       let c = row_passed (is_none (flight_in w p)) Idle _ e in
       let d = row_passed (not (is_due w.coding (flight_in w p))) Undecided _ c.1 in

@@ -4,7 +4,7 @@ use Rattle.std.proofs.Common.{◌≡◌, ℕ, ◌+◌, ◌≤◌, Option, Some, 
 use Rattle.steps.specs.declared.ask.Ask.{Ask}
 use Rattle.model.specs.declared.event.Start.{Start}
 use Rattle.model.specs.declared.families.Flight.{Flight}
-use Rattle.model.specs.declared.families.Kept.{Kept}
+use Rattle.model.specs.declared.families.Registry.{Registry}
 use Rattle.model.specs.declared.party.Doing.TheVariants.{Going}
 use Rattle.model.specs.declared.party.Party.{Party}
 use Rattle.model.specs.declared.turn.Turn.TheVariants.{Next}
@@ -25,16 +25,17 @@ module _ {T : Type 0} where
 
   module _ (t : Trace T) (p : ℕ) where
     -- the party's step where values are written so, these are the words, this is kept, and the call has this name
-    abbrev pub step_from : Coding T → List ℕ → Kept T → Start T → Flight T → Step (Flight T) (Kept T) T
+    abbrev pub step_from : Coding T → List ℕ → Registry T → Start T → Flight T → Step (Flight T) (Registry T) T
     step_from z words kept start flight =
         step_of z words (beside_of words kept t.world.latest p) p start flight (old_of words (asked z flight)) kept
 
     -- what it writes down is in order
-    abbrev pub InOrder : Promise T → Coding T → List ℕ → Kept T → Start T → Flight T → Type 0
+    abbrev pub InOrder : Promise T → Coding T → List ℕ → Registry T → Start T → Flight T → Type 0
     InOrder promise z words kept start flight =
         WritesInOrder promise t (Next p) (t.events ++ events_of_step p start (step_from z words kept start flight))
 
-    pub in_order_from : (promise : Promise T) (z : Coding T) (words : List ℕ) (kept : Kept T) (start : Start T) (flight : Flight T) → t.world.words ≡ words → t.world.kept ≡ kept → InOrder promise z words kept start flight
+    pub in_order_from : (promise : Promise T) (z : Coding T) (words : List ℕ) (kept : Registry T) (start : Start T) (flight : Flight T)
+        → t.world.words ≡ words → t.world.kept ≡ kept → InOrder promise z words kept start flight
         → InOrder promise z t.world.words t.world.kept start flight
     in_order_from promise z words kept start flight same_words same_kept h =
         subst (λ ws. InOrder promise z ws t.world.kept start flight) (sym same_words)
@@ -62,14 +63,16 @@ module _ {T : Type 0} where
         }
 
     -- what the step comes to
-    abbrev pub ComesFrom : Coding T → List ℕ → Kept T → Start T → Flight T → Type 0
+    abbrev pub ComesFrom : Coding T → List ℕ → Registry T → Start T → Flight T → Type 0
     ComesFrom z words kept start flight =
         Comes F t p (step_from t p z words kept start flight).kept (words_after words (asked z flight))
-        (party_after (record x { start = start }) since t.world.changes (step_count (asked z flight)) (change_of words (asked z flight)) (step_from t p z words kept start flight))
+        (party_after (record x { start = start }) since t.world.changes (step_count (asked z flight))
+        (change_of words (asked z flight)) (step_from t p z words kept start flight))
         (events_of_step p start (step_from t p z words kept start flight))
         (t.world.changes + change_of words (asked z flight))
 
-    pub comes_from : (words : List ℕ) (kept : Kept T) (flight : Flight T) → t.world.words ≡ words → t.world.kept ≡ kept → ComesFrom F.coding words kept x.start flight
+    pub comes_from : (words : List ℕ) (kept : Registry T) (flight : Flight T) → t.world.words ≡ words
+        → t.world.kept ≡ kept → ComesFrom F.coding words kept x.start flight
         → ComesByStep F t p x flight since (asked t.world.coding flight) (old_of t.world.words (asked t.world.coding flight))
     comes_from words kept flight same_words same_kept h =
         subst (λ z. ComesFrom z t.world.words t.world.kept x.start flight) (sym s.coding)

@@ -7,7 +7,7 @@ use Rattle.steps.specs.declared.ask.After.TheVariants.{GoOn, Done}
 use Rattle.model.specs.declared.event.Answer.{Answer}
 use Rattle.model.specs.declared.event.Start.{Start}
 use Rattle.model.specs.declared.families.Flight.{Flight}
-use Rattle.model.specs.declared.families.Kept.{Kept}
+use Rattle.model.specs.declared.families.Registry.{Registry}
 use Rattle.model.specs.declared.party.Doing.{Doing}
 use Rattle.model.specs.declared.party.Doing.TheVariants.{Going, Over}
 use Rattle.model.specs.declared.party.Party.{Party}
@@ -18,7 +18,9 @@ use Rattle.model.specs.Parties.{party_of, put}
 use Rattle.model.specs.Refusals.{refusal_of}
 use Rattle.model.specs.Small.{HasSmallCount, HasSmallCounts, IsSmall}
 use Rattle.model.specs.Step.{Step}
-use Rattle.model.specs.Turns.{after_begin, party_at_begin, after_step, party_after, doing_after, step_in, after_answer, after_next, after_decision, after_death, world_after, IsReached, ask_of_doing, old_of, number_of, change_of, step_count}
+use Rattle.model.specs.Turns.{after_begin, party_at_begin, after_step, party_after, doing_after, step_in, after_answer}
+use Rattle.model.specs.Turns.{after_next, after_decision, after_death, world_after, IsReached, ask_of_doing, old_of}
+use Rattle.model.specs.Turns.{number_of, change_of, step_count}
 use Rattle.model.specs.World.{World, Trace}
 use Rattle.model.proofs.Counts.{change_small, steps_small, back_small}
 use Rattle.model.proofs.Parties.{party_put_same, party_put_other}
@@ -39,7 +41,8 @@ module _ {T : Type 0} where
       let backs = h.backs in
       record { steps = omega arith; backs = omega arith; doing = more_changes changes more x.doing h.doing }
 
-  all_put : (turns changes more p : ℕ) (y : Party T) (latest : List (ℕ × Party T)) → HasSmallCounts (turns + 1) (changes + more) y → AllSmall turns changes latest
+  all_put : (turns changes more p : ℕ) (y : Party T) (latest : List (ℕ × Party T))
+      → HasSmallCounts (turns + 1) (changes + more) y → AllSmall turns changes latest
       → AllSmall (turns + 1) (changes + more) (put p y latest)
   all_put turns changes more p y latest here all q x found = ⊎_elim mine theirs (cases_eq q p)
     where
@@ -66,11 +69,13 @@ module _ {T : Type 0} where
         latest = subst (λ n. AllSmall (w.turns + 1) n (put p y w.latest)) same (all_put w.turns w.changes 0 p y w.latest here h.latest);
       }
 
-  doing_small : (changes since change : ℕ) (after : After (Flight T) (Answer T)) → since ≤ changes → HasSmallCount (changes + change) (doing_after (changes + change) (since + change) after)
+  doing_small : (changes since change : ℕ) (after : After (Flight T) (Answer T)) → since ≤ changes
+      → HasSmallCount (changes + change) (doing_after (changes + change) (since + change) after)
   doing_small changes since change (GoOn flight) h = omega arith
   doing_small changes since change (Done answer) h = omega arith
 
-  step_small : (w : World T) (p : ℕ) (x : Party T) (since : ℕ) (ask : Option Ask) (s : Step (Flight T) (Kept T) T) → w.turns < 2 ^ 64 - 2 → x.steps ≤ w.turns → x.backs ≤ w.turns → since ≤ w.changes → IsSmall w
+  step_small : (w : World T) (p : ℕ) (x : Party T) (since : ℕ) (ask : Option Ask) (s : Step (Flight T) (Registry T) T)
+      → w.turns < 2 ^ 64 - 2 → x.steps ≤ w.turns → x.backs ≤ w.turns → since ≤ w.changes → IsSmall w
       → IsSmall (after_step w p x since ask s)
   step_small w p x since ask s below steps backs begun h =
       let few = back_small s.back in
@@ -87,7 +92,8 @@ module _ {T : Type 0} where
             h.latest;
       }
 
-  answer_small : (w : World T) (p : ℕ) (x : Party T) (ask : Option Ask) (answer : ℕ) (doing : Doing T) → w.turns < 2 ^ 64 - 2 → x.steps ≤ w.turns → x.backs ≤ w.turns → HasSmallCount w.changes doing → IsSmall w
+  answer_small : (w : World T) (p : ℕ) (x : Party T) (ask : Option Ask) (answer : ℕ) (doing : Doing T)
+      → w.turns < 2 ^ 64 - 2 → x.steps ≤ w.turns → x.backs ≤ w.turns → HasSmallCount w.changes doing → IsSmall w
       → IsSmall (after_answer w p x ask answer doing)
   answer_small w p x ask answer (Over others) below steps backs small h = h
   answer_small w p x ask answer (Going flight since) below steps backs small h =
@@ -99,7 +105,8 @@ module _ {T : Type 0} where
       let here = h.latest p x e in
       answer_small w p x (ask_of_doing w.coding x.doing) (old_of w.words (ask_of_doing w.coding x.doing)) x.doing below here.steps here.backs here.doing h
 
-  decision_small : (w : World T) (p : ℕ) (said : Bool) (o : Option (Party T)) → party_of p w.latest ≡ o → w.turns < 2 ^ 64 - 2 → IsSmall w → IsSmall (after_decision w p said o)
+  decision_small : (w : World T) (p : ℕ) (said : Bool) (o : Option (Party T)) → party_of p w.latest ≡ o
+      → w.turns < 2 ^ 64 - 2 → IsSmall w → IsSmall (after_decision w p said o)
   decision_small w p said None e below h = h
   decision_small w p said (Some x) e below h =
       let here = h.latest p x e in

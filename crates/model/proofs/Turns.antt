@@ -1,5 +1,7 @@
 -- What a turn does, in its own words.
-use Rattle.std.proofs.Common.{◌≡◌, ◌≢◌, ℕ, ◌+◌, ◌-◌, ◌<◌, ◌≤◌, ◌==◌, ◌⊎◌, inl, inr, ⊎_elim, Bool, true, false, cond, Option, Some, None, is_some, is_none, IfSome, List, length, get_or, set, refl, sym, ap, subst, ◌∙◌, arith, get_or-set_same}
+use Rattle.std.proofs.Common.{◌≡◌, ◌≢◌, ℕ, ◌+◌, ◌-◌, ◌<◌, ◌≤◌, ◌==◌, ◌⊎◌, inl, inr, ⊎_elim, Bool, true, false, cond}
+use Rattle.std.proofs.Common.{Option, Some, None, is_some, is_none, IfSome, List, length, get_or, set, refl, sym, ap}
+use Rattle.std.proofs.Common.{subst, ◌∙◌, arith, get_or-set_same}
 use Rattle.std.proofs.lemmas.Bool.{cases_lt}
 use Rattle.std.proofs.lemmas.Bool.Decides.{nat_tests}
 use Rattle.std.proofs.lemmas.List.{set-get_or, set_past}
@@ -10,7 +12,7 @@ use Rattle.steps.specs.declared.ask.After.TheVariants.{GoOn, Done}
 use Rattle.model.specs.declared.event.Answer.{Answer}
 use Rattle.model.specs.declared.event.Start.{Start}
 use Rattle.model.specs.declared.families.Flight.{Flight}
-use Rattle.model.specs.declared.families.Kept.{Kept}
+use Rattle.model.specs.declared.families.Registry.{Registry}
 use Rattle.model.specs.declared.party.Doing.{Doing}
 use Rattle.model.specs.declared.party.Doing.TheVariants.{Going, Over}
 use Rattle.model.specs.declared.party.Party.{Party}
@@ -22,7 +24,9 @@ use Rattle.model.specs.Promises.Turns.{IsOneTurnLater, ask_of_flight, WritesOneW
 use Rattle.model.specs.Refusals.{call_refusal}
 use Rattle.model.specs.Small.{HasSmallCount, IsSmall}
 use Rattle.model.specs.Step.{Step}
-use Rattle.model.specs.Turns.{old_of, words_after, change_of, step_count, ask_of_doing, number_of, one_if, after_begin, party_at_begin, after_step, party_after, doing_after, step_in, after_answer, after_next, after_decision, after_death, world_after}
+use Rattle.model.specs.Turns.{old_of, words_after, change_of, step_count, ask_of_doing, number_of, one_if, after_begin}
+use Rattle.model.specs.Turns.{party_at_begin, after_step, party_after, doing_after, step_in, after_answer, after_next}
+use Rattle.model.specs.Turns.{after_decision, after_death, world_after}
 use Rattle.model.specs.World.{World, flight_in, progress_in}
 use Rattle.model.proofs.Parties.{party_put_same, party_put_other}
 use Rattle.model.proofs.Reached.{turn_making}
@@ -79,7 +83,9 @@ one_or_more old false = inl (omega arith)
 module _ {T : Type 0} where
   -- each call goes on as its table alone says, whatever its step does besides
   abbrev pub GoesAsTold : World T → Type 0
-  GoesAsTold w = (p : ℕ) (x : Party T) (flight : Flight T) (since answer : ℕ) → party_of p w.latest ≡ Some x → x.doing ≡ Going flight since → (step_in w p x flight answer).after ≡ goes_of w.coding p flight answer w.kept
+  GoesAsTold w =
+      (p : ℕ) (x : Party T) (flight : Flight T) (since answer : ℕ) → party_of p w.latest ≡ Some x
+      → x.doing ≡ Going flight since → (step_in w p x flight answer).after ≡ goes_of w.coding p flight answer w.kept
 
   -- ---- the machine
 
@@ -92,7 +98,8 @@ module _ {T : Type 0} where
   begin_turns w p start None e = absurd (cc)
   begin_turns w p start (Some flight) e = refl
 
-  answer_turns : (w : World T) (p : ℕ) (x : Party T) (ask : Option Ask) (answer : ℕ) (flight : Flight T) (doing : Doing T) → flight_of (Some doing) ≡ Some flight → (after_answer w p x ask answer doing).turns ≡ w.turns + 1
+  answer_turns : (w : World T) (p : ℕ) (x : Party T) (ask : Option Ask) (answer : ℕ) (flight : Flight T) (doing : Doing T)
+      → flight_of (Some doing) ≡ Some flight → (after_answer w p x ask answer doing).turns ≡ w.turns + 1
   answer_turns w p x ask answer flight (Over others) e = absurd (cc)
   answer_turns w p x ask answer flight (Going going since) e = refl
 
@@ -100,7 +107,8 @@ module _ {T : Type 0} where
   next_turns w p flight None e = absurd (cc)
   next_turns w p flight (Some x) e = answer_turns w p x (ask_of_doing w.coding x.doing) (old_of w.words (ask_of_doing w.coding x.doing)) flight x.doing e
 
-  decision_turns : (w : World T) (p : ℕ) (said : Bool) (flight : Flight T) (o : Option (Party T)) → flight_of (doing_of o) ≡ Some flight → (after_decision w p said o).turns ≡ w.turns + 1
+  decision_turns : (w : World T) (p : ℕ) (said : Bool) (flight : Flight T) (o : Option (Party T))
+      → flight_of (doing_of o) ≡ Some flight → (after_decision w p said o).turns ≡ w.turns + 1
   decision_turns w p said flight None e = absurd (cc)
   decision_turns w p said flight (Some x) e = answer_turns w p x None (number_of said) flight x.doing e
 
@@ -121,7 +129,9 @@ module _ {T : Type 0} where
   begin_word w p start None = refl
   begin_word w p start (Some flight) = refl
 
-  answer_word : (w : World T) (p : ℕ) (x : Party T) (answer : ℕ) (doing : Doing T) → (after_answer w p x (ask_of_doing w.coding doing) answer doing).words ≡ words_after w.words (ask_of_flight w.coding (flight_of (Some doing)))
+  answer_word : (w : World T) (p : ℕ) (x : Party T) (answer : ℕ) (doing : Doing T)
+      → (after_answer w p x (ask_of_doing w.coding doing) answer doing).words
+      ≡ words_after w.words (ask_of_flight w.coding (flight_of (Some doing)))
   answer_word w p x answer (Over others) = refl
   answer_word w p x answer (Going flight since) = refl
 
@@ -146,15 +156,17 @@ module _ {T : Type 0} where
   -- ---- the party's own call
 
   -- the party after its call went on
-  step_here : (w : World T) (p : ℕ) (x : Party T) (since : ℕ) (ask : Option Ask) (s : Step (Flight T) (Kept T) T)
+  step_here : (w : World T) (p : ℕ) (x : Party T) (since : ℕ) (ask : Option Ask) (s : Step (Flight T) (Registry T) T)
       → party_of p (after_step w p x since ask s).latest ≡ Some (party_after x since w.changes (step_count ask) (change_of w.words ask) s)
   step_here w p x since ask s = party_put_same p (party_after x since w.changes (step_count ask) (change_of w.words ask) s) w.latest
 
-  stands : (changes since : ℕ) (after : After (Flight T) (Answer T)) (w : World T) (p : ℕ) (x : Party T) → party_of p w.latest ≡ Some x → x.doing ≡ doing_after changes since after → StandsAt w p after
+  stands : (changes since : ℕ) (after : After (Flight T) (Answer T)) (w : World T) (p : ℕ) (x : Party T)
+      → party_of p w.latest ≡ Some x → x.doing ≡ doing_after changes since after → StandsAt w p after
   stands changes since (GoOn flight) w p x e d = rw (e, d) refl
   stands changes since (Done answer) w p x e d = rw (e, d) refl
 
-  goes : (w : World T) (p : ℕ) (x : Party T) (flight : Flight T) (since : ℕ) (ask : Option Ask) (answer : ℕ) → (step_in w p x flight answer).after ≡ goes_of w.coding p flight answer w.kept
+  goes : (w : World T) (p : ℕ) (x : Party T) (flight : Flight T) (since : ℕ) (ask : Option Ask) (answer : ℕ)
+      → (step_in w p x flight answer).after ≡ goes_of w.coding p flight answer w.kept
       → StandsAt (after_step w p x since ask (step_in w p x flight answer)) p (goes_of w.coding p flight answer w.kept)
   goes w p x flight since ask answer same =
       let s = step_in w p x flight answer in
@@ -162,22 +174,31 @@ module _ {T : Type 0} where
       subst (StandsAt (after_step w p x since ask s) p) same
       (stands (w.changes + change_of w.words ask) (since + change_of w.words ask) s.after (after_step w p x since ask s) p y (step_here w p x since ask s) refl)
 
-  next_goes : (w : World T) (p : ℕ) → GoesAsTold w → (o : Option (Party T)) → party_of p w.latest ≡ o → IfSome (flight_of (doing_of o)) (λ flight. StandsAt (after_next w p o) p (goes_of w.coding p flight (old_of w.words (ask_of (want_of w.coding flight))) w.kept))
+  next_goes : (w : World T) (p : ℕ) → GoesAsTold w → (o : Option (Party T)) → party_of p w.latest ≡ o
+      → IfSome (flight_of (doing_of o))
+      (λ flight. StandsAt (after_next w p o) p (goes_of w.coding p flight (old_of w.words (ask_of (want_of w.coding flight))) w.kept))
   next_goes w p tells None found = tt
   next_goes w p tells (Some x) found = go x.doing refl
     where
       go : (doing : Doing T) → x.doing ≡ doing
-          → IfSome (flight_of (Some doing)) (λ flight. StandsAt (after_answer w p x (ask_of_doing w.coding doing) (old_of w.words (ask_of_doing w.coding doing)) doing) p (goes_of w.coding p flight (old_of w.words (ask_of (want_of w.coding flight))) w.kept))
+          → IfSome (flight_of (Some doing))
+          (λ flight. StandsAt (after_answer w p x (ask_of_doing w.coding doing) (old_of w.words (ask_of_doing w.coding doing)) doing)
+          p (goes_of w.coding p flight (old_of w.words (ask_of (want_of w.coding flight))) w.kept))
       go (Over others) e = tt
       go (Going flight since) e =
           let old = old_of w.words (ask_of (want_of w.coding flight)) in
           goes w p x flight since (ask_of (want_of w.coding flight)) old (tells p x flight since old found e)
 
-  decision_goes : (w : World T) (p : ℕ) (said : Bool) → GoesAsTold w → (o : Option (Party T)) → party_of p w.latest ≡ o → IfSome (flight_of (doing_of o)) (λ flight. StandsAt (after_decision w p said o) p (goes_of w.coding p flight (number_of said) w.kept))
+  decision_goes : (w : World T) (p : ℕ) (said : Bool) → GoesAsTold w → (o : Option (Party T))
+      → party_of p w.latest ≡ o
+      → IfSome (flight_of (doing_of o))
+      (λ flight. StandsAt (after_decision w p said o) p (goes_of w.coding p flight (number_of said) w.kept))
   decision_goes w p said tells None found = tt
   decision_goes w p said tells (Some x) found = go x.doing refl
     where
-      go : (doing : Doing T) → x.doing ≡ doing → IfSome (flight_of (Some doing)) (λ flight. StandsAt (after_answer w p x None (number_of said) doing) p (goes_of w.coding p flight (number_of said) w.kept))
+      go : (doing : Doing T) → x.doing ≡ doing
+          → IfSome (flight_of (Some doing))
+          (λ flight. StandsAt (after_answer w p x None (number_of said) doing) p (goes_of w.coding p flight (number_of said) w.kept))
       go (Over others) e = tt
       go (Going flight since) e = goes w p x flight since None (number_of said) (tells p x flight since (number_of said) found e)
 
@@ -193,12 +214,21 @@ module _ {T : Type 0} where
 
   -- ---- its counts
 
-  going_on : (changes since steps change : ℕ) (asks : Bool) (s : Step (Flight T) (Kept T) T) (x : Party T) (flight : Flight T) → x.doing ≡ Going flight since → x.steps + steps ≡ cond asks (x.steps + 1) x.steps
-      → BothGoOn asks (is_none (flight_of (doing_of (Some (party_after x since changes steps change s))))) (progress_after changes (Some x)) (progress_after (changes + change) (Some (party_after x since changes steps change s)))
+  going_on : (changes since steps change : ℕ) (asks : Bool) (s : Step (Flight T) (Registry T) T) (x : Party T) (flight : Flight T)
+      → x.doing ≡ Going flight since → x.steps + steps ≡ cond asks (x.steps + 1) x.steps
+      → BothGoOn asks (is_none (flight_of (doing_of (Some (party_after x since changes steps change s)))))
+      (progress_after changes (Some x))
+      (progress_after (changes + change) (Some (party_after x since changes steps change s)))
   going_on changes since steps change asks s x flight e count = go s.after
     where
       go : (after : After (Flight T) (Answer T))
-          → BothGoOn asks (is_none (flight_of (Some (doing_after (changes + change) (since + change) after)))) (progress_after changes (Some x)) (progress_after (changes + change) (Some (record { start = x.start; steps = x.steps + steps; backs = x.backs + one_if s.back; doing = doing_after (changes + change) (since + change) after })))
+          → BothGoOn asks (is_none (flight_of (Some (doing_after (changes + change) (since + change) after))))
+          (progress_after changes (Some x)) (progress_after (changes + change) (Some (record {
+            start = x.start;
+            steps = x.steps + steps;
+            backs = x.backs + one_if s.back;
+            doing = doing_after (changes + change) (since + change) after;
+          })))
       go (GoOn next) =
           let same = later changes since change in
           rw e (record { steps = count; backs = one_or_more x.backs s.back; others = same; finished = refl })
@@ -206,8 +236,10 @@ module _ {T : Type 0} where
           let same = later changes since change in
           rw e (record { steps = count; backs = one_or_more x.backs s.back; others = same; finished = refl })
 
-  counted : (w : World T) (p : ℕ) (x : Party T) (flight : Flight T) (since : ℕ) (ask : Option Ask) (answer : ℕ) → party_of p w.latest ≡ Some x → x.doing ≡ Going flight since
-      → BothGoOn (is_some ask) (is_none (flight_in (after_step w p x since ask (step_in w p x flight answer)) p)) (progress_in w p) (progress_in (after_step w p x since ask (step_in w p x flight answer)) p)
+  counted : (w : World T) (p : ℕ) (x : Party T) (flight : Flight T) (since : ℕ) (ask : Option Ask) (answer : ℕ)
+      → party_of p w.latest ≡ Some x → x.doing ≡ Going flight since
+      → BothGoOn (is_some ask) (is_none (flight_in (after_step w p x since ask (step_in w p x flight answer)) p))
+      (progress_in w p) (progress_in (after_step w p x since ask (step_in w p x flight answer)) p)
   counted w p x flight since ask answer found e =
       let s = step_in w p x flight answer in
       let y = party_after x since w.changes (step_count ask) (change_of w.words ask) s in
@@ -216,26 +248,38 @@ module _ {T : Type 0} where
       rw (here, found) goal
 
   next_counts : (w : World T) (p : ℕ) (o : Option (Party T)) → party_of p w.latest ≡ o
-      → IfSome (flight_of (doing_of o)) (λ flight. BothGoOn (is_some (ask_of_flight w.coding (flight_of (doing_of o)))) (is_none (flight_in (after_next w p o) p)) (progress_in w p) (progress_in (after_next w p o) p))
+      → IfSome (flight_of (doing_of o))
+      (λ flight. BothGoOn (is_some (ask_of_flight w.coding (flight_of (doing_of o))))
+      (is_none (flight_in (after_next w p o) p)) (progress_in w p) (progress_in (after_next w p o) p))
   next_counts w p None found = tt
   next_counts w p (Some x) found = go x.doing refl
     where
       go : (doing : Doing T) → x.doing ≡ doing
-          → IfSome (flight_of (Some doing)) (λ flight. BothGoOn (is_some (ask_of_flight w.coding (flight_of (Some doing)))) (is_none (flight_in (after_answer w p x (ask_of_doing w.coding doing) (old_of w.words (ask_of_doing w.coding doing)) doing) p)) (progress_in w p) (progress_in (after_answer w p x (ask_of_doing w.coding doing) (old_of w.words (ask_of_doing w.coding doing)) doing) p))
+          → IfSome (flight_of (Some doing))
+          (λ flight. BothGoOn (is_some (ask_of_flight w.coding (flight_of (Some doing))))
+          (is_none
+          (flight_in (after_answer w p x (ask_of_doing w.coding doing) (old_of w.words (ask_of_doing w.coding doing)) doing) p))
+          (progress_in w p)
+          (progress_in (after_answer w p x (ask_of_doing w.coding doing) (old_of w.words (ask_of_doing w.coding doing)) doing) p))
       go (Over others) e = tt
       go (Going flight since) e = counted w p x flight since (ask_of (want_of w.coding flight)) (old_of w.words (ask_of (want_of w.coding flight))) found e
 
   decision_counts : (w : World T) (p : ℕ) (said : Bool) (o : Option (Party T)) → party_of p w.latest ≡ o
-      → IfSome (flight_of (doing_of o)) (λ flight. BothGoOn false (is_none (flight_in (after_decision w p said o) p)) (progress_in w p) (progress_in (after_decision w p said o) p))
+      → IfSome (flight_of (doing_of o))
+      (λ flight. BothGoOn false (is_none (flight_in (after_decision w p said o) p)) (progress_in w p)
+      (progress_in (after_decision w p said o) p))
   decision_counts w p said None found = tt
   decision_counts w p said (Some x) found = go x.doing refl
     where
       go : (doing : Doing T) → x.doing ≡ doing
-          → IfSome (flight_of (Some doing)) (λ flight. BothGoOn false (is_none (flight_in (after_answer w p x None (number_of said) doing) p)) (progress_in w p) (progress_in (after_answer w p x None (number_of said) doing) p))
+          → IfSome (flight_of (Some doing))
+          (λ flight. BothGoOn false (is_none (flight_in (after_answer w p x None (number_of said) doing) p))
+          (progress_in w p) (progress_in (after_answer w p x None (number_of said) doing) p))
       go (Over others) e = tt
       go (Going flight since) e = counted w p x flight since None (number_of said) found e
 
-  begin_counts : (w : World T) (p : ℕ) (start : Start T) (o : Option (Flight T)) → is_none o ≡ false → progress_in (after_begin w p start o) p ≡ Some record { steps = 0; backs = 0; others = 0; finished = false }
+  begin_counts : (w : World T) (p : ℕ) (start : Start T) (o : Option (Flight T)) → is_none o ≡ false
+      → progress_in (after_begin w p start o) p ≡ Some record { steps = 0; backs = 0; others = 0; finished = false }
   begin_counts w p start None e = absurd (cc)
   begin_counts w p start (Some flight) e =
       let none : w.changes - w.changes ≡ 0 = omega arith in
@@ -254,10 +298,12 @@ module _ {T : Type 0} where
     pub same : new.words ≡ old.words → new.changes ≡ old.changes
     pub changed : new.words ≢ old.words → new.changes ≡ old.changes + 1
 
-  sees : (old new : World T) (x : Party T) → Tells old new → HasSmallCount old.changes x.doing → BothSee old new (progress_after old.changes (Some x)) (progress_after new.changes (Some x))
+  sees : (old new : World T) (x : Party T) → Tells old new → HasSmallCount old.changes x.doing
+      → BothSee old new (progress_after old.changes (Some x)) (progress_after new.changes (Some x))
   sees old new x tells small = go x.doing refl small
     where
-      go : (doing : Doing T) → x.doing ≡ doing → HasSmallCount old.changes doing → BothSee old new (progress_after old.changes (Some x)) (progress_after new.changes (Some x))
+      go : (doing : Doing T) → x.doing ≡ doing → HasSmallCount old.changes doing
+          → BothSee old new (progress_after old.changes (Some x)) (progress_after new.changes (Some x))
       go (Going flight since) e h =
           rw e
           (record {
@@ -269,37 +315,45 @@ module _ {T : Type 0} where
           })
       go (Over others) e h = rw e (record { steps = refl; backs = refl; finished = refl; same = λ s. refl; changed = λ ne. refl })
 
-  seen : (old new : World T) (q : ℕ) (o : Option (Party T)) → party_of q old.latest ≡ o → party_of q new.latest ≡ o → Tells old new → IsSmall old → BothSee old new (progress_in old q) (progress_in new q)
+  seen : (old new : World T) (q : ℕ) (o : Option (Party T)) → party_of q old.latest ≡ o → party_of q new.latest ≡ o
+      → Tells old new → IsSmall old → BothSee old new (progress_in old q) (progress_in new q)
   seen old new q None found same tells small = rw (found, same) tt
   seen old new q (Some x) found same tells small = rw (found, same) (sees old new x tells (small.latest q x found).doing)
 
   still_tells : (old new : World T) → new.words ≡ old.words → new.changes ≡ old.changes → Tells old new
   still_tells old new words changes = record { same = λ s. changes; changed = λ ne. absurd (ne words) }
 
-  step_tells : (w : World T) (p : ℕ) (x : Party T) (since : ℕ) (ask : Option Ask) (s : Step (Flight T) (Kept T) T) → Tells w (after_step w p x since ask s)
+  step_tells : (w : World T) (p : ℕ) (x : Party T) (since : ℕ) (ask : Option Ask) (s : Step (Flight T) (Registry T) T) → Tells w (after_step w p x since ask s)
   step_tells w p x since ask s =
       record {
         same = λ e. let none = unchanged_words w.words ask e in omega arith;
         changed = λ ne. let one = changed_words w.words ask ne in omega arith;
       }
 
-  begin_others : (w : World T) (p : ℕ) (start : Start T) (o : Option (Flight T)) (q : ℕ) → q ≢ p → IsSmall w → BothSee w (after_begin w p start o) (progress_in w q) (progress_in (after_begin w p start o) q)
+  begin_others : (w : World T) (p : ℕ) (start : Start T) (o : Option (Flight T)) (q : ℕ) → q ≢ p → IsSmall w
+      → BothSee w (after_begin w p start o) (progress_in w q) (progress_in (after_begin w p start o) q)
   begin_others w p start None q ne small = seen w w q (party_of q w.latest) refl refl (still_tells w w refl refl) small
   begin_others w p start (Some flight) q ne small =
-      seen w (after_begin w p start (Some flight)) q (party_of q w.latest) refl (party_put_other q p (party_at_begin start flight w.changes) w.latest ne) (still_tells w (after_begin w p start (Some flight)) refl refl) small
+      seen w (after_begin w p start (Some flight)) q (party_of q w.latest) refl
+      (party_put_other q p (party_at_begin start flight w.changes) w.latest ne)
+      (still_tells w (after_begin w p start (Some flight)) refl refl) small
 
-  answer_others : (w : World T) (p : ℕ) (x : Party T) (ask : Option Ask) (answer : ℕ) (doing : Doing T) (q : ℕ) → q ≢ p → IsSmall w → BothSee w (after_answer w p x ask answer doing) (progress_in w q) (progress_in (after_answer w p x ask answer doing) q)
+  answer_others : (w : World T) (p : ℕ) (x : Party T) (ask : Option Ask) (answer : ℕ) (doing : Doing T) (q : ℕ)
+      → q ≢ p → IsSmall w
+      → BothSee w (after_answer w p x ask answer doing) (progress_in w q) (progress_in (after_answer w p x ask answer doing) q)
   answer_others w p x ask answer (Over others) q ne small = seen w w q (party_of q w.latest) refl refl (still_tells w w refl refl) small
   answer_others w p x ask answer (Going flight since) q ne small =
       let s = step_in w p x flight answer in
       let y = party_after x since w.changes (step_count ask) (change_of w.words ask) s in
       seen w (after_step w p x since ask s) q (party_of q w.latest) refl (party_put_other q p y w.latest ne) (step_tells w p x since ask s) small
 
-  next_others : (w : World T) (p : ℕ) (o : Option (Party T)) (q : ℕ) → q ≢ p → IsSmall w → BothSee w (after_next w p o) (progress_in w q) (progress_in (after_next w p o) q)
+  next_others : (w : World T) (p : ℕ) (o : Option (Party T)) (q : ℕ) → q ≢ p → IsSmall w
+      → BothSee w (after_next w p o) (progress_in w q) (progress_in (after_next w p o) q)
   next_others w p None q ne small = seen w w q (party_of q w.latest) refl refl (still_tells w w refl refl) small
   next_others w p (Some x) q ne small = answer_others w p x (ask_of_doing w.coding x.doing) (old_of w.words (ask_of_doing w.coding x.doing)) x.doing q ne small
 
-  decision_others : (w : World T) (p : ℕ) (said : Bool) (o : Option (Party T)) (q : ℕ) → q ≢ p → IsSmall w → BothSee w (after_decision w p said o) (progress_in w q) (progress_in (after_decision w p said o) q)
+  decision_others : (w : World T) (p : ℕ) (said : Bool) (o : Option (Party T)) (q : ℕ) → q ≢ p → IsSmall w
+      → BothSee w (after_decision w p said o) (progress_in w q) (progress_in (after_decision w p said o) q)
   decision_others w p said None q ne small = seen w w q (party_of q w.latest) refl refl (still_tells w w refl refl) small
   decision_others w p said (Some x) q ne small = answer_others w p x None (number_of said) x.doing q ne small
 

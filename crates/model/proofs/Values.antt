@@ -67,12 +67,18 @@ pop_reads_both = refl
 -- ---- what they refuse
 
 -- a pop that hands its value out before it moves the read position
-pub no_early_pop : IsBook two_words Queue (record { world = (ran two_words any_kinds.TheVariants.Queue 1 2 turns).world; events = told ++ Begun 1 (Queues Pop) ∷ HandedOut 1 (Value 18446744073709551618) ∷ [] }) → ⊥
+pub no_early_pop : IsBook two_words Queue (record {
+  world = (ran two_words any_kinds.TheVariants.Queue 1 2 turns).world;
+  events = told ++ Begun 1 (Queues Pop) ∷ HandedOut 1 (Value 18446744073709551618) ∷ [];
+}) → ⊥
 no_early_pop book = let read = book.read in cc
 
 -- a push that publishes before it moves the write position
 abbrev half_pushed : List (Turn ℕ)
 half_pushed = roles ++ begins 0 (Queues (Push 18446744073709551618)) 3
 
-pub no_early_push : IsBook two_words Queue (record { world = (ran two_words any_kinds.TheVariants.Queue 1 2 half_pushed).world; events = roles_told ++ Begun 0 (Queues (Push 18446744073709551618)) ∷ Published 0 (Value 18446744073709551618) ∷ [] }) → ⊥
+pub no_early_push : IsBook two_words Queue (record {
+  world = (ran two_words any_kinds.TheVariants.Queue 1 2 half_pushed).world;
+  events = roles_told ++ Begun 0 (Queues (Push 18446744073709551618)) ∷ Published 0 (Value 18446744073709551618) ∷ [];
+}) → ⊥
 no_early_push book = let write = book.write in cc

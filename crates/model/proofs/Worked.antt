@@ -6,7 +6,7 @@ use Rattle.model.specs.declared.event.Answer.{Answer}
 use Rattle.model.specs.declared.event.Answer.TheVariants.{Truth, Number, PoppedNone, PoppedIndex}
 use Rattle.model.specs.declared.event.Event.{Event}
 use Rattle.model.specs.declared.event.Event.TheVariants.{Begun, Published, HandedOut, Acted, Finished}
-use Rattle.model.specs.declared.families.Kept as kepts
+use Rattle.model.specs.declared.families.Registry as registries
 use Rattle.model.specs.declared.families.queues.QueueStart.TheVariants.{AcquireProducer, PushIndex, Pop, Len}
 use Rattle.model.specs.declared.families.queues.QueueKind as kinds
 use Rattle.model.specs.declared.turn.Kind.TheVariants.{IndexQueue, Overflow}
@@ -159,7 +159,8 @@ again_told =
 pub pop_reads_again : (ran one_word Overflow 1 3 (holding_one ++ again_turns)).events ≡ holding_one_told ++ again_told
 pop_reads_again = refl
 
-pub pop_counts : progress_in (ran one_word Overflow 1 3 (holding_one ++ again_turns)).world 1 ≡ Some (record { steps = 6; backs = 1; others = 3; finished = true })
+pub pop_counts : progress_in (ran one_word Overflow 1 3 (holding_one ++ again_turns)).world 1
+    ≡ Some (record { steps = 6; backs = 1; others = 3; finished = true })
 pop_counts = refl
 
 pub again_is_legal : IsLegal (overflowing_list 1) (moments (holding_one_told ++ again_told))
@@ -168,11 +169,15 @@ again_is_legal = refl
 -- ---- what is refused
 
 -- a pop that answers the value that a push took out
-pub no_stale_pop : IsLegal {T = ℕ} (overflowing_list 1) ((Queues (PushIndex 1), PoppedNone) ∷ (Queues (PushIndex 2), PoppedIndex 1) ∷ (Queues Pop, PoppedIndex 1) ∷ []) → ⊥
+pub no_stale_pop : IsLegal {T = ℕ} (overflowing_list 1)
+    ((Queues (PushIndex 1), PoppedNone) ∷ (Queues (PushIndex 2), PoppedIndex 1) ∷ (Queues Pop, PoppedIndex 1) ∷ [])
+    → ⊥
 no_stale_pop legal = cc
 
 -- a push that acts at its end, after a pop of the next value
-pub no_late_push : IsLegal {T = ℕ} (overflowing_list 1) ((Queues (PushIndex 1), PoppedNone) ∷ (Queues Pop, PoppedIndex 2) ∷ (Queues (PushIndex 2), PoppedIndex 1) ∷ []) → ⊥
+pub no_late_push : IsLegal {T = ℕ} (overflowing_list 1)
+    ((Queues (PushIndex 1), PoppedNone) ∷ (Queues Pop, PoppedIndex 2) ∷ (Queues (PushIndex 2), PoppedIndex 1) ∷ [])
+    → ⊥
 no_late_push legal = cc
 
 -- a push that hands a value out of a bounded queue
@@ -183,7 +188,9 @@ no_bounded_push_hands_out stands = let h : Queues (PushIndex 5) ≡ Queues Pop =
 pub no_lost_overflow : wrote {T = ℕ} kinds.TheVariants.Overflow 1 (Queues (PushIndex 5)) PoppedNone (Acted 0 (Queues (PushIndex 5)) PoppedNone ∷ []) → ⊥
 no_lost_overflow wrote = let p = wrote.published in cc
 
-pub no_place : wrote {T = ℕ} kinds.TheVariants.Overflow 0 (Queues (PushIndex 5)) (PoppedIndex 5) (Published 0 (Index 5) ∷ Acted 0 (Queues (PushIndex 5)) (PoppedIndex 5) ∷ []) → ⊥
+pub no_place : wrote {T = ℕ} kinds.TheVariants.Overflow 0 (Queues (PushIndex 5)) (PoppedIndex 5)
+    (Published 0 (Index 5) ∷ Acted 0 (Queues (PushIndex 5)) (PoppedIndex 5) ∷ [])
+    → ⊥
 no_place wrote = let p = wrote.published in cc
 
 -- a push that hands back the newest value
@@ -252,5 +259,8 @@ pub no_lost_role : GrantsRight {T = ℕ} [] (Finished 0 (Queues AcquireProducer)
 no_lost_role right = cc
 
 -- a machine that forgets who has acquired the role
-pub no_forgotten_holder : KeepsHolders {T = ℕ} (kepts.TheVariants.Queues (record { producer = None; consumer = None })) (Finished 0 (Queues AcquireProducer) (Truth true) ∷ []) → ⊥
+pub no_forgotten_holder : KeepsHolders {T = ℕ}
+    (registries.TheVariants.Queues (record { producer = None; consumer = None }))
+    (Finished 0 (Queues AcquireProducer) (Truth true) ∷ [])
+    → ⊥
 no_forgotten_holder kept = let lost = kept.0 in cc

@@ -44,14 +44,17 @@ pub no_push_by_another : queues.ActsRight IndexQueue fresh (ask_of 0 (ops.TheVar
 no_push_by_another h = let his = h.0 in absurd (cc)
 
 -- an overflowing push that acts with the value that leaves where its exchange fails
-pub no_failed_exchange : queues.ActsRight Overflow fresh (ask_of 1 (ops.TheVariants.Exchange 7 8)) (λ q. q ≡ 0) (Acted 0 (Queues (PushIndex 5)) (PoppedIndex 3)) → ⊥
+pub no_failed_exchange : queues.ActsRight Overflow fresh (ask_of 1 (ops.TheVariants.Exchange 7 8)) (λ q. q ≡ 0)
+    (Acted 0 (Queues (PushIndex 5)) (PoppedIndex 3))
+    → ⊥
 no_failed_exchange h = same_is_more 0 h.1
 
 -- another call
 pub no_act_of_len : (kind : QueueKind) (t : Trace ℕ) (ask : Option Ask) → queues.ActsRight kind t ask (λ q. q ≡ 0) (Acted 0 (Queues Len) Done) → ⊥
 no_act_of_len kind t ask h = h
 
-pub no_act_of_role : (t : Trace ℕ) (ask : Option Ask) → values.ActsRight t ask (λ q. q ≡ 0) (Acted 0 (Atomic atomic_starts.TheVariants.AcquireProducer) (Truth true)) → ⊥
+pub no_act_of_role : (t : Trace ℕ) (ask : Option Ask)
+    → values.ActsRight t ask (λ q. q ≡ 0) (Acted 0 (Atomic atomic_starts.TheVariants.AcquireProducer) (Truth true)) → ⊥
 no_act_of_role t ask h = h
 
 -- ---- decisions: an owner holds an index

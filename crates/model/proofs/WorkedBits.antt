@@ -8,7 +8,7 @@ use Rattle.model.specs.declared.event.Answer.TheVariants.{Done, Truth, Number, R
 use Rattle.model.specs.declared.event.Event.{Event}
 use Rattle.model.specs.declared.event.Event as told
 use Rattle.model.specs.declared.event.Event.TheVariants.{Begun, Cleared, Counted, TakenOut, Finished}
-use Rattle.model.specs.declared.families.Kept as kepts
+use Rattle.model.specs.declared.families.Registry as registries
 use Rattle.model.specs.declared.families.bits.BitsStart.TheVariants.{Set, ResetNext, ResetAll}
 use Rattle.model.specs.declared.turn.Kind.{Kind}
 use Rattle.model.specs.declared.turn.Kind as kinds
@@ -18,7 +18,7 @@ use Rattle.model.specs.declared.turn.Turn.TheVariants.{Begin, Next}
 use Rattle.model.specs.Coding.{one_word}
 use Rattle.model.specs.Families.Bits.Promises.{IsBitSet, IsCountingSet, AnswersCount, HasCleared, HasTaken, CameTo, BitsWrote, bits_stand, counts_stand}
 use Rattle.model.specs.Families.Bits.Reading.{is_set_of, is_clear_of, sets, clears, standing, position_after, count_at}
-use Rattle.model.specs.Moments.{BeginsNone, HeldOnce}
+use Rattle.model.specs.Moments.{BeginsNone, HeldSometime}
 use Rattle.model.specs.Reading.{Open}
 use Rattle.model.specs.Refusals.{refusal_of}
 use Rattle.model.specs.Turns.{run}
@@ -169,7 +169,7 @@ with_events kind words events =
             capacity = 2;
             parties = 2;
             words = words;
-            kept = kepts.TheVariants.Nothing;
+            kept = registries.TheVariants.Nothing;
             latest = [];
             changes = 0;
             turns = 0;
@@ -191,7 +191,7 @@ set_past_the_capacity : IsBitSet (with_events kinds.TheVariants.Bits (0 ∷ 4 �
 set_past_the_capacity k = let e = k.within 2 (omega arith) in cc
 
 -- a bit that was set in none of the events stood at no moment
-never_stood : (p b : ℕ) (events : List (Event ℕ)) → sets b events ≡ 0 → HeldOnce p (λ part. standing b part ≡ 1) events → ⊥
+never_stood : (p b : ℕ) (events : List (Event ℕ)) → sets b events ≡ 0 → HeldSometime p (λ part. standing b part ≡ 1) events → ⊥
 never_stood p b events none h =
     let both : sets b events ≡ sets b h.part + sets b h.rest = ap (sets b) h.is ∙ sum_by-append (λ e. cond (is_set_of b e) 1 0) h.part h.rest in
     let stood = h.held in
@@ -239,9 +239,12 @@ first_stood [] rest is within clear = let none = subst (BeginsNone 0) (sym is) w
 first_stood (a ∷ part) rest is within clear =
     let first : told.TheVariants.Set 1 0 ≡ a = cc in
     let here : standing 0 (told.TheVariants.Set 1 0 ∷ part) ≡ 0 = subst (λ (x : Event ℕ). standing 0 (x ∷ part) ≡ 0) (sym first) clear in
-    let one : sets 0 (told.TheVariants.Set 1 0 ∷ part) ≡ 1 + sets 0 part = sum_by-cons (λ (e : Event ℕ). cond (is_set_of 0 e) 1 0) (told.TheVariants.Set 1 0) part in
-    let all : clears 0 skipping ≡ clears 0 (a ∷ part) + clears 0 rest = ap (clears 0) is ∙ sum_by-append (λ (e : Event ℕ). cond (is_clear_of 0 e) 1 0) (a ∷ part) rest in
-    let none : 0 ≡ clears 0 (told.TheVariants.Set 1 0 ∷ part) + clears 0 rest = subst (λ (x : Event ℕ). 0 ≡ clears 0 (x ∷ part) + clears 0 rest) (sym first) all in
+    let one : sets 0 (told.TheVariants.Set 1 0 ∷ part) ≡ 1 + sets 0 part =
+    sum_by-cons (λ (e : Event ℕ). cond (is_set_of 0 e) 1 0) (told.TheVariants.Set 1 0) part in
+    let all : clears 0 skipping ≡ clears 0 (a ∷ part) + clears 0 rest =
+    ap (clears 0) is ∙ sum_by-append (λ (e : Event ℕ). cond (is_clear_of 0 e) 1 0) (a ∷ part) rest in
+    let none : 0 ≡ clears 0 (told.TheVariants.Set 1 0 ∷ part) + clears 0 rest =
+    subst (λ (x : Event ℕ). 0 ≡ clears 0 (x ∷ part) + clears 0 rest) (sym first) all in
     absurd (omega arith)
 
 not_next : (n : ℕ) → n ≡ n + 1 → ⊥
@@ -253,7 +256,9 @@ skips came = go came.passed refl
     from : came.start ≡ 0
     from =
         sym came.begun.held
-        ∙ ap (at_most 2) (left_there 0 came.begun.part (leave_part came.begun.part came.begun.rest (subst Leave came.begun.is ((λ n. refl), ((λ n. refl), ((λ n. refl), ((λ n. refl), tt)))))))
+        ∙ ap (at_most 2) (left_there 0 came.begun.part
+        (leave_part came.begun.part came.begun.rest
+        (subst Leave came.begun.is ((λ n. refl), ((λ n. refl), ((λ n. refl), ((λ n. refl), tt)))))))
 
     is : place_after 2 0 came.passed ≡ 1
     is = subst (λ n. place_after 2 n came.passed ≡ 1) from came.is
@@ -261,7 +266,9 @@ skips came = go came.passed refl
     go : (n : ℕ) → came.passed ≡ n → ⊥
     go zero e = not_next 0 (subst (λ n. place_after 2 0 n ≡ 1) e is)
     go (suc n) e =
-        let held = subst (λ n. HeldOnce 0 (λ part. standing (place_after 2 n 0) part ≡ 0) skipping) from (came.clear 0 (subst (λ m. 0 < m) (sym e) (omega arith))) in
+        let held =
+        subst (λ n. HeldSometime 0 (λ part. standing (place_after 2 n 0) part ≡ 0) skipping) from
+        (came.clear 0 (subst (λ m. 0 < m) (sym e) (omega arith))) in
         first_stood held.part held.rest held.is held.within held.held
 
 -- a reset of all that goes down, or clears a bit twice

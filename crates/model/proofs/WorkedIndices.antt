@@ -8,7 +8,7 @@ use Rattle.model.specs.declared.event.Event.{Event}
 use Rattle.model.specs.declared.event.Event.TheVariants.{Begun, Claimed, Freed, Locked, Finished}
 use Rattle.model.specs.declared.event.Start.{Start}
 use Rattle.model.specs.declared.event.Start.TheVariants.{Indices}
-use Rattle.model.specs.declared.families.Kept.TheVariants as kepts
+use Rattle.model.specs.declared.families.Registry.TheVariants as registries
 use Rattle.model.specs.declared.families.indices.IndexStart.TheVariants.{Acquire, Release, BorrowedIndices, IsLocked}
 use Rattle.model.specs.declared.turn.Kind as kinds
 use Rattle.model.specs.declared.turn.Refusal.TheVariants.{BadIndex, NotHeld, WrongCall}
@@ -91,7 +91,7 @@ pub falls_back_counts : progress_in (run falls_back (opened 2)).world 0
     ≡ Some (record { steps = 5; backs = 0; others = 2; finished = true })
 falls_back_counts = refl
 
-pub falls_back_kept : (run falls_back (opened 2)).world.kept ≡ kepts.Indices (Some 1 ∷ Some 1 ∷ [])
+pub falls_back_kept : (run falls_back (opened 2)).world.kept ≡ registries.Indices (Some 1 ∷ Some 1 ∷ [])
 falls_back_kept = refl
 
 pub falls_back_holders : (holder_of 0 told ≡ Some 1) × (holder_of 1 told ≡ Some 1) × (holder_of 2 told ≡ None)
@@ -174,7 +174,9 @@ no_empty_set : AnswersRight 1 (Begun 0 acquire ∷ []) (Finished 0 acquire (NoIn
 no_empty_set h = omega arith
 
 -- a release that says that it has not locked, though nothing else is in use
-no_missed_lock : AnswersRight 1 (Claimed 0 0 ∷ Begun 0 (release_or_lock 0) ∷ Freed 0 0 ∷ []) (Finished 0 (release_or_lock 0) (State states.TheVariants.Unlocked)) → ⊥
+no_missed_lock : AnswersRight 1 (Claimed 0 0 ∷ Begun 0 (release_or_lock 0) ∷ Freed 0 0 ∷ [])
+    (Finished 0 (release_or_lock 0) (State states.TheVariants.Unlocked))
+    → ⊥
 no_missed_lock h = omega arith
 
 abbrev freed_in : Option Deeds → List ℕ

@@ -69,7 +69,9 @@ pop_inside_push =
       legal = refl;
       invoked = All-from_recursion (Invoked overlapping) inside_around ((refl, (1, omega arith, refl)), ((refl, (0, omega arith, refl)), tt));
       completed = All-from_recursion (Completed inside_around) (calls_of overlapping) ((λ t. (1, omega arith, refl)), ((λ t. (0, omega arith, refl)), tt));
-      once = pair_of (λ x y. x.0 ≢ y.0) (entry inside PoppedNone) (entry around (Truth true)) (λ e. unequal 0 1 (omega arith) (sym (ap (λ (c : Call ℕ). c.place) e)));
+      once =
+          pair_of (λ x y. x.0 ≢ y.0) (entry inside PoppedNone) (entry around (Truth true))
+          (λ e. unequal 0 1 (omega arith) (sym (ap (λ (c : Call ℕ). c.place) e)));
       real_time = pair_of (λ x y. ¬ Precedes y.0 x.0) (entry inside PoppedNone) (entry around (Truth true)) (no_less 3 1 (omega arith));
     }
 
@@ -94,7 +96,9 @@ pop_of_pending_push =
       legal = refl;
       invoked = All-from_recursion (Invoked pending) unfinished_finished ((refl, (0, omega arith, refl)), ((refl, (1, omega arith, refl)), tt));
       completed = All-from_recursion (Completed unfinished_finished) (calls_of pending) (tt, ((λ t. (1, omega arith, refl)), tt));
-      once = pair_of (λ x y. x.0 ≢ y.0) (entry unfinished (Truth true)) (entry finished (PoppedIndex 5)) (λ e. unequal 0 1 (omega arith) (ap (λ (c : Call ℕ). c.place) e));
+      once =
+          pair_of (λ x y. x.0 ≢ y.0) (entry unfinished (Truth true)) (entry finished (PoppedIndex 5))
+          (λ e. unequal 0 1 (omega arith) (ap (λ (c : Call ℕ). c.place) e));
       real_time = pair_of (λ x y. ¬ Precedes y.0 x.0) (entry unfinished (Truth true)) (entry finished (PoppedIndex 5)) (no_less 2 0 (omega arith));
     }
 
@@ -118,12 +122,15 @@ Legal xs = IsLegal (bounded_list 1) (map (λ x. (x.0.start, x.1)) xs)
 not_legal : Legal (entry pushed (Truth true) ∷ entry popped PoppedNone ∷ []) → ⊥
 not_legal legal = cc
 
-refuted : (xs : List (Call ℕ × Answer ℕ)) → Legal xs → All (λ x. (is_push_or_pop x.0.start ≡ true) × Contains (calls_of too_late) x.0) xs → Contains xs (entry pushed (Truth true)) → Contains xs (entry popped PoppedNone) → AllPairs (λ x y. x.0 ≢ y.0) xs
+refuted : (xs : List (Call ℕ × Answer ℕ)) → Legal xs
+    → All (λ x. (is_push_or_pop x.0.start ≡ true) × Contains (calls_of too_late) x.0) xs
+    → Contains xs (entry pushed (Truth true)) → Contains xs (entry popped PoppedNone) → AllPairs (λ x y. x.0 ≢ y.0) xs
     → AllPairs (λ x y. ¬ Precedes y.0 x.0) xs → ⊥
 refuted [] legal invoked first second once real_time = none_there (entry pushed (Truth true)) first
 refuted (x ∷ []) legal invoked first second once real_time =
     ⊎_elim
-    (λ is. ⊎_elim (λ too. apart (ap (λ (x : Call ℕ × Answer ℕ). x.0) (sym is ∙ too))) (none_there (entry popped PoppedNone)) (split x (entry popped PoppedNone) [] second))
+    (λ is. ⊎_elim (λ too. apart (ap (λ (x : Call ℕ × Answer ℕ). x.0) (sym is ∙ too)))
+    (none_there (entry popped PoppedNone)) (split x (entry popped PoppedNone) [] second))
     (none_there (entry pushed (Truth true)))
     (split x (entry pushed (Truth true)) [] first)
 refuted (x ∷ y ∷ []) legal invoked first second once real_time =
@@ -145,7 +152,9 @@ refuted (x ∷ y ∷ []) legal invoked first second once real_time =
         (subst (λ (x : Call ℕ × Answer ℕ). Precedes y.0 x.0) (sym e) (subst (λ (y : Call ℕ × Answer ℕ). Precedes y.0 popped) (sym f) before))
 refuted (x ∷ y ∷ z ∷ rest) legal invoked first second once real_time =
     three_of_two pushed popped x.0 y.0 z.0
-    (either pushed popped x.0 (invoked 0 x (omega arith)).1) (either pushed popped y.0 (invoked 1 x (omega arith)).1) (either pushed popped z.0 (invoked 2 x (omega arith)).1)
+    (either pushed popped x.0 (invoked 0 x (omega arith)).1)
+    (either pushed popped y.0 (invoked 1 x (omega arith)).1)
+    (either pushed popped z.0 (invoked 2 x (omega arith)).1)
     (once 0 1 x (omega arith) (omega arith)) (once 0 2 x (omega arith) (omega arith)) (once 1 2 x (omega arith) (omega arith))
 
 pub no_lost_value : IsLinearizable (as_list kinds.TheVariants.IndexQueue 1) too_late → ⊥

@@ -157,8 +157,43 @@ of_the_dead = (refl, refl, refl, refl, refl)
 -- ---- the dead do nothing more
 
 reclaimed_lives : AreRight LivesRight [] (ran_on reclaimed).events
-reclaimed_lives =
-    (refl, (refl, (refl, (refl, (refl, (tt, (refl, (refl, (refl, (refl, (refl, (refl, (refl, (refl, (refl, (refl, (refl, (refl, (refl, (refl, (refl, (refl, (refl, (refl, ((refl, refl), (refl, (refl, tt)))))))))))))))))))))))))))
+reclaimed_lives = (
+  refl,
+  (
+    refl,
+    (
+      refl,
+      (
+        refl,
+        (
+          refl,
+          (
+            tt,
+            (
+              refl,
+              (
+                refl,
+                (
+                  refl,
+                  (
+                    refl,
+                    (
+                      refl,
+                      (
+                        refl,
+                        (refl, (refl, (refl, (refl, (refl, (refl, (refl, (refl, (refl, (refl, (refl, (refl, ((refl, refl), (refl, (refl, tt))))))))))))))),
+                      ),
+                    ),
+                  ),
+                ),
+              ),
+            ),
+          ),
+        ),
+      ),
+    ),
+  ),
+)
 
 pub no_dead_goes_on : Each LivesRight (ran_on reclaimed).events
 no_dead_goes_on = Each-append LivesRight [] (ran_on reclaimed).events (Each-nil LivesRight) reclaimed_lives

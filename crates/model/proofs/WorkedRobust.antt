@@ -1,5 +1,6 @@
 -- The definitions of the robust index set at worked runs.
-use Rattle.std.proofs.Common.{◌≡◌, ℕ, zero, suc, ◌+◌, ◌-◌, ◌^◌, ◌==◌, Bool, true, false, Option, Some, None, List, [], ◌∷◌, ◌++◌, refl, sym, ap, subst, inl, ne_eqb, arith}
+use Rattle.std.proofs.Common.{◌≡◌, ℕ, zero, suc, ◌+◌, ◌-◌, ◌^◌, ◌==◌, Bool, true, false, Option, Some, None, List, []}
+use Rattle.std.proofs.Common.{◌∷◌, ◌++◌, refl, sym, ap, subst, inl, ne_eqb, arith}
 use Rattle.std.specs.Prelude.{fold, if◌then◌else◌}
 use Rattle.steps.specs.declared.indices.enums.ReleaseMode.{ReleaseMode}
 use Rattle.steps.specs.declared.indices.enums.ReleaseMode.TheVariants.{LockIfLastIndex, Default}
@@ -11,17 +12,19 @@ use Rattle.model.specs.declared.event.Event as events
 use Rattle.model.specs.declared.event.Event.TheVariants.{Begun, Filled, Granted, FreedOf, Asked, Told, Died, Finished}
 use Rattle.model.specs.declared.event.Start.{Start}
 use Rattle.model.specs.declared.event.Start.TheVariants.{Robust}
-use Rattle.model.specs.declared.families.Kept.TheVariants as kepts
+use Rattle.model.specs.declared.families.Registry.TheVariants as registries
 use Rattle.model.specs.declared.families.indices.robust.RobustStart.TheVariants.{Acquire, Release, Find, Recover, BorrowedIndices}
 use Rattle.model.specs.declared.turn.Kind as kinds
 use Rattle.model.specs.declared.turn.Refusal.TheVariants.{BadIndex, OwnerIsDead, OwnerLives, Undecided, WrongCall}
 use Rattle.model.specs.declared.turn.Turn.{Turn}
 use Rattle.model.specs.declared.turn.Turn.TheVariants.{Begin, Next, Decide, Die}
 use Rattle.model.specs.Coding.{one_word}
-use Rattle.model.specs.Families.Indices.Robust.Promises.{IsFilled, IsFilledWith, HeldThrough, HoldsRight, SetDoes, AsksRight, AnswersRight, HasRecovered, IsCount, FreesRight, IsProper, count_below}
+use Rattle.model.specs.Families.Indices.Robust.Promises.{IsFilled, IsFilledWith, HeldThroughout, HoldsRight, SetDoes}
+use Rattle.model.specs.Families.Indices.Robust.Promises.{AsksRight, AnswersRight, HasRecovered, IsCount, FreesRight}
+use Rattle.model.specs.Families.Indices.Robust.Promises.{IsWellFormed, count_below}
 use Rattle.model.specs.Families.Indices.Robust.Reading.{Deed, Frees, Asks, Yes, IsOneOf, deeds_of, filled_after, filled_of}
 use Rattle.model.specs.Families.Indices.Robust.Spans.{may_stand}
-use Rattle.model.specs.Moments.{BeginsNone, HeldOnce}
+use Rattle.model.specs.Moments.{BeginsNone, HeldSometime}
 use Rattle.model.specs.Reading.{Open}
 use Rattle.model.specs.Refusals.{refusal_of}
 use Rattle.model.specs.World.{Trace, opening, progress_in}
@@ -123,7 +126,7 @@ with_death_events = refl
 pub with_death_words : (ran_on 3 with_death).world.words ≡ 5 ∷ (2 ^ 64 - 1) ∷ 2 ∷ (2 ^ 64 - 1) ∷ []
 with_death_words = refl
 
-pub with_death_kept : (ran_on 3 with_death).world.kept ≡ kepts.Owners (1 ∷ [])
+pub with_death_kept : (ran_on 3 with_death).world.kept ≡ registries.Owners (1 ∷ [])
 with_death_kept = refl
 
 -- without the death: a yes about a living owner is refused, and the question stays due
@@ -244,7 +247,7 @@ begun_once start rest is within = (subst (BeginsNone 0) (sym is) within).0 refl
 begun_then : (start : Start ℕ) (rest : List (Event ℕ)) → Begun 0 start ∷ [] ≡ rest → BeginsNone 0 rest → ⊥
 begun_then start rest is within = (subst (BeginsNone 0) (sym is) within).0 refl
 
-stays_filled : (start : Start ℕ) → HeldThrough 0 (IsFilledWith 7 0) (Filled 1 0 7 ∷ Begun 0 start ∷ [])
+stays_filled : (start : Start ℕ) → HeldThroughout 0 (IsFilledWith 7 0) (Filled 1 0 7 ∷ Begun 0 start ∷ [])
 stays_filled start [] rest is within = absurd (begun_once start rest is within)
 stays_filled start (a ∷ []) rest is within =
     let e : Begun 0 start ∷ [] ≡ rest = cc in
@@ -282,7 +285,7 @@ stays_empty i [] rest none = refl
 stays_empty i (e ∷ es) rest none =
     subst (λ owner. fold (filled_after i) owner es ≡ None) (sym none.0) (stays_empty i es rest none.1)
 
-never_filled : (p i : ℕ) (told : List (Event ℕ)) → FillsNot i told → HeldOnce p (IsFilled i) told → ⊥
+never_filled : (p i : ℕ) (told : List (Event ℕ)) → FillsNot i told → HeldSometime p (IsFilled i) told → ⊥
 never_filled p i told none once =
     let empty = stays_empty i once.part once.rest (subst (FillsNot i) once.is none) in
     let filled = once.held in
@@ -329,14 +332,14 @@ no_moment i (a ∷ b ∷ c ∷ d ∷ ds) rest is one filled = cc
 never_locks : AnswersRight 1 last_one (Finished 1 (release 0 7 LockIfLastIndex) (State states.TheVariants.Unlocked)) → ⊥
 never_locks right = no_moment right.1.other right.1.once.part right.1.once.rest right.1.once.is right.1.once.held.0 right.1.once.held.1
 
--- ---- a proper run: an acquire, its release, and an acquire again
+-- ---- a well-formed run: an acquire, its release, and an acquire again
 
-abbrev proper_turns : List (Turn ℕ)
-proper_turns = begins 0 (acquire 313) 4 ++ (begins 0 (release 0 313 Default) 3 ++ begins 1 (acquire 7) 4)
+abbrev well_formed_turns : List (Turn ℕ)
+well_formed_turns = begins 0 (acquire 313) 4 ++ (begins 0 (release 0 313 Default) 3 ++ begins 1 (acquire 7) 4)
 
-pub is_proper : IsProper (ran_on 1 proper_turns).events
-is_proper =
-    Each-append FreesRight [] (ran_on 1 proper_turns).events (Each-nil FreesRight) (
+pub is_well_formed : IsWellFormed (ran_on 1 well_formed_turns).events
+is_well_formed =
+    Each-append FreesRight [] (ran_on 1 well_formed_turns).events (Each-nil FreesRight) (
       tt,
       (
         tt,

@@ -80,7 +80,9 @@ word_of (Some ask) = ask.word
 not_first : (n : ℕ) → 0 < n → n ≡ 0 → ⊥
 not_first n some e = absurd (omega arith)
 
-pub no_early_store : (t : Trace ℕ) → ActsRight t (Some (record { word = 4; op = ops.TheVariants.Store 1 })) (λ q. q ≡ 0) (Acted 0 (Atomic (Store first)) (Truth true)) → ⊥
+pub no_early_store : (t : Trace ℕ)
+    → ActsRight t (Some (record { word = 4; op = ops.TheVariants.Store 1 })) (λ q. q ≡ 0) (Acted 0 (Atomic (Store first)) (Truth true))
+    → ⊥
 no_early_store t h = not_first 4 (omega arith) (ap word_of h.1)
 
 pub no_unchecked_load : (t : Trace ℕ) → ActsRight t (Some (record { word = 3; op = ops.TheVariants.Load })) (λ q. q ≡ 1) (Acted 1 (Atomic Load) (Loaded 0)) → ⊥

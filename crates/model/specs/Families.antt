@@ -10,8 +10,8 @@ use Rattle.model.specs.declared.event.Start.{Start}
 use Rattle.model.specs.declared.event.Start as starts
 use Rattle.model.specs.declared.families.Flight.{Flight}
 use Rattle.model.specs.declared.families.Flight as flights
-use Rattle.model.specs.declared.families.Kept.{Kept}
-use Rattle.model.specs.declared.families.Kept as kepts
+use Rattle.model.specs.declared.families.Registry.{Registry}
+use Rattle.model.specs.declared.families.Registry as registries
 use Rattle.model.specs.declared.families.queues.QueueKind as queue_kinds
 use Rattle.model.specs.declared.party.Party.{Party}
 use Rattle.model.specs.declared.turn.Kind.{Kind}
@@ -68,7 +68,7 @@ opening_of kinds.TheVariants.Loan = loan_opening.opening
 -- ---- a call begins
 
 module _ {T : Type 0} where
-  abbrev pub begin_of : Kind → ℕ → Start T → Beginning (Flight T) (Kept T)
+  abbrev pub begin_of : Kind → ℕ → Start T → Beginning (Flight T) (Registry T)
   begin_of kind capacity (starts.TheVariants.Queues start) =
       queue_opening.begin kind capacity start
   begin_of kind capacity (starts.TheVariants.Atomic start) = atomic_opening.begin kind start
@@ -82,17 +82,17 @@ module _ {T : Type 0} where
   begin_of kind capacity (starts.TheVariants.Loan start) = loan_opening.begin kind capacity start
 
   -- the call that begins, or None where the kind has no such call
-  abbrev pub first_of : Kind → ℕ → Start T → Kept T → Option (Flight T)
+  abbrev pub first_of : Kind → ℕ → Start T → Registry T → Option (Flight T)
   first_of kind capacity start kept = (begin_of kind capacity start).call kept
 
   -- what is tested of a party that is to begin a call, in order: the family's rows come last
-  abbrev pub begin_rows : Kind → ℕ → Kept T → ℕ → Start T → List (Bool × Refusal)
+  abbrev pub begin_rows : Kind → ℕ → Registry T → ℕ → Start T → List (Bool × Refusal)
   begin_rows kind capacity kept p start =
       (is_none (first_of kind capacity start kept), WrongCall)
       ∷ (begin_of kind capacity start).rows kept p
 
   -- what a family keeps once the party has begun the call
-  abbrev pub kept_after_begin : Coding T → ℕ → Start T → ℕ → Kept T → Kept T
+  abbrev pub kept_after_begin : Coding T → ℕ → Start T → ℕ → Registry T → Registry T
   kept_after_begin code capacity (starts.TheVariants.Container start) p kept =
       container_opening.keeps code capacity start p kept
   kept_after_begin code capacity (starts.TheVariants.Loan start) p kept =
@@ -131,7 +131,7 @@ module _ {T : Type 0} where
   after_of code flight old = (going_of code flight).after old
 
   -- and how a party's call goes on where this is kept: a look from what the party's state has seen
-  abbrev pub goes_of : Coding T → ℕ → Flight T → ℕ → Kept T → After (Flight T) (Answer T)
+  abbrev pub goes_of : Coding T → ℕ → Flight T → ℕ → Registry T → After (Flight T) (Answer T)
   goes_of code p (flights.TheVariants.Container flight) old kept =
       container_calls.goes code p flight old kept
   goes_of code p (flights.TheVariants.Loan flight) old kept = loan_calls.goes flight old kept
@@ -142,49 +142,49 @@ module _ {T : Type 0} where
   most_of code flight = (going_of code flight).most
 
   -- what a family tests of a call under way that is to go on, by a decision or without, in order
-  abbrev pub going_rows : Coding T → Kept T → Option (Flight T) → Option Bool
+  abbrev pub going_rows : Coding T → Registry T → Option (Flight T) → Option Bool
       → List (Bool × Refusal)
   going_rows code kept None said = []
   going_rows code kept (Some flight) said = (going_of code flight).rows kept said
 
   -- what a step of this party has to know of the others
-  abbrev pub beside_of : List ℕ → Kept T → List (ℕ × Party T) → ℕ → Option (ℕ × ℕ)
-  beside_of words (kepts.TheVariants.Queues roles) latest p =
+  abbrev pub beside_of : List ℕ → Registry T → List (ℕ × Party T) → ℕ → Option (ℕ × ℕ)
+  beside_of words (registries.TheVariants.Queues roles) latest p =
       queue_steps.beside roles words latest p
-  beside_of words (kepts.TheVariants.Loan book) latest p = loan_steps.beside book words latest p
+  beside_of words (registries.TheVariants.Loan book) latest p = loan_steps.beside book words latest p
   beside_of words kept latest p = None
 
   -- What the step of a call comes to, in these words and from this old value of its word. Where the
   -- name, the call and what is kept are not of one family, nothing happens.
-  abbrev pub step_of : Coding T → List ℕ → Option (ℕ × ℕ) → ℕ → Start T → Flight T → ℕ → Kept T
-      → Step (Flight T) (Kept T) T
+  abbrev pub step_of : Coding T → List ℕ → Option (ℕ × ℕ) → ℕ → Start T → Flight T → ℕ → Registry T
+      → Step (Flight T) (Registry T) T
   step_of code words beside p (starts.TheVariants.Queues start) (flights.TheVariants.Queues flight)
-      old (kepts.TheVariants.Queues roles) =
-      as_step flights.TheVariants.Queues kepts.TheVariants.Queues
+      old (registries.TheVariants.Queues roles) =
+      as_step flights.TheVariants.Queues registries.TheVariants.Queues
       (queue_steps.step code words beside p start flight old roles)
   step_of code words beside p (starts.TheVariants.Atomic start) (flights.TheVariants.Atomic flight)
-      old (kepts.TheVariants.Atomic producer) =
-      as_step flights.TheVariants.Atomic kepts.TheVariants.Atomic
+      old (registries.TheVariants.Atomic producer) =
+      as_step flights.TheVariants.Atomic registries.TheVariants.Atomic
       (atomic_steps.step code p start flight old producer)
   step_of code words beside p (starts.TheVariants.Bits start) (flights.TheVariants.Bits flight) old
-      kepts.TheVariants.Nothing =
-      as_step flights.TheVariants.Bits (λ _. kepts.TheVariants.Nothing)
+      registries.TheVariants.Nothing =
+      as_step flights.TheVariants.Bits (λ _. registries.TheVariants.Nothing)
       (bits_steps.step p flight old)
   step_of code words beside p (starts.TheVariants.Indices start) (flights.TheVariants.Indices flight)
-      old (kepts.TheVariants.Indices holders) =
-      as_step flights.TheVariants.Indices kepts.TheVariants.Indices
+      old (registries.TheVariants.Indices holders) =
+      as_step flights.TheVariants.Indices registries.TheVariants.Indices
       (index_steps.step p flight old holders)
   step_of code words beside p (starts.TheVariants.Robust start) (flights.TheVariants.Robust flight)
-      old (kepts.TheVariants.Owners dead) =
-      as_step flights.TheVariants.Robust kepts.TheVariants.Owners
+      old (registries.TheVariants.Owners dead) =
+      as_step flights.TheVariants.Robust registries.TheVariants.Owners
       (robust_steps.step p flight old dead)
   step_of code words beside p (starts.TheVariants.Container start)
-      (flights.TheVariants.Container flight) old (kepts.TheVariants.Container dead states) =
-      as_step flights.TheVariants.Container (λ kept. kepts.TheVariants.Container kept.0 kept.1)
+      (flights.TheVariants.Container flight) old (registries.TheVariants.Container dead states) =
+      as_step flights.TheVariants.Container (λ kept. registries.TheVariants.Container kept.0 kept.1)
       (container_steps.step code p flight old dead states)
   step_of code words beside p (starts.TheVariants.Loan start) (flights.TheVariants.Loan flight) old
-      (kepts.TheVariants.Loan book) =
-      as_step flights.TheVariants.Loan kepts.TheVariants.Loan
+      (registries.TheVariants.Loan book) =
+      as_step flights.TheVariants.Loan registries.TheVariants.Loan
       (loan_steps.step words beside p start flight old book)
   step_of code words beside p start flight old kept =
       record { after = GoOn flight; back = false; wrote = []; kept = kept }
@@ -192,35 +192,35 @@ module _ {T : Type 0} where
 -- ---- an owner dies
 
 -- whether a structure has owners
-abbrev pub has_owners : {T : Type 0} → Kept T → Bool
-has_owners (kepts.TheVariants.Owners dead) = true
-has_owners (kepts.TheVariants.Container dead states) = true
-has_owners (kepts.TheVariants.Loan book) = true
+abbrev pub has_owners : {T : Type 0} → Registry T → Bool
+has_owners (registries.TheVariants.Owners dead) = true
+has_owners (registries.TheVariants.Container dead states) = true
+has_owners (registries.TheVariants.Loan book) = true
 has_owners kept = false
 
 -- whether the owner is dead
-abbrev pub is_dead : {T : Type 0} → Kept T → ℕ → Bool
-is_dead (kepts.TheVariants.Owners dead) owner = has_died owner dead
-is_dead (kepts.TheVariants.Container dead states) owner = has_died owner dead
-is_dead (kepts.TheVariants.Loan book) owner = has_died owner book.dead
+abbrev pub is_dead : {T : Type 0} → Registry T → ℕ → Bool
+is_dead (registries.TheVariants.Owners dead) owner = has_died owner dead
+is_dead (registries.TheVariants.Container dead states) owner = has_died owner dead
+is_dead (registries.TheVariants.Loan book) owner = has_died owner book.dead
 is_dead kept owner = false
 
 -- whether the owner would be a party, and there is none of this number
-abbrev pub lacks_party : {T : Type 0} → Kept T → ℕ → ℕ → Bool
-lacks_party (kepts.TheVariants.Loan book) parties owner = nat_le parties owner
+abbrev pub lacks_party : {T : Type 0} → Registry T → ℕ → ℕ → Bool
+lacks_party (registries.TheVariants.Loan book) parties owner = nat_le parties owner
 lacks_party kept parties owner = false
 
 -- what is tested of an owner who is to die
-abbrev pub death_rows : {T : Type 0} → Kept T → ℕ → List (Bool × Refusal)
+abbrev pub death_rows : {T : Type 0} → Registry T → ℕ → List (Bool × Refusal)
 death_rows kept owner =
     (not (has_owners kept), WrongCall) ∷ (is_dead kept owner, OwnerIsDead) ∷ []
 
 -- what a family keeps once the owner is dead
-abbrev pub kept_after_death : {T : Type 0} → Kept T → ℕ → Kept T
-kept_after_death (kepts.TheVariants.Owners dead) owner =
-    kepts.TheVariants.Owners (dead_with owner dead)
-kept_after_death (kepts.TheVariants.Container dead states) owner =
-    kepts.TheVariants.Container (dead_with owner dead) states
-kept_after_death (kepts.TheVariants.Loan book) owner =
-    kepts.TheVariants.Loan (record book { dead = dead_with owner book.dead })
+abbrev pub kept_after_death : {T : Type 0} → Registry T → ℕ → Registry T
+kept_after_death (registries.TheVariants.Owners dead) owner =
+    registries.TheVariants.Owners (dead_with owner dead)
+kept_after_death (registries.TheVariants.Container dead states) owner =
+    registries.TheVariants.Container (dead_with owner dead) states
+kept_after_death (registries.TheVariants.Loan book) owner =
+    registries.TheVariants.Loan (record book { dead = dead_with owner book.dead })
 kept_after_death kept owner = kept

@@ -24,7 +24,7 @@ module _ {T : Type 0} where
 
   -- P held at a moment of the party's latest call: of a
   -- beginning of the events that reaches into it
-  pub record HeldOnce (p : ℕ) (P : List (Event T) → Type 0) (events : List (Event T)) : Type 0 where
+  pub record HeldSometime (p : ℕ) (P : List (Event T) → Type 0) (events : List (Event T)) : Type 0 where
     pub part : List (Event T)
     pub rest : List (Event T)
     pub is : events ≡ part ++ rest

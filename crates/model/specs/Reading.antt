@@ -4,7 +4,10 @@ use Rattle.std.specs.List.{flat_map}
 use Rattle.model.specs.declared.event.Start.{Start}
 use Rattle.model.specs.declared.event.Answer.{Answer}
 use Rattle.model.specs.declared.event.Event.{Event}
-use Rattle.model.specs.declared.event.Event.TheVariants.{Begun, Published, HandedOut, Set, Cleared, Counted, TakenOut, Claimed, Freed, Locked, Filled, Granted, FreedOf, Asked, Told, Placed, Hidden, Copied, Shown, Returned, TakenBack, Died, Acted, Finished}
+use Rattle.model.specs.declared.event.Event.TheVariants.{Begun, Published, HandedOut, Set, Cleared, Counted, TakenOut}
+use Rattle.model.specs.declared.event.Event.TheVariants.{Claimed, Freed, Locked, Filled, Granted, FreedOf, Asked, Told}
+use Rattle.model.specs.declared.event.Event.TheVariants.{Placed, Hidden, Copied, Shown, Returned, TakenBack, Died}
+use Rattle.model.specs.declared.event.Event.TheVariants.{Acted, Finished}
 
 module _ {T : Type 0} where
   -- P holds of each event and of what stands before it

@@ -6,7 +6,7 @@ use Rattle.steps.specs.declared.ask.After.TheVariants.{GoOn, Done}
 use Rattle.steps.specs.declared.ask.Want.{Want}
 use Rattle.model.specs.declared.event.Answer.{Answer}
 use Rattle.model.specs.declared.event.Event.{Event}
-use Rattle.model.specs.declared.families.Kept.{Kept}
+use Rattle.model.specs.declared.families.Registry.{Registry}
 use Rattle.model.specs.declared.turn.Refusal.{Refusal}
 
 pub record Beginning (F K : Type 0) : Type 0 where
@@ -15,7 +15,7 @@ pub record Beginning (F K : Type 0) : Type 0 where
 
 pub record Going (F T : Type 0) : Type 0 where
   pub want : Want (Unit {0})  -- what the call wants next
-  pub rows : Kept T → Option Bool → List (Bool × Refusal)  -- what is tested before it goes on
+  pub rows : Registry T → Option Bool → List (Bool × Refusal)  -- what is tested before it goes on
   pub after : ℕ → After F (Answer T)  -- how it goes on from the old value of its word
   pub most : ℕ  -- its next step writes at most so many events, apart from the end of the call
 

@@ -5,7 +5,7 @@ use Rattle.steps.specs.declared.ask.Ask.{Ask}
 use Rattle.steps.specs.declared.ask.After.{After}
 use Rattle.steps.specs.declared.ask.After.TheVariants.{GoOn, Done}
 use Rattle.model.specs.declared.families.Flight.{Flight}
-use Rattle.model.specs.declared.families.Kept.{Kept}
+use Rattle.model.specs.declared.families.Registry.{Registry}
 use Rattle.model.specs.declared.event.Start.{Start}
 use Rattle.model.specs.declared.event.Answer.{Answer}
 use Rattle.model.specs.declared.event.Event.{Event}
@@ -87,7 +87,7 @@ module _ {T : Type 0} where
   doing_after changes since (Done answer) = Over (changes - since)
 
   -- its party, after so many steps more and so many changes of a word
-  abbrev pub party_after : Party T → ℕ → ℕ → ℕ → ℕ → Step (Flight T) (Kept T) T → Party T
+  abbrev pub party_after : Party T → ℕ → ℕ → ℕ → ℕ → Step (Flight T) (Registry T) T → Party T
   party_after x since changes steps change s =
       record {
         start = x.start;
@@ -97,7 +97,7 @@ module _ {T : Type 0} where
       }
 
   -- the operation is done, if there is one, and the call goes on by this step
-  abbrev pub after_step : World T → ℕ → Party T → ℕ → Option Ask → Step (Flight T) (Kept T) T → World T
+  abbrev pub after_step : World T → ℕ → Party T → ℕ → Option Ask → Step (Flight T) (Registry T) T → World T
   after_step w p x since ask s =
       record w {
         words = words_after w.words ask;
@@ -109,7 +109,7 @@ module _ {T : Type 0} where
       }
 
   -- what the step of a party's call comes to from this answer
-  abbrev pub step_in : World T → ℕ → Party T → Flight T → ℕ → Step (Flight T) (Kept T) T
+  abbrev pub step_in : World T → ℕ → Party T → Flight T → ℕ → Step (Flight T) (Registry T) T
   step_in w p x flight answer =
       step_of w.coding w.words (beside_of w.words w.kept w.latest p) p x.start flight answer w.kept
 
@@ -124,7 +124,7 @@ module _ {T : Type 0} where
   ending_of p start (Some answer) = Finished p start answer ∷ []
 
   -- the events of a step, the end of the call last
-  abbrev pub events_of_step : ℕ → Start T → Step (Flight T) (Kept T) T → List (Event T)
+  abbrev pub events_of_step : ℕ → Start T → Step (Flight T) (Registry T) T → List (Event T)
   events_of_step p start s = s.wrote ++ ending_of p start (answer_in s.after)
 
   abbrev pub events_of_answer : World T → ℕ → Party T → ℕ → Doing T → List (Event T)

@@ -5,7 +5,7 @@ use Rattle.steps.specs.declared.enums.UniqueIndexCreationError.TheVariants.{NoMe
 use Rattle.steps.specs.Enums.{capacity_refusal}
 use Rattle.model.specs.declared.event.Event.{Event}
 use Rattle.model.specs.declared.families.Flight.{Flight}
-use Rattle.model.specs.declared.families.Kept.{Kept}
+use Rattle.model.specs.declared.families.Registry.{Registry}
 use Rattle.model.specs.declared.party.Party.{Party}
 use Rattle.model.specs.declared.party.Progress.{Progress}
 use Rattle.model.specs.declared.turn.Kind.{Kind}
@@ -21,7 +21,7 @@ pub record World (T : Type 0) : Type 0 where
   pub capacity : ℕ
   pub parties : ℕ
   pub words : List ℕ
-  pub kept : Kept T  -- what the kind's family keeps beside its words
+  pub kept : Registry T  -- what the kind's family keeps beside its words
   pub latest : List (ℕ × Party T)  -- the latest call of each party that has begun one, by number
   pub changes : ℕ  -- how often a step has changed a word's value
   pub turns : ℕ
@@ -32,7 +32,7 @@ pub record State (T : Type 0) : Type 0 where
   pub capacity : ℕ
   pub parties : ℕ
   pub words : List ℕ
-  pub kept : Kept T
+  pub kept : Registry T
   pub latest : List (ℕ × Party T)
   pub changes : ℕ
   pub turns : ℕ
@@ -79,7 +79,7 @@ words_opened Loan size capacity queue = opening_words capacity queue
 words_opened kind size capacity queue = (opening_of kind).words size capacity
 
 -- and what is kept beside them
-abbrev pub kept_opened : {T : Type 0} → Kind → ℕ → ℕ → Kept T
+abbrev pub kept_opened : {T : Type 0} → Kind → ℕ → ℕ → Registry T
 kept_opened Loan capacity queue = opening_kept capacity queue
 kept_opened kind capacity queue = (opening_of kind).kept capacity
 

@@ -38,7 +38,7 @@ pub enum Flight<T> {
 
 /// What a family needs to know beside its words.
 #[derive(Drop)]
-pub enum Kept<T> {
+pub enum Registry<T> {
     Queues(Roles),
     /// Who holds the producer's role of the single value.
     Atomic(Option<u32>),

@@ -15,9 +15,9 @@ pub struct Apart {
 }
 
 impl Model for Apart {
-    ghost use Rattle.steps.specs.declared.copied.Kept.{Kept};
+    ghost use Rattle.steps.specs.declared.copied.Buffer.{Buffer};
 
-    ghost Value = { Kept 128 };
+    ghost Value = { Buffer 128 };
 
     ghost view = { λ a. a.room.value };
 }

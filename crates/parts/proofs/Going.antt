@@ -1,5 +1,6 @@
 -- What a turn of one party's call is to the whole machine.
-use Rattle.std.proofs.Common.{◌≡◌, ℕ, ◌+◌, ◌-◌, ◌^◌, ◌<◌, ◌≤◌, inl, inr, ⊎_elim, Bool, true, false, Option, Some, None, is_some, Bor, nat_le, List, refl, sym, ap, ◌∙◌, arith}
+use Rattle.std.proofs.Common.{◌≡◌, ℕ, ◌+◌, ◌-◌, ◌^◌, ◌<◌, ◌≤◌, inl, inr, ⊎_elim, Bool, true, false, Option, Some, None}
+use Rattle.std.proofs.Common.{is_some, Bor, nat_le, List, refl, sym, ap, ◌∙◌, arith}
 use Rattle.std.proofs.lemmas.Bool.Decides.{nat_tests}
 use Rattle.std.specs.Prelude.{option_copied}
 use Rattle.model.specs.declared.event.Event.{Event}
@@ -20,7 +21,8 @@ use Rattle.parts.specs.Parts.{turn_rows, going_refusal, IsGoingRefusal, Around, 
 
 module _ {T : Type 0} (w : World T) (p : ℕ) (said : Option Bool) where
   -- what is tested of the turn, once its party is there
-  rows_left : w.turns < 2 ^ 64 - 2 → p < w.parties → refusal_of w (turn_of p said) ≡ first_row (turn_rows w.coding w.kept (flight_of (doing_of (party_of p w.latest))) said)
+  rows_left : w.turns < 2 ^ 64 - 2 → p < w.parties
+      → refusal_of w (turn_of p said) ≡ first_row (turn_rows w.coding w.kept (flight_of (doing_of (party_of p w.latest))) said)
   rows_left small within = go said
     where
       early : nat_le (2 ^ 64 - 2) w.turns ≡ false
@@ -33,26 +35,37 @@ module _ {T : Type 0} (w : World T) (p : ℕ) (said : Option Bool) where
       go None = rw (early, there) refl
       go (Some b) = rw (early, there) refl
 
-  pub refusal_is : (x : Party T) → w.turns < 2 ^ 64 - 2 → p < w.parties → party_of p w.latest ≡ Some x → refusal_of w (turn_of p said) ≡ going_refusal w.coding w.kept x.doing said
+  pub refusal_is : (x : Party T) → w.turns < 2 ^ 64 - 2 → p < w.parties → party_of p w.latest ≡ Some x
+      → refusal_of w (turn_of p said) ≡ going_refusal w.coding w.kept x.doing said
   refusal_is x small within found = rows_left small within ∙ ap (λ o. first_row (turn_rows w.coding w.kept (flight_of (doing_of o)) said)) found
 
-  pub is_refusal : (x : Party T) (r : Refusal) → w.turns < 2 ^ 64 - 2 → p < w.parties → party_of p w.latest ≡ Some x → IsGoingRefusal w.coding w.kept x.doing said r → IsRefusal w (turn_of p said) r
+  pub is_refusal : (x : Party T) (r : Refusal) → w.turns < 2 ^ 64 - 2 → p < w.parties → party_of p w.latest ≡ Some x
+      → IsGoingRefusal w.coding w.kept x.doing said r → IsRefusal w (turn_of p said) r
   is_refusal x r small within found h =
       let same = refusal_is x small within found in
       ⊎_elim (λ row. inl (same ∙ row)) (λ memory. inr (same ∙ memory.0, memory.1)) h
 
   pub going_is :
-      (events : List (Event T)) (x : Party T) (a : Around T) (latest : List (ℕ × Party T)) → party_of p w.latest ≡ Some x → going_refusal w.coding w.kept x.doing said ≡ None
-      → a ≡ after_turn_of w.coding p said (beside_of w.words w.kept w.latest p) x.doing (record { party = x; words = w.words; kept = w.kept; changes = w.changes; events = events })
+      (events : List (Event T)) (x : Party T) (a : Around T) (latest : List (ℕ × Party T))
+      → party_of p w.latest ≡ Some x → going_refusal w.coding w.kept x.doing said ≡ None
+      → a ≡ after_turn_of w.coding p said (beside_of w.words w.kept w.latest p) x.doing
+      (record { party = x; words = w.words; kept = w.kept; changes = w.changes; events = events })
       → latest ≡ put p a.party w.latest
-      → record { world = record w { words = a.words; kept = a.kept; latest = latest; changes = a.changes; turns = w.turns + 1 }; events = a.events } ≡ after_turn (record { world = w; events = events }) (turn_of p said)
+      → record {
+        world = record w { words = a.words; kept = a.kept; latest = latest; changes = a.changes; turns = w.turns + 1 };
+        events = a.events;
+      } ≡ after_turn (record { world = w; events = events }) (turn_of p said)
   going_is events x a latest found allowed is written = rw written (go x.doing refl said refl)
     where
       begun : Around T
       begun = record { party = x; words = w.words; kept = w.kept; changes = w.changes; events = events }
 
       go : (doing : Doing T) → x.doing ≡ doing → (b : Option Bool) → said ≡ b
-          → record { world = record w { words = a.words; kept = a.kept; latest = put p a.party w.latest; changes = a.changes; turns = w.turns + 1 }; events = a.events } ≡ after_turn (record { world = w; events = events }) (turn_of p said)
+          → record {
+            world =
+                record w { words = a.words; kept = a.kept; latest = put p a.party w.latest; changes = a.changes; turns = w.turns + 1 };
+            events = a.events;
+          } ≡ after_turn (record { world = w; events = events }) (turn_of p said)
       go (Over others) d None e =
           let clash = rw (d, e) at allowed in
           absurd (cc)
@@ -63,14 +76,18 @@ module _ {T : Type 0} (w : World T) (p : ℕ) (said : Option Bool) where
       go (Going flight since) d (Some b) e = rw is (rw (d, e) (rw (found, d) refl))
 
 -- a turn that begins a call passes where the family's own rows do
-pub begin_passes : {T : Type 0} (w : World T) (p : ℕ) (start : Start T) → w.turns < 2 ^ 64 - 2 → p < w.parties → is_some (flight_in w p) ≡ false → first_row (begin_rows w.kind w.capacity w.kept p start) ≡ None → refusal_of w (Begin p start) ≡ None
+pub begin_passes : {T : Type 0} (w : World T) (p : ℕ) (start : Start T) → w.turns < 2 ^ 64 - 2 → p < w.parties
+    → is_some (flight_in w p) ≡ false → first_row (begin_rows w.kind w.capacity w.kept p start) ≡ None
+    → refusal_of w (Begin p start) ≡ None
 begin_passes w p start small within free rows =
     let early : nat_le (2 ^ 64 - 2) w.turns ≡ false = grind (arith, nat_tests) in
     let there : nat_le w.parties p ≡ false = grind (arith, nat_tests) in
     rw (early, there, free) rows
 
 -- and is refused where one of them applies
-pub begin_refuses : {T : Type 0} (w : World T) (p : ℕ) (start : Start T) (row : Refusal) → w.turns < 2 ^ 64 - 2 → p < w.parties → is_some (flight_in w p) ≡ false → first_row (begin_rows w.kind w.capacity w.kept p start) ≡ Some row → refusal_of w (Begin p start) ≡ Some row
+pub begin_refuses : {T : Type 0} (w : World T) (p : ℕ) (start : Start T) (row : Refusal) → w.turns < 2 ^ 64 - 2
+    → p < w.parties → is_some (flight_in w p) ≡ false
+    → first_row (begin_rows w.kind w.capacity w.kept p start) ≡ Some row → refusal_of w (Begin p start) ≡ Some row
 begin_refuses w p start row small within free rows =
     let early : nat_le (2 ^ 64 - 2) w.turns ≡ false = grind (arith, nat_tests) in
     let there : nat_le w.parties p ≡ false = grind (arith, nat_tests) in
@@ -124,13 +141,17 @@ none_found None found is e = ap is_some (sym is)
 none_found (Some x) found is e = absurd (cc)
 
 -- a death passes where its rows do
-pub death_passes : {T : Type 0} (w : World T) (owner : ℕ) → w.turns < 2 ^ 64 - 2 → lacks_party w.kept w.parties owner ≡ false → first_row (death_rows w.kept owner) ≡ None → refusal_of w (Die owner) ≡ None
+pub death_passes : {T : Type 0} (w : World T) (owner : ℕ) → w.turns < 2 ^ 64 - 2
+    → lacks_party w.kept w.parties owner ≡ false → first_row (death_rows w.kept owner) ≡ None
+    → refusal_of w (Die owner) ≡ None
 death_passes w owner small there rows =
     let early : nat_le (2 ^ 64 - 2) w.turns ≡ false = grind (arith, nat_tests) in
     rw (early, there) rows
 
 -- and is refused where one of them applies
-pub death_refuses : {T : Type 0} (w : World T) (owner : ℕ) (row : Refusal) → w.turns < 2 ^ 64 - 2 → lacks_party w.kept w.parties owner ≡ false → first_row (death_rows w.kept owner) ≡ Some row → refusal_of w (Die owner) ≡ Some row
+pub death_refuses : {T : Type 0} (w : World T) (owner : ℕ) (row : Refusal) → w.turns < 2 ^ 64 - 2
+    → lacks_party w.kept w.parties owner ≡ false → first_row (death_rows w.kept owner) ≡ Some row
+    → refusal_of w (Die owner) ≡ Some row
 death_refuses w owner row small there rows =
     let early : nat_le (2 ^ 64 - 2) w.turns ≡ false = grind (arith, nat_tests) in
     rw (early, there) rows

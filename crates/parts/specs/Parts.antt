@@ -3,7 +3,7 @@ use Rattle.std.specs.Prelude.{◌≡◌, ◌⊎◌, ℕ, ◌+◌, Bool, not, Opt
 use Rattle.steps.specs.declared.ask.Ask.{Ask}
 use Rattle.model.specs.declared.event.Event.{Event}
 use Rattle.model.specs.declared.families.Flight.{Flight}
-use Rattle.model.specs.declared.families.Kept.{Kept}
+use Rattle.model.specs.declared.families.Registry.{Registry}
 use Rattle.model.specs.declared.party.Doing.{Doing}
 use Rattle.model.specs.declared.party.Doing.TheVariants.{Going, Over}
 use Rattle.model.specs.declared.party.Party.{Party}
@@ -40,7 +40,7 @@ trace_of code m = trace_in code (state_of m)
 
 module _ {T : Type 0} where
   -- what is tested of the call that is to go on, with a decision or without
-  abbrev pub turn_rows : Coding T → Kept T → Option (Flight T) → Option Bool → List (Bool × Refusal)
+  abbrev pub turn_rows : Coding T → Registry T → Option (Flight T) → Option Bool → List (Bool × Refusal)
   turn_rows code kept flight None =
       (is_none flight, Idle) ∷ (is_due code flight, Undecided) ∷ going_rows code kept flight None
   turn_rows code kept flight (Some said) =
@@ -48,11 +48,11 @@ module _ {T : Type 0} where
       ∷ (not (is_due code flight), Undecided)
       ∷ going_rows code kept flight (Some said)
 
-  abbrev pub going_refusal : Coding T → Kept T → Doing T → Option Bool → Option Refusal
+  abbrev pub going_refusal : Coding T → Registry T → Doing T → Option Bool → Option Refusal
   going_refusal code kept doing said = first_row (turn_rows code kept (flight_of (Some doing)) said)
 
   -- a refusal of it names the first row that applies; where none does, memory was refused
-  abbrev pub IsGoingRefusal : Coding T → Kept T → Doing T → Option Bool → Refusal → Type 0
+  abbrev pub IsGoingRefusal : Coding T → Registry T → Doing T → Option Bool → Refusal → Type 0
   IsGoingRefusal code kept doing said refusal =
       (going_refusal code kept doing said ≡ Some refusal)
       ⊎ (going_refusal code kept doing said ≡ None) × (refusal ≡ NoMemory)
@@ -71,12 +71,12 @@ module _ {T : Type 0} where
 pub record Around (T : Type 0) : Type 0 where
   pub party : Party T
   pub words : List ℕ
-  pub kept : Kept T
+  pub kept : Registry T
   pub changes : ℕ
   pub events : List (Event T)
 
 module _ {T : Type 0} where
-  abbrev pub around : Party T → List ℕ → Kept T → ℕ → List (Event T) → Around T
+  abbrev pub around : Party T → List ℕ → Registry T → ℕ → List (Event T) → Around T
   around party words kept changes events =
       record {
         party = party;
@@ -87,7 +87,7 @@ module _ {T : Type 0} where
       }
 
   abbrev after_going : ℕ → Option Ask → Party T → ℕ → Around T
-      → Step (Flight T) (Kept T) T → Around T
+      → Step (Flight T) (Registry T) T → Around T
   after_going p ask x since a s =
       record {
         party = party_after x since a.changes (step_count ask) (change_of a.words ask) s;

@@ -11,7 +11,7 @@ ghost use Rattle.parts.specs.Parts.{state_of, trace_of, going_refusal, IsGoingRe
 
 use model::coding::Coded;
 use model::event::{Event, Start};
-use model::families::{Beside, Kept};
+use model::families::{Beside, Registry};
 use model::party::{Doing, Latest, Party, Seat};
 use model::turn::{Kind, Refusal, Turn, capacity_error, loan_error};
 use std::alloc::Global;
@@ -31,7 +31,7 @@ pub struct Parts<T> {
     pub capacity: u32,
     pub parties: u32,
     pub words: Vec<u64>,
-    pub kept: Kept<T>,
+    pub kept: Registry<T>,
     pub latest: Latest<T>,
     pub changes: u64,
     pub turns: u64,
@@ -65,7 +65,7 @@ fn reseat<T: Words>(seat: &mut Seat<T>, party: Party<T>)
 fn enter<T: Words>(
     alloc: Global,
     latest: &mut Latest<T>,
-    kept: &mut Kept<T>,
+    kept: &mut Registry<T>,
     capacity: u32,
     number: u32,
     party: Party<T>,
@@ -112,7 +112,7 @@ fn go_on<T: Words>(
     said: Option<bool>,
     beside: Beside,
     words: &mut Vec<u64>,
-    kept: &mut Kept<T>,
+    kept: &mut Registry<T>,
     changes: &mut u64,
     events: &mut Vec<Event<T>>,
     turns: u64,

@@ -1,5 +1,7 @@
 -- The words of a set that is emptied, one word after another.
-use Rattle.std.proofs.Common.{◌≡◌, ◌≢◌, ℕ, zero, suc, ◌+◌, ◌<◌, ◌≤◌, ⊎_elim, true, nat_lt, List, [], ◌∷◌, length, drop, replicate, refl, sym, ap, subst, ◌∙◌, arith, slice_index, slice_set, eq-eqb, ne_eqb, if◌then◌else◌}
+use Rattle.std.proofs.Common.{◌≡◌, ◌≢◌, ℕ, zero, suc, ◌+◌, ◌<◌, ◌≤◌, ⊎_elim, true, nat_lt, List, [], ◌∷◌, length, drop}
+use Rattle.std.proofs.Common.{replicate, refl, sym, ap, subst, ◌∙◌, arith, slice_index, slice_set, eq-eqb, ne_eqb}
+use Rattle.std.proofs.Common.{if◌then◌else◌}
 use Rattle.std.specs.List.{FoldsTo}
 use Rattle.std.proofs.lemmas.Bool.{cases_lt}
 use Rattle.std.proofs.lemmas.Bool.Decides.{nat_tests}
@@ -103,7 +105,9 @@ module _ {F : Type 0} (pre : F → BitState → Type 0) (step : F → BitState �
   left_none place low none =
       let next : suc place ≡ place + 1 = omega arith in
       ap (states_from place) (rest_of place before low)
-      ∙ (ap (λ b. if b then states_from (place + 1) (drop (suc place) before) else record { bit = place; count = slice_index before place } ∷ states_from (place + 1) (drop (suc place) before))
+      ∙ (ap
+      (λ b. if b then states_from (place + 1) (drop (suc place) before) else record { bit = place; count = slice_index before place }
+      ∷ states_from (place + 1) (drop (suc place) before))
       (eq-eqb (slice_index before place) 0 none)
       ∙ ap (λ n. states_from (place + 1) (drop n before)) next)
 
@@ -112,7 +116,9 @@ module _ {F : Type 0} (pre : F → BitState → Type 0) (step : F → BitState �
   left_one place low some =
       let next : suc place ≡ place + 1 = omega arith in
       ap (states_from place) (rest_of place before low)
-      ∙ (ap (λ b. if b then states_from (place + 1) (drop (suc place) before) else record { bit = place; count = slice_index before place } ∷ states_from (place + 1) (drop (suc place) before))
+      ∙ (ap
+      (λ b. if b then states_from (place + 1) (drop (suc place) before) else record { bit = place; count = slice_index before place }
+      ∷ states_from (place + 1) (drop (suc place) before))
       (ne_eqb (slice_index before place) 0 some)
       ∙ ap (λ n. record { bit = place; count = slice_index before place } ∷ states_from (place + 1) (drop n before)) next)
 

@@ -1,5 +1,7 @@
 -- A store and a load of the single value that run alone.
-use Rattle.std.proofs.Common.{◌≡◌, ◌≢◌, ℕ, zero, suc, ◌+◌, ◌-◌, ◌*◌, ◌%◌, ◌^◌, ◌<◌, ◌≤◌, inl, Bool, true, false, not, ◌==◌, nat_lt, List, length, refl, sym, ap, subst, ◌∙◌, arith, slice_index, slice_set, get_or-set_same, get_or-set_other, length-set, eq-eqb, ne_eqb, if◌then◌else◌}
+use Rattle.std.proofs.Common.{◌≡◌, ◌≢◌, ℕ, zero, suc, ◌+◌, ◌-◌, ◌*◌, ◌%◌, ◌^◌, ◌<◌, ◌≤◌, inl, Bool, true, false, not}
+use Rattle.std.proofs.Common.{◌==◌, nat_lt, List, length, refl, sym, ap, subst, ◌∙◌, arith, slice_index, slice_set}
+use Rattle.std.proofs.Common.{get_or-set_same, get_or-set_other, length-set, eq-eqb, ne_eqb, if◌then◌else◌}
 use Rattle.std.proofs.Math.Nat.{mul-le-mul_left}
 use Rattle.std.proofs.lemmas.Bool.Decides.{nat_tests}
 use mathlib.Core.Logic.{dite}
@@ -16,9 +18,9 @@ use Rattle.steps.specs.declared.atomic.Store.{Store}
 use Rattle.steps.specs.declared.atomic.StoreStage as stores
 use Rattle.steps.specs.declared.atomic.Load.{Load}
 use Rattle.steps.specs.declared.atomic.LoadStage as loads
-use Rattle.plain.specs.Alone.{EndsFrom, EndsIn, Turns}
+use Rattle.plain.specs.Alone.{EndsFrom, EndsIn, BehavesAs}
 use Rattle.plain.specs.Queues.{words_from}
-use Rattle.plain.specs.Value.{value_in, Fits}
+use Rattle.plain.specs.Value.{value_in, Represents}
 use Rattle.plain.proofs.Alone.{Runs}
 use Rattle.plain.proofs.Words as words
 use Rattle.plain.proofs.Words.{words_same, words_all, stored_length, stored_other, stored_words, read_in, value_read}
@@ -60,14 +62,14 @@ module _ {V : Type 0} (words_of : V → List ℕ) (value_of : List ℕ → V) (s
 
   abbrev pub Stored : List ℕ → Bool → Unit {0} → List ℕ → Type 0
   Stored ws end room last =
-      Turns (Fits size) (value_in value_of size) has_version (λ s. stored s value) ws end last
+      BehavesAs (Represents size) (value_in value_of size) has_version (λ s. stored s value) ws end last
 
   abbrev pub StoreRuns : Store V → List ℕ → Type 0
   StoreRuns call ws =
       Runs (store_want words_of) (λ c given old. store_after size c old) (λ c (room : Unit {0}) old. room) value
       (Stored ws) call tt ws
 
-  at_end : (ws : List ℕ) → Fits size ws → slice_index ws 0 ≡ 2 ^ 64 - 1 → StoreRuns first_store ws
+  at_end : (ws : List ℕ) → Represents size ws → slice_index ws 0 ≡ 2 ^ 64 - 1 → StoreRuns first_store ws
   at_end ws fits e =
       let is : (slice_index ws 0 == 2 ^ 64 - 1) ≡ true = eq-eqb _ _ e in
       record {
@@ -85,7 +87,7 @@ module _ {V : Type 0} (words_of : V → List ℕ) (value_of : List ℕ → V) (s
         );
       }
 
-  module _ (ws : List ℕ) (fits : Fits size ws) (more : slice_index ws 0 ≢ 2 ^ 64 - 1) where
+  module _ (ws : List ℕ) (fits : Represents size ws) (more : slice_index ws 0 ≢ 2 ^ 64 - 1) where
     abbrev v : ℕ
     v = slice_index ws 0
 
@@ -133,7 +135,8 @@ module _ {V : Type 0} (words_of : V → List ℕ) (value_of : List ℕ → V) (s
         let n : suc (size - 1) ≡ size = omega arith in
         by_eq (λ a. From (suc (suc (size - 1))) true last a ws) v (2 ^ 64 - 1) _ _
         (λ e. absurd (more e))
-        (λ _. subst (λ k. Ends (suc (suc (size - 1))) true (counted (words.stored ws cell (words_of value) 0 k)) (at_store first_store (stores.TheVariants.StoresCell cell 0)) ws)
+        (λ _. subst (λ k. Ends (suc (suc (size - 1))) true (counted (words.stored ws cell (words_of value) 0 k))
+        (at_store first_store (stores.TheVariants.StoresCell cell 0)) ws)
         n (goes_in cell (size - 1) 0 (omega arith) ws))
 
     stores_one : StoreRuns first_store ws
@@ -158,7 +161,7 @@ module _ {V : Type 0} (words_of : V → List ℕ) (value_of : List ℕ → V) (s
           );
         }
 
-  pub store_runs : (call : Store V) → call ≡ first_store → (ws : List ℕ) → Fits size ws
+  pub store_runs : (call : Store V) → call ≡ first_store → (ws : List ℕ) → Represents size ws
       → StoreRuns call ws
   store_runs call is ws fits =
       subst (λ c. StoreRuns c ws) (sym is)
@@ -206,7 +209,7 @@ module _ {V R : Type 0} (value_of : List ℕ → V) (size : ℕ) (some : 1 ≤ s
 
   abbrev pub Loaded : Unit {0} → R → List ℕ → Type 0
   Loaded end room last =
-      Turns (Fits size) (value_in value_of size) (λ (s : Versioned V). s.value) (λ s. s) ws
+      BehavesAs (Represents size) (value_in value_of size) (λ (s : Versioned V). s.value) (λ s. s) ws
       (copied.value_in value_of size (words_in room)) last
 
   abbrev pub LoadRuns : Load V R → R → Type 0
@@ -214,7 +217,7 @@ module _ {V R : Type 0} (value_of : List ℕ → V) (size : ℕ) (some : 1 ≤ s
       Runs (λ (c : Load V R) (given : Unit {0}). load_want c) (λ c given old. load_after size c old) (load_kept with_word) tt
       Loaded call room ws
 
-  loads_first : (room : R) → size ≤ length (words_in room) → Fits size ws → LoadRuns first_load room
+  loads_first : (room : R) → size ≤ length (words_in room) → Represents size ws → LoadRuns first_load room
   loads_first room wide fits =
       let cell = cell_word size (before_version version) in
       let within = cell_within size (before_version version) in
@@ -241,5 +244,5 @@ module _ {V R : Type 0} (value_of : List ℕ → V) (size : ℕ) (some : 1 ≤ s
       }
 
   pub load_runs : (call : Load V R) → call ≡ first_load → (room : R)
-      → size ≤ length (words_in room) → Fits size ws → LoadRuns call room
+      → size ≤ length (words_in room) → Represents size ws → LoadRuns call room
   load_runs call is room wide fits = subst (λ c. LoadRuns c room) (sym is) (loads_first room wide fits)

@@ -105,8 +105,11 @@ module _ {C E D X : Type 0} (want : C → Want (Unit {0})) (after : C → ℕ �
       → Walks part_want part_after m (OnEnd (Then n P)) d words → Walks want after (plus m n) P (within d) words
   part_walks_low zero n P d words low t = absurd t
   part_walks_low (suc m) n P d words low t =
-      subst (λ w. WalksFrom (Walks want after (plus m n) P) P (stepped w (within d) (after (within d) (answer_in words w))) (words_then words w)) (sym (wants_so d))
-      (subst (λ a. WalksFrom (Walks want after (plus m n) P) P (stepped (part_want d) (within d) a) (words_then words (part_want d))) (sym (goes_so d (answer_in words (part_want d)) low))
+      subst (λ w. WalksFrom (Walks want after (plus m n) P) P
+      (stepped w (within d) (after (within d) (answer_in words w))) (words_then words w))
+      (sym (wants_so d))
+      (subst (λ a. WalksFrom (Walks want after (plus m n) P) P (stepped (part_want d) (within d) a) (words_then words (part_want d)))
+      (sym (goes_so d (answer_in words (part_want d)) low))
       (part_from m n P (part_want d) d (part_after d (answer_in words (part_want d))) (words_then words (part_want d))
       (low_on d (answer_in words (part_want d)) low)
       (λ e less u. part_walks_low m n P e (words_then words (part_want d)) less u) t))

@@ -119,7 +119,7 @@ module _ {C G M E : Type 0} (want_of : C → G → Want (Unit {0})) (after : C �
 -- ---- a call of an object
 
 -- It took one state of an object to the next, and answered as the object does; the words fit again.
-abbrev pub Turns : {S A : Type 0} → (List ℕ → Type 0) → (List ℕ → S) → (S → A) → (S → S)
+abbrev pub BehavesAs : {S A : Type 0} → (List ℕ → Type 0) → (List ℕ → S) → (S → A) → (S → S)
     → List ℕ → A → List ℕ → Type 0
-Turns Fits read answer next old answered new =
-    Fits new × (answered ≡ answer (read old)) × (read new ≡ next (read old))
+BehavesAs Represents read answer next old answered new =
+    Represents new × (answered ≡ answer (read old)) × (read new ≡ next (read old))

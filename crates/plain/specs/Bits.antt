@@ -11,7 +11,7 @@ abbrev pub places_in : ℕ → List ℕ → Places
 places_in capacity words =
     record { flags = flags_in capacity words; start = slice_index words 0 }
 
-pub record Fits (capacity : ℕ) (words : List ℕ) : Type 0 where
+pub record Represents (capacity : ℕ) (words : List ℕ) : Type 0 where
   pub long : length words ≡ 1 + elements capacity
   pub small : capacity < 2 ^ 32
   pub start : slice_index words 0 ≤ capacity

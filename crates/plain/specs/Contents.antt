@@ -1,5 +1,6 @@
 -- A container of one caller: a map from index to owner, and at each index a value or none.
-use Rattle.std.specs.Prelude.{◌≡◌, ◌≤◌, ◌<◌, ◌&&◌, ◌==◌, ℕ, ◌+◌, ◌^◌, Bool, Option, Some, None, Result, Ok, Err, List, length, map, take, replicate, slice_index, slice_index_or, slice_set, if◌then◌else◌}
+use Rattle.std.specs.Prelude.{◌≡◌, ◌≤◌, ◌<◌, ◌&&◌, ◌==◌, ℕ, ◌+◌, ◌^◌, Bool, Option, Some, None, Result, Ok, Err, List}
+use Rattle.std.specs.Prelude.{length, map, take, replicate, slice_index, slice_index_or, slice_set, if◌then◌else◌}
 use Rattle.std.specs.List.{range_with_len}
 use Rattle.steps.specs.Indices.Robust.Parts.{one_more}
 use Rattle.steps.specs.Container.Enums.{add_failure}
@@ -154,7 +155,7 @@ module _ {V : Type 0} (value_of : List ℕ → V) (size capacity : ℕ) where
         changes = slice_index words (change_word capacity);
       }
 
-pub record Fits (size capacity : ℕ) (words : List ℕ) : Type 0 where
+pub record Represents (size capacity : ℕ) (words : List ℕ) : Type 0 where
   pub long : length words ≡ total_words capacity size
   pub some : 1 ≤ capacity
   pub few : capacity < 2 ^ 32
@@ -163,4 +164,4 @@ pub record Fits (size capacity : ℕ) (words : List ℕ) : Type 0 where
 -- the words of a container, where each index that has an owner has a value
 abbrev pub Holds : {V : Type 0} → (List ℕ → V) → ℕ → ℕ → ℕ → List ℕ → Type 0
 Holds value_of size capacity container words =
-    Fits size capacity words × IsFilled (contents_in value_of size capacity container words)
+    Represents size capacity words × IsFilled (contents_in value_of size capacity container words)

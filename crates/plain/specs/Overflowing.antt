@@ -22,7 +22,7 @@ list_in capacity words =
     }
 
 -- the read position is at most the capacity behind the write position
-pub record Fits (capacity : ℕ) (words : List ℕ) : Type 0 where
+pub record Represents (capacity : ℕ) (words : List ℕ) : Type 0 where
   pub long : length words ≡ 5 + capacity
   pub small : capacity < 2 ^ 32
   pub behind : slice_index words 1 ≤ slice_index words 0

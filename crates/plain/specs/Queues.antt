@@ -28,7 +28,7 @@ module _ {V : Type 0} (value_of : List ℕ → V) (size capacity : ℕ) where
       }
 
 -- the read position is at most the capacity behind the write position
-pub record Fits (size capacity : ℕ) (words : List ℕ) : Type 0 where
+pub record Represents (size capacity : ℕ) (words : List ℕ) : Type 0 where
   pub long : length words ≡ 4 + size * capacity
   pub small : capacity < 2 ^ 32
   pub behind : slice_index words 1 ≤ slice_index words 0

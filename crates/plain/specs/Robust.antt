@@ -11,7 +11,7 @@ abbrev pub owners_in : List ℕ → Owners
 owners_in [] = record { owners = []; generation = 0 }
 owners_in (counter ∷ cells) = record { owners = map owner_in cells; generation = counter }
 
-pub record Fits (capacity : ℕ) (words : List ℕ) : Type 0 where
+pub record Represents (capacity : ℕ) (words : List ℕ) : Type 0 where
   pub long : length words ≡ 1 + capacity
   pub some : 1 ≤ capacity
   pub few : capacity < 2 ^ 32

@@ -28,7 +28,7 @@ abbrev pub claimed : ℕ → List ℕ → ℕ → Bool
 claimed capacity words index = has_flag (slice_index words (flag_word capacity index)) index
 
 -- each index is free or claimed, and no index is free twice
-pub record Fits (capacity : ℕ) (words : List ℕ) : Type 0 where
+pub record Represents (capacity : ℕ) (words : List ℕ) : Type 0 where
   pub long : length words ≡ 1 + capacity + (capacity + 63) / 64
   pub some : 1 ≤ capacity
   pub few : capacity ≤ 2 ^ 24 - 2

@@ -14,6 +14,6 @@ value_in value_of size words =
     }
 
 -- there are two cells
-pub record Fits (size : ℕ) (words : List ℕ) : Type 0 where
+pub record Represents (size : ℕ) (words : List ℕ) : Type 0 where
   pub long : length words ≡ 2 + 2 * size
   pub fits : slice_index words 0 < 2 ^ 64

@@ -3,8 +3,8 @@ ghost use Rattle.std.specs.Prelude.{◌≡◌, ◌<◌, ◌-◌, ◌^◌, ◌⊎
 ghost use Rattle.steps.specs.Enums.{capacity_refusal};
 ghost use Rattle.steps.specs.Objects.Places.{Places, unset, has, with_place, standing, next_place, after_next, emptied};
 ghost use Rattle.steps.specs.declared.enums.UniqueIndexCreationError.TheVariants.{NoMemory};
-ghost use Rattle.plain.specs.Alone.{Turns};
-ghost use Rattle.plain.specs.Bits.{places_in, Fits};
+ghost use Rattle.plain.specs.Alone.{BehavesAs};
+ghost use Rattle.plain.specs.Bits.{places_in, Represents};
 ghost use Rattle.plain.specs.Visits.{Takes, WasCalled};
 
 use crate::drive::drive;
@@ -28,14 +28,14 @@ impl Model for BitSet {
 
     ghost view = { λ s. places_in s.capacity s.words.items };
 
-    ghost invariant = { λ s. Fits s.capacity s.words.items };
+    ghost invariant = { λ s. Represents s.capacity s.words.items };
 }
 
 /// A place is set, over the words of a set.
 fn set(words: &mut Vec<u64>, capacity: u32, place: u64) -> bool
-    requires fits { Fits capacity words.old.items }
+    requires fits { Represents capacity words.old.items }
     requires below { place < capacity }
-    ensures { Turns (Fits capacity) (places_in capacity) (λ s. not (has s place))
+    ensures { BehavesAs (Represents capacity) (places_in capacity) (λ s. not (has s place))
         (λ s. with_place s place) words.old.items result words.new.items }
 {
     let mut room = ();
@@ -44,8 +44,8 @@ fn set(words: &mut Vec<u64>, capacity: u32, place: u64) -> bool
 
 /// The next place is reset, over the words of a set.
 fn reset_next(words: &mut Vec<u64>, capacity: u32) -> Option<u64>
-    requires { Fits capacity words.old.items }
-    ensures { Turns (Fits capacity) (places_in capacity) next_place after_next words.old.items
+    requires { Represents capacity words.old.items }
+    ensures { BehavesAs (Represents capacity) (places_in capacity) next_place after_next words.old.items
         result words.new.items }
 {
     let mut room = ();
@@ -54,9 +54,9 @@ fn reset_next(words: &mut Vec<u64>, capacity: u32) -> Option<u64>
 
 /// An emptying, over the words of a set.
 fn empty<F: FnMut(usize)>(words: &mut Vec<u64>, capacity: u32, mut visit: F)
-    requires fits { Fits capacity words.old.items }
+    requires fits { Represents capacity words.old.items }
     requires takes { Takes F.pre F.step (standing (places_in capacity words.old.items)) visit }
-    ensures fits { Fits capacity words.new.items }
+    ensures fits { Represents capacity words.new.items }
     ensures places { places_in capacity words.new.items
         ≡ emptied (places_in capacity words.old.items) }
     ensures calls { WasCalled F.step (standing (places_in capacity words.old.items)) visit }

@@ -2,7 +2,7 @@
 ghost use Rattle.std.specs.Prelude.{◌≡◌, ◌⊎◌, ◌↔◌, IsTrue, IsFalse, not, None, IfOk, IfErr, OnOk, ◌-◌, ◌==◌, ◌^◌, Some};
 ghost use Rattle.steps.specs.Enums.{capacity_refusal};
 ghost use Rattle.steps.specs.declared.enums.UniqueIndexCreationError.TheVariants.{NoMemory};
-ghost use Rattle.plain.specs.Alone.{Turns};
+ghost use Rattle.plain.specs.Alone.{BehavesAs};
 ghost use Rattle.plain.specs.Contents.{Contents, opened, capacity, is_locked, number, counted, added, after_add, removed, after_remove, replaced, after_replace, contents_in, Holds};
 ghost use Rattle.plain.specs.States.{snapshot_of, blank, IsStateOf, IsSettled, updated, Brought};
 
@@ -56,7 +56,7 @@ fn add<T: Words>(
     given: &Owned<T>,
 ) -> Result<ContainerHandle, ContainerAddFailure>
     requires { Holds T.value_of T.WORDS capacity id words.old.items }
-    ensures { Turns (Holds T.value_of T.WORDS capacity id) (contents_in T.value_of T.WORDS capacity id)
+    ensures { BehavesAs (Holds T.value_of T.WORDS capacity id) (contents_in T.value_of T.WORDS capacity id)
         (λ s. added s given.now.owner) (λ s. after_add s given.now.owner given.now.value)
         words.old.items result words.new.items }
 {
@@ -80,7 +80,7 @@ fn remove<T: Words>(
     mode: ReleaseMode,
 ) -> Result<ReleaseState, ContainerRemoveError>
     requires { Holds T.value_of T.WORDS capacity handle.container words.old.items }
-    ensures { Turns (Holds T.value_of T.WORDS capacity handle.container)
+    ensures { BehavesAs (Holds T.value_of T.WORDS capacity handle.container)
         (contents_in T.value_of T.WORDS capacity handle.container)
         (λ s. removed s handle mode) (λ s. after_remove s handle mode)
         words.old.items result words.new.items }
@@ -108,7 +108,7 @@ fn replace<T: Words>(
     value: T,
 ) -> Result<(), ContainerRemoveError>
     requires { Holds T.value_of T.WORDS capacity handle.container words.old.items }
-    ensures { Turns (Holds T.value_of T.WORDS capacity handle.container)
+    ensures { BehavesAs (Holds T.value_of T.WORDS capacity handle.container)
         (contents_in T.value_of T.WORDS capacity handle.container)
         (λ s. replaced s handle) (λ s. after_replace s handle value)
         words.old.items result words.new.items }
@@ -131,7 +131,7 @@ fn replace<T: Words>(
 /// A count of the indices that have an owner, over the words of a container.
 fn count<T: Words>(words: &mut Vec<u64>, capacity: u32, id: u64) -> usize
     requires { Holds T.value_of T.WORDS capacity id words.old.items }
-    ensures { Turns (Holds T.value_of T.WORDS capacity id) (contents_in T.value_of T.WORDS capacity id) number
+    ensures { BehavesAs (Holds T.value_of T.WORDS capacity id) (contents_in T.value_of T.WORDS capacity id) number
         counted words.old.items result words.new.items }
 {
     let _ = id;
@@ -142,7 +142,7 @@ fn count<T: Words>(words: &mut Vec<u64>, capacity: u32, id: u64) -> usize
 /// A look at the lock, over the words of a container.
 fn look<T: Words>(words: &mut Vec<u64>, capacity: u32, id: u64) -> bool
     requires { Holds T.value_of T.WORDS capacity id words.old.items }
-    ensures { Turns (Holds T.value_of T.WORDS capacity id) (contents_in T.value_of T.WORDS capacity id) is_locked
+    ensures { BehavesAs (Holds T.value_of T.WORDS capacity id) (contents_in T.value_of T.WORDS capacity id) is_locked
         (λ s. s) words.old.items result words.new.items }
 {
     let _ = (id, capacity);

@@ -3,8 +3,8 @@ ghost use Rattle.std.specs.Prelude.{◌≡◌, ◌-◌, ◌^◌, ◌⊎◌, ℕ,
 ghost use Rattle.steps.specs.Enums.{capacity_refusal};
 ghost use Rattle.steps.specs.Objects.Lists.{Bounded, opened_at, handed_back, pushed_over, front, popped};
 ghost use Rattle.steps.specs.declared.enums.UniqueIndexCreationError.TheVariants.{NoMemory};
-ghost use Rattle.plain.specs.Alone.{Turns};
-ghost use Rattle.plain.specs.Overflowing.{list_in, Fits};
+ghost use Rattle.plain.specs.Alone.{BehavesAs};
+ghost use Rattle.plain.specs.Overflowing.{list_in, Represents};
 
 use crate::drive::drive;
 use std::alloc::Global;
@@ -29,13 +29,13 @@ impl Model for SafelyOverflowingIndexQueue {
 
     ghost view = { λ q. list_in q.capacity q.words.items };
 
-    ghost invariant = { λ q. Fits q.capacity q.words.items };
+    ghost invariant = { λ q. Represents q.capacity q.words.items };
 }
 
 /// A push, over the words of a queue.
 fn push(words: &mut Vec<u64>, capacity: u32, value: u64) -> Option<u64>
-    requires { Fits capacity words.old.items }
-    ensures { Turns (Fits capacity) (list_in capacity) (λ q. handed_back q value)
+    requires { Represents capacity words.old.items }
+    ensures { BehavesAs (Represents capacity) (list_in capacity) (λ q. handed_back q value)
         (λ q. pushed_over q value) words.old.items result words.new.items }
 {
     let mut room = OneWord(0);
@@ -45,8 +45,8 @@ fn push(words: &mut Vec<u64>, capacity: u32, value: u64) -> Option<u64>
 
 /// A pop, over the words of a queue.
 fn pop(words: &mut Vec<u64>, capacity: u32) -> Option<u64>
-    requires { Fits capacity words.old.items }
-    ensures { Turns (Fits capacity) (list_in capacity) front popped words.old.items result
+    requires { Represents capacity words.old.items }
+    ensures { BehavesAs (Represents capacity) (list_in capacity) front popped words.old.items result
         words.new.items }
 {
     let mut room = OneWord(0);
@@ -56,8 +56,8 @@ fn pop(words: &mut Vec<u64>, capacity: u32) -> Option<u64>
 
 /// A count of the values, over the words of a queue.
 fn len(words: &mut Vec<u64>, capacity: u32) -> u64
-    requires { Fits capacity words.old.items }
-    ensures { Turns (Fits capacity) (list_in capacity) (λ q. length q.values) (λ q. q)
+    requires { Represents capacity words.old.items }
+    ensures { BehavesAs (Represents capacity) (list_in capacity) (λ q. length q.values) (λ q. q)
         words.old.items result words.new.items }
 {
     let mut room = ();
@@ -158,7 +158,7 @@ impl SafelyOverflowingIndexQueue {
 
     /// The list that these words of a queue are.
     pub fn of_words(words: Vec<u64>, capacity: u32) -> SafelyOverflowingIndexQueue
-        requires { Fits capacity words.items }
+        requires { Represents capacity words.items }
         ensures { result ≡ list_in capacity words.items }
     {
         SafelyOverflowingIndexQueue { words, capacity }

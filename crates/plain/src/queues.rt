@@ -3,8 +3,8 @@ ghost use Rattle.std.specs.Prelude.{◌≡◌, ◌-◌, ◌^◌, ◌⊎◌, leng
 ghost use Rattle.steps.specs.Enums.{capacity_refusal};
 ghost use Rattle.steps.specs.Objects.Lists.{Bounded, opened_at, takes_more, pushed, front, popped};
 ghost use Rattle.steps.specs.declared.enums.UniqueIndexCreationError.TheVariants.{NoMemory};
-ghost use Rattle.plain.specs.Alone.{Turns};
-ghost use Rattle.plain.specs.Queues.{list_in, Fits};
+ghost use Rattle.plain.specs.Alone.{BehavesAs};
+ghost use Rattle.plain.specs.Queues.{list_in, Represents};
 
 use crate::drive::drive;
 use std::alloc::Global;
@@ -33,13 +33,13 @@ impl<T: Words> Model for Queue<T> {
 
     ghost view = { λ q. list_in T.value_of T.WORDS q.capacity q.words.items };
 
-    ghost invariant = { λ q. Fits T.WORDS q.capacity q.words.items };
+    ghost invariant = { λ q. Represents T.WORDS q.capacity q.words.items };
 }
 
 /// A push, over the words of a queue.
 fn push<T: Words>(words: &mut Vec<u64>, capacity: u32, value: &T) -> bool
-    requires { Fits T.WORDS capacity words.old.items }
-    ensures { Turns (Fits T.WORDS capacity) (list_in T.value_of T.WORDS capacity) takes_more
+    requires { Represents T.WORDS capacity words.old.items }
+    ensures { BehavesAs (Represents T.WORDS capacity) (list_in T.value_of T.WORDS capacity) takes_more
         (λ q. pushed q value.now) words.old.items result words.new.items }
 {
     let mut room = ();
@@ -48,8 +48,8 @@ fn push<T: Words>(words: &mut Vec<u64>, capacity: u32, value: &T) -> bool
 
 /// A pop, over the words of a queue.
 fn pop<T: Words>(words: &mut Vec<u64>, capacity: u32) -> Option<T>
-    requires { Fits T.WORDS capacity words.old.items }
-    ensures { Turns (Fits T.WORDS capacity) (list_in T.value_of T.WORDS capacity) front popped
+    requires { Represents T.WORDS capacity words.old.items }
+    ensures { BehavesAs (Represents T.WORDS capacity) (list_in T.value_of T.WORDS capacity) front popped
         words.old.items result words.new.items }
 {
     let mut room = Copied::new();
@@ -59,8 +59,8 @@ fn pop<T: Words>(words: &mut Vec<u64>, capacity: u32) -> Option<T>
 
 /// A count of the values, over the words of a queue.
 fn len<T: Words>(words: &mut Vec<u64>, capacity: u32) -> u64
-    requires { Fits T.WORDS capacity words.old.items }
-    ensures { Turns (Fits T.WORDS capacity) (list_in T.value_of T.WORDS capacity)
+    requires { Represents T.WORDS capacity words.old.items }
+    ensures { BehavesAs (Represents T.WORDS capacity) (list_in T.value_of T.WORDS capacity)
         (λ q. length q.values) (λ q. q) words.old.items result words.new.items }
 {
     let mut room = ();
@@ -164,7 +164,7 @@ impl<T: Words> Queue<T> {
 
     /// The list that these words of a queue are.
     pub fn of_words(words: Vec<u64>, capacity: u32) -> Queue<T>
-        requires { Fits T.WORDS capacity words.items }
+        requires { Represents T.WORDS capacity words.items }
         ensures { result ≡ list_in T.value_of T.WORDS capacity words.items }
     {
         Queue {

@@ -3,9 +3,9 @@ ghost use Rattle.std.specs.Prelude.{◌≡◌, ◌<◌, ◌^◌, ◌-◌, ◌⊎
 ghost use Rattle.steps.specs.Enums.{capacity_refusal};
 ghost use Rattle.steps.specs.declared.enums.UniqueIndexCreationError.TheVariants.{NoMemory};
 ghost use Rattle.steps.specs.Objects.Owners.{Owners, opened_at, capacity, is_locked, state_of, raised, indices_of, to_recover, borrowed, acquired, after_acquire, released, after_release};
-ghost use Rattle.plain.specs.Alone.{Turns};
+ghost use Rattle.plain.specs.Alone.{BehavesAs};
 ghost use Rattle.plain.specs.Callable.{TakesIndices, HasFound, TakesQuestions, TakesFreed, HasRecovered};
-ghost use Rattle.plain.specs.Robust.{owners_in, Fits};
+ghost use Rattle.plain.specs.Robust.{owners_in, Represents};
 
 use crate::answers::{as_answer, as_yes, index_in};
 use crate::drive::{Stop, drive, drive_to_stop};
@@ -40,7 +40,7 @@ impl Model for RobustUniqueIndexSet {
 
     ghost view = { λ s. owners_in s.words.items };
 
-    ghost invariant = { λ s. Fits s.capacity s.words.items };
+    ghost invariant = { λ s. Represents s.capacity s.words.items };
 }
 
 /// An acquire, over the words of a set.
@@ -49,8 +49,8 @@ fn acquire(
     capacity: u32,
     owner: OwnerId,
 ) -> Result<u32, UniqueIndexSetAcquireFailure>
-    requires { Fits capacity words.old.items }
-    ensures { Turns (Fits capacity) owners_in acquired (λ s. after_acquire s owner) words.old.items
+    requires { Represents capacity words.old.items }
+    ensures { BehavesAs (Represents capacity) owners_in acquired (λ s. after_acquire s owner) words.old.items
         result words.new.items }
 {
     let _ = owner.value();
@@ -66,9 +66,9 @@ fn release(
     owner: OwnerId,
     mode: ReleaseMode,
 ) -> Result<ReleaseState, RobustUniqueIndexSetReleaseError>
-    requires fits { Fits capacity words.old.items }
+    requires fits { Represents capacity words.old.items }
     requires index { index < capacity }
-    ensures { Turns (Fits capacity) owners_in (λ s. released s index owner mode)
+    ensures { BehavesAs (Represents capacity) owners_in (λ s. released s index owner mode)
         (λ s. after_release s index owner mode) words.old.items result words.new.items }
 {
     let _ = owner.value();
@@ -79,8 +79,8 @@ fn release(
 
 /// A count of the indices that have an owner, over the words of a set.
 fn borrowed_indices(words: &mut Vec<u64>, capacity: u32) -> usize
-    requires { Fits capacity words.old.items }
-    ensures { Turns (Fits capacity) owners_in borrowed raised words.old.items result
+    requires { Represents capacity words.old.items }
+    ensures { BehavesAs (Represents capacity) owners_in borrowed raised words.old.items result
         words.new.items }
 {
     let mut room = ();
@@ -89,8 +89,8 @@ fn borrowed_indices(words: &mut Vec<u64>, capacity: u32) -> usize
 
 /// A look at the lock, over the words of a set.
 fn is_locked(words: &mut Vec<u64>, capacity: u32) -> bool
-    requires { Fits capacity words.old.items }
-    ensures { Turns (Fits capacity) owners_in is_locked (λ s. s) words.old.items result
+    requires { Represents capacity words.old.items }
+    ensures { BehavesAs (Represents capacity) owners_in is_locked (λ s. s) words.old.items result
         words.new.items }
 {
     let mut room = ();
@@ -116,7 +116,7 @@ fn find<F: FnMut(usize) -> CallbackProgression>(
     owner: OwnerId,
     mut visit: F,
 ) -> (usize, F)
-    requires fits { Fits capacity words.old.items }
+    requires fits { Represents capacity words.old.items }
     requires owner { owner < 2 ^ 64 - 1 }
     requires indices { TakesIndices F.pre (λ p x a q. F.step p x a q)
         (indices_of (owners_in words.old.items) owner) visit }
@@ -180,13 +180,13 @@ fn recover<F: FnMut(OwnerId, usize) -> bool, S: FnMut(OwnerId, usize)>(
     mut predicate: F,
     mut recovered: S,
 ) -> (ReleaseState, F, S)
-    requires fits { Fits capacity words.old.items }
+    requires fits { Represents capacity words.old.items }
     requires questions { TakesQuestions F.pre (λ p o i b q. F.step p o i b q)
         (to_recover (owners_in words.old.items)) predicate }
     requires freed { TakesFreed (λ p o i b q. F.step p o i b q) S.pre
         (λ s o i t. S.step s o i tt t) (to_recover (owners_in words.old.items)) predicate
         recovered }
-    ensures fits { Fits capacity words.new.items }
+    ensures fits { Represents capacity words.new.items }
     ensures state { result.0 ≡ state_of (owners_in words.new.items) }
     ensures calls { HasRecovered (λ p o i b q. F.step p o i b q) (λ s o i t. S.step s o i tt t)
         mode (owners_in words.old.items) (owners_in words.new.items) predicate recovered

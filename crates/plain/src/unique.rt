@@ -4,8 +4,8 @@ ghost use Rattle.steps.specs.Enums.{capacity_refusal};
 ghost use Rattle.steps.specs.Objects.Stacks.{Stack, IsOut, is_free, opened, acquired, after_acquire, released, released_or_locked, release_state, out};
 ghost use Rattle.steps.specs.declared.enums.UniqueIndexCreationError.TheVariants.{NoMemory};
 ghost use Rattle.steps.specs.declared.indices.enums.ReleaseState.TheVariants.{Unlocked};
-ghost use Rattle.plain.specs.Alone.{Turns};
-ghost use Rattle.plain.specs.Unique.{stack_in, Fits};
+ghost use Rattle.plain.specs.Alone.{BehavesAs};
+ghost use Rattle.plain.specs.Unique.{stack_in, Represents};
 
 use crate::drive::drive;
 use std::alloc::{AllocError, Global};
@@ -29,14 +29,14 @@ impl Model for UniqueIndexSet {
 
     ghost view = { λ s. stack_in s.capacity s.words.items };
 
-    ghost invariant = { λ s. Fits s.capacity s.words.items };
+    ghost invariant = { λ s. Represents s.capacity s.words.items };
 }
 
 /// The words of a set of which all indices are free, 0 on top.
 fn open(alloc: Global, capacity: u32) -> Result<Vec<u64>, AllocError>
     requires some { 1 ≤ capacity }
     requires few { capacity ≤ 2 ^ 24 - 2 }
-    ensures { IfOk result (λ words. Fits capacity words.items
+    ensures { IfOk result (λ words. Represents capacity words.items
         × (stack_in capacity words.items ≡ opened capacity)) }
 {
     let mut words = Vec::new(alloc);
@@ -52,8 +52,8 @@ fn open(alloc: Global, capacity: u32) -> Result<Vec<u64>, AllocError>
 
 /// An acquire, over the words of a set.
 fn acquire(words: &mut Vec<u64>, capacity: u32) -> Result<u32, UniqueIndexSetAcquireFailure>
-    requires { Fits capacity words.old.items }
-    ensures { Turns (Fits capacity) (stack_in capacity) acquired after_acquire words.old.items
+    requires { Represents capacity words.old.items }
+    ensures { BehavesAs (Represents capacity) (stack_in capacity) acquired after_acquire words.old.items
         result words.new.items }
 {
     let mut room = ();
@@ -62,9 +62,9 @@ fn acquire(words: &mut Vec<u64>, capacity: u32) -> Result<u32, UniqueIndexSetAcq
 
 /// A release in mode `Default`, over the words of a set.
 fn release(words: &mut Vec<u64>, capacity: u32, index: u32) -> ReleaseState
-    requires fits { Fits capacity words.old.items }
+    requires fits { Represents capacity words.old.items }
     requires out { IsOut (stack_in capacity words.old.items) index }
-    ensures { Turns (Fits capacity) (stack_in capacity) (λ s. Unlocked) (λ s. released s index)
+    ensures { BehavesAs (Represents capacity) (stack_in capacity) (λ s. Unlocked) (λ s. released s index)
         words.old.items result words.new.items }
 {
     let mut room = ();
@@ -78,9 +78,9 @@ fn release(words: &mut Vec<u64>, capacity: u32, index: u32) -> ReleaseState
 
 /// A release in mode `LockIfLastIndex`, over the words of a set.
 fn release_or_lock(words: &mut Vec<u64>, capacity: u32, index: u32) -> ReleaseState
-    requires fits { Fits capacity words.old.items }
+    requires fits { Represents capacity words.old.items }
     requires out { IsOut (stack_in capacity words.old.items) index }
-    ensures { Turns (Fits capacity) (stack_in capacity) release_state
+    ensures { BehavesAs (Represents capacity) (stack_in capacity) release_state
         (λ s. released_or_locked s index) words.old.items result words.new.items }
 {
     let mut room = ();
@@ -89,8 +89,8 @@ fn release_or_lock(words: &mut Vec<u64>, capacity: u32, index: u32) -> ReleaseSt
 
 /// A count of the indices that are out, over the words of a set.
 fn count(words: &mut Vec<u64>, capacity: u32) -> usize
-    requires { Fits capacity words.old.items }
-    ensures { Turns (Fits capacity) (stack_in capacity) out (λ s. s) words.old.items result
+    requires { Represents capacity words.old.items }
+    ensures { BehavesAs (Represents capacity) (stack_in capacity) out (λ s. s) words.old.items result
         words.new.items }
 {
     let mut room = ();
@@ -99,8 +99,8 @@ fn count(words: &mut Vec<u64>, capacity: u32) -> usize
 
 /// A look at the lock, over the words of a set.
 fn look(words: &mut Vec<u64>, capacity: u32) -> bool
-    requires { Fits capacity words.old.items }
-    ensures { Turns (Fits capacity) (stack_in capacity) (λ s. s.locked) (λ s. s) words.old.items
+    requires { Represents capacity words.old.items }
+    ensures { BehavesAs (Represents capacity) (stack_in capacity) (λ s. s.locked) (λ s. s) words.old.items
         result words.new.items }
 {
     let mut room = ();
@@ -109,7 +109,7 @@ fn look(words: &mut Vec<u64>, capacity: u32) -> bool
 
 /// Whether the claim flag of an index stands, in the words of a set.
 fn is_claimed(words: &Vec<u64>, capacity: u32, index: u32) -> bool
-    requires fits { Fits capacity words.now.items }
+    requires fits { Represents capacity words.now.items }
     requires below { index < capacity }
     ensures { result ≡ not (is_free (stack_in capacity words.now.items) index) }
 {

@@ -2,8 +2,8 @@
 ghost use Rattle.std.specs.Prelude.{◌≡◌, ◌≤◌, IfOk, IfErr};
 ghost use Rattle.steps.specs.Objects.Values.{Versioned, has_version, stored};
 ghost use Rattle.steps.specs.declared.enums.UniqueIndexCreationError.TheVariants.{NoMemory};
-ghost use Rattle.plain.specs.Alone.{Turns};
-ghost use Rattle.plain.specs.Value.{value_in, Fits};
+ghost use Rattle.plain.specs.Alone.{BehavesAs};
+ghost use Rattle.plain.specs.Value.{value_in, Represents};
 
 use crate::drive::drive;
 use std::alloc::Global;
@@ -27,13 +27,13 @@ impl<T: Words> Model for UnrestrictedAtomic<T> {
 
     ghost view = { λ s. value_in T.value_of T.WORDS s.words.items };
 
-    ghost invariant = { λ s. Fits T.WORDS s.words.items };
+    ghost invariant = { λ s. Represents T.WORDS s.words.items };
 }
 
 /// A store, over the words of a value.
 fn store<T: Words>(words: &mut Vec<u64>, value: &T) -> bool
-    requires { Fits T.WORDS words.old.items }
-    ensures { Turns (Fits T.WORDS) (value_in T.value_of T.WORDS) has_version
+    requires { Represents T.WORDS words.old.items }
+    ensures { BehavesAs (Represents T.WORDS) (value_in T.value_of T.WORDS) has_version
         (λ s. stored s value.now) words.old.items result words.new.items }
 {
     let mut room = ();
@@ -42,8 +42,8 @@ fn store<T: Words>(words: &mut Vec<u64>, value: &T) -> bool
 
 /// A load, over the words of a value.
 fn load<T: Words>(words: &mut Vec<u64>) -> T
-    requires { Fits T.WORDS words.old.items }
-    ensures { Turns (Fits T.WORDS) (value_in T.value_of T.WORDS) (λ s. s.value) (λ s. s)
+    requires { Represents T.WORDS words.old.items }
+    ensures { BehavesAs (Represents T.WORDS) (value_in T.value_of T.WORDS) (λ s. s.value) (λ s. s)
         words.old.items result words.new.items }
 {
     let mut room = Copied::new();

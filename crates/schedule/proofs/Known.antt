@@ -28,6 +28,7 @@ run_unread known (Malformed line cause) p = absurd p
 pub told_alone : (old new : Option (List ℕ)) (line : List ℕ) → AppendsPart old new line → TellsMore old new line
 told_alone old new line p = (new, p, [], Appends-nil new)
 
-pub wrote_some : (old new : Option (List ℕ)) (r : Result (Unit {0}) ScheduleError) (text : List ℕ) → Writes old new r text → (more : List ℕ) × Appends old new more
+pub wrote_some : (old new : Option (List ℕ)) (r : Result (Unit {0}) ScheduleError) (text : List ℕ)
+    → Writes old new r text → (more : List ℕ) × Appends old new more
 wrote_some old new (Ok u) text p = (text, p)
 wrote_some old new (Err e) text p = (p.1.0, p.1.3)

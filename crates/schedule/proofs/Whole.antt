@@ -24,7 +24,8 @@ few_lines input first rest e =
 
 -- ---- the first line
 
-stops : (input : List ℕ) (b : Option (List ℕ)) (cause : Cause) → output [] input ≡ stopped 1 cause → IsOutput (λ memory. output memory input) b b (Err (Malformed 1 cause))
+stops : (input : List ℕ) (b : Option (List ℕ)) (cause : Cause) → output [] input ≡ stopped 1 cause
+    → IsOutput (λ memory. output memory input) b b (Err (Malformed 1 cause))
 stops input b cause e = ([], ap (λ o. o.end) e, subst (Appends b b) (sym (ap (λ o. o.text) e)) (Appends-nil b))
 
 pub text_missing : (input : List ℕ) (b : Option (List ℕ)) → lines input ≡ [] → IsOutput (λ memory. output memory input) b b (Err (Malformed 1 MissingValue))
@@ -46,7 +47,8 @@ text_malformed input first rest b cause e read = stops input b cause (first_read
 -- ---- the other lines
 
 -- what is said of an output holds of one that is the same for each list
-same_output : (one other : List Bool → Output) → ((memory : List Bool) → one memory ≡ other memory) → (b a : Option (List ℕ)) (r : Result (Unit {0}) ScheduleError)
+same_output : (one other : List Bool → Output) → ((memory : List Bool) → one memory ≡ other memory)
+    → (b a : Option (List ℕ)) (r : Result (Unit {0}) ScheduleError)
     → IsOutput one b a r → IsOutput other b a r
 same_output one other same b a (Ok u) p =
     (p.0, ap (λ o. o.end) (sym (same p.0)) ∙ p.1, subst (λ o. Appends b a o.text) (same p.0) p.2)

@@ -35,7 +35,8 @@ wrote_none a b c bytes part left new_left e p q f = (part, ap (λ t. part ++ t) 
 -- a beginning of a text in the middle of a whole
 pub part_within : (a b c : Option (List ℕ)) (written text more whole : List ℕ) → Appends a b written → AppendsPart b c text
     → written ++ text ++ more ≡ whole → AppendsPart a c whole
-part_within a b c written text more whole p q e = subst (AppendsPart a c) e (AppendsPart_more a c (written ++ text) more (AppendsPart_then a b c written text p q))
+part_within a b c written text more whole p q e =
+    subst (AppendsPart a c) e (AppendsPart_more a c (written ++ text) more (AppendsPart_then a b c written text p q))
 
 -- ---- the lines of events
 

@@ -28,7 +28,8 @@ use Rattle.steps.specs.declared.atomic.Load.{Load}
 use Rattle.steps.specs.declared.atomic.LoadStage as loads
 use Rattle.steps.specs.Queues.Roles.{acquire_want, acquire_after, release_want, release_after}
 use Rattle.steps.specs.Queues.Lengths.{len_asks, len_takes}
-use Rattle.steps.specs.Queues.Ring.{cell_word, distance, at_push, push_asks, push_takes, push_after, push_left, at_pop, pop_asks, pop_takes, pop_after, pop_keeps, pop_left}
+use Rattle.steps.specs.Queues.Ring.{cell_word, distance, at_push, push_asks, push_takes, push_after, push_left, at_pop}
+use Rattle.steps.specs.Queues.Ring.{pop_asks, pop_takes, pop_after, pop_keeps, pop_left}
 use Rattle.steps.specs.Queues.Overflow as overflow
 use Rattle.steps.specs.Atomic as value
 

@@ -51,21 +51,21 @@ impl Room<u64> for OneWord {
 
 /// Room for a value of at most N words. It keeps them in itself, so that reading takes no memory.
 #[derive(Clone, Copy)]
-pub struct Kept<const N: usize> {
+pub struct Buffer<const N: usize> {
     /// The words, of which a value takes the first ones.
     pub words: [u64; N],
 }
 
 /// Room for any value.
-pub type Copied = Kept<128>;
+pub type Copied = Buffer<128>;
 
-impl<const N: usize> Kept<N> {
+impl<const N: usize> Buffer<N> {
     /// No word is read yet.
     #[inline(always)]
-    pub fn new() -> Kept<N>
+    pub fn new() -> Buffer<N>
         ensures { length result.words ≡ N }
     {
-        Kept { words: [0; N] }
+        Buffer { words: [0; N] }
     }
 }
 
@@ -81,7 +81,7 @@ fn value_in<T: Words>(words: &[u64]) -> T
     }
 }
 
-impl<T: Words, const N: usize> Room<T> for Kept<N> {
+impl<T: Words, const N: usize> Room<T> for Buffer<N> {
     ghost use Rattle.std.specs.Prelude.{refl};
 
     ghost words_in = { λ x. x.words };

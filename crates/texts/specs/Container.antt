@@ -7,7 +7,9 @@ use Rattle.steps.specs.declared.container.enums.ContainerRemoveError as remove_e
 use Rattle.model.specs.declared.event.Start.{Start}
 use Rattle.model.specs.declared.event.Start as starts
 use Rattle.model.specs.declared.families.container.ContainerStart.{ContainerStart}
-use Rattle.model.specs.declared.families.container.ContainerStart.TheVariants.{Add, Remove, Replace, Find, Recover, GetState, UpdateState, Len, IsEmpty, IsLocked}
+use Rattle.model.specs.declared.families.container.ContainerStart.TheVariants.{Add, Remove, Replace, Find, Recover}
+use Rattle.model.specs.declared.families.container.ContainerStart.TheVariants.{GetState, UpdateState, Len, IsEmpty}
+use Rattle.model.specs.declared.families.container.ContainerStart.TheVariants.{IsLocked}
 use Rattle.model.specs.declared.turn.Kind.{Kind}
 use Rattle.model.specs.declared.turn.Kind as kinds
 use Rattle.texts.specs.declared.error.Cause.{Cause}

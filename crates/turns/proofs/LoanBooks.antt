@@ -16,7 +16,9 @@ came : {C A : Type 0} (done : Option A) (call : C) (next : After C A) → CameTo
 came None call next e = sym (ap answer_in e)
 came (Some answer) call next e = sym (ap answer_in e)
 
-module _ (T : Type 0) (words : List ℕ) (push : Option (ℕ × ℕ)) (p : ℕ) (start : LoanStart) (flight flight' : LoanFlight) (old : ℕ) (book noted settled : Book) (effect : Effect) (done : Option (Answer T)) where
+module _ (T : Type 0) (words : List ℕ) (push : Option (ℕ × ℕ)) (p : ℕ) (start : LoanStart)
+    (flight flight' : LoanFlight) (old : ℕ) (book noted settled : Book) (effect : Effect)
+    (done : Option (Answer T)) where
   abbrev outcome : Option (Answer T)
   outcome = answer_in (after book.places flight old)
 

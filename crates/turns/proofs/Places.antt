@@ -22,14 +22,17 @@ module _ {T : Type 0} where
   clears_so_far p found first n =
       map (λ b. Cleared p b) (filter (λ b. has_flag found b) (range_with_len first n))
 
-  one_more : (p found first n : ℕ) → clears_so_far p found first (n + 1) ≡ clears_so_far p found first n ++ map (λ b. Cleared p b) (cond (has_flag found (first + n)) ((first + n) ∷ []) [])
+  one_more : (p found first n : ℕ)
+      → clears_so_far p found first (n + 1)
+      ≡ clears_so_far p found first n ++ map (λ b. Cleared p b) (cond (has_flag found (first + n)) ((first + n) ∷ []) [])
   one_more p found first n =
       ap (λ bs. map (λ b. Cleared p b) (filter (λ b. has_flag found b) bs)) (range_more first n)
       ∙ (ap (λ bs. map (λ b. Cleared p b) bs) (filter-append (λ b. has_flag found b) (range_with_len first n) ((first + n) ∷ []))
       ∙ map-append (λ b. Cleared p b) (filter (λ b. has_flag found b) (range_with_len first n)) (cond (has_flag found (first + n)) ((first + n) ∷ []) []))
 
   -- the next bit stood
-  pub stood_more : (p found first n : ℕ) → has_flag found (first + n) ≡ true → clears_so_far p found first (n + 1) ≡ clears_so_far p found first n ++ Cleared p (first + n) ∷ []
+  pub stood_more : (p found first n : ℕ) → has_flag found (first + n) ≡ true
+      → clears_so_far p found first (n + 1) ≡ clears_so_far p found first n ++ Cleared p (first + n) ∷ []
   stood_more p found first n t =
       one_more p found first n ∙ ap (λ b. clears_so_far p found first n ++ map (λ b. Cleared p b) (cond b ((first + n) ∷ []) [])) t
 

@@ -8,7 +8,7 @@ ghost use Rattle.model.specs.declared.turn.Refusal.TheVariants.{NoMemory};
 use model::coding::Coded;
 use model::event::{Event, Start};
 use model::families::queues::QueueKind;
-use model::families::{Beside, Flight, Kept, Went};
+use model::families::{Beside, Flight, Registry, Went};
 use model::party::Latest;
 use model::turn::{Kind, Refusal};
 use std::alloc::{AllocError, Global};
@@ -28,7 +28,7 @@ pub fn opening<T: Words>(
     alloc: Global,
     kind: Kind,
     capacity: u32,
-) -> Result<(Vec<u64>, Kept<T>), AllocError>
+) -> Result<(Vec<u64>, Registry<T>), AllocError>
     ensures words { IfOk result
         (λ opened. opened.0.items ≡ (opening_of kind).words ⟦<T as Coded>⟧.coding.size capacity) }
     ensures kept { IfOk result (λ opened. opened.1 ≡ (opening_of kind).kept capacity) }
@@ -52,7 +52,7 @@ pub fn begin<T: Words>(
     alloc: Global,
     kind: Kind,
     capacity: u32,
-    kept: &Kept<T>,
+    kept: &Registry<T>,
     number: u32,
     start: &Start<T>,
 ) -> Result<Flight<T>, Refusal>
@@ -65,31 +65,31 @@ pub fn begin<T: Words>(
         × (row ≡ NoMemory)) }
 {
     match (start, kept) {
-        (Start::Queues(start), Kept::Queues(roles)) => {
+        (Start::Queues(start), Registry::Queues(roles)) => {
             let flight = queues::opening::begin(alloc, kind, capacity, roles, number, start)?;
             Ok(Flight::Queues(flight))
         }
-        (Start::Atomic(start), Kept::Atomic(producer)) => {
+        (Start::Atomic(start), Registry::Atomic(producer)) => {
             let flight = atomic::opening::begin(alloc, kind, *producer, number, start)?;
             Ok(Flight::Atomic(flight))
         }
-        (Start::Bits(start), Kept::Nothing) => {
+        (Start::Bits(start), Registry::Nothing) => {
             let flight = bits::opening::begin(kind, capacity, *start)?;
             Ok(Flight::Bits(flight))
         }
-        (Start::Indices(start), Kept::Indices(holders)) => {
+        (Start::Indices(start), Registry::Indices(holders)) => {
             let flight = indices::opening::begin(kind, capacity, holders, number, start)?;
             Ok(Flight::Indices(flight))
         }
-        (Start::Robust(start), Kept::Owners(dead)) => {
+        (Start::Robust(start), Registry::Owners(dead)) => {
             let flight = indices::robust::opening::begin(kind, capacity, dead, start)?;
             Ok(Flight::Robust(flight))
         }
-        (Start::Container(start), Kept::Container(dead, _)) => {
+        (Start::Container(start), Registry::Container(dead, _)) => {
             let flight = container::opening::begin(alloc, kind, capacity, dead, start)?;
             Ok(Flight::Container(flight))
         }
-        (Start::Loan(start), Kept::Loan(book)) => {
+        (Start::Loan(start), Registry::Loan(book)) => {
             let flight = loan::opening::begin(kind, capacity, book, number, *start)?;
             Ok(Flight::Loan(flight))
         }
@@ -99,16 +99,16 @@ pub fn begin<T: Words>(
 
 /// The party begins this call: what its family keeps from now on, unless memory for it is refused. Then nothing
 /// changes.
-pub fn keep<T: Words>(kept: &mut Kept<T>, capacity: u32, start: &Start<T>, number: u32) -> bool
+pub fn keep<T: Words>(kept: &mut Registry<T>, capacity: u32, start: &Start<T>, number: u32) -> bool
     ensures keeps { result ≡ true → kept.new
         ≡ kept_after_begin ⟦<T as Coded>⟧.coding capacity start.now number kept.old }
     ensures same { result ≡ false → kept.new ≡ kept.old }
 {
     match (start, kept) {
-        (Start::Container(start), Kept::Container(_, states)) => {
+        (Start::Container(start), Registry::Container(_, states)) => {
             container::opening::keep(capacity, start, number, states)
         }
-        (Start::Loan(start), Kept::Loan(book)) => {
+        (Start::Loan(start), Registry::Loan(book)) => {
             loan::opening::keep(book, *start);
             true
         }
@@ -117,35 +117,35 @@ pub fn keep<T: Words>(kept: &mut Kept<T>, capacity: u32, start: &Start<T>, numbe
 }
 
 /// Whether the owner would be a party, and there is none of this number.
-pub fn lacks_party<T>(kept: &Kept<T>, parties: u32, owner: OwnerId) -> bool
+pub fn lacks_party<T>(kept: &Registry<T>, parties: u32, owner: OwnerId) -> bool
     ensures { result ≡ lacks_party kept.now parties owner }
 {
     match kept {
-        Kept::Loan(_) => owner.value() >= parties as u64,
+        Registry::Loan(_) => owner.value() >= parties as u64,
         _ => false,
     }
 }
 
 /// Why this owner may not die, or None. Only a structure that has owners keeps who has died.
-pub fn death_refusal<T>(kept: &Kept<T>, owner: OwnerId) -> Option<Refusal>
+pub fn death_refusal<T>(kept: &Registry<T>, owner: OwnerId) -> Option<Refusal>
     ensures { result ≡ first_row (death_rows kept.now owner) }
 {
     match kept {
-        Kept::Owners(dead) => {
+        Registry::Owners(dead) => {
             if dead.has(owner) {
                 Some(Refusal::OwnerIsDead)
             } else {
                 None
             }
         }
-        Kept::Container(dead, _) => {
+        Registry::Container(dead, _) => {
             if dead.has(owner) {
                 Some(Refusal::OwnerIsDead)
             } else {
                 None
             }
         }
-        Kept::Loan(book) => {
+        Registry::Loan(book) => {
             if book.dead.has(owner) {
                 Some(Refusal::OwnerIsDead)
             } else {
@@ -157,25 +157,30 @@ pub fn death_refusal<T>(kept: &Kept<T>, owner: OwnerId) -> Option<Refusal>
 }
 
 /// This owner is dead from now on, unless memory for it is refused. Then nothing changes.
-pub fn die<T>(kept: &mut Kept<T>, owner: OwnerId) -> bool
+pub fn die<T>(kept: &mut Registry<T>, owner: OwnerId) -> bool
     ensures dies { result ≡ true → kept.new ≡ kept_after_death kept.old owner }
     ensures same { result ≡ false → kept.new ≡ kept.old }
 {
     match kept {
-        Kept::Owners(dead) => dead.add(owner),
-        Kept::Container(dead, _) => dead.add(owner),
-        Kept::Loan(book) => book.dead.add(owner),
+        Registry::Owners(dead) => dead.add(owner),
+        Registry::Container(dead, _) => dead.add(owner),
+        Registry::Loan(book) => book.dead.add(owner),
         _ => true,
     }
 }
 
 /// What a step of this party has to know of the others.
-pub fn look_beside<T>(kept: &Kept<T>, words: &Vec<u64>, latest: &Latest<T>, number: u32) -> Beside
+pub fn look_beside<T>(
+    kept: &Registry<T>,
+    words: &Vec<u64>,
+    latest: &Latest<T>,
+    number: u32,
+) -> Beside
     ensures { result ≡ beside_of words.now.items kept.now latest.now.entries number }
 {
     match kept {
-        Kept::Queues(roles) => queues::effects::look_beside(roles, words, latest, number),
-        Kept::Loan(book) => loan::effects::look_beside(book, words, latest, number),
+        Registry::Queues(roles) => queues::effects::look_beside(roles, words, latest, number),
+        Registry::Loan(book) => loan::effects::look_beside(book, words, latest, number),
         _ => None,
     }
 }
@@ -217,19 +222,19 @@ pub fn is_asking<T: Words>(flight: &Flight<T>) -> bool
 /// Why the call may not go on, by a decision or without, for what its family keeps. None where it may.
 pub fn going_refusal<T: Words>(
     flight: &Flight<T>,
-    kept: &Kept<T>,
+    kept: &Registry<T>,
     said: Option<bool>,
 ) -> Option<Refusal>
     ensures { result ≡ first_row (going_rows ⟦<T as Coded>⟧.coding kept.now (Some flight.now) said) }
 {
     match (flight, kept) {
-        (Flight::Robust(call), Kept::Owners(dead)) => {
+        (Flight::Robust(call), Registry::Owners(dead)) => {
             indices::robust::opening::going_refusal(call, dead, said)
         }
-        (Flight::Container(call), Kept::Container(dead, _)) => {
+        (Flight::Container(call), Registry::Container(dead, _)) => {
             container::opening::going_refusal(call, dead)
         }
-        (Flight::Loan(call), Kept::Loan(book)) => loan::opening::going_refusal(call, book),
+        (Flight::Loan(call), Registry::Loan(book)) => loan::opening::going_refusal(call, book),
         _ => None,
     }
 }
@@ -243,7 +248,7 @@ pub fn go_on<T: Words>(
     words: &Vec<u64>,
     beside: Beside,
     answer: u64,
-    kept: &mut Kept<T>,
+    kept: &mut Registry<T>,
     events: &mut Vec<Event<T>>,
 ) -> Went<T>
     requires { vec_len events.old + most_of ⟦<T as Coded>⟧.coding flight.old
@@ -262,25 +267,25 @@ pub fn go_on<T: Words>(
     ensures room { vec_capacity events.new ≡ vec_capacity events.old }
 {
     match (flight, start, kept) {
-        (Flight::Queues(call), Start::Queues(start), Kept::Queues(roles)) => {
+        (Flight::Queues(call), Start::Queues(start), Registry::Queues(roles)) => {
             queues::effects::go_on(call, number, start, words, beside, answer, roles, events)
         }
-        (Flight::Atomic(call), Start::Atomic(start), Kept::Atomic(producer)) => {
+        (Flight::Atomic(call), Start::Atomic(start), Registry::Atomic(producer)) => {
             atomic::effects::go_on(call, number, start, answer, producer, events)
         }
-        (Flight::Bits(call), Start::Bits(_), Kept::Nothing) => {
+        (Flight::Bits(call), Start::Bits(_), Registry::Nothing) => {
             bits::effects::go_on(call, number, answer, events)
         }
-        (Flight::Indices(call), Start::Indices(_), Kept::Indices(holders)) => {
+        (Flight::Indices(call), Start::Indices(_), Registry::Indices(holders)) => {
             indices::effects::go_on(call, number, answer, holders, events)
         }
-        (Flight::Robust(call), Start::Robust(_), Kept::Owners(dead)) => {
+        (Flight::Robust(call), Start::Robust(_), Registry::Owners(dead)) => {
             indices::robust::effects::go_on(call, number, answer, dead, events)
         }
-        (Flight::Container(call), Start::Container(_), Kept::Container(_, states)) => {
+        (Flight::Container(call), Start::Container(_), Registry::Container(_, states)) => {
             container::effects::go_on(call, number, answer, states, events)
         }
-        (Flight::Loan(call), Start::Loan(start), Kept::Loan(book)) => {
+        (Flight::Loan(call), Start::Loan(start), Registry::Loan(book)) => {
             loan::effects::go_on(call, number, *start, words, beside, answer, book, events)
         }
         _ => Went {

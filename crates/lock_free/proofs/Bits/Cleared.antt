@@ -31,9 +31,9 @@ use Rattle.model.specs.Families.Bits.Reading.{is_clear_of, clears}
 use Rattle.model.specs.Reading.{whose, is_party}
 use Rattle.model.specs.Families.Queues.Calls.{fresh}
 use Rattle.model.specs.Moments.{SinceBegin}
-use Rattle.bit_laws.proofs.Bits.Justified.{bits_go_on}
-use Rattle.bit_laws.proofs.Bits.Lists.{Rise, places_rise, clears_named}
-use Rattle.bit_laws.proofs.Bits.Core.{clears_more}
+use Rattle.laws_bits.proofs.Bits.Justified.{bits_go_on}
+use Rattle.laws_bits.proofs.Bits.Lists.{Rise, places_rise, clears_named}
+use Rattle.laws_bits.proofs.Bits.Core.{clears_more}
 use Rattle.history.specs.declared.view.View.{View}
 use Rattle.history.specs.History.{Called}
 use Rattle.history.specs.Known.{events_by}

@@ -12,8 +12,8 @@ use Rattle.model.specs.Coding.{one_word}
 use Rattle.model.specs.Families.{after_of}
 use Rattle.model.specs.Families.Bits.Steps.{clear_events}
 use Rattle.model.specs.Families.Queues.Calls.{fresh}
-use Rattle.bit_laws.proofs.Bits.Lists.{no_places}
-use Rattle.lock_free_sp.specs.Driver.{KeepsRule}
+use Rattle.laws_bits.proofs.Bits.Lists.{no_places}
+use Rattle.threaded.specs.Driver.{KeepsRule}
 use Rattle.history.specs.declared.view.View.{View}
 use Rattle.history.specs.History.{IsMachine}
 use Rattle.history.specs.Stages.{At, Ends}

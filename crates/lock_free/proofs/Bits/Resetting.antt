@@ -25,9 +25,9 @@ use Rattle.model.specs.Families.{after_of}
 use Rattle.model.specs.Families.Bits.Calls.{reset_answer}
 use Rattle.model.specs.Families.Bits.Promises.{IsBitSet}
 use Rattle.model.specs.Families.Bits.Reading.{standing}
-use Rattle.model.specs.Moments.{HeldOnce}
-use Rattle.bit_laws.proofs.Bits.Justified.{bits_go_on}
-use Rattle.lock_free_sp.specs.Driver.{answered, KeepsRule}
+use Rattle.model.specs.Moments.{HeldSometime}
+use Rattle.laws_bits.proofs.Bits.Justified.{bits_go_on}
+use Rattle.threaded.specs.Driver.{answered, KeepsRule}
 use Rattle.history.specs.declared.view.View.{View}
 use Rattle.history.specs.History.{IsMachine, Called}
 use Rattle.history.specs.Stages.{At, Ends}
@@ -217,6 +217,6 @@ module _ (base w : View ℕ) (o : Option ℕ) (m : Unit {0}) (idle : base.going 
       subst (λ z. Called p (Bits ResetNext) (reset_answer z) ends.wrote base w) none
       (called one_word kinds.Bits resets_next base w o m idle ends) in
       let set : IsBitSet h.trace = bits_go_on h.trace h.run.of_kind h.run.reached in
-      let right : (b : ℕ) → b < h.trace.world.capacity → HeldOnce p (λ part. standing b part ≡ 0) (before_end c) =
+      let right : (b : ℕ) → b < h.trace.world.capacity → HeldSometime p (λ part. standing b part ≡ 0) (before_end c) =
       set.answers (before_end c) [] (Finished p (Bits ResetNext) ResetNone) (sym h.is ∙ to_end c) in
       record { by = p; before = before_end c; is = to_end c; clear = λ place below. right place (subst (λ n. place < n) (sym h.run.sized) below) }

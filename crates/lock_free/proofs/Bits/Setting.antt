@@ -20,8 +20,8 @@ use Rattle.model.specs.declared.turn.Kind.TheVariants as kinds
 use Rattle.model.specs.Coding.{one_word}
 use Rattle.model.specs.Families.{after_of}
 use Rattle.model.specs.Families.Bits.Promises.{IsBitSet}
-use Rattle.bit_laws.proofs.Bits.Justified.{bits_go_on}
-use Rattle.lock_free_sp.specs.Driver.{answered, KeepsRule}
+use Rattle.laws_bits.proofs.Bits.Justified.{bits_go_on}
+use Rattle.threaded.specs.Driver.{answered, KeepsRule}
 use Rattle.history.specs.declared.view.View.{View}
 use Rattle.history.specs.History.{IsMachine, Called}
 use Rattle.history.specs.Stages.{At, Ends}

@@ -18,8 +18,8 @@ use Rattle.model.specs.Families.Bits.Promises.{IsBitSet}
 use Rattle.model.specs.Families.Bits.Reading.{is_set_of, is_clear_of, sets, clears}
 use Rattle.model.specs.Moments.{BeginsNone}
 use Rattle.model.proofs.Moments.{begins_none_more}
-use Rattle.bit_laws.proofs.Bits.Core.{sets_more, clears_more}
-use Rattle.bit_laws.proofs.Bits.Justified.{bits_go_on}
+use Rattle.laws_bits.proofs.Bits.Core.{sets_more, clears_more}
+use Rattle.laws_bits.proofs.Bits.Justified.{bits_go_on}
 use Rattle.history.specs.declared.view.View.{View}
 use Rattle.history.specs.History.{IsHistory}
 use Rattle.lock_free.specs.Bits.Told.{HasSet, StoodOnce, HasReset, AllClearOnce}

@@ -14,8 +14,8 @@ use Rattle.model.specs.declared.families.bits.BitsStart.TheVariants.{Set}
 use Rattle.model.specs.declared.turn.Kind.TheVariants as kinds
 use Rattle.model.specs.Coding.{one_word}
 use Rattle.model.specs.Families.Bits.Promises.{IsCountingOn, AnswersCountOn}
-use Rattle.bit_laws.proofs.Counts.Justified.{counts_go_on}
-use Rattle.lock_free_sp.specs.Driver.{answered, KeepsRule}
+use Rattle.laws_bits.proofs.Counts.Justified.{counts_go_on}
+use Rattle.threaded.specs.Driver.{answered, KeepsRule}
 use Rattle.history.specs.declared.view.View.{View}
 use Rattle.history.specs.History.{IsMachine, Called}
 use Rattle.history.specs.Stages.{At, Ends}

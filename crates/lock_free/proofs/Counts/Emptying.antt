@@ -19,7 +19,7 @@ use Rattle.model.specs.Families.{want_of, after_of}
 use Rattle.model.specs.Families.Bits.Steps.{take_events}
 use Rattle.model.specs.Families.Queues.Calls.{fresh}
 use Rattle.atomic_table.specs.Table.{Allows}
-use Rattle.lock_free_sp.specs.Driver.{answered, KeepsRule}
+use Rattle.threaded.specs.Driver.{answered, KeepsRule}
 use Rattle.history.specs.declared.view.View.{View}
 use Rattle.history.specs.History.{IsMachine}
 use Rattle.history.specs.Stages.{At, Ends}

@@ -14,7 +14,7 @@ use Rattle.model.specs.declared.turn.Kind.TheVariants as kinds
 use Rattle.model.specs.Coding.{one_word}
 use Rattle.model.specs.Families.Bits.Promises.{IsCountingOn}
 use Rattle.model.specs.Families.Bits.Reading.{is_count_of, take_of, counts, takes}
-use Rattle.bit_laws.proofs.Counts.Justified.{counts_go_on}
+use Rattle.laws_bits.proofs.Counts.Justified.{counts_go_on}
 use Rattle.history.specs.declared.view.View.{View}
 use Rattle.history.specs.History.{IsHistory}
 use Rattle.lock_free.specs.Counts.Told.{HasCounted, AnswersCount, HasTakenOut, taken_by}

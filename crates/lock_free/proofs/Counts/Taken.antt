@@ -18,7 +18,7 @@ use Rattle.model.specs.Families.Bits.Promises.{IsCountingOn, HasTakenOn}
 use Rattle.model.specs.Families.Bits.Steps.{take_events}
 use Rattle.model.specs.Families.Queues.Calls.{fresh}
 use Rattle.model.specs.Moments.{SinceBegin}
-use Rattle.bit_laws.proofs.Counts.Justified.{counts_go_on}
+use Rattle.laws_bits.proofs.Counts.Justified.{counts_go_on}
 use Rattle.history.specs.declared.view.View.{View}
 use Rattle.history.specs.History.{Called}
 use Rattle.history.specs.Stages.{At, Ends}

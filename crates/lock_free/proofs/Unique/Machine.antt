@@ -23,14 +23,14 @@ use Rattle.model.specs.Promises.Spans.{Stands, StandsRight}
 use Rattle.model.specs.World.{Trace}
 use Rattle.model.specs.Reading.{Each, whose, is_party, Span, Never, Open, Ended, longer, own_after, span_after, span_of}
 use Rattle.model.proofs.Frame as frame
-use Rattle.index_laws.proofs.Core.{head_of, counted_in, holder, one_held, held_below, none_if_zero}
-use Rattle.index_laws.proofs.Count.{counts_none}
-use Rattle.index_laws.proofs.Invariant.{Holds as OfSet, family, of_any, all_counted}
-use Rattle.index_laws.proofs.Knows.{takes, gives}
-use Rattle.index_laws.proofs.Sound.{reached_on_sound}
-use Rattle.index_laws.proofs.Stages.{same_tally}
-use Rattle.index_laws.proofs.Sums.{sum_below, sum_moved, sum_same, sum_one, sum_none}
-use Rattle.index_laws.proofs.Totals.{weight_of, weight_at, total}
+use Rattle.laws_indices.proofs.Core.{head_of, counted_in, holder, one_held, held_below, none_if_zero}
+use Rattle.laws_indices.proofs.Count.{counts_none}
+use Rattle.laws_indices.proofs.Invariant.{Holds as OfSet, family, of_any, all_counted}
+use Rattle.laws_indices.proofs.Knows.{takes, gives}
+use Rattle.laws_indices.proofs.Sound.{reached_on_sound}
+use Rattle.laws_indices.proofs.Stages.{same_tally}
+use Rattle.laws_indices.proofs.Sums.{sum_below, sum_moved, sum_same, sum_one, sum_none}
+use Rattle.laws_indices.proofs.Totals.{weight_of, weight_at, total}
 use Rattle.history.specs.Held.{claims, frees}
 use Rattle.history.specs.declared.view.View.{View}
 use Rattle.history.specs.History.{IsHistory, IsOfParties}

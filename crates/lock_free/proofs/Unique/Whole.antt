@@ -19,7 +19,7 @@ use Rattle.model.specs.declared.families.indices.IndexStart.TheVariants.{Acquire
 use Rattle.model.specs.declared.turn.Kind.TheVariants as kinds
 use Rattle.model.specs.Coding.{one_word}
 use Rattle.model.specs.Families.Indices.Reading.{is_locked, locked_after, Tally, tally_after, tally_of}
-use Rattle.lock_free_sp.specs.Shares.{IsAll}
+use Rattle.threaded.specs.Shares.{IsAll}
 use Rattle.history.specs.declared.view.View.{View}
 use Rattle.history.specs.History.{Called, IsBeginning}
 use Rattle.history.specs.Indices.{takes_index, gives_or_locks, counts_out, looks_locked}

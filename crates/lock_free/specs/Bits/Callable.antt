@@ -2,7 +2,7 @@
 use Rattle.std.specs.Prelude.{ℕ, filter}
 use Rattle.std.specs.List.{FoldsTo, range_with_len}
 use Rattle.steps.specs.Bits.Words.{has_flag}
-pub use Rattle.lock_free_sp.specs.Callable.{Ascends, TakesPlaces}
+pub use Rattle.threaded.specs.Callable.{Ascends, TakesPlaces}
 
 -- the closure as it is after the places of the range whose flags were found
 abbrev pub Visited : {F : Type 0} → (F → ℕ → F → Type 0) → ℕ → ℕ → F → ℕ → F → Type 0

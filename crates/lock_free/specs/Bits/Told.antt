@@ -9,7 +9,7 @@ use Rattle.model.specs.declared.families.bits.BitsStart.TheVariants.{Set, ResetN
 use Rattle.model.specs.Families.Bits.Calls.{reset_answer}
 use Rattle.model.specs.Families.Bits.Promises.{HasCleared}
 use Rattle.model.specs.Families.Bits.Reading.{standing}
-use Rattle.model.specs.Moments.{HeldOnce, SinceBegin}
+use Rattle.model.specs.Moments.{HeldSometime, SinceBegin}
 use Rattle.history.specs.declared.view.View.{View}
 use Rattle.history.specs.History.{Called}
 use Rattle.lock_free.specs.Bits.Callable.{Ascends}
@@ -26,7 +26,7 @@ pub record StoodOnce (place : ℕ) (new : View ℕ) : Type 0 where
   pub by : ℕ
   pub before : List (Event ℕ)
   pub is : new.seen ≡ before ++ Finished by (Bits (Set place)) (Truth false) ∷ []
-  pub stood : HeldOnce by (λ part. standing place part ≡ 1) before
+  pub stood : HeldSometime by (λ part. standing place part ≡ 1) before
 
 -- the call cleared the place that it answers, and nothing else
 pub record HasReset (answer : Option ℕ) (old new : View ℕ) : Type 0 where
@@ -40,7 +40,7 @@ pub record AllClearOnce (capacity : ℕ) (new : View ℕ) : Type 0 where
   pub before : List (Event ℕ)
   pub is : new.seen ≡ before ++ Finished by (Bits ResetNext) ResetNone ∷ []
   pub clear : (place : ℕ) → place < capacity
-      → HeldOnce by (λ part. standing place part ≡ 0) before
+      → HeldSometime by (λ part. standing place part ≡ 0) before
 
 abbrev pub cleared_by : ℕ → ℕ → Event ℕ
 cleared_by p place = Cleared p place

@@ -4,8 +4,8 @@ use Rattle.std.specs.Arc.{arc_value}
 use Rattle.model.specs.declared.event.Event.{Event}
 use Rattle.model.specs.declared.turn.Kind.TheVariants as kinds
 use Rattle.model.specs.Coding.{one_word}
-use Rattle.lock_free_sp.specs.declared.share.Share.{Share}
-pub use Rattle.lock_free_sp.specs.Sets.{SetId}
+use Rattle.threaded.specs.declared.share.Share.{Share}
+pub use Rattle.threaded.specs.Sets.{SetId}
 use Rattle.history.specs.declared.view.View.{View}
 use Rattle.history.specs.History.{IsHistory}
 use Rattle.history.specs.Passes as passes

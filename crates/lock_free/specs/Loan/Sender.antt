@@ -2,7 +2,7 @@
 use Rattle.std.specs.Prelude.{◌≡◌, ℕ, List}
 use Rattle.lock_free.specs.UniqueIndexSet.{SetId, view, set_of, IsPassOf}
 use Rattle.history.specs.declared.view.View.{View}
-use Rattle.lock_free_sp.specs.declared.share.Share.{Share}
+use Rattle.threaded.specs.declared.share.Share.{Share}
 use Rattle.lock_free_queues.specs.Queues.Rings.{QueueId, producer_view, producer_queue, consumer_view, consumer_queue}
 use Rattle.lock_free.specs.declared.mpmc.unique_index_set.UniqueIndexSet.{UniqueIndexSet}
 use Rattle.lock_free.specs.declared.spsc.loan.places.Place.{Place}

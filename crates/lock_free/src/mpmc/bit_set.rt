@@ -6,9 +6,9 @@ ghost use Rattle.steps.specs.Bits.Words.{elements};
 use self::rule::BitsRule;
 use atomic_table::Table;
 use history::view::View;
-use lock_free_sp::driver::seated::Seated;
 use std::alloc::Global;
 use std::sync::Arc;
+use threaded::driver::seated::Seated;
 
 mod calls;
 mod drives;

@@ -5,10 +5,10 @@ ghost use Rattle.std.specs.Arc.{arc_value};
 use self::rule::CountsRule;
 use atomic_table::Table;
 use history::view::View;
-use lock_free_sp::driver::seated::Seated;
 use std::alloc::Global;
 use std::sync::Arc;
 pub use steps::bits::counting_bit_set::BitState;
+use threaded::driver::seated::Seated;
 
 mod calls;
 mod drives;

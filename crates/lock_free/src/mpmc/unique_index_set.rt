@@ -10,9 +10,9 @@ ghost use Rattle.lock_free.specs.Unique.Held.{size, IsSound, IsDone};
 use self::rule::IndicesRule;
 use atomic_table::Table;
 use history::view::View;
-use lock_free_sp::driver::seated::Seated;
 use std::alloc::Global;
 use std::sync::Arc;
+use threaded::driver::seated::Seated;
 
 mod calls;
 mod drives;

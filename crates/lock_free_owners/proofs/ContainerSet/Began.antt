@@ -10,8 +10,8 @@ use Rattle.model.specs.declared.turn.Kind.TheVariants as kinds
 use Rattle.model.specs.Coding.{Coding}
 use Rattle.model.specs.Families.Indices.Reading.{is_locked}
 use Rattle.model.specs.Families.Indices.Robust.Promises.{IsUnlocked}
-use Rattle.model.specs.Moments.{HeldOnce}
-use Rattle.lock_free_sp.specs.Shares.{IsAll}
+use Rattle.model.specs.Moments.{HeldSometime}
+use Rattle.threaded.specs.Shares.{IsAll}
 use Rattle.history.specs.declared.view.View.{View}
 use Rattle.history.specs.History.{IsHistory, Called, IsBeginning}
 use Rattle.history.specs.Passes.{Goes}
@@ -120,7 +120,7 @@ module _ {T : Type 0} (code : Coding T) (base from : View T) (settled : SettledF
             }
 
         -- what was unlocked at a moment of the call was when it began
-        pub open_since : (P : List (Event T) → Type 0) → HeldOnce ended_answered.by (λ part. IsUnlocked part × P part) ended_answered.before
+        pub open_since : (P : List (Event T) → Type 0) → HeldSometime ended_answered.by (λ part. IsUnlocked part × P part) ended_answered.before
             → is_locked base.seen ≡ false
         unfolding ended_answered
         open_since P once =

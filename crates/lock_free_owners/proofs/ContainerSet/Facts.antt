@@ -26,8 +26,8 @@ use Rattle.model.specs.Coding.{Coding}
 use Rattle.model.specs.Families.Container.Calls.{added, removed, replaced}
 use Rattle.model.specs.Families.Indices.Reading.{is_locked}
 use Rattle.model.specs.Families.Indices.Robust.Promises.{IsUnlocked}
-use Rattle.model.specs.Moments.{HeldOnce}
-use Rattle.robust_laws.proofs.Counting.{count_most}
+use Rattle.model.specs.Moments.{HeldSometime}
+use Rattle.laws_robust.proofs.Counting.{count_most}
 use Rattle.history.specs.declared.view.View.{View}
 use Rattle.history.specs.Container as container
 use Rattle.history.specs.Container.{adds_value, removes_value, replaces_value, counts_values, sees_lock}
@@ -128,7 +128,7 @@ module _ {T : Type 0} (code : Coding T) where
       answered = ended_answered code base from ends.settled call w e tt ends.over start is_start answer is_answer
 
       -- at a moment of the call the lock was not there, nor before it
-      pub open_since : HeldOnce p IsUnlocked answered.before → is_locked base.seen ≡ false
+      pub open_since : HeldSometime p IsUnlocked answered.before → is_locked base.seen ≡ false
       unfolding answered made_call ended_answered
       open_since once =
           let c = made_call in
@@ -295,7 +295,7 @@ module _ {T : Type 0} (code : Coding T) where
           (λ by. Granted by index given.owner) (Filled ends.over.party index given.owner ∷ []) taken_first.0 taken_first.1 _
           (λ before after is. (
             (sound_here.does before after (Granted ends.over.party index given.owner) is).0,
-            λ proper honest. sound_here.holds proper honest before after (Granted ends.over.party index given.owner) is,
+            λ well_formed honest. sound_here.holds well_formed honest before after (Granted ends.over.party index given.owner) is,
           ))
 
       pub within_so : index < base.capacity

@@ -9,7 +9,7 @@ use Rattle.steps.specs.declared.ask.After.TheVariants.{GoOn, Done}
 use Rattle.steps.specs.declared.container.find.Find.{Find}
 use Rattle.steps.specs.declared.container.find.FindStage.{FindStage}
 use Rattle.steps.specs.declared.container.find.FindStage.TheVariants as finds
-use Rattle.steps.specs.declared.copied.Kept.{Kept}
+use Rattle.steps.specs.declared.copied.Buffer.{Buffer}
 use Rattle.model.specs.declared.event.Answer.TheVariants.{Number}
 use Rattle.model.specs.declared.event.Event.{Event}
 use Rattle.model.specs.declared.event.Event.TheVariants.{Begun, Copied}
@@ -20,7 +20,7 @@ use Rattle.model.specs.Coding.{Coding, IsCoding}
 use Rattle.model.specs.Families.{is_question}
 use Rattle.model.specs.Families.Queues.Calls.{fresh_cell, kept_at}
 use Rattle.model.specs.Turns.{number_of}
-use Rattle.lock_free_sp.specs.Driver.{Next, Told}
+use Rattle.threaded.specs.Driver.{Next, Told}
 use Rattle.history.specs.declared.view.View.{View}
 use Rattle.history.specs.ContainerFind.{copies_of, copies_after}
 use Rattle.history.specs.History.{Called}
@@ -51,7 +51,7 @@ named_copies p owner id [] = refl
 named_copies p owner id (c ∷ copies) = ap (λ es. Copied p c.0 c.1 ∷ es) (named_copies p owner id copies)
 
 module _ {T : Type 0} (code : Coding T) (law : IsCoding code) (owner : ℕ) where
-  put_in : (x : Kept 128) (at word : ℕ) → words_in (kept_at x at word) ≡ slice_set (words_in x) at word
+  put_in : (x : Buffer 128) (at word : ℕ) → words_in (kept_at x at word) ≡ slice_set (words_in x) at word
   put_in x at word = refl
 
   fresh_room : room_of code.size (words_in fresh_cell) ≡ fresh_cell
@@ -59,25 +59,25 @@ module _ {T : Type 0} (code : Coding T) (law : IsCoding code) (owner : ℕ) wher
 
   -- ---- where it begins
 
-  begins_asks : (capacity : ℕ) (c : Find T (Kept 128)) (m : Copying T) → BeginsFind owner capacity c m
+  begins_asks : (capacity : ℕ) (c : Find T (Buffer 128)) (m : Copying T) → BeginsFind owner capacity c m
       → AsksFor (container_words code capacity) (find_want code.size c)
   begins_asks capacity c m b =
       let some = b.1 in
-      subst (λ (d : Find T (Kept 128)). AsksFor (container_words code capacity) (find_want code.size d)) (sym b.0) (_, omega arith, refl)
+      subst (λ (d : Find T (Buffer 128)). AsksFor (container_words code capacity) (find_want code.size d)) (sym b.0) (_, omega arith, refl)
 
-  begins_first : (v : View T) (c : Find T (Kept 128)) (m : Copying T) → BeginsFind owner v.capacity c m → v.going ≡ None → v.other ≡ [] → 0 < v.share.part
+  begins_first : (v : View T) (c : Find T (Buffer 128)) (m : Copying T) → BeginsFind owner v.capacity c m → v.going ≡ None → v.other ≡ [] → 0 < v.share.part
       → FindBegun code owner v v c m
   begins_first v c m b idle alone any =
-      subst (λ (d : Find T (Kept 128)). FindBegun code owner v v d m) (sym b.0)
+      subst (λ (d : Find T (Buffer 128)). FindBegun code owner v v d m) (sym b.0)
       (container_find_first code law words_in kept_at put_in owner v m (ap (λ (x : Copying T). room_of code.size (words_in x.0)) b.3 ∙ fresh_room)
       (ap (λ (x : Copying T). x.1) b.3) idle alone any b.1 b.2)
 
   -- no answer leads there
-  abbrev IsLater : After (Find T (Kept 128)) ℕ → Type 0
+  abbrev IsLater : After (Find T (Buffer 128)) ℕ → Type 0
   IsLater (GoOn d) = (index : ℕ) × (found : ℕ) × (d.stage ≡ finds.LoadsCell (index + 1) found)
   IsLater (Done n) = Unit {0}
 
-  answers_later : (c : Find T (Kept 128)) (n : ℕ) (stage : FindStage) → is_question (find_asks code.size c.capacity stage) ≡ true
+  answers_later : (c : Find T (Buffer 128)) (n : ℕ) (stage : FindStage) → is_question (find_asks code.size c.capacity stage) ≡ true
       → IsLater (find_takes code.size c stage owner n)
   answers_later c n (finds.LoadsCell index found) due = absurd (cc)
   answers_later c n (finds.LoadsCount index found) due = absurd (cc)
@@ -86,17 +86,17 @@ module _ {T : Type 0} (code : Coding T) (law : IsCoding code) (owner : ℕ) wher
   answers_later c n (finds.Asks index found) due =
       by_test IsLater (n == 0) _ _ (λ t. tt) (λ t. by_test IsLater (nat_lt (index + 1) c.capacity) _ _ (λ u. (index, found, refl)) (λ u. tt))
 
-  never_first : (capacity : ℕ) (c d : Find T (Kept 128)) (m : Copying T) (n : ℕ) → is_question (find_want code.size c) ≡ true
+  never_first : (capacity : ℕ) (c d : Find T (Buffer 128)) (m : Copying T) (n : ℕ) → is_question (find_want code.size c) ≡ true
       → find_goes code owner c n ≡ GoOn d
       → BeginsFind owner capacity d m → ⊥
   never_first capacity c d m n due goes b =
       let later = subst IsLater goes (answers_later c n c.stage due) in
-      let same : finds.LoadsCell 0 0 ≡ finds.LoadsCell (later.0 + 1) later.1 = sym (ap (λ (z : Find T (Kept 128)). z.stage) b.0) ∙ later.2 in
+      let same : finds.LoadsCell 0 0 ≡ finds.LoadsCell (later.0 + 1) later.1 = sym (ap (λ (z : Find T (Buffer 128)). z.stage) b.0) ∙ later.2 in
       let no : 0 ≡ later.0 + 1 = cc in
       omega arith
 
   -- each step at a word
-  pub find_keeps : KeepsWhere code kinds.Container (container_words code) (λ (c : Find T (Kept 128)). is_question (find_want code.size c) ≡ false)
+  pub find_keeps : KeepsWhere code kinds.Container (container_words code) (λ (c : Find T (Buffer 128)). is_question (find_want code.size c) ≡ false)
       (FindAt code owner) (FindDone code owner) (λ c. find_want code.size c) (find_goes code owner) (find_copying code owner)
   find_keeps =
       rested_words code (finding code owner) (λ c. find_want code.size c) (λ c m. refl) (BeginsFind owner) begins_asks
@@ -111,23 +111,24 @@ module _ {T : Type 0} (code : Coding T) (law : IsCoding code) (owner : ℕ) wher
   at_its_word capacity (finds.ChecksCount index found count) still = refl
   at_its_word capacity (finds.Asks index found) still = absurd still
 
-  apart : (base v : View T) (c : Find T (Kept 128)) (m k : Copying T) → IsResting code v → BeginsFind owner v.capacity c k → FindBegun code owner base v c m → ⊥
+  apart : (base v : View T) (c : Find T (Buffer 128)) (m k : Copying T) → IsResting code v
+      → BeginsFind owner v.capacity c k → FindBegun code owner base v c m → ⊥
   apart =
       apart_asked code (finding code owner) (λ c. find_want code.size c) (λ c m. refl) (BeginsFind owner) begins_asks
       (find_goes code owner) (find_copying code owner) (FindOver code owner) never_first
       (container_find_keeps code law words_in kept_at put_in owner) begins_first
 
-  abbrev WaitsAt : View T → View T → Find T (Kept 128) → Copying T → Type 0
+  abbrev WaitsAt : View T → View T → Find T (Buffer 128) → Copying T → Type 0
   WaitsAt = Waits code kinds.Container (λ base. BeginsFind owner base.capacity)
 
-  rested_at : (base v : View T) (c : Find T (Kept 128)) (m : Copying T) → WaitsAt base v c m → IsResting code v
+  rested_at : (base v : View T) (c : Find T (Buffer 128)) (m : Copying T) → WaitsAt base v c m → IsResting code v
   rested_at base v c m waits = subst (λ z. IsResting code z) (sym waits.is) waits.resting
 
-  begins_at : (base v : View T) (c : Find T (Kept 128)) (m : Copying T) → WaitsAt base v c m → BeginsFind owner v.capacity c m
+  begins_at : (base v : View T) (c : Find T (Buffer 128)) (m : Copying T) → WaitsAt base v c m → BeginsFind owner v.capacity c m
   begins_at base v c m waits = subst (λ (z : View T). BeginsFind owner z.capacity c m) (sym waits.is) waits.first
 
   -- it has copied the same, whatever the view with which it is told that it began
-  same_copies : (base other v : View T) (c : Find T (Kept 128)) (m k : Copying T) → FindAt code owner base v c m → FindAt code owner other v c k → m.1 ≡ k.1
+  same_copies : (base other v : View T) (c : Find T (Buffer 128)) (m k : Copying T) → FindAt code owner base v c m → FindAt code owner other v c k → m.1 ≡ k.1
   same_copies base other v c m k (inl x) (inl y) =
       find_copied code law words_in kept_at put_in owner x.from y.from v c c m k (idle_from code base x.from x.settled) (idle_from code other y.from y.settled)
       x.stage y.stage
@@ -136,7 +137,7 @@ module _ {T : Type 0} (code : Coding T) (law : IsCoding code) (owner : ℕ) wher
   same_copies base other v c m k (inr x) (inr y) = ap (λ (z : Copying T). z.1) (x.first.3 ∙ sym y.first.3)
 
   -- one step tells of all that it may have copied
-  pub find_tells : (base v : View T) (c : Find T (Kept 128)) (room : Kept 128) (copies : List (ℕ × T)) → FindAt code owner base v c (room, copies)
+  pub find_tells : (base v : View T) (c : Find T (Buffer 128)) (room : Buffer 128) (copies : List (ℕ × T)) → FindAt code owner base v c (room, copies)
       → (n : ℕ) (w : View T) → Told (λ (z : View T). z.capacity) (FindAt code owner) (FindDone code owner) (find_goes code owner)
       (find_copying code owner) c (room, copies) v n w
       → (w.capacity ≡ v.capacity) × FindTells code owner c room v n w
@@ -166,7 +167,7 @@ module _ {T : Type 0} (code : Coding T) (law : IsCoding code) (owner : ℕ) wher
 
   -- ---- at its question
 
-  module _ (base v : View T) (c : Find T (Kept 128)) (m : Copying T) (index found : ℕ) (is : c.stage ≡ finds.Asks index found) where
+  module _ (base v : View T) (c : Find T (Buffer 128)) (m : Copying T) (index found : ℕ) (is : c.stage ≡ finds.Asks index found) where
     due : is_question (find_want code.size c) ≡ true
     due = ap (λ stage. is_question (find_asks code.size c.capacity stage)) is
 
@@ -186,13 +187,13 @@ module _ {T : Type 0} (code : Coding T) (law : IsCoding code) (owner : ℕ) wher
         → (from : View T) × SettledFrom code kinds.Container base from × IsUnderWay code kinds.Container (finding code owner) from v c m
     asked_from (inl x) = (x.from, x.settled, under_at x.from x.stage)
     asked_from (inr waits) =
-        let same : finds.LoadsCell 0 0 ≡ finds.Asks index found = sym (ap (λ (z : Find T (Kept 128)). z.stage) waits.first.0) ∙ is in
+        let same : finds.LoadsCell 0 0 ≡ finds.Asks index found = sym (ap (λ (z : Find T (Buffer 128)). z.stage) waits.first.0) ∙ is in
         absurd (cc)
 
     same_room : (n : ℕ) → find_copying code owner c m n ≡ m
     same_room n = ap (λ stage. (keeps_of kept_at stage m.0 n, copies_after stage n (value_of_room code words_in m.0) m.1)) is
 
-    pub heard_on : (d : Find T (Kept 128)) (said : Bool) → find_goes code owner c (number_of said) ≡ GoOn d → FindAt code owner base v c m
+    pub heard_on : (d : Find T (Buffer 128)) (said : Bool) → find_goes code owner c (number_of said) ≡ GoOn d → FindAt code owner base v c m
         → FindAt code owner base v d m
     heard_on d said goes at =
         let x = asked_from at in
@@ -304,7 +305,7 @@ module _ {T : Type 0} (code : Coding T) (law : IsCoding code) (owner : ℕ) wher
   over_so cap base w e m id x = (ended_left cap base w x.from x.settled e m id x.over, ended_so cap base w x.from x.settled e m id x.over)
 
   -- the answer has ended it at its question
-  pub answer_over : (cap : ℕ) (base v : View T) (c : Find T (Kept 128)) (m : Copying T) (index found : ℕ) → c.stage ≡ finds.Asks index found
+  pub answer_over : (cap : ℕ) (base v : View T) (c : Find T (Buffer 128)) (m : Copying T) (index found : ℕ) → c.stage ≡ finds.Asks index found
       → FindAt code owner base v c m → (e id : ℕ) (said : Bool) → find_goes code owner c (number_of said) ≡ Done e
       → IsLeft code base v × HasSearched code cap owner e (index + 1) (visits_of owner id m.1) base v
   unfolding rests_at

@@ -9,12 +9,12 @@ use Rattle.steps.specs.declared.container.find.Find.{Find}
 use Rattle.steps.specs.declared.container.find.FindStage.{FindStage}
 use Rattle.steps.specs.declared.container.find.FindStage.TheVariants as finds
 use Rattle.steps.specs.declared.container.handle.ContainerHandle.{ContainerHandle}
-use Rattle.steps.specs.declared.copied.Kept.{Kept}
+use Rattle.steps.specs.declared.copied.Buffer.{Buffer}
 use Rattle.steps.specs.declared.enums.CallbackProgression.{CallbackProgression}
 use Rattle.steps.specs.declared.enums.CallbackProgression.TheVariants.{Continue, Stop}
 use Rattle.model.specs.Coding.{Coding, IsCoding}
 use Rattle.model.specs.Families.Queues.Calls.{fresh_cell, kept_at}
-use Rattle.lock_free_sp.specs.Driver.{Next}
+use Rattle.threaded.specs.Driver.{Next}
 use Rattle.history.specs.declared.view.View.{View}
 use Rattle.history.specs.Value.{value_of_room}
 use Rattle.lock_free_owners.specs.Robust.Stages.{says}
@@ -29,10 +29,10 @@ use Rattle.lock_free_owners.proofs.Rules.Container.Finding.{SoFar, Onward, Steps
 
 module _ {T F : Type 0} (code : Coding T) (step : F → T → ContainerHandle → CallbackProgression → F → Type 0)
     (cap owner id : ℕ) (base : View T) (f : F) where
-  abbrev value_in_room : Kept 128 → T
+  abbrev value_in_room : Buffer 128 → T
   value_in_room = value_of_room code words_in
 
-  pub record Searching (v : View T) (c : Find T (Kept 128)) (m : Kept 128) (p : F) : Type 0 where
+  pub record Searching (v : View T) (c : Find T (Buffer 128)) (m : Buffer 128) (p : F) : Type 0 where
     pub copies : List (ℕ × T)
     pub at : FindAt code owner base v c (m, copies)
     pub stands : FindStands code.size cap c
@@ -45,7 +45,7 @@ module _ {T F : Type 0} (code : Coding T) (step : F → T → ContainerHandle �
     pub searched : HasSearched code cap owner n bound visits base w
     pub found : HasFound step cap (IsNamed cap owner id) f n bound visits q
 
-  abbrev pub Further : View T → After (Find T (Kept 128)) ℕ → Kept 128 → F → Type 0
+  abbrev pub Further : View T → After (Find T (Buffer 128)) ℕ → Buffer 128 → F → Type 0
   Further w (GoOn d) m q = Searching w d m q
   Further w (Done n) m q = Over w n q
 
@@ -55,24 +55,24 @@ module _ {T F : Type 0} (code : Coding T) (step : F → T → ContainerHandle �
   whole w n bound q copies x found =
       record { left = x.0; bound = bound; visits = visits_of owner id copies; searched = x.1; found = found }
 
-  module _ (law : IsCoding code) (small : cap < 2 ^ 32) (v : View T) (c : Find T (Kept 128)) (m : Kept 128) (p : F)
+  module _ (law : IsCoding code) (small : cap < 2 ^ 32) (v : View T) (c : Find T (Buffer 128)) (m : Buffer 128) (p : F)
       (h : Searching v c m p) where
     stood : (k : ℕ) → StillStands code.size cap (find_goes code owner c k)
     stood k = (let some = law.some in still_stands code.size some cap c owner k h.stands)
 
     -- ---- a step at a word
 
-    stepped : (w : View T) (a : After (Find T (Kept 128)) ℕ) (left : Kept 128) (copies : List (ℕ × T)) → StillStands code.size cap a
+    stepped : (w : View T) (a : After (Find T (Buffer 128)) ℕ) (left : Buffer 128) (copies : List (ℕ × T)) → StillStands code.size cap a
         → Next (λ (z : View T). z.capacity) (FindAt code owner) (FindDone code owner) base a (left, copies) w
         → Onward step cap owner id f a copies (value_in_room left) p → Further w a left p
     stepped w (GoOn d) left copies stands at so = record { copies = copies; at = at; stands = stands; so_far = so }
     stepped w (Done n) left copies stands ends found = whole w n cap p copies (over_so code law owner cap base w n (left, copies) id ends) found
 
     by_step : (stage : FindStage) → c.stage ≡ stage → (still : IsQuiet step cap owner id f stage)
-        → (w : View T) (a : After (Find T (Kept 128)) ℕ) (left : Kept 128)
+        → (w : View T) (a : After (Find T (Buffer 128)) ℕ) (left : Buffer 128)
         → FindGoes code owner v c m a left w → Further w a left p
     by_step stage is still w a left goes =
-        subst (λ (z : After (Find T (Kept 128)) ℕ × Kept 128). Further w z.0 z.1 p) (λ i. (sym goes.1 i, sym goes.2 i))
+        subst (λ (z : After (Find T (Buffer 128)) ℕ × Buffer 128). Further w z.0 z.1 p) (λ i. (sym goes.1 i, sym goes.2 i))
         (stepped w (find_goes code owner c goes.0) (find_kept kept_at c m goes.0)
         (find_copying code owner c (m, h.copies) goes.0).1 (stood goes.0) (goes.3 base h.copies h.at)
         (subst (λ z. StepsOnward step cap owner id f code.size c value_in_room kept_at z h.copies m goes.0 p) (sym is)
@@ -98,14 +98,14 @@ module _ {T F : Type 0} (code : Coding T) (step : F → T → ContainerHandle �
         where
           more : (n : ℕ) → nat_lt (index + 1) c.capacity ≡ true → find_comes_to c (index + 1) found ≡ Done n → ⊥
           more n t e =
-              let on : After (Find T (Kept 128)) ℕ = GoOn (at_find c (finds.LoadsCell (index + 1) found)) in
+              let on : After (Find T (Buffer 128)) ℕ = GoOn (at_find c (finds.LoadsCell (index + 1) found)) in
               let no : on ≡ Done n = subst (λ b. (if b then on else Done found) ≡ Done n) t e in
               absurd (cc)
 
           not_less : nat_lt (index + 1) c.capacity ≡ false → c.capacity ≤ index + 1
           not_less t = grind (arith, nat_tests)
 
-      answered : (q : F) (r : After (Find T (Kept 128)) ℕ) → find_goes code owner c 1 ≡ r → StillStands code.size cap r
+      answered : (q : F) (r : After (Find T (Buffer 128)) ℕ) → find_goes code owner c 1 ≡ r → StillStands code.size cap r
           → Onward step cap owner id f r h.copies (value_in_room m) q → Further v r m q
       answered q (GoOn d) goes stands so =
           record { copies = h.copies; at = heard_on code law owner base v c (m, h.copies) index found is d true goes h.at; stands = stands; so_far = so }
@@ -128,7 +128,7 @@ module _ {T F : Type 0} (code : Coding T) (step : F → T → ContainerHandle �
 
     -- ---- a turn
 
-    turned : (stage : FindStage) → c.stage ≡ stage → (w : View T) (a : After (Find T (Kept 128)) ℕ) (left : Kept 128) (q : F)
+    turned : (stage : FindStage) → c.stage ≡ stage → (w : View T) (a : After (Find T (Buffer 128)) ℕ) (left : Buffer 128) (q : F)
         → FindTurns code owner stage v c m a left w → FindMoves step code.size id c owner stage (value_in_room m) p a q → Further w a left q
     turned (finds.LoadsCell index found) is w a left q turns moves =
         subst (λ (z : F). Further w a left z) (sym moves) (by_step (finds.LoadsCell index found) is tt w a left turns)
@@ -140,19 +140,19 @@ module _ {T F : Type 0} (code : Coding T) (step : F → T → ContainerHandle �
         subst (λ (z : F). Further w a left z) (sym moves) (by_step (finds.ChecksCount index found count) is tt w a left turns)
     turned (finds.Asks index found) is w a left q turns moves =
         subst (λ (z : View T). Further z a left q) (sym turns.0)
-        (subst (λ (x : Kept 128). Further v a x q) (sym turns.1)
+        (subst (λ (x : Buffer 128). Further v a x q) (sym turns.1)
         (subst (λ r. Further v r m q) (sym moves.2) (by_answer index found is q moves.0 moves.1)))
 
-    pub further : (w : View T) (a : After (Find T (Kept 128)) ℕ) (left : Kept 128) (q : F) → FindTurns code owner c.stage v c m a left w
+    pub further : (w : View T) (a : After (Find T (Buffer 128)) ℕ) (left : Buffer 128) (q : F) → FindTurns code owner c.stage v c m a left w
         → FindMoves step code.size id c owner c.stage (value_in_room m) p a q → Further w a left q
     further = turned c.stage refl
 
     pub may_go : {pre : F → T → ContainerHandle → Type 0} → TakesVisits pre step (IsNamed cap owner id) f → FindAsks pre owner id c.stage (value_in_room m) p
     may_go takes = may_ask step cap owner id f takes code.size c.stage h.stands.1 h.copies (value_in_room m) p h.so_far
 
-  pub starts : (c : Find T (Kept 128)) (m : Kept 128) → c ≡ first_find cap → m ≡ fresh_cell → 0 < cap
+  pub starts : (c : Find T (Buffer 128)) (m : Buffer 128) → c ≡ first_find cap → m ≡ fresh_cell → 0 < cap
       → FindAt code owner base base (first_find cap) (fresh_cell, [])
       → Searching base c m f
   starts c m is fresh some at =
-      subst (λ (z : Find T (Kept 128) × Kept 128). Searching base z.0 z.1 f) (λ i. (sym is i, sym fresh i))
+      subst (λ (z : Find T (Buffer 128) × Buffer 128). Searching base z.0 z.1 f) (λ i. (sym is i, sym fresh i))
       (record { copies = []; at = at; stands = (refl, (some, omega arith)); so_far = came_none step cap owner id f 0 })

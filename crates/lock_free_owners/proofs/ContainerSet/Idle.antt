@@ -7,8 +7,8 @@ use Rattle.model.specs.declared.event.Answer.TheVariants.{Number}
 use Rattle.model.specs.declared.event.Start.{Start}
 use Rattle.model.specs.declared.families.Flight.{Flight}
 use Rattle.model.specs.declared.families.Flight as flights
-use Rattle.model.specs.declared.families.Kept.{Kept}
-use Rattle.model.specs.declared.families.Kept as kepts
+use Rattle.model.specs.declared.families.Registry.{Registry}
+use Rattle.model.specs.declared.families.Registry as registries
 use Rattle.model.specs.declared.families.container.calls.ContainerFlight.{ContainerFlight}
 use Rattle.model.specs.declared.families.container.calls.ContainerFlight as calls
 use Rattle.model.specs.Coding.{Coding}
@@ -45,8 +45,8 @@ module _ {T : Type 0} (code : Coding T) (v : View T) (fresh : v.other ≡ []) (s
             some = some;
           })
         where
-          ends : (kept : Kept T) → goes_of code p (flights.TheVariants.Container (calls.TheVariants.Find run)) (number_of false) kept ≡ Done (Number found)
-          ends (kepts.TheVariants.Container dead states) = rw is refl
+          ends : (kept : Registry T) → goes_of code p (flights.TheVariants.Container (calls.TheVariants.Find run)) (number_of false) kept ≡ Done (Number found)
+          ends (registries.TheVariants.Container dead states) = rw is refl
           ends kept = rw is refl
   of_find p start flight mine going due = absurd (true≢false (sym due))
 

@@ -22,8 +22,8 @@ use Rattle.model.specs.declared.turn.Kind.TheVariants as kinds
 use Rattle.model.specs.Coding.{Coding, IsCoding}
 use Rattle.model.specs.Families.Container.Calls.{looked, settled_if}
 use Rattle.model.specs.Families.Container.States.{settled}
-use Rattle.lock_free_sp.specs.Driver.{Next, Told}
-use Rattle.lock_free_sp.proofs.Driving.{weaker_owes}
+use Rattle.threaded.specs.Driver.{Next, Told}
+use Rattle.threaded.proofs.Driving.{weaker_owes}
 use Rattle.history.specs.declared.view.View.{View}
 use Rattle.history.specs.ContainerFind.{HasCopied}
 use Rattle.history.specs.ContainerLooks.{look_start, state_of_look, looking, HasLookedAll, RestedLooks, RestedLooked}

@@ -10,7 +10,7 @@ use Rattle.steps.specs.declared.container.recover.DeadOwner.{DeadOwner}
 use Rattle.steps.specs.declared.container.recover.Recover.{Recover}
 use Rattle.steps.specs.declared.container.recover.RecoverStage.{RecoverStage}
 use Rattle.steps.specs.declared.container.recover.RecoverStage.TheVariants as recovers
-use Rattle.steps.specs.declared.copied.Kept.{Kept}
+use Rattle.steps.specs.declared.copied.Buffer.{Buffer}
 use Rattle.steps.specs.declared.indices.enums.ReleaseState.{ReleaseState}
 use Rattle.steps.specs.declared.indices.enums.ReleaseState.TheVariants as states
 use Rattle.model.specs.declared.event.Answer.TheVariants.{State}
@@ -25,10 +25,10 @@ use Rattle.model.specs.Families.Indices.Reading.{is_locked}
 use Rattle.model.specs.Families.Queues.Calls.{fresh_cell, kept_at}
 use Rattle.model.specs.Reading.{Each}
 use Rattle.model.specs.Turns.{number_of}
-use Rattle.robust_laws.specs.Gone.{Word}
-use Rattle.robust_laws.proofs.Sound.{raise_asks_none, lock_asks_none}
-use Rattle.container_laws.specs.Gone.{AsksBy}
-use Rattle.lock_free_sp.specs.Driver.{Next, Told as DriverTold}
+use Rattle.laws_robust.specs.Gone.{Word}
+use Rattle.laws_robust.proofs.Sound.{raise_asks_none, lock_asks_none}
+use Rattle.laws_container.specs.Gone.{AsksBy}
+use Rattle.threaded.specs.Driver.{Next, Told as DriverTold}
 use Rattle.history.specs.declared.view.View.{View}
 use Rattle.history.specs.ContainerRecovery.{Came, visits_after, wrote_visits, VisitsAt, told_yet}
 use Rattle.history.specs.History.{Called}
@@ -55,7 +55,7 @@ use Rattle.lock_free_owners.proofs.ContainerSet.Sound.{sound_history}
 use Rattle.lock_free_owners.proofs.RobustSet.Events.{find_own, lock_stays, not_locked, covers}
 
 module _ {T : Type 0} (code : Coding T) (law : IsCoding code) (given : DeadOwner) where
-  pub put_in : (x : Kept 128) (at word : ℕ) → words_in (kept_at x at word) ≡ slice_set (words_in x) at word
+  pub put_in : (x : Buffer 128) (at word : ℕ) → words_in (kept_at x at word) ≡ slice_set (words_in x) at word
   put_in x at word = refl
 
   fresh_room : room_of code.size (words_in fresh_cell) ≡ fresh_cell
@@ -63,28 +63,28 @@ module _ {T : Type 0} (code : Coding T) (law : IsCoding code) (given : DeadOwner
 
   -- ---- where it begins
 
-  begins_asks : (capacity : ℕ) (c : Recover T (Kept 128)) (m : Visiting T) → BeginsRecover given capacity c m
+  begins_asks : (capacity : ℕ) (c : Recover T (Buffer 128)) (m : Visiting T) → BeginsRecover given capacity c m
       → AsksFor (container_words code capacity) (recover_want code.size c given)
   begins_asks capacity c m b =
-      subst (λ (d : Recover T (Kept 128)). AsksFor (container_words code capacity) (recover_want code.size d given)) (sym b.0) (_, omega arith, refl)
+      subst (λ (d : Recover T (Buffer 128)). AsksFor (container_words code capacity) (recover_want code.size d given)) (sym b.0) (_, omega arith, refl)
 
-  begins_first : (v : View T) (c : Recover T (Kept 128)) (m : Visiting T) → BeginsRecover given v.capacity c m → v.going ≡ None → v.other ≡ []
+  begins_first : (v : View T) (c : Recover T (Buffer 128)) (m : Visiting T) → BeginsRecover given v.capacity c m → v.going ≡ None → v.other ≡ []
       → 0 < v.share.part
       → RecoverBegun code given v v c m
   begins_first v c m b idle alone any =
-      subst (λ (d : Recover T (Kept 128)). RecoverBegun code given v v d m) (sym b.0)
+      subst (λ (d : Recover T (Buffer 128)). RecoverBegun code given v v d m) (sym b.0)
       (container_recover_first code law words_in kept_at put_in given v m (ap (λ (x : Visiting T). room_of code.size (words_in x.0)) b.2 ∙ fresh_room)
       (ap (λ (x : Visiting T). x.1) b.2) idle alone any b.1)
 
   -- no answer leads there
-  abbrev IsLater : After (Recover T (Kept 128)) ReleaseState → Type 0
+  abbrev IsLater : After (Recover T (Buffer 128)) ReleaseState → Type 0
   IsLater (GoOn d) = d.stage ≡ recovers.LoadsCounter → ⊥
   IsLater (Done e) = Unit {0}
 
   clash : {A : Type 0} (b : Bool) → b ≡ true → b ≡ false → A
   clash b there still = (let both : true ≡ false = sym there ∙ still in absurd (cc))
 
-  answers_later : (c : Recover T (Kept 128)) (n : ℕ) (stage : RecoverStage) → is_question (recover_asks code.size c.capacity stage given.owner) ≡ true
+  answers_later : (c : Recover T (Buffer 128)) (n : ℕ) (stage : RecoverStage) → is_question (recover_asks code.size c.capacity stage given.owner) ≡ true
       → IsLater (recover_takes code.size c stage given n)
   answers_later c n recovers.LoadsCounter due = absurd (cc)
   answers_later c n (recovers.LoadsCell index) due = absurd (cc)
@@ -102,11 +102,11 @@ module _ {T : Type 0} (code : Coding T) (law : IsCoding code) (given : DeadOwner
   answers_later c n recovers.LoadsCounterAgain due = absurd (cc)
   answers_later c n (recovers.AddsChange state) due = absurd (cc)
 
-  never_first : (capacity : ℕ) (c d : Recover T (Kept 128)) (m : Visiting T) (n : ℕ) → is_question (recover_want code.size c given) ≡ true
+  never_first : (capacity : ℕ) (c d : Recover T (Buffer 128)) (m : Visiting T) (n : ℕ) → is_question (recover_want code.size c given) ≡ true
       → recover_goes code given c n ≡ GoOn d → BeginsRecover given capacity d m → ⊥
   never_first capacity c d m n due goes b =
       let later = subst IsLater goes (answers_later c n c.stage due) in
-      later (ap (λ (z : Recover T (Kept 128)). z.stage) b.0)
+      later (ap (λ (z : Recover T (Buffer 128)). z.stage) b.0)
 
   pub recover_keeps : Keeps code (RecoverAt code given) (RecoverEnds code given) (λ c. recover_want code.size c given) (recover_goes code given)
       (recover_visiting code given)
@@ -115,24 +115,24 @@ module _ {T : Type 0} (code : Coding T) (law : IsCoding code) (given : DeadOwner
       (recover_goes code given) (recover_visiting code given) (Ends code kinds.Container (recovering code given))
       never_first (container_recover_keeps code law words_in kept_at put_in given) begins_first
 
-  apart : (base v : View T) (c : Recover T (Kept 128)) (m k : Visiting T) → IsResting code v → BeginsRecover given v.capacity c k
+  apart : (base v : View T) (c : Recover T (Buffer 128)) (m k : Visiting T) → IsResting code v → BeginsRecover given v.capacity c k
       → RecoverBegun code given base v c m → ⊥
   apart =
       apart_asked code (recovering code given) (λ c. recover_want code.size c given) (λ c m. refl) (BeginsRecover given) begins_asks
       (recover_goes code given) (recover_visiting code given) (Ends code kinds.Container (recovering code given)) never_first
       (container_recover_keeps code law words_in kept_at put_in given) begins_first
 
-  abbrev WaitsAt : View T → View T → Recover T (Kept 128) → Visiting T → Type 0
+  abbrev WaitsAt : View T → View T → Recover T (Buffer 128) → Visiting T → Type 0
   WaitsAt = Waits code kinds.Container (λ base. BeginsRecover given base.capacity)
 
-  rested_at : (base v : View T) (c : Recover T (Kept 128)) (m : Visiting T) → WaitsAt base v c m → IsResting code v
+  rested_at : (base v : View T) (c : Recover T (Buffer 128)) (m : Visiting T) → WaitsAt base v c m → IsResting code v
   rested_at base v c m waits = subst (λ z. IsResting code z) (sym waits.is) waits.resting
 
-  begins_at : (base v : View T) (c : Recover T (Kept 128)) (m : Visiting T) → WaitsAt base v c m → BeginsRecover given v.capacity c m
+  begins_at : (base v : View T) (c : Recover T (Buffer 128)) (m : Visiting T) → WaitsAt base v c m → BeginsRecover given v.capacity c m
   begins_at base v c m waits = subst (λ (z : View T). BeginsRecover given z.capacity c m) (sym waits.is) waits.first
 
   -- it has done the same, whatever the view with which it is told that it began
-  same_visits : (base other v : View T) (c : Recover T (Kept 128)) (m k : Visiting T) → RecoverAt code given base v c m → RecoverAt code given other v c k
+  same_visits : (base other v : View T) (c : Recover T (Buffer 128)) (m k : Visiting T) → RecoverAt code given base v c m → RecoverAt code given other v c k
       → m.1 ≡ k.1
   same_visits base other v c m k (inl x) (inl y) =
       recover_did code law words_in kept_at put_in given x.from y.from v c c m k (idle_from code base x.from x.settled) (idle_from code other y.from y.settled)
@@ -142,7 +142,8 @@ module _ {T : Type 0} (code : Coding T) (law : IsCoding code) (given : DeadOwner
   same_visits base other v c m k (inr x) (inr y) = ap (λ (z : Visiting T). z.1) (x.first.2 ∙ sym y.first.2)
 
   -- one step tells of all that it may have done
-  pub recover_tells : (base v : View T) (c : Recover T (Kept 128)) (room : Kept 128) (visits : List (ℕ × Came T)) → RecoverAt code given base v c (room, visits)
+  pub recover_tells : (base v : View T) (c : Recover T (Buffer 128)) (room : Buffer 128) (visits : List (ℕ × Came T))
+      → RecoverAt code given base v c (room, visits)
       → (n : ℕ) (w : View T)
       → DriverTold (λ (z : View T). z.capacity) (RecoverAt code given) (RecoverEnds code given)
       (recover_goes code given) (recover_visiting code given) c (room, visits) v n w
@@ -172,7 +173,7 @@ module _ {T : Type 0} (code : Coding T) (law : IsCoding code) (given : DeadOwner
 
   -- ---- at its question
 
-  module _ (base v : View T) (c : Recover T (Kept 128)) (m : Visiting T) (index count : ℕ) (is : c.stage ≡ recovers.Asks index count) where
+  module _ (base v : View T) (c : Recover T (Buffer 128)) (m : Visiting T) (index count : ℕ) (is : c.stage ≡ recovers.Asks index count) where
     due : is_question (recover_want code.size c given) ≡ true
     due = ap (λ stage. is_question (recover_asks code.size c.capacity stage given.owner)) is
 
@@ -189,13 +190,13 @@ module _ {T : Type 0} (code : Coding T) (law : IsCoding code) (given : DeadOwner
         → (from : View T) × SettledFrom code kinds.Container base from × IsUnderWay code kinds.Container (recovering code given) from v c m
     asked_from (inl x) = (x.from, x.settled, under_at x.from x.stage)
     asked_from (inr waits) =
-        let same : recovers.LoadsCounter ≡ recovers.Asks index count = sym (ap (λ (z : Recover T (Kept 128)). z.stage) waits.first.0) ∙ is in
+        let same : recovers.LoadsCounter ≡ recovers.Asks index count = sym (ap (λ (z : Recover T (Buffer 128)). z.stage) waits.first.0) ∙ is in
         absurd (cc)
 
     same_room : (n : ℕ) → recover_visiting code given c m n ≡ m
     same_room n = ap (λ stage. (keeps_of kept_at stage m.0 n, visits_after given.owner stage n (value_there code words_in m.0) m.1)) is
 
-    pub heard_on : (d : Recover T (Kept 128)) (said : Bool) → recover_goes code given c (number_of said) ≡ GoOn d → RecoverAt code given base v c m
+    pub heard_on : (d : Recover T (Buffer 128)) (said : Bool) → recover_goes code given c (number_of said) ≡ GoOn d → RecoverAt code given base v c m
         → RecoverAt code given base v d m
     heard_on d said goes at =
         let x = asked_from at in

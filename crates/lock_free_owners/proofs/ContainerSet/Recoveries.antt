@@ -7,13 +7,13 @@ use Rattle.steps.specs.declared.container.recover.DeadOwner.{DeadOwner}
 use Rattle.steps.specs.declared.container.recover.Recover.{Recover}
 use Rattle.steps.specs.declared.container.recover.RecoverStage.{RecoverStage}
 use Rattle.steps.specs.declared.container.recover.RecoverStage.TheVariants as recovers
-use Rattle.steps.specs.declared.copied.Kept.{Kept}
+use Rattle.steps.specs.declared.copied.Buffer.{Buffer}
 use Rattle.steps.specs.declared.indices.enums.ReleaseState.{ReleaseState}
 use Rattle.model.specs.Coding.{Coding, IsCoding}
 use Rattle.model.specs.Families.Indices.Reading.{is_locked}
 use Rattle.model.specs.Families.Queues.Calls.{fresh_cell, kept_at}
 use Rattle.model.specs.Turns.{number_of}
-use Rattle.lock_free_sp.specs.Driver.{Next}
+use Rattle.threaded.specs.Driver.{Next}
 use Rattle.history.specs.declared.view.View.{View}
 use Rattle.history.specs.ContainerRecovery.{RecoverIn, Came}
 use Rattle.history.specs.Value.{value_of_room}
@@ -35,10 +35,10 @@ module _ {T F : Type 0} (code : Coding T) (step : F → T → Bool → F → Typ
   abbrev shut : Bool
   shut = is_locked base.seen
 
-  abbrev value_in_room : Kept 128 → T
+  abbrev value_in_room : Buffer 128 → T
   value_in_room = value_of_room code words_in
 
-  pub record Standing (v : View T) (c : Recover T (Kept 128)) (m : Kept 128) (p : F) : Type 0 where
+  pub record Standing (v : View T) (c : Recover T (Buffer 128)) (m : Buffer 128) (p : F) : Type 0 where
     pub visits : List (ℕ × Came T)
     pub at : RecoverAt code given base v c (m, visits)
     pub stands : (c.capacity ≡ cap) × RecoverIn code.size cap given.mode c.stage
@@ -48,14 +48,14 @@ module _ {T F : Type 0} (code : Coding T) (step : F → T → Bool → F → Typ
     pub ends : (m : Visiting T) × RecoverEnds code given base e m w
     pub recovered : HasRecovered code step given e cap f q base w
 
-  abbrev pub Further : View T → After (Recover T (Kept 128)) ReleaseState → Kept 128 → F → Type 0
+  abbrev pub Further : View T → After (Recover T (Buffer 128)) ReleaseState → Buffer 128 → F → Type 0
   Further w (GoOn d) m q = Standing w d m q
   Further w (Done e) m q = Over w e q
 
-  abbrev NextThere : After (Recover T (Kept 128)) ReleaseState → Visiting T → View T → Type 0
+  abbrev NextThere : After (Recover T (Buffer 128)) ReleaseState → Visiting T → View T → Type 0
   NextThere a m w = Next (λ (z : View T). z.capacity) (RecoverAt code given) (RecoverEnds code given) base a m w
 
-  module _ (law : IsCoding code) (v : View T) (c : Recover T (Kept 128)) (m : Kept 128) (p : F) (h : Standing v c m p) where
+  module _ (law : IsCoding code) (v : View T) (c : Recover T (Buffer 128)) (m : Buffer 128) (p : F) (h : Standing v c m p) where
     abbrev value : T
     value = value_in_room m
 
@@ -76,7 +76,7 @@ module _ {T F : Type 0} (code : Coding T) (step : F → T → Bool → F → Typ
         go recovers.LoadsCounterAgain is = tt
         go (recovers.AddsChange state) is = tt
 
-    stepped : (w : View T) (a : After (Recover T (Kept 128)) ReleaseState) (left : Kept 128) (visits : List (ℕ × Came T)) (q : F) → (n : ℕ)
+    stepped : (w : View T) (a : After (Recover T (Buffer 128)) ReleaseState) (left : Buffer 128) (visits : List (ℕ × Came T)) (q : F) → (n : ℕ)
         → recover_goes code given c n ≡ a → NextThere a (left, visits) w → Onward step cap shut given f a visits (value_in_room left) q → Further w a left q
     stepped w (GoOn d) left visits q n goes at so =
         record {
@@ -104,10 +104,10 @@ module _ {T F : Type 0} (code : Coding T) (step : F → T → Bool → F → Typ
               };
         }
 
-    by_step : (stage : RecoverStage) → c.stage ≡ stage → IsQuiet step cap shut given f stage → (w : View T) (a : After (Recover T (Kept 128)) ReleaseState)
-        (left : Kept 128) → RecoverGoes code given v c m a left w → Further w a left p
+    by_step : (stage : RecoverStage) → c.stage ≡ stage → IsQuiet step cap shut given f stage → (w : View T) (a : After (Recover T (Buffer 128)) ReleaseState)
+        (left : Buffer 128) → RecoverGoes code given v c m a left w → Further w a left p
     by_step stage is still w a left goes =
-        subst (λ (z : After (Recover T (Kept 128)) ReleaseState × Kept 128). Further w z.0 z.1 p) (λ i. (sym goes.1 i, sym goes.2 i))
+        subst (λ (z : After (Recover T (Buffer 128)) ReleaseState × Buffer 128). Further w z.0 z.1 p) (λ i. (sym goes.1 i, sym goes.2 i))
         (stepped w (recover_goes code given c goes.0) (recover_kept kept_at c m goes.0) (recover_visiting code given c (m, h.visits) goes.0).1 p goes.0 refl
         (goes.3 base h.visits h.at)
         (subst (λ z. StepsOnward step cap shut given f code.size c value_in_room kept_at z h.visits m goes.0 p) (sym is)
@@ -116,7 +116,7 @@ module _ {T F : Type 0} (code : Coding T) (step : F → T → Bool → F → Typ
         (subst (λ z. SoFar step cap shut given f z h.visits value p) is h.so_far))))
 
     -- an answer
-    heard : (said : Bool) (a : After (Recover T (Kept 128)) ReleaseState) (index count : ℕ) → c.stage ≡ recovers.Asks index count
+    heard : (said : Bool) (a : After (Recover T (Buffer 128)) ReleaseState) (index count : ℕ) → c.stage ≡ recovers.Asks index count
         → recover_goes code given c (number_of said) ≡ a → NextThere a (m, h.visits) v
     heard said (GoOn d) index count is goes = heard_on code law given base v c (m, h.visits) index count is d said goes h.at
     heard said (Done e) index count is goes = answer_last code law given base v c (m, h.visits) index count is e said goes
@@ -133,7 +133,7 @@ module _ {T F : Type 0} (code : Coding T) (step : F → T → Bool → F → Typ
         (answers_so step cap shut given f code.size c index count h.visits value said p q free (subst (RecoverIn code.size cap given.mode) is h.stands.1) hit
         (subst (λ z. SoFar step cap shut given f z h.visits value p) is h.so_far)))
 
-    module _ (w : View T) (a : After (Recover T (Kept 128)) ReleaseState) (left : Kept 128) (q : F) where
+    module _ (w : View T) (a : After (Recover T (Buffer 128)) ReleaseState) (left : Buffer 128) (q : F) where
       passes : (stage : RecoverStage) → c.stage ≡ stage → IsQuiet step cap shut given f stage
           → RecoverGoes code given v c m a left w → q ≡ p → Further w a left q
       passes stage is still turns moves = subst (λ (z : F). Further w a left z) (sym moves) (by_step stage is still w a left turns)
@@ -147,7 +147,7 @@ module _ {T F : Type 0} (code : Coding T) (step : F → T → Bool → F → Typ
       turned (recovers.ChecksCount index count) is turns moves = passes (recovers.ChecksCount index count) is tt turns moves
       turned (recovers.Asks index count) is turns moves =
           subst (λ (z : View T). Further z a left q) (sym turns.0)
-          (subst (λ (x : Kept 128). Further v a x q) (sym turns.1)
+          (subst (λ (x : Buffer 128). Further v a x q) (sym turns.1)
           (subst (λ r. Further v r m q) (sym moves.2) (by_answer index count is q moves.0 moves.1)))
       turned (recovers.EmptiesCell index count) is turns moves = passes (recovers.EmptiesCell index count) is tt turns moves
       turned (recovers.Hides index count) is turns moves = passes (recovers.Hides index count) is tt turns moves
@@ -162,9 +162,9 @@ module _ {T F : Type 0} (code : Coding T) (step : F → T → Bool → F → Typ
     pub may_go : {pre : F → T → Type 0} → (shut ≡ false → TakesValues pre step cap f) → RecoverAsks pre c.stage value p
     may_go takes = may_ask step cap shut given f code.size takes c.stage h.stands.1 knows h.visits value p h.so_far
 
-  pub starts : (c : Recover T (Kept 128)) (m : Kept 128) → c ≡ first_recover cap → m ≡ fresh_cell
+  pub starts : (c : Recover T (Buffer 128)) (m : Buffer 128) → c ≡ first_recover cap → m ≡ fresh_cell
       → RecoverAt code given base base (first_recover cap) (fresh_cell, [])
       → Standing base c m f
   starts c m is fresh at =
-      subst (λ (z : Recover T (Kept 128) × Kept 128). Standing base z.0 z.1 f) (λ i. (sym is i, sym fresh i))
+      subst (λ (z : Recover T (Buffer 128) × Buffer 128). Standing base z.0 z.1 f) (λ i. (sym is i, sym fresh i))
       (record { visits = []; at = at; stands = (refl, tt); so_far = (refl, refl) })

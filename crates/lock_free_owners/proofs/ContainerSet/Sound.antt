@@ -12,11 +12,11 @@ use Rattle.model.specs.declared.event.Start.TheVariants.{Container}
 use Rattle.model.specs.declared.families.container.ContainerStart.TheVariants.{Add, Remove, Recover}
 use Rattle.model.specs.declared.turn.Kind.TheVariants as kinds
 use Rattle.model.specs.Coding.{Coding}
-use Rattle.model.specs.Families.Indices.Robust.Promises.{SetDoes, IsProper, HoldsRight}
+use Rattle.model.specs.Families.Indices.Robust.Promises.{SetDoes, IsWellFormed, HoldsRight}
 use Rattle.model.specs.Reading.{Each}
-use Rattle.robust_laws.specs.Gone.{Word, IsHonest}
-use Rattle.container_laws.specs.Gone.{AsksBy, RecoversBy, AnswersBy, FilledSinceEachBy}
-use Rattle.container_laws.specs.Open.{IsOpenContainer}
+use Rattle.laws_robust.specs.Gone.{Word, IsHonest}
+use Rattle.laws_container.specs.Gone.{AsksBy, RecoversBy, AnswersBy, FilledSinceEachBy}
+use Rattle.laws_container.specs.Open.{IsOpenContainer}
 use Rattle.history.specs.History.{IsHistory}
 use Rattle.history.proofs.Containers.{is_open_container}
 use Rattle.lock_free_owners.specs.Container.Told.{IsSound}
@@ -45,5 +45,5 @@ sound_history code capacity events h =
       recovers = subst (Each (RecoversBy Word)) (sym h.is) set.recovers;
       answers = λ before after e is. worn_on (λ worn. record { trace = h.trace; run = h.run; is = h.is; worn = worn }) capacity before e
           (subst (λ n. AnswersBy Word (slice_index h.trace.world.words 0 ≡ greatest) n before e) h.run.sized (set.answers before after e (sym h.is ∙ is)));
-      holds = λ proper honest. subst (Each HoldsRight) (sym h.is) (set.holds (subst IsProper h.is proper) (subst IsHonest h.is honest));
+      holds = λ well_formed honest. subst (Each HoldsRight) (sym h.is) (set.holds (subst IsWellFormed h.is well_formed) (subst IsHonest h.is honest));
     }

@@ -29,7 +29,7 @@ use Rattle.model.specs.Families.{is_question}
 use Rattle.model.specs.Families.Indices.Reading.{is_locked}
 use Rattle.model.specs.Reading.{Each}
 use Rattle.model.specs.Turns.{number_of}
-use Rattle.robust_laws.specs.Gone.{Word, AsksBy}
+use Rattle.laws_robust.specs.Gone.{Word, AsksBy}
 use Rattle.history.specs.declared.view.View.{View}
 use Rattle.history.specs.History.{IsHistory}
 use Rattle.history.specs.Robust.{recovers_owned, RecoverIn, Came, HasAsked, WasTold, HasFreed, HasLocked, Visit, visit}

@@ -21,8 +21,8 @@ use Rattle.model.specs.declared.turn.Kind.TheVariants as kinds
 use Rattle.model.specs.Coding.{one_word}
 use Rattle.model.specs.Families.Indices.Reading.{is_locked}
 use Rattle.model.specs.Families.Indices.Robust.Calls.{acquire_answer, release_answer}
-use Rattle.robust_laws.proofs.Counting.{count_most}
-use Rattle.lock_free_sp.specs.Shares.{IsAll}
+use Rattle.laws_robust.proofs.Counting.{count_most}
+use Rattle.threaded.specs.Shares.{IsAll}
 use Rattle.history.specs.declared.view.View.{View}
 use Rattle.history.specs.History.{IsHistory, Called, IsBeginning}
 use Rattle.history.specs.Passes.{Goes}
@@ -132,7 +132,7 @@ module _ (base w : View ℕ) (m : Unit {0}) (idle : base.going ≡ None) where
         (Filled t.by index owner ∷ []) [] t.tells.1 _
         (λ before after is. (
           ((sound base w ends.history).does before after (Granted t.by index owner) is).0,
-          λ proper honest. (sound base w ends.history).holds proper honest before after (Granted t.by index owner) is,
+          λ well_formed honest. (sound base w ends.history).holds well_formed honest before after (Granted t.by index owner) is,
         ))
 
     pub granted : (answer : Acquired) → Ends one_word kinds.Robust (takes_owned owner) base answer m w → IfOk answer (λ index. WasGranted index owner base w)

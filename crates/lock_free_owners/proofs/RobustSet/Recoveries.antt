@@ -11,7 +11,7 @@ use Rattle.model.specs.Coding.{one_word}
 use Rattle.model.specs.Families.{is_question}
 use Rattle.model.specs.Turns.{number_of}
 use Rattle.model.specs.Families.Indices.Reading.{is_locked}
-use Rattle.lock_free_sp.specs.Driver.{Next}
+use Rattle.threaded.specs.Driver.{Next}
 use Rattle.history.specs.declared.view.View.{View}
 use Rattle.history.specs.Robust.{Visit, visits_after}
 use Rattle.history.proofs.RobustRecoveries.{recover_hears}
@@ -19,7 +19,7 @@ use Rattle.lock_free_owners.specs.Robust.Callable.{TakesQuestions, TakesFreed, H
 use Rattle.lock_free_owners.specs.Robust.Stages.{RecoverAsks, RecoverMoves}
 use Rattle.lock_free_owners.specs.Robust.Turns.{RecoverAt, RecoverEnds, RecoverGoes, RecoverSteps}
 use Rattle.lock_free_owners.proofs.RobustSet.Asking.{knows}
-use Rattle.lock_free_owners.proofs.Rules.Robust.Recovering.{Knows, SoFar, Onward, Visited, onward, may_ask, proper}
+use Rattle.lock_free_owners.proofs.Rules.Robust.Recovering.{Knows, SoFar, Onward, Visited, onward, may_ask, well_formed}
 
 module _ {F S : Type 0} (step : F → ℕ → ℕ → Bool → F → Type 0) (tell : S → ℕ → ℕ → S → Type 0) (cap : ℕ) (mode : ReleaseMode) (base : View ℕ) (f : F)
     (s : S) where
@@ -50,7 +50,7 @@ module _ {F S : Type 0} (step : F → ℕ → ℕ → Bool → F → Type 0) (te
 
   has_visited : (visits : List Visit) (q : F) (y : S) → Visited step tell cap shut f s visits q y → HasVisited step tell f s visits q y
   has_visited visits q y h =
-      record { asked = h.2.questions; told = h.2.calls; owned = proper step tell cap shut f s visits h.0 h.1 q y h.2 }
+      record { asked = h.2.questions; told = h.2.calls; owned = well_formed step tell cap shut f s visits h.0 h.1 q y h.2 }
 
   -- the first step
   pub counter_moves : (call : Recovering) (after : After Recovering ReleaseState) (k : ℕ) → call ≡ first_recover cap → after ≡ recover_after call mode k

@@ -11,10 +11,10 @@ use Rattle.model.specs.declared.event.Start.TheVariants.{Robust}
 use Rattle.model.specs.declared.families.indices.robust.RobustStart.TheVariants.{Acquire, Release, Recover}
 use Rattle.model.specs.declared.turn.Kind.TheVariants as kinds
 use Rattle.model.specs.Coding.{one_word}
-use Rattle.model.specs.Families.Indices.Robust.Promises.{SetDoes, IsProper, HoldsRight}
+use Rattle.model.specs.Families.Indices.Robust.Promises.{SetDoes, IsWellFormed, HoldsRight}
 use Rattle.model.specs.Reading.{Each}
-use Rattle.robust_laws.specs.Gone.{Word, IsHonest, AsksBy, AnswersBy}
-use Rattle.robust_laws.specs.Open.{IsOpenSet}
+use Rattle.laws_robust.specs.Gone.{Word, IsHonest, AsksBy, AnswersBy}
+use Rattle.laws_robust.specs.Open.{IsOpenSet}
 use Rattle.history.specs.History.{IsHistory}
 use Rattle.history.proofs.Robusts.{is_open_set}
 use Rattle.lock_free_owners.specs.Robust.Told.{IsSound}
@@ -36,5 +36,5 @@ sound_history capacity events h =
       asks = subst (Each (AsksBy Word)) (sym h.is) set.asks;
       answers = λ before after e is. worn_on (λ worn. record { trace = h.trace; run = h.run; is = h.is; worn = worn }) capacity before e
           (subst (λ n. AnswersBy Word (slice_index h.trace.world.words 0 ≡ greatest) n before e) h.run.sized (set.answers before after e (sym h.is ∙ is)));
-      holds = λ proper honest. subst (Each HoldsRight) (sym h.is) (set.holds (subst IsProper h.is proper) (subst IsHonest h.is honest));
+      holds = λ well_formed honest. subst (Each HoldsRight) (sym h.is) (set.holds (subst IsWellFormed h.is well_formed) (subst IsHonest h.is honest));
     }

@@ -18,7 +18,7 @@ use Rattle.steps.specs.declared.indices.robust.parts.Counted.TheVariants as ends
 use Rattle.steps.specs.declared.indices.robust.parts.Raise.TheVariants as raises
 use Rattle.steps.specs.declared.indices.robust.recover.Recover.{Recover}
 use Rattle.steps.specs.declared.indices.robust.recover.RecoverStage.TheVariants as recovers
-use Rattle.lock_free_sp.specs.Driver.{Next}
+use Rattle.threaded.specs.Driver.{Next}
 use Rattle.history.specs.declared.view.View.{View}
 use Rattle.lock_free_owners.specs.Robust.Turns.{Goes}
 

@@ -4,7 +4,7 @@ use Rattle.std.specs.List.{FoldsTo}
 use Rattle.steps.specs.declared.enums.CallbackProgression.{CallbackProgression}
 use Rattle.steps.specs.declared.enums.CallbackProgression.TheVariants.{Continue, Stop}
 use Rattle.steps.specs.declared.container.handle.ContainerHandle.{ContainerHandle}
-use Rattle.lock_free_sp.specs.Callable.{Ascends}
+use Rattle.threaded.specs.Callable.{Ascends}
 
 -- a value with the handle that names it
 pub record Visit (T : Type 0) : Type 0 where

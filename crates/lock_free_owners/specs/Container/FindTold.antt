@@ -13,7 +13,7 @@ use Rattle.model.specs.declared.families.container.calls.ContainerFlight as call
 use Rattle.model.specs.declared.families.container.ContainerStart.TheVariants.{Find}
 use Rattle.model.specs.declared.turn.Kind.TheVariants as kinds
 use Rattle.model.specs.Coding.{Coding}
-use Rattle.lock_free_sp.specs.Shares.{IsAll}
+use Rattle.threaded.specs.Shares.{IsAll}
 use Rattle.history.specs.declared.view.View.{View}
 use Rattle.history.specs.History.{Called}
 use Rattle.history.specs.Known.{events_by}

@@ -5,11 +5,11 @@ use Rattle.steps.specs.Indices.Robust.Parts.{empty}
 use Rattle.steps.specs.declared.ask.After.{After}
 use Rattle.steps.specs.declared.container.find.Find.{Find}
 use Rattle.steps.specs.declared.container.find.FindStage as finds
-use Rattle.steps.specs.declared.copied.Kept.{Kept}
+use Rattle.steps.specs.declared.copied.Buffer.{Buffer}
 use Rattle.model.specs.declared.turn.Kind.TheVariants as kinds
 use Rattle.model.specs.Coding.{Coding}
 use Rattle.model.specs.Families.Queues.Calls.{fresh_cell, kept_at}
-use Rattle.lock_free_sp.specs.Driver.{Next}
+use Rattle.threaded.specs.Driver.{Next}
 use Rattle.history.specs.declared.view.View.{View}
 use Rattle.history.specs.ContainerFind.{find_copies, finds_values}
 use Rattle.history.specs.ContainerLooks.{KeepsState}
@@ -19,37 +19,37 @@ use Rattle.history.specs.Stages.{Calling, AtAsked, Ends}
 use Rattle.lock_free_owners.specs.Container.Idle.{IsIdle}
 
 -- the words of a room
-abbrev pub words_in : Kept 128 → List ℕ
+abbrev pub words_in : Buffer 128 → List ℕ
 words_in room = room.words
 
 -- a room, and what was copied by way of it
 abbrev pub Copying : Type 0 → Type 0
-Copying T = Kept 128 × List (ℕ × T)
+Copying T = Buffer 128 × List (ℕ × T)
 
 -- it begins in a room in which nothing was put
-abbrev pub BeginsFind : {T : Type 0} → ℕ → ℕ → Find T (Kept 128) → Copying T → Type 0
+abbrev pub BeginsFind : {T : Type 0} → ℕ → ℕ → Find T (Buffer 128) → Copying T → Type 0
 BeginsFind owner capacity c m =
     (c ≡ first_find capacity) × (0 < capacity) × (owner < empty) × (m ≡ (fresh_cell, []))
 
 module _ {T : Type 0} (code : Coding T) (owner : ℕ) where
-  abbrev pub finding : Calling T (Find T (Kept 128)) (Copying T) ℕ
+  abbrev pub finding : Calling T (Find T (Buffer 128)) (Copying T) ℕ
   finding = finds_values code words_in owner
 
-  abbrev pub find_goes : Find T (Kept 128) → ℕ → After (Find T (Kept 128)) ℕ
+  abbrev pub find_goes : Find T (Buffer 128) → ℕ → After (Find T (Buffer 128)) ℕ
   find_goes c n = find_after code.size c owner n
 
-  abbrev pub find_copying : Find T (Kept 128) → Copying T → ℕ → Copying T
+  abbrev pub find_copying : Find T (Buffer 128) → Copying T → ℕ → Copying T
   find_copying = find_copies code words_in kept_at
 
   -- from where the call of the pass before it had ended, it has begun, or has heard an answer
-  abbrev pub FindBegun : View T → View T → Find T (Kept 128) → Copying T → Type 0
+  abbrev pub FindBegun : View T → View T → Find T (Buffer 128) → Copying T → Type 0
   FindBegun = AtAsked code kinds.Container find_goes find_copying finding
 
   -- it has ended, or rests at its question
   abbrev pub FindOver : View T → ℕ → Copying T → View T → Type 0
   FindOver = EndsAsked code kinds.Container find_goes find_copying finding
 
-  abbrev pub FindAt : View T → View T → Find T (Kept 128) → Copying T → Type 0
+  abbrev pub FindAt : View T → View T → Find T (Buffer 128) → Copying T → Type 0
   FindAt = AtRested code kinds.Container (BeginsFind owner) FindBegun FindOver
 
   -- a step at a word ends it for good
@@ -57,25 +57,25 @@ module _ {T : Type 0} (code : Coding T) (owner : ℕ) where
   FindDone = EndsRested code kinds.Container (BeginsFind owner) FindBegun (Ends code kinds.Container finding)
 
   -- it may take a turn
-  abbrev pub FindMay : View T → Find T (Kept 128) → Kept 128 → Type 0
+  abbrev pub FindMay : View T → Find T (Buffer 128) → Buffer 128 → Type 0
   FindMay v call room = (base : View T) × (copies : List (ℕ × T)) × FindAt base v call (room, copies)
 
   -- what a step tells: whatever the view with which it began, it has copied what it had, and what it copied now
-  abbrev pub FindTells : Find T (Kept 128) → Kept 128 → View T → ℕ → View T → Type 0
+  abbrev pub FindTells : Find T (Buffer 128) → Buffer 128 → View T → ℕ → View T → Type 0
   FindTells call room v n w =
       (base : View T) (copies : List (ℕ × T)) → FindAt base v call (room, copies)
       → Next (λ (z : View T). z.capacity) FindAt FindDone base (find_goes call n)
       (find_copying call (room, copies) n) w
 
   -- how it has gone on since
-  abbrev pub FindGoes : View T → Find T (Kept 128) → Kept 128 → After (Find T (Kept 128)) ℕ
-      → Kept 128 → View T → Type 0
+  abbrev pub FindGoes : View T → Find T (Buffer 128) → Buffer 128 → After (Find T (Buffer 128)) ℕ
+      → Buffer 128 → View T → Type 0
   FindGoes v call room after left w =
       (n : ℕ) × (after ≡ find_goes call n) × (left ≡ find_kept kept_at call room n) × FindTells call room v n w
 
   -- what a turn does: at a question it takes an answer, and nothing is known anew
-  abbrev pub FindTurns : finds.FindStage → View T → Find T (Kept 128) → Kept 128
-      → After (Find T (Kept 128)) ℕ → Kept 128 → View T → Type 0
+  abbrev pub FindTurns : finds.FindStage → View T → Find T (Buffer 128) → Buffer 128
+      → After (Find T (Buffer 128)) ℕ → Buffer 128 → View T → Type 0
   FindTurns (finds.TheVariants.Asks index found) v call room after left w =
       (w ≡ v) × (left ≡ room)
   FindTurns stage v call room after left w = FindGoes v call room after left w

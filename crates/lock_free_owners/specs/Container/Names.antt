@@ -10,8 +10,8 @@ use Rattle.steps.specs.declared.container.state.ContainerState.{ContainerState}
 use Rattle.model.specs.declared.event.Event.{Event}
 use Rattle.model.specs.declared.turn.Kind.TheVariants as kinds
 use Rattle.model.specs.Coding.{Coding, coding_of}
-use Rattle.lock_free_sp.specs.Sets.{SetId}
-use Rattle.lock_free_sp.specs.declared.share.Share.{Share}
+use Rattle.threaded.specs.Sets.{SetId}
+use Rattle.threaded.specs.declared.share.Share.{Share}
 use Rattle.history.specs.declared.view.View.{View}
 use Rattle.history.specs.History.{IsHistory}
 use Rattle.history.specs.Passes as passes

@@ -7,12 +7,12 @@ use Rattle.steps.specs.declared.ask.After.{After}
 use Rattle.steps.specs.declared.container.recover.DeadOwner.{DeadOwner}
 use Rattle.steps.specs.declared.container.recover.Recover.{Recover}
 use Rattle.steps.specs.declared.container.recover.RecoverStage as recovers
-use Rattle.steps.specs.declared.copied.Kept.{Kept}
+use Rattle.steps.specs.declared.copied.Buffer.{Buffer}
 use Rattle.steps.specs.declared.indices.enums.ReleaseState.{ReleaseState}
 use Rattle.model.specs.declared.turn.Kind.TheVariants as kinds
 use Rattle.model.specs.Coding.{Coding}
 use Rattle.model.specs.Families.Queues.Calls.{fresh_cell, kept_at}
-use Rattle.lock_free_sp.specs.Driver.{Next}
+use Rattle.threaded.specs.Driver.{Next}
 use Rattle.history.specs.declared.view.View.{View}
 use Rattle.history.specs.ContainerRecovery.{Came, recover_visits, recovers_values}
 use Rattle.history.specs.Settled.{AtRested, EndsRested}
@@ -21,28 +21,28 @@ use Rattle.lock_free_owners.specs.Container.FindTurns.{words_in}
 
 -- a room, and what was done by way of it with the indices, of which the last comes first
 abbrev pub Visiting : Type 0 → Type 0
-Visiting T = Kept 128 × List (ℕ × Came T)
+Visiting T = Buffer 128 × List (ℕ × Came T)
 
 -- it begins in a room in which nothing was put
-abbrev pub BeginsRecover : {T : Type 0} → DeadOwner → ℕ → Recover T (Kept 128) → Visiting T → Type 0
+abbrev pub BeginsRecover : {T : Type 0} → DeadOwner → ℕ → Recover T (Buffer 128) → Visiting T → Type 0
 BeginsRecover given capacity c m =
     (c ≡ first_recover capacity) × (given.owner < empty) × (m ≡ (fresh_cell, []))
 
 module _ {T : Type 0} (code : Coding T) (given : DeadOwner) where
-  abbrev pub recovering : Calling T (Recover T (Kept 128)) (Visiting T) ReleaseState
+  abbrev pub recovering : Calling T (Recover T (Buffer 128)) (Visiting T) ReleaseState
   recovering = recovers_values code words_in given
 
-  abbrev pub recover_goes : Recover T (Kept 128) → ℕ → After (Recover T (Kept 128)) ReleaseState
+  abbrev pub recover_goes : Recover T (Buffer 128) → ℕ → After (Recover T (Buffer 128)) ReleaseState
   recover_goes c n = recover_after code.size c given n
 
-  abbrev pub recover_visiting : Recover T (Kept 128) → Visiting T → ℕ → Visiting T
+  abbrev pub recover_visiting : Recover T (Buffer 128) → Visiting T → ℕ → Visiting T
   recover_visiting = recover_visits code words_in kept_at given
 
   -- from where the call of the pass before it had ended, it has begun, or has heard an answer
-  abbrev pub RecoverBegun : View T → View T → Recover T (Kept 128) → Visiting T → Type 0
+  abbrev pub RecoverBegun : View T → View T → Recover T (Buffer 128) → Visiting T → Type 0
   RecoverBegun = AtAsked code kinds.Container recover_goes recover_visiting recovering
 
-  abbrev pub RecoverAt : View T → View T → Recover T (Kept 128) → Visiting T → Type 0
+  abbrev pub RecoverAt : View T → View T → Recover T (Buffer 128) → Visiting T → Type 0
   RecoverAt = AtRested code kinds.Container (BeginsRecover given) RecoverBegun
       (Ends code kinds.Container recovering)
 
@@ -51,26 +51,26 @@ module _ {T : Type 0} (code : Coding T) (given : DeadOwner) where
       (Ends code kinds.Container recovering)
 
   -- it may take a turn
-  abbrev pub RecoverMay : View T → Recover T (Kept 128) → Kept 128 → Type 0
+  abbrev pub RecoverMay : View T → Recover T (Buffer 128) → Buffer 128 → Type 0
   RecoverMay v call room = (base : View T) × (visits : List (ℕ × Came T)) × RecoverAt base v call (room, visits)
 
   -- what a step tells: whatever the view with which it began, it has done what it had done, and what it did now
-  abbrev pub RecoverTells : Recover T (Kept 128) → Kept 128 → View T → ℕ → View T → Type 0
+  abbrev pub RecoverTells : Recover T (Buffer 128) → Buffer 128 → View T → ℕ → View T → Type 0
   RecoverTells call room v n w =
       (base : View T) (visits : List (ℕ × Came T)) → RecoverAt base v call (room, visits)
       → Next (λ (z : View T). z.capacity) RecoverAt RecoverEnds base (recover_goes call n)
       (recover_visiting call (room, visits) n) w
 
   -- how it has gone on since
-  abbrev pub RecoverGoes : View T → Recover T (Kept 128) → Kept 128
-      → After (Recover T (Kept 128)) ReleaseState → Kept 128 → View T → Type 0
+  abbrev pub RecoverGoes : View T → Recover T (Buffer 128) → Buffer 128
+      → After (Recover T (Buffer 128)) ReleaseState → Buffer 128 → View T → Type 0
   RecoverGoes v call room after left w =
       (n : ℕ) × (after ≡ recover_goes call n) × (left ≡ recover_kept kept_at call room n)
       × RecoverTells call room v n w
 
   -- what a turn does: at a question it takes an answer, and nothing is known anew
-  abbrev pub RecoverTurns : recovers.RecoverStage → View T → Recover T (Kept 128) → Kept 128
-      → After (Recover T (Kept 128)) ReleaseState → Kept 128 → View T → Type 0
+  abbrev pub RecoverTurns : recovers.RecoverStage → View T → Recover T (Buffer 128) → Buffer 128
+      → After (Recover T (Buffer 128)) ReleaseState → Buffer 128 → View T → Type 0
   RecoverTurns (recovers.TheVariants.Asks index count) v call room after left w =
       (w ≡ v) × (left ≡ room)
   RecoverTurns stage v call room after left w = RecoverGoes v call room after left w

@@ -23,11 +23,11 @@ use Rattle.model.specs.declared.turn.Kind.TheVariants as kinds
 use Rattle.model.specs.Coding.{Coding}
 use Rattle.model.specs.Families.Container.Calls.{added, removed, replaced}
 use Rattle.model.specs.Families.Indices.Reading.{is_locked}
-use Rattle.model.specs.Families.Indices.Robust.Promises.{SetDoes, IsProper, HoldsRight}
+use Rattle.model.specs.Families.Indices.Robust.Promises.{SetDoes, IsWellFormed, HoldsRight}
 use Rattle.model.specs.Reading.{Each}
 use Rattle.model.specs.World.{Trace}
-use Rattle.robust_laws.specs.Gone.{Word, IsHonest}
-use Rattle.container_laws.specs.Gone.{AsksBy, RecoversBy, AnswersBy}
+use Rattle.laws_robust.specs.Gone.{Word, IsHonest}
+use Rattle.laws_container.specs.Gone.{AsksBy, RecoversBy, AnswersBy}
 use Rattle.history.specs.declared.view.View.{View}
 use Rattle.history.specs.Container as container
 use Rattle.history.specs.ContainerFind.{HasCopied}
@@ -52,7 +52,7 @@ module _ {T : Type 0} where
     pub asks : Each (AsksBy Word) events
     pub recovers : Each (RecoversBy Word) events
     pub answers : Each (AnswersBy Word (IsWorn code capacity events) capacity) events
-    pub holds : IsProper events → IsHonest events → Each HoldsRight events
+    pub holds : IsWellFormed events → IsHonest events → Each HoldsRight events
 
 -- the index at which an add that succeeded has placed its value
 abbrev pub placed : Result ContainerHandle ContainerAddFailure → Added
@@ -72,7 +72,7 @@ module _ {T : Type 0} (code : Coding T) where
     pub tells : Wrote by wrote
     pub called : Called by (Container start) answer wrote from new
 
-  -- An add fills an index, is granted it, and places the value there, unless the run was not proper; or was granted none.
+  -- An add fills an index, is granted it, and places the value there, unless the run was not well-formed; or was granted none.
   abbrev pub HasAdded : Owned T → Added → View T → View T → Type 0
   HasAdded given answer old =
       HasMade (Add given.value given.owner) (added answer)
@@ -84,7 +84,7 @@ module _ {T : Type 0} (code : Coding T) where
       HasMade (Remove given.index given.owner given.mode) (removed answer)
       (λ by es. container.HasRemoved by given answer es)
 
-  -- a replace hides what stood there, and places the value, unless the run was not proper
+  -- a replace hides what stood there, and places the value, unless the run was not well-formed
   abbrev pub HasReplaced : Replacement T → Replaced → View T → View T → Type 0
   HasReplaced given answer =
       HasMade (Replace given.index given.value given.owner) (replaced answer)

@@ -18,8 +18,8 @@ use Rattle.steps.specs.declared.indices.robust.release.GiveBack.{GiveBack}
 use Rattle.model.specs.declared.families.container.calls.CountOf.{CountOf}
 use Rattle.model.specs.declared.turn.Kind.TheVariants as kinds
 use Rattle.model.specs.Coding.{Coding}
-use Rattle.lock_free_sp.specs.Seats.{seen, table_of, key_of}
-use Rattle.lock_free_sp.specs.declared.driver.seated.Seated.{Seated}
+use Rattle.threaded.specs.Seats.{seen, table_of, key_of}
+use Rattle.threaded.specs.declared.driver.seated.Seated.{Seated}
 use Rattle.history.specs.declared.view.View.{View}
 use Rattle.history.specs.Container.{adds_value, removes_value, replaces_value, counts_values, sees_lock}
 use Rattle.history.specs.Settled.{AtRested, EndsRested}

@@ -6,7 +6,7 @@ use Rattle.steps.specs.Indices.Robust.Parts.{empty}
 use Rattle.steps.specs.declared.enums.CallbackProgression.{CallbackProgression}
 use Rattle.steps.specs.declared.enums.CallbackProgression.TheVariants.{Continue, Stop}
 use Rattle.model.specs.declared.event.Event.{Event}
-use Rattle.lock_free_sp.specs.Callable.{Ascends}
+use Rattle.threaded.specs.Callable.{Ascends}
 use Rattle.history.specs.Finds.{WereOwned}
 use Rattle.history.specs.Robust.{Visit, Came, HasAsked, WasTold}
 

@@ -10,7 +10,7 @@ use Rattle.model.specs.declared.event.Event.{Event}
 use Rattle.model.specs.declared.turn.Kind.TheVariants as kinds
 use Rattle.model.specs.Coding.{one_word}
 use Rattle.model.specs.Families.Indices.Robust.Reading.{filled_of}
-use Rattle.lock_free_sp.specs.Callable.{Ascends}
+use Rattle.threaded.specs.Callable.{Ascends}
 use Rattle.history.specs.declared.view.View.{View}
 use Rattle.history.specs.Finds.{WereOwned}
 use Rattle.history.specs.Views.{Looks}

@@ -21,12 +21,12 @@ use Rattle.model.specs.declared.turn.Kind.TheVariants as kinds
 use Rattle.model.specs.Coding.{one_word}
 use Rattle.model.specs.Families.Indices.Reading.{is_locked}
 use Rattle.model.specs.Families.Indices.Robust.Calls.{acquire_answer, release_answer}
-use Rattle.model.specs.Families.Indices.Robust.Promises.{IsUnlocked, SetDoes, IsProper, HoldsRight}
+use Rattle.model.specs.Families.Indices.Robust.Promises.{IsUnlocked, SetDoes, IsWellFormed, HoldsRight}
 use Rattle.model.specs.Families.Indices.Robust.Reading.{filled_of, holder_of}
-use Rattle.model.specs.Moments.{HeldOnce}
+use Rattle.model.specs.Moments.{HeldSometime}
 use Rattle.model.specs.Reading.{Each}
 use Rattle.model.specs.World.{Trace}
-use Rattle.robust_laws.specs.Gone.{Word, IsHonest, AsksBy, AnswersBy}
+use Rattle.laws_robust.specs.Gone.{Word, IsHonest, AsksBy, AnswersBy}
 use Rattle.history.specs.declared.view.View.{View}
 use Rattle.history.specs.History.{Called, IsBeginning, IsRun}
 use Rattle.history.specs.Robust as robust
@@ -90,7 +90,7 @@ module _ {T : Type 0} where
   WasFilled index owner old new =
       WroteAt (λ by. Filled by index owner)
       (λ by before. (index < old.capacity) × (filled_of index before ≡ None)
-      × HeldOnce by IsUnlocked before) old new
+      × HeldSometime by IsUnlocked before) old new
 
   -- the set was not locked then, and nobody held the index, where nobody acts for an owner who is gone
   -- nor gives back what is not his
@@ -98,7 +98,7 @@ module _ {T : Type 0} where
   WasGranted index owner old new =
       WroteAt (λ by. Granted by index owner)
       (λ by before. IsUnlocked before
-      × (IsProper new.seen → IsHonest new.seen → holder_of index before ≡ None)) old new
+      × (IsWellFormed new.seen → IsHonest new.seen → holder_of index before ≡ None)) old new
 
   -- the index had this owner then
   abbrev pub WasFreed : ℕ → ℕ → View T → View T → Type 0
@@ -118,7 +118,7 @@ pub record IsSound (capacity : ℕ) (events : List (Event ℕ)) : Type 0 where
   pub does : Each (SetDoes capacity) events
   pub asks : Each (AsksBy Word) events
   pub answers : Each (AnswersBy Word (IsWorn capacity events) capacity) events
-  pub holds : IsProper events → IsHonest events → Each HoldsRight events
+  pub holds : IsWellFormed events → IsHonest events → Each HoldsRight events
 
 -- The last that was seen is the end of the call, and the answer said this of the set at its last step, and at moments of
 -- the call: an acquire fails by OutOfIndices only where each index had an owner at a moment of it, and so on.

@@ -11,9 +11,9 @@ use Rattle.steps.specs.declared.indices.robust.looks.BorrowedIndices.{BorrowedIn
 use Rattle.steps.specs.declared.indices.robust.recover.Recover.{Recover}
 use Rattle.model.specs.declared.turn.Kind.TheVariants as kinds
 use Rattle.model.specs.Coding.{one_word}
-use Rattle.lock_free_sp.specs.Driver.{Next}
-use Rattle.lock_free_sp.specs.Seats.{seen, table_of, key_of}
-use Rattle.lock_free_sp.specs.declared.driver.seated.Seated.{Seated}
+use Rattle.threaded.specs.Driver.{Next}
+use Rattle.threaded.specs.Seats.{seen, table_of, key_of}
+use Rattle.threaded.specs.declared.driver.seated.Seated.{Seated}
 use Rattle.history.specs.declared.view.View.{View}
 use Rattle.history.specs.Robust.{takes_owned, counts_owned, recovers_owned, Visit, visits_after}
 use Rattle.history.specs.Stages.{At, AtAsked, Ends}

@@ -6,7 +6,7 @@
 //! `borrowed_indices` 0 and its `is_locked` true, and its recoveries come to no index.
 //!
 //! Two things are the caller's concern besides, which no contract asks for: an index is given back at most once, by its
-//! holder; and nobody acts for an owner once its recovery has begun. In a history where nobody breaks them (`IsProper`,
+//! holder; and nobody acts for an owner once its recovery has begun. In a history where nobody breaks them (`IsWellFormed`,
 //! `IsHonest`) no index is granted that somebody holds. Where a caller breaks them each call still answers as its contract
 //! says, but an index may be handed out that somebody still uses.
 //!

@@ -12,11 +12,11 @@ use Rattle.model.specs.Families.Queues.Opening.{cells_of}
 use Rattle.model.specs.Families.Queues.Reading.{published, handed_out}
 use Rattle.model.specs.World.{Trace}
 use Rattle.model.proofs.Frame as frame
-use Rattle.queue_laws.proofs.Queues.Core as core
-use Rattle.queue_laws.proofs.Queues.Invariant.{family, machine_kind}
-use Rattle.queue_laws.proofs.Queues.Knows.{free}
-use Rattle.queue_laws.proofs.Queues.Sound.{kept_is}
-use Rattle.queue_laws.proofs.Queues.Values.{Val, encoded, item}
+use Rattle.laws_queues.proofs.Queues.Core as core
+use Rattle.laws_queues.proofs.Queues.Invariant.{family, machine_kind}
+use Rattle.laws_queues.proofs.Queues.Knows.{free}
+use Rattle.laws_queues.proofs.Queues.Sound.{kept_is}
+use Rattle.laws_queues.proofs.Queues.Values.{Val, encoded, item}
 use Rattle.history.specs.History.{IsRun}
 use Rattle.history.proofs.Queues.{sound_of}
 

@@ -7,7 +7,7 @@ use Rattle.std.proofs.lemmas.Grind.{flat_map-append}
 use Rattle.std.proofs.lemmas.List.{length-map}
 use Rattle.std.proofs.lemmas.Option.{slice_get-map, slice_get_within}
 use Rattle.std.specs.Option.{option_map}
-use Rattle.plain.specs.Queues.{words_from, value_at, values_from, Fits}
+use Rattle.plain.specs.Queues.{words_from, value_at, values_from, Represents}
 use Rattle.plain.proofs.Lists.Cells.{values_length}
 use Rattle.plain.proofs.Words.{words_all}
 use Rattle.model.specs.declared.event.Item.{Item}
@@ -17,10 +17,10 @@ use Rattle.model.specs.declared.turn.Kind.{Kind}
 use Rattle.model.specs.Coding.{Coding, IsCoding}
 use Rattle.model.specs.Families.Queues.Opening.{cells_of}
 use Rattle.model.specs.Families.Queues.Reading.{published, handed_out, waiting, publishes, hands_out}
-use Rattle.lock_free_sp.specs.Shares.{IsAll}
-use Rattle.queue_laws.proofs.Queues.Core.{cell_within}
-use Rattle.queue_laws.proofs.Queues.Invariant.{machine_kind}
-use Rattle.queue_laws.proofs.Queues.Values.{Val, encoded, item}
+use Rattle.threaded.specs.Shares.{IsAll}
+use Rattle.laws_queues.proofs.Queues.Core.{cell_within}
+use Rattle.laws_queues.proofs.Queues.Invariant.{machine_kind}
+use Rattle.laws_queues.proofs.Queues.Values.{Val, encoded, item}
 use Rattle.history.specs.declared.view.View.{View}
 use Rattle.history.specs.Views.{first_view}
 use Rattle.history.proofs.Holders.{IsListed}
@@ -149,7 +149,7 @@ module _ {T : Type 0} (code : Coding T) (law : IsCoding code) (kd : QueueKind) (
   long = l.long ∙ ap (λ n. 4 + n) (cells_are_words code kd capacity)
 
   -- of a queue with as many cells as its capacity
-  pub fits : cells ≡ capacity → Fits z.size capacity words
+  pub fits : cells ≡ capacity → Represents z.size capacity words
   fits even =
       let first = l.first in
       let last = l.last in

@@ -18,8 +18,8 @@ use Rattle.model.specs.declared.families.queues.QueueStart.TheVariants.{Pop}
 use Rattle.model.specs.Coding.{Coding}
 use Rattle.model.specs.Families.{want_of}
 use Rattle.model.specs.Families.Queues.Reading.{published}
-use Rattle.queue_laws.proofs.Queues.Invariant.{machine_kind}
-use Rattle.queue_laws.proofs.Ring.Kinds.{Ring, kind_of}
+use Rattle.laws_queues.proofs.Queues.Invariant.{machine_kind}
+use Rattle.laws_queues.proofs.Ring.Kinds.{Ring, kind_of}
 use Rattle.history.specs.declared.view.View.{View}
 use Rattle.history.specs.History.{Called, IsHistory}
 use Rattle.history.specs.Roles.{HasRole}

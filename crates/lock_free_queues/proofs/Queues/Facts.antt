@@ -25,7 +25,7 @@ use Rattle.model.specs.Families.Queues.Calls.{length_answer}
 use Rattle.model.specs.Families.Queues.Promises.{IsQueue}
 use Rattle.model.specs.Families.Queues.Lengths.{TellsLength}
 use Rattle.model.specs.Families.Queues.Reading.{waiting, published, handed_out}
-use Rattle.model.specs.Moments.{HeldOnce}
+use Rattle.model.specs.Moments.{HeldSometime}
 use Rattle.model.specs.Reading.{Each}
 use Rattle.history.specs.declared.view.View.{View}
 use Rattle.history.specs.History.{IsHistory, Called, IsBeginning}
@@ -35,7 +35,7 @@ use Rattle.history.specs.Views.{first_view, Looks}
 use Rattle.history.proofs.Drives.{called}
 use Rattle.history.proofs.Queues.{queue_goes_on}
 use Rattle.history.proofs.Roles.{role_by}
-use Rattle.lock_free_sp.specs.Shares.{IsAll}
+use Rattle.threaded.specs.Shares.{IsAll}
 use Rattle.lock_free_queues.specs.Queues.Told.{HasPushed, HasPublished, HasTakenOut, WasFull, HasPopped, WasEmpty}
 use Rattle.lock_free_queues.specs.Queues.Told.{HasMeasured, HasAcquired, HasReleased, FoundNone}
 use Rattle.model.specs.declared.event.Item.{Item}
@@ -44,8 +44,8 @@ use Rattle.model.specs.declared.turn.Kind.{Kind}
 use Rattle.model.specs.Coding.{Coding}
 use Rattle.model.specs.Families.Queues.Book.{AnswersRight}
 use Rattle.model.specs.Families.Queues.Reading.{producer_of}
-use Rattle.queue_laws.proofs.Queues.Invariant.{machine_kind}
-use Rattle.queue_laws.proofs.Ring.Kinds.{Ring, of_indices, of_values, kind_of}
+use Rattle.laws_queues.proofs.Queues.Invariant.{machine_kind}
+use Rattle.laws_queues.proofs.Ring.Kinds.{Ring, of_indices, of_values, kind_of}
 use Rattle.history.specs.Passes.{Goes}
 use Rattle.lock_free_queues.specs.Queues.Kinds.{NoneTaken, NoneMarked, most_waiting}
 use Rattle.lock_free_queues.specs.Queues.Told.{push_of, popped_item}
@@ -274,7 +274,7 @@ module _ {T : Type 0} (code : Coding T) (kd : QueueKind) where
 
     stood_as : (which : LengthOf) (p c : ℕ) (answer : Answer T) (xs : List (Event T))
         → TellsLength c xs (Finished p (Queues (length_start which)) answer)
-        → HeldOnce p (λ part. answer ≡ length_answer which c (length (waiting part))) xs
+        → HeldSometime p (λ part. answer ≡ length_answer which c (length (waiting part))) xs
     stood_as measures.Len p c answer xs h = h
     stood_as measures.IsEmpty p c answer xs h = h
     stood_as measures.IsFull p c answer xs h = h

@@ -5,7 +5,7 @@ use Rattle.std.proofs.Common.{arith}
 use Rattle.std.proofs.lemmas.Bool.{cases_lt}
 use Rattle.std.proofs.lemmas.List.{length-replicate, take-replicate}
 use Rattle.steps.specs.Copied.{value_in}
-use Rattle.queue_laws.proofs.Queues.Core as core
+use Rattle.laws_queues.proofs.Queues.Core as core
 use Rattle.history.proofs.Calls.{set_left}
 use Rattle.history.proofs.Passes.{set_same}
 use Rattle.lock_free_queues.proofs.Queues.Tests.{not_below}

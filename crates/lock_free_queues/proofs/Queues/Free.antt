@@ -20,8 +20,8 @@ use Rattle.model.specs.Families.Queues.Steps.{pending}
 use Rattle.model.specs.Families.Queues.Roles.{GrantsRight}
 use Rattle.model.specs.Reading.{Each}
 use Rattle.model.specs.World.{Trace}
-use Rattle.queue_laws.proofs.Queues.Invariant.{waiting_is}
-use Rattle.queue_laws.proofs.Queues.Knows.{Hangs}
+use Rattle.laws_queues.proofs.Queues.Invariant.{waiting_is}
+use Rattle.laws_queues.proofs.Queues.Knows.{Hangs}
 use Rattle.history.specs.History.{IsRun}
 use Rattle.history.specs.Roles.{takes, gives, role_after}
 use Rattle.history.proofs.Known.{sum_first}

@@ -15,8 +15,8 @@ use Rattle.model.specs.declared.families.queues.QueueKind.TheVariants.{IndexQueu
 use Rattle.model.specs.declared.families.queues.calls.LengthOf.{LengthOf}
 use Rattle.model.specs.Coding.{Coding, IsCoding}
 use Rattle.model.specs.World.{Trace}
-use Rattle.queue_laws.proofs.Queues.Invariant.{machine_kind}
-use Rattle.lock_free_sp.specs.Driver.{KeepsRule}
+use Rattle.laws_queues.proofs.Queues.Invariant.{machine_kind}
+use Rattle.threaded.specs.Driver.{KeepsRule}
 use Rattle.history.specs.declared.view.View.{View}
 use Rattle.history.specs.History.{IsMachine, IsRun}
 use Rattle.history.specs.Queues.{takes_role, gives_role, counts_waiting}

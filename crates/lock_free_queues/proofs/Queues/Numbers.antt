@@ -4,7 +4,7 @@ use Rattle.atomic_table.specs.Table.{opening}
 use Rattle.model.specs.declared.families.queues.QueueKind.{QueueKind}
 use Rattle.model.specs.declared.families.queues.QueueKind.TheVariants.{IndexQueue, Overflow, Queue}
 use Rattle.model.specs.Coding.{one_word}
-use Rattle.queue_laws.proofs.Ring.Kinds.{of_indices, of_values}
+use Rattle.laws_queues.proofs.Ring.Kinds.{of_indices, of_values}
 use Rattle.history.specs.History.{IsMachine}
 use Rattle.lock_free_queues.specs.Queues.Bounded.{machine_of}
 use Rattle.lock_free_queues.specs.Queues.Kinds.{words_in_cells, opened_by}

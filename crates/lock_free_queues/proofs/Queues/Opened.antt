@@ -32,13 +32,13 @@ use Rattle.model.specs.Coding.{Coding, IsCoding}
 use Rattle.model.specs.Families.{want_of}
 use Rattle.model.specs.Families.Queues.Opening.{words_of_cell}
 use Rattle.model.specs.World.{World}
-use Rattle.queue_laws.proofs.Queues.Core as core
-use Rattle.queue_laws.proofs.Queues.Core.{cell_within, take_all}
-use Rattle.queue_laws.proofs.Queues.Invariant.{machine_kind}
-use Rattle.queue_laws.proofs.Queues.Knows.{IsFreshCall}
-use Rattle.queue_laws.proofs.Queues.Stages.{asked_place}
-use Rattle.queue_laws.proofs.Queues.Values.{Val, encoded, item}
-use Rattle.queue_laws.proofs.Ring.Kinds.{Ring, kind_of, Room, words_in, with_word, put_in, flight, read_in, are_words}
+use Rattle.laws_queues.proofs.Queues.Core as core
+use Rattle.laws_queues.proofs.Queues.Core.{cell_within, take_all}
+use Rattle.laws_queues.proofs.Queues.Invariant.{machine_kind}
+use Rattle.laws_queues.proofs.Queues.Knows.{IsFreshCall}
+use Rattle.laws_queues.proofs.Queues.Stages.{asked_place}
+use Rattle.laws_queues.proofs.Queues.Values.{Val, encoded, item}
+use Rattle.laws_queues.proofs.Ring.Kinds.{Ring, kind_of, Room, words_in, with_word, put_in, flight, read_in, are_words}
 use Rattle.history.specs.declared.view.View.{View}
 use Rattle.history.specs.History.{IsMachine}
 use Rattle.history.specs.Known.{owned}

@@ -3,7 +3,7 @@
 use Rattle.std.proofs.Common.{◌≡◌, ℕ, ◌+◌, ◌-◌, ◌<◌, ◌≤◌, max, List, [], length, set, slice_index, refl, sym, ap}
 use Rattle.std.proofs.Common.{subst, ◌∙◌, length-set, length-append, append-nil, get_or-set_same, get_or-set_other}
 use Rattle.std.proofs.Common.{sum_by, arith}
-use Rattle.plain.specs.Overflowing.{Fits, list_in}
+use Rattle.plain.specs.Overflowing.{Represents, list_in}
 use Rattle.steps.specs.declared.queues.roles.Role.TheVariants.{Producer}
 use Rattle.model.specs.declared.event.Event.{Event}
 use Rattle.model.specs.declared.event.Item.TheVariants.{Index}
@@ -11,7 +11,7 @@ use Rattle.model.specs.declared.families.queues.QueueKind.TheVariants.{Overflow}
 use Rattle.model.specs.declared.turn.Kind.TheVariants as kinds
 use Rattle.model.specs.Coding.{one_word}
 use Rattle.model.specs.Families.Queues.Reading.{published, handed_out, waiting}
-use Rattle.lock_free_sp.specs.Shares.{IsAll}
+use Rattle.threaded.specs.Shares.{IsAll}
 use Rattle.history.specs.declared.view.View.{View}
 use Rattle.history.specs.History.{IsHistory}
 use Rattle.history.specs.Roles.{takes, gives}
@@ -45,7 +45,7 @@ module _ (capacity : ℕ) (v : View ℕ) (words : List ℕ)
   above : (word : ℕ) → 4 ≤ word → slice_index later word ≡ slice_index words word
   above word high = get_or-set_other words 1 word first 0 (λ e. absurd (omega arith))
 
-  pub over_fits : Fits capacity later
+  pub over_fits : Represents capacity later
   over_fits =
       let one = first_is in
       let start = other 0 (omega arith) in

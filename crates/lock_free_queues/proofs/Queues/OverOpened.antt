@@ -35,9 +35,9 @@ use Rattle.model.specs.Coding.{Coding, IsCoding}
 use Rattle.model.specs.Families.{want_of, after_of, beside_of}
 use Rattle.model.specs.Families.Queues.Steps.{effects_of, takes_effect}
 use Rattle.model.specs.World.{World}
-use Rattle.queue_laws.proofs.Queues.Core as core
-use Rattle.queue_laws.proofs.Queues.Knows.{IsFreshCall}
-use Rattle.queue_laws.proofs.Queues.Sound.{kept_is}
+use Rattle.laws_queues.proofs.Queues.Core as core
+use Rattle.laws_queues.proofs.Queues.Knows.{IsFreshCall}
+use Rattle.laws_queues.proofs.Queues.Sound.{kept_is}
 use Rattle.history.specs.declared.view.View.{View}
 use Rattle.history.specs.History.{IsMachine, call_in}
 use Rattle.history.specs.Known.{owned}

@@ -18,7 +18,7 @@ use Rattle.model.specs.declared.families.queues.QueueKind.TheVariants.{Overflow}
 use Rattle.model.specs.declared.families.queues.QueueStart.TheVariants.{PushIndex}
 use Rattle.model.specs.declared.turn.Kind.TheVariants as kinds
 use Rattle.model.specs.Coding.{Coding}
-use Rattle.lock_free_sp.specs.Driver.{KeepsRule}
+use Rattle.threaded.specs.Driver.{KeepsRule}
 use Rattle.history.specs.declared.view.View.{View}
 use Rattle.history.specs.History.{IsMachine}
 use Rattle.history.specs.Overflow.{over_push_skips, HasPushWord, pushes_over}

@@ -13,8 +13,8 @@ use Rattle.model.specs.Coding.{Coding}
 use Rattle.model.specs.Families.Queues.Reading.{published, handed_out, waiting, publishes, hands_out}
 use Rattle.history.specs.declared.view.View.{View}
 use Rattle.history.specs.History.{IsBeginning, IsHistory}
-use Rattle.queue_laws.proofs.Queues.Invariant.{machine_kind}
-use Rattle.queue_laws.proofs.Ring.Kinds.{Ring, kind_of}
+use Rattle.laws_queues.proofs.Queues.Invariant.{machine_kind}
+use Rattle.laws_queues.proofs.Ring.Kinds.{Ring, kind_of}
 use Rattle.history.proofs.Holders.{always_listed}
 use Rattle.lock_free_queues.proofs.Queues.Facts.{answers_right, tells_lengths, grants, by_holder}
 use Rattle.lock_free_queues.specs.Queues.Positions.{IsPublished, IsTaken, IsSound}

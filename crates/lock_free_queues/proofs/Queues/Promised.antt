@@ -15,9 +15,9 @@ use Rattle.model.specs.Linearized.{as_list, IsLinearized}
 use Rattle.model.specs.Progress.{KeepsGuarantees}
 use Rattle.model.proofs.Linearizable.Kinds.{run_linearizable}
 use Rattle.model.proofs.Progress.{keeps_guarantees}
-use Rattle.queue_laws.proofs.Queues.Invariant.{machine_kind}
-use Rattle.queue_laws.proofs.Queues.Kept.{kept_on}
-use Rattle.queue_laws.proofs.Ring.Kinds.{of_indices, of_values}
+use Rattle.laws_queues.proofs.Queues.Invariant.{machine_kind}
+use Rattle.laws_queues.proofs.Queues.Kept.{kept_on}
+use Rattle.laws_queues.proofs.Ring.Kinds.{of_indices, of_values}
 use Rattle.history.specs.declared.view.View.{View}
 use Rattle.history.specs.History.{IsHistory}
 use Rattle.history.proofs.Reached.{queue_run}

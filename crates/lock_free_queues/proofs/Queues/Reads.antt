@@ -10,8 +10,8 @@ use Rattle.model.specs.declared.event.Event.{Event}
 use Rattle.model.specs.declared.families.queues.QueueKind.{QueueKind}
 use Rattle.model.specs.declared.turn.Kind.{Kind}
 use Rattle.model.specs.Coding.{Coding}
-use Rattle.lock_free_sp.specs.Shares.{IsAll}
-use Rattle.queue_laws.proofs.Queues.Invariant.{machine_kind}
+use Rattle.threaded.specs.Shares.{IsAll}
+use Rattle.laws_queues.proofs.Queues.Invariant.{machine_kind}
 use Rattle.history.specs.declared.view.View.{View}
 use Rattle.history.specs.History.{IsBeginning, IsMachine, IsRun}
 use Rattle.history.specs.Views.{Looks, LooksAt}

@@ -15,7 +15,7 @@ use Rattle.model.specs.declared.families.Flight.{Flight}
 use Rattle.model.specs.declared.families.queues.QueueKind.{QueueKind}
 use Rattle.model.specs.Coding.{Coding}
 use Rattle.model.specs.World.{World}
-use Rattle.queue_laws.proofs.Queues.Invariant.{machine_kind}
+use Rattle.laws_queues.proofs.Queues.Invariant.{machine_kind}
 use Rattle.history.specs.Queues.{takes_role, gives_role}
 use Rattle.history.specs.Roles.{HasRole, role_word, acquire_start, release_start}
 use Rattle.history.proofs.Alone.{same_seat, Here, maker, sums, begins, ends}

@@ -18,7 +18,7 @@ use Rattle.model.specs.declared.event.Item.TheVariants.{Index, Value}
 use Rattle.model.specs.declared.event.Start.TheVariants.{Queues}
 use Rattle.model.specs.declared.families.Flight as flights
 use Rattle.model.specs.declared.families.Flight.{Flight}
-use Rattle.model.specs.declared.families.Kept.{Kept}
+use Rattle.model.specs.declared.families.Registry.{Registry}
 use Rattle.model.specs.declared.families.queues.QueueStart.TheVariants.{Pop}
 use Rattle.model.specs.declared.families.queues.QueueKind.{QueueKind}
 use Rattle.model.specs.declared.families.queues.QueueKind.TheVariants.{IndexQueue, Overflow, Queue}
@@ -29,11 +29,11 @@ use Rattle.model.specs.Families.{first_of, want_of, after_of, opening_of}
 use Rattle.model.specs.Families.Queues.Calls.{fresh_cell}
 use Rattle.model.specs.Families.Queues.Opening.{lacks_role, words_of_cell}
 use Rattle.model.specs.World.{capacity_error}
-use Rattle.queue_laws.proofs.Queues.Invariant.{machine_kind}
-use Rattle.queue_laws.proofs.Queues.Knows.{IsFreshCall}
-use Rattle.queue_laws.proofs.Queues.Values.{Val, encoded, item}
-use Rattle.queue_laws.proofs.Ring.Kinds.{Ring, of_indices, of_values, kind_of, Room, words_in, with_word, flight, read_in}
-use Rattle.queue_laws.proofs.Ring.Knows.{IsFresh}
+use Rattle.laws_queues.proofs.Queues.Invariant.{machine_kind}
+use Rattle.laws_queues.proofs.Queues.Knows.{IsFreshCall}
+use Rattle.laws_queues.proofs.Queues.Values.{Val, encoded, item}
+use Rattle.laws_queues.proofs.Ring.Kinds.{Ring, of_indices, of_values, kind_of, Room, words_in, with_word, flight, read_in}
+use Rattle.laws_queues.proofs.Ring.Knows.{IsFresh}
 use Rattle.history.specs.Queues.{takes_role, gives_role}
 use Rattle.history.specs.Roles.{role_word, acquire_start, release_start, holder}
 use Rattle.history.proofs.QueueCalls.{holds_it}
@@ -63,7 +63,7 @@ module _ {T : Type 0} (code : Coding T) (capacity : ℕ) where
 
   -- ---- the push
 
-  pub push_named : (r : Ring) (v : Val T (kind_of r)) (kept : Kept T)
+  pub push_named : (r : Ring) (v : Val T (kind_of r)) (kept : Registry T)
       → first_of (machine_kind (kind_of r)) capacity (Queues (push_of (item (kind_of r) v))) kept
       ≡ Some (pushing r v capacity pushes.TheVariants.LoadsWrite)
   push_named of_indices v kept = refl
@@ -128,7 +128,7 @@ module _ {T : Type 0} (code : Coding T) (capacity : ℕ) where
 
   -- ---- the pop
 
-  pub pop_named : (r : Ring) (kept : Kept T)
+  pub pop_named : (r : Ring) (kept : Registry T)
       → first_of (machine_kind (kind_of r)) capacity (Queues Pop) kept ≡ Some (popping r capacity pops.TheVariants.LoadsRead (fresh r))
   pop_named of_indices kept = refl
   pop_named of_values kept = refl
@@ -197,7 +197,7 @@ module _ {T : Type 0} (code : Coding T) (capacity : ℕ) where
       let least : nat_lt capacity 0 ≡ false = grind (arith, nat_tests) in
       rw (most, least) refl)
 
-  pub acquire_named : (kd : QueueKind) (role : Role) (kept : Kept T)
+  pub acquire_named : (kd : QueueKind) (role : Role) (kept : Registry T)
       → ◌≡◌ {A = Option (Flight T)} (first_of (machine_kind kd) capacity (Queues (acquire_start role)) kept)
       (Some ((takes_role role).flight (record { word = role_word role }) tt))
   acquire_named IndexQueue Producer kept = refl
@@ -207,7 +207,7 @@ module _ {T : Type 0} (code : Coding T) (capacity : ℕ) where
   acquire_named Queue Producer kept = refl
   acquire_named Queue Consumer kept = refl
 
-  pub release_named : (kd : QueueKind) (role : Role) (kept : Kept T)
+  pub release_named : (kd : QueueKind) (role : Role) (kept : Registry T)
       → ◌≡◌ {A = Option (Flight T)} (first_of (machine_kind kd) capacity (Queues (release_start role)) kept)
       (Some ((gives_role role).flight (record { word = role_word role }) tt))
   release_named IndexQueue Producer kept = refl

@@ -16,7 +16,7 @@ use Rattle.history.specs.declared.view.View.{View}
 use Rattle.history.specs.History.{Called}
 use Rattle.history.specs.Roles.{takes, gives}
 use Rattle.history.proofs.Known.{sum_first}
-use Rattle.lock_free_sp.specs.Shares.{IsAll}
+use Rattle.threaded.specs.Shares.{IsAll}
 use Rattle.history.specs.Passes.{MissesNothing}
 use Rattle.lock_free_queues.specs.Queues.Overflowing.{HasOverflowed}
 use Rattle.lock_free_queues.specs.Queues.Roles.{Moved, other_role}

@@ -11,13 +11,13 @@ use Rattle.model.specs.declared.event.Start.TheVariants.{Queues}
 use Rattle.model.specs.declared.families.queues.QueueKind.{QueueKind}
 use Rattle.model.specs.declared.families.queues.QueueStart.TheVariants.{Pop}
 use Rattle.model.specs.Families.Queues.Reading.{publishes, hands_out, published, handed_out}
-use Rattle.lock_free_sp.specs.Shares.{IsAll}
+use Rattle.threaded.specs.Shares.{IsAll}
 use Rattle.history.specs.declared.view.View.{View}
 use Rattle.history.specs.History.{IsBeginning}
 use Rattle.history.proofs.Known.{sum_first}
 use Rattle.model.specs.declared.turn.Kind.{Kind}
 use Rattle.model.specs.Coding.{Coding}
-use Rattle.queue_laws.proofs.Queues.Invariant.{machine_kind}
+use Rattle.laws_queues.proofs.Queues.Invariant.{machine_kind}
 use Rattle.history.specs.Passes.{Goes, MissesNothing}
 use Rattle.lock_free_queues.specs.Queues.Told.{HasPopped, FoundNone}
 use Rattle.lock_free_queues.proofs.Queues.Facts.{found_none, listed_always}

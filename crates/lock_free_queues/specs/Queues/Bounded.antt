@@ -2,7 +2,7 @@
 use Rattle.model.specs.declared.families.queues.QueueKind.{QueueKind}
 use Rattle.model.specs.declared.families.queues.QueueKind as queues
 use Rattle.model.specs.declared.turn.Kind.{Kind}
-use Rattle.queue_laws.proofs.Queues.Invariant.{machine_kind}
+use Rattle.laws_queues.proofs.Queues.Invariant.{machine_kind}
 
 -- the machine that has such a queue
 abbrev pub machine_of : QueueKind → Kind

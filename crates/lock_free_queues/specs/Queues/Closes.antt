@@ -3,7 +3,7 @@ use Rattle.std.specs.Prelude.{◌≡◌, ◌⊎◌, ℕ, ◌-◌, ◌<◌, ◌�
 use Rattle.steps.specs.Objects.Lists.{Bounded}
 use Rattle.model.specs.declared.event.Item.{Item}
 use Rattle.model.specs.Families.Queues.Reading.{published, handed_out}
-use Rattle.lock_free_sp.specs.Shares.{IsAll}
+use Rattle.threaded.specs.Shares.{IsAll}
 use Rattle.history.specs.declared.view.View.{View}
 
 -- Each value that was seen to be published lies before the list, or waits at its place, and those that were seen to be

@@ -8,7 +8,7 @@ use Rattle.model.specs.declared.event.Item.{Item}
 use Rattle.model.specs.declared.event.Item.TheVariants.{Index}
 use Rattle.model.specs.declared.event.Start.TheVariants.{Queues}
 use Rattle.model.specs.declared.families.queues.QueueStart.TheVariants.{AcquireProducer, ReleaseProducer, AcquireConsumer, ReleaseConsumer, Pop}
-use Rattle.lock_free_sp.specs.Shares.{all_shares}
+use Rattle.threaded.specs.Shares.{all_shares}
 use Rattle.history.specs.declared.view.View.{View}
 use Rattle.lock_free_queues.specs.Queues.Told.{push_of, popped_item}
 

@@ -13,8 +13,8 @@ use Rattle.model.specs.declared.families.queues.QueueStart.TheVariants.{PushInde
 use Rattle.model.specs.declared.families.queues.calls.LengthOf.{LengthOf}
 use Rattle.model.specs.Families.Queues.Calls.{length_answer}
 use Rattle.model.specs.Families.Queues.Reading.{published, handed_out, waiting}
-use Rattle.model.specs.Moments.{HeldOnce}
-use Rattle.lock_free_sp.specs.Shares.{IsAll}
+use Rattle.model.specs.Moments.{HeldSometime}
+use Rattle.threaded.specs.Shares.{IsAll}
 use Rattle.history.specs.declared.view.View.{View}
 use Rattle.history.specs.History.{Called, IsBeginning}
 pub use Rattle.history.specs.Passes.{HasSplit, HasJoined}
@@ -136,7 +136,7 @@ module _ {T : Type 0} where
     pub called : Called by (Queues (length_start which)) answer [] old new
     pub before : List (Event T)
     pub is : new.seen ≡ before ++ Finished by (Queues (length_start which)) answer ∷ []
-    pub stood : HeldOnce by (λ part. answer ≡ length_answer which capacity (length (waiting part))) before
+    pub stood : HeldSometime by (λ part. answer ≡ length_answer which capacity (length (waiting part))) before
 
   -- ---- roles
 

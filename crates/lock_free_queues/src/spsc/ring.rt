@@ -11,11 +11,11 @@ use self::drives::{Popping, Pushing};
 use self::rule::{Board, Kind, Origin, RingRule};
 use atomic_table::TableRule;
 use history::view::View;
-use lock_free_sp::driver::seated::Seated;
 use std::alloc::Global;
 use std::marker::PhantomData;
 use std::sync::Arc;
 use steps::words::Words;
+use threaded::driver::seated::Seated;
 
 mod calls;
 mod drives;

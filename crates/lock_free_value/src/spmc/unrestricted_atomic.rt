@@ -1,16 +1,16 @@
 //! One value of any type with words, with one producer and any number of readers, shared between threads.
 ghost use Rattle.std.specs.Prelude.{◌≡◌, ◌<◌, ◌+◌, ◌*◌, [], None, length};
-ghost use Rattle.atomic_laws.specs.Stored.{stored};
+ghost use Rattle.laws_value.specs.Stored.{stored};
 ghost use Rattle.history.specs.Value.{HasProducer};
 ghost use Rattle.lock_free_value.specs.Roles.{LacksProducer};
 
 use self::rule::{Board, Origin, ValueRule};
 use atomic_table::TableRule;
 use history::view::View;
-use lock_free_sp::driver::seated::Seated;
 use std::alloc::Global;
 use std::sync::Arc;
 use steps::words::Words;
+use threaded::driver::seated::Seated;
 
 mod calls;
 mod drives;

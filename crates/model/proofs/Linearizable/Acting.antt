@@ -23,7 +23,8 @@ module _ {T : Type 0} where
   abbrev pub entry_at : ℕ → ℕ → Start T → Option (Response T) → Answer T → Call T × Answer T
   entry_at place p start response answer = (call_at place p start response, answer)
 
-  pub same_entry : (m n p q : ℕ) (s t : Start T) (x y : Option (Response T)) (a b : Answer T) → m ≡ n → p ≡ q → s ≡ t → x ≡ y → a ≡ b → entry_at m p s x a ≡ entry_at n q t y b
+  pub same_entry : (m n p q : ℕ) (s t : Start T) (x y : Option (Response T)) (a b : Answer T) → m ≡ n → p ≡ q
+      → s ≡ t → x ≡ y → a ≡ b → entry_at m p s x a ≡ entry_at n q t y b
   same_entry m n p q s t x y a b e f g h i = rw (e, f, g, h, i) refl
 
   -- the parts of what is known, at None these
@@ -52,10 +53,12 @@ module _ {T : Type 0} where
   response_at place answer = record { place = place; answer = answer }
 
   -- an event of another party is no response
-  pub passed : (p q : ℕ) (start : Start T) (answer : Answer T) (es : List (Event T)) (place : ℕ) → q ≢ p → response_in p (Finished q start answer ∷ es) place ≡ response_in p es (place + 1)
+  pub passed : (p q : ℕ) (start : Start T) (answer : Answer T) (es : List (Event T)) (place : ℕ) → q ≢ p
+      → response_in p (Finished q start answer ∷ es) place ≡ response_in p es (place + 1)
   passed p q start answer es place ne = let t : (q == p) ≡ false = grind (arith, nat_tests) in rw t refl
 
-  pub responded : (p q : ℕ) (start : Start T) (answer : Answer T) (es : List (Event T)) (place : ℕ) → q ≡ p → response_in p (Finished q start answer ∷ es) place ≡ Some (response_at place answer)
+  pub responded : (p q : ℕ) (start : Start T) (answer : Answer T) (es : List (Event T)) (place : ℕ) → q ≡ p
+      → response_in p (Finished q start answer ∷ es) place ≡ Some (response_at place answer)
   responded p q start answer es place is = let t : (q == p) ≡ true = grind (arith, nat_tests) in rw t refl
 
   pub place_of : Response T → Option (Response T) → ℕ
@@ -81,9 +84,12 @@ module _ {T : Type 0} where
   response_late p (e ∷ es) place r h = let le = response_late p es (place + 1) r h in omega arith
 
   -- and so do the calls that begin in them
-  pub calls_late : (es : List (Event T)) (place : ℕ) (c : Call T) → Contains (calls_from es place) c → (place ≤ c.place) × ((r : Response T) → c.response ≡ Some r → place ≤ r.place)
+  pub calls_late : (es : List (Event T)) (place : ℕ) (c : Call T) → Contains (calls_from es place) c
+      → (place ≤ c.place) × ((r : Response T) → c.response ≡ Some r → place ≤ r.place)
   calls_late [] place c h = absurd (none_there c h)
-  calls_late (Begun p start ∷ es) place c h = ⊎_elim mine (theirs (calls_late es (place + 1) c)) (split (call_at place p start (response_in p es (place + 1))) c (calls_from es (place + 1)) h)
+  calls_late (Begun p start ∷ es) place c h =
+      ⊎_elim mine (theirs (calls_late es (place + 1) c))
+      (split (call_at place p start (response_in p es (place + 1))) c (calls_from es (place + 1)) h)
     where
       mine : call_at place p start (response_in p es (place + 1)) ≡ c → (place ≤ c.place) × ((r : Response T) → c.response ≡ Some r → place ≤ r.place)
       mine is =
@@ -91,7 +97,10 @@ module _ {T : Type 0} where
           let its : response_in p es (place + 1) ≡ c.response = ap (λ (c : Call T). c.response) is in
           (omega arith, λ r e. let le = response_late p es (place + 1) r (its ∙ e) in omega arith)
 
-      theirs : (Contains (calls_from es (place + 1)) c → (place + 1 ≤ c.place) × ((r : Response T) → c.response ≡ Some r → place + 1 ≤ r.place)) → Contains (calls_from es (place + 1)) c → (place ≤ c.place) × ((r : Response T) → c.response ≡ Some r → place ≤ r.place)
+      theirs : (Contains (calls_from es (place + 1)) c
+          → (place + 1 ≤ c.place) × ((r : Response T) → c.response ≡ Some r → place + 1 ≤ r.place))
+          → Contains (calls_from es (place + 1)) c
+          → (place ≤ c.place) × ((r : Response T) → c.response ≡ Some r → place ≤ r.place)
       theirs more h = let far = more h in let le = far.0 in (omega arith, λ r e. let later = far.1 r e in omega arith)
   calls_late (e ∷ es) place c h =
       let far = calls_late es (place + 1) c h in
@@ -123,7 +132,8 @@ module _ {T : Type 0} (is_call : Start T → Bool) where
 
   -- ---- completed calls stand there
 
-  pub ends_as : (start : Start T) (answer : Answer T) (x : Standing T) (call : Start T) (acted : Option (Answer T)) → x ≡ Some (call, acted) → is_call call ≡ true → Ends start answer x → acted ≡ Some answer
+  pub ends_as : (start : Start T) (answer : Answer T) (x : Standing T) (call : Start T) (acted : Option (Answer T))
+      → x ≡ Some (call, acted) → is_call call ≡ true → Ends start answer x → acted ≡ Some answer
   ends_as start answer None call acted e t h = absurd h
   ends_as start answer (Some was) call acted e t h =
       let first : was.0 ≡ call = ap (name_in call) e in
@@ -132,7 +142,9 @@ module _ {T : Type 0} (is_call : Start T → Bool) where
       sym second ∙ h.1 (subst (λ s. is_call s ≡ true) same t)
 
   -- a call that has acted ends with that answer
-  pub told : (p : ℕ) (start : Start T) (answer : Answer T) (r : Response T) (es : List (Event T)) (place : ℕ) (going : ℕ → Standing T) → is_call start ≡ true → going p ≡ Some (start, Some answer) → ActsOnce es going → response_in p es place ≡ Some r → answer ≡ r.answer
+  pub told : (p : ℕ) (start : Start T) (answer : Answer T) (r : Response T) (es : List (Event T)) (place : ℕ) (going : ℕ → Standing T)
+      → is_call start ≡ true → going p ≡ Some (start, Some answer) → ActsOnce es going → response_in p es place ≡ Some r
+      → answer ≡ r.answer
   told p start answer r [] place going t is once e = absurd (cc)
   told p start answer r (Begun q s ∷ es) place going t is once e =
       ⊎_elim (λ (same : p ≡ q). let clash : None ≡ Some (start, Some answer) = sym once.0 ∙ (sym (ap going same) ∙ is) in absurd (cc))
@@ -144,7 +156,8 @@ module _ {T : Type 0} (is_call : Start T → Bool) where
       (cases_eq p q)
   told p start answer r (Finished q s a ∷ es) place going t is once e =
       ⊎_elim mine
-      (λ (ne : q ≢ p). told p start answer r es (place + 1) (put q None going) t (put_other q p None going (λ h. ne (sym h)) ∙ is) once.1 (sym (passed p q s a es place ne) ∙ e))
+      (λ (ne : q ≢ p). told p start answer r es (place + 1) (put q None going) t
+      (put_other q p None going (λ h. ne (sym h)) ∙ is) once.1 (sym (passed p q s a es place ne) ∙ e))
       (cases_eq q p)
     where
       mine : q ≡ p → answer ≡ r.answer
@@ -156,7 +169,9 @@ module _ {T : Type 0} (is_call : Start T → Bool) where
   told p start answer r (e ∷ es) place going t is once h = told p start answer r es (place + 1) going t is once h
 
   -- a call that has not acted yet acts before it ends
-  pub acts_before : (p : ℕ) (start : Start T) (r : Response T) (es : List (Event T)) (place : ℕ) (going : ℕ → Standing T) (begun : ℕ → ℕ) → is_call start ≡ true → going p ≡ Some (start, None) → ActsOnce es going → response_in p es place ≡ Some r
+  pub acts_before : (p : ℕ) (start : Start T) (r : Response T) (es : List (Event T)) (place : ℕ)
+      (going : ℕ → Standing T) (begun : ℕ → ℕ)
+      → is_call start ≡ true → going p ≡ Some (start, None) → ActsOnce es going → response_in p es place ≡ Some r
       → Contains (order_in es place begun) (entry_at (begun p) p start (Some r) r.answer)
   acts_before p start r [] place going begun t is once e = absurd (cc)
   acts_before p start r (Begun q s ∷ es) place going begun t is once e =
@@ -180,16 +195,20 @@ module _ {T : Type 0} (is_call : Start T → Bool) where
           ap (put q (Some (s, Some a)) going) same ∙ (put_same q (Some (s, Some a)) going ∙ ap (λ (n : Start T). Some (n, Some a)) name)
           in
           let its : a ≡ r.answer = told p start a r es (place + 1) (put q (Some (s, Some a)) going) t now once.1 e in
-          first (is_call s) (entry_at (begun q) q s (response_in q es (place + 1)) a) (entry_at (begun p) p start (Some r) r.answer) (order_in es (place + 1) begun)
+          first (is_call s) (entry_at (begun q) q s (response_in q es (place + 1)) a)
+          (entry_at (begun p) p start (Some r) r.answer) (order_in es (place + 1) begun)
           (ap is_call name ∙ t)
-          (same_entry (begun q) (begun p) q p s start (response_in q es (place + 1)) (Some r) a r.answer (sym (ap begun same)) (sym same) name (ap (λ n. response_in n es (place + 1)) (sym same) ∙ e) its)
+          (same_entry (begun q) (begun p) q p s start (response_in q es (place + 1)) (Some r) a r.answer
+          (sym (ap begun same)) (sym same) name (ap (λ n. response_in n es (place + 1)) (sym same) ∙ e) its)
   acts_before p start r (Finished q s a ∷ es) place going begun t is once e =
       ⊎_elim (λ (same : q ≡ p). let clash : None ≡ Some a = ends_as s a (going q) start None (ap going same ∙ is) t once.0 in absurd (cc))
-      (λ (ne : q ≢ p). acts_before p start r es (place + 1) (put q None going) begun t (put_other q p None going (λ h. ne (sym h)) ∙ is) once.1 (sym (passed p q s a es place ne) ∙ e))
+      (λ (ne : q ≢ p). acts_before p start r es (place + 1) (put q None going) begun t
+      (put_other q p None going (λ h. ne (sym h)) ∙ is) once.1 (sym (passed p q s a es place ne) ∙ e))
       (cases_eq q p)
   acts_before p start r (e ∷ es) place going begun t is once h = acts_before p start r es (place + 1) going begun t is once h
 
-  pub completed_act : (es : List (Event T)) (place : ℕ) (going : ℕ → Standing T) (begun : ℕ → ℕ) → ActsOnce es going → (c : Call T) (r : Response T) → Contains (calls_from es place) c → c.response ≡ Some r → is_call c.start ≡ true
+  pub completed_act : (es : List (Event T)) (place : ℕ) (going : ℕ → Standing T) (begun : ℕ → ℕ) → ActsOnce es going
+      → (c : Call T) (r : Response T) → Contains (calls_from es place) c → c.response ≡ Some r → is_call c.start ≡ true
       → Contains (order_in es place begun) (c, r.answer)
   completed_act [] place going begun once c r h e t = absurd (none_there c h)
   completed_act (Begun p start ∷ es) place going begun once c r h e t =
@@ -205,7 +224,8 @@ module _ {T : Type 0} (is_call : Start T → Bool) where
           (put_same p place begun ∙ ap (λ (c : Call T). c.place) is) (ap (λ (c : Call T). c.party) is) name (sym e) refl
           in
           subst (Contains (order_in es (place + 1) (put p place begun))) whole
-          (acts_before p start r es (place + 1) (put p (Some (start, None)) going) (put p place begun) (ap is_call name ∙ t) (put_same p (Some (start, None)) going) once.1 its)
+          (acts_before p start r es (place + 1) (put p (Some (start, None)) going) (put p place begun)
+          (ap is_call name ∙ t) (put_same p (Some (start, None)) going) once.1 its)
   completed_act (Acted p start answer ∷ es) place going begun once c r h e t =
       later (is_call start) (entry_at (begun p) p start (response_in p es (place + 1)) answer) (c, r.answer) (order_in es (place + 1) begun)
       (completed_act es (place + 1) (put p (Some (start, Some answer)) going) begun once.1 c r h e t)

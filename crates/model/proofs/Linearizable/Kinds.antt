@@ -27,14 +27,17 @@ use Rattle.model.proofs.Linearizable.Spans.{acts_once}
 module _ {T : Type 0} where
   -- ---- the queues
 
-  one_of_list : (kind : QueueKind) (capacity : ℕ) (start : Start T) (answer : Answer T) (wrote : List (Event T)) → is_push_or_pop start ≡ true → queue_promises.wrote kind capacity start answer wrote → moments wrote ≡ (start, answer) ∷ []
+  one_of_list : (kind : QueueKind) (capacity : ℕ) (start : Start T) (answer : Answer T) (wrote : List (Event T))
+      → is_push_or_pop start ≡ true → queue_promises.wrote kind capacity start answer wrote
+      → moments wrote ≡ (start, answer) ∷ []
   one_of_list kind capacity (starts.Queues (queues.PushIndex index)) answer wrote t h = h.moments
   one_of_list kind capacity (starts.Queues (queues.Push value)) answer wrote t h = h.moments
   one_of_list kind capacity (starts.Queues queues.Pop) answer wrote t h = h.moments
   one_of_list kind capacity (starts.Queues other) answer wrote t h = absurd (cc)
   one_of_list kind capacity other answer wrote t h = absurd h
 
-  others_of_list : (kind : QueueKind) (capacity : ℕ) (items : List (Item T)) (start : Start T) → is_push_or_pop start ≡ false → (list_of kind capacity).after items start ≡ items
+  others_of_list : (kind : QueueKind) (capacity : ℕ) (items : List (Item T)) (start : Start T)
+      → is_push_or_pop start ≡ false → (list_of kind capacity).after items start ≡ items
   others_of_list queue_kinds.TheVariants.IndexQueue capacity items start t = bounded start t
     where
       bounded : (start : Start T) → is_push_or_pop start ≡ false → (list_of queue_kinds.TheVariants.IndexQueue capacity).after items start ≡ items
@@ -67,13 +70,16 @@ module _ {T : Type 0} where
 
   -- ---- the single value
 
-  one_of_value : (capacity : ℕ) (start : Start T) (answer : Answer T) (wrote : List (Event T)) → is_store_or_load start ≡ true → value_promises.wrote capacity start answer wrote → moments wrote ≡ (start, answer) ∷ []
+  one_of_value : (capacity : ℕ) (start : Start T) (answer : Answer T) (wrote : List (Event T))
+      → is_store_or_load start ≡ true → value_promises.wrote capacity start answer wrote
+      → moments wrote ≡ (start, answer) ∷ []
   one_of_value capacity (starts.Atomic (atomics.Store value)) answer wrote t h = h
   one_of_value capacity (starts.Atomic atomics.Load) answer wrote t h = h
   one_of_value capacity (starts.Atomic other) answer wrote t h = absurd (cc)
   one_of_value capacity other answer wrote t h = absurd h
 
-  others_of_value : (code : Coding T) (value : T) (start : Start T) → is_store_or_load start ≡ false → (value_promises.value_of_zeros code).after value start ≡ value
+  others_of_value : (code : Coding T) (value : T) (start : Start T) → is_store_or_load start ≡ false
+      → (value_promises.value_of_zeros code).after value start ≡ value
   others_of_value code value (starts.Atomic (atomics.Store new)) t = absurd (cc)
   others_of_value code value (starts.Atomic atomics.Load) t = absurd (cc)
   others_of_value code value (starts.Atomic other) t = refl

@@ -1,5 +1,6 @@
 -- Members of lists, pairs of members, and functions of parties.
-use Rattle.std.proofs.Common.{◌≡◌, ◌≢◌, ◌⊎◌, inl, inr, ⊎_elim, ℕ, zero, suc, ◌<◌, ◌==◌, Bool, true, false, List, [], ◌∷◌, length, get_or, if◌then◌else◌, refl, sym, subst, ◌∙◌, arith}
+use Rattle.std.proofs.Common.{◌≡◌, ◌≢◌, ◌⊎◌, inl, inr, ⊎_elim, ℕ, zero, suc, ◌<◌, ◌==◌, Bool, true, false, List, []}
+use Rattle.std.proofs.Common.{◌∷◌, length, get_or, if◌then◌else◌, refl, sym, subst, ◌∙◌, arith}
 use Rattle.std.proofs.lemmas.Bool.Decides.{nat_tests}
 use Rattle.std.proofs.lemmas.List.Elements.{Contains-get_or}
 use Rattle.std.specs.List.{All, AllPairs, Contains}
@@ -60,7 +61,8 @@ module _ {X : Type 0} where
   AllLater R [] = Unit {0}
   AllLater R (x ∷ xs) = ((y : X) → Contains xs y → R x y) × AllLater R xs
 
-  pub later_if : (R : X → X → Type 0) (b : Bool) (x : X) (xs : List X) → (b ≡ true → (y : X) → Contains xs y → R x y) → AllLater R xs → AllLater R (kept_if b x xs)
+  pub later_if : (R : X → X → Type 0) (b : Bool) (x : X) (xs : List X)
+      → (b ≡ true → (y : X) → Contains xs y → R x y) → AllLater R xs → AllLater R (kept_if b x xs)
   later_if R true x xs f all = (f refl, all)
   later_if R false x xs f all = all
 
@@ -78,7 +80,9 @@ module _ {X : Type 0} where
 module _ {X : Type 0} where
   -- R holds of a pair
   pub pair_of : (R : X → X → Type 0) (x y : X) → R x y → AllPairs R (x ∷ y ∷ [])
-  pair_of R x y holds = pairs_of R (x ∷ y ∷ []) ((λ z h. ⊎_elim (λ e. subst (R x) e holds) (λ h. absurd (none_there z h)) (split y z [] h)), ((λ z h. absurd (none_there z h)), tt))
+  pair_of R x y holds =
+      pairs_of R (x ∷ y ∷ [])
+      ((λ z h. ⊎_elim (λ e. subst (R x) e holds) (λ h. absurd (none_there z h)) (split y z [] h)), ((λ z h. absurd (none_there z h)), tt))
 
   -- one of two
   pub either : (x y z : X) → Contains (x ∷ y ∷ []) z → (x ≡ z) ⊎ (y ≡ z)

@@ -1,6 +1,7 @@
 -- Calls of which each acts once, between its begin and its end and with its answer, are linearizable where they are legal
 -- in the order in which they act.
-use Rattle.std.proofs.Common.{◌≡◌, ◌≢◌, ⊎_elim, ℕ, ◌+◌, ◌<◌, ◌≤◌, Bool, true, false, Option, Some, None, IfSome, List, [], ◌∷◌, map, refl, sym, ap, subst, ◌∙◌, arith}
+use Rattle.std.proofs.Common.{◌≡◌, ◌≢◌, ⊎_elim, ℕ, ◌+◌, ◌<◌, ◌≤◌, Bool, true, false, Option, Some, None, IfSome, List}
+use Rattle.std.proofs.Common.{[], ◌∷◌, map, refl, sym, ap, subst, ◌∙◌, arith}
 use Rattle.std.proofs.lemmas.Bool.{cases_eq}
 use Rattle.std.specs.List.{Contains}
 use Rattle.model.specs.declared.event.Start.{Start}
@@ -10,8 +11,10 @@ use Rattle.model.specs.declared.event.Event.TheVariants.{Begun, Acted, Finished}
 use Rattle.model.specs.Linearizable.{Response, Call, response_in, calls_from, calls_of, StandsBefore, Precedes, Specification, IsLinearizable}
 use Rattle.model.specs.Objects.{Object, answers_from, IsLegal}
 use Rattle.model.specs.Reading.{moments}
-use Rattle.model.proofs.Linearizable.Acting.{Standing, call_at, entry_at, name_in, acted_clash, none_clash, passed, response_late, calls_late, ActsOnce, order_in, completed_act}
-use Rattle.model.proofs.Linearizable.Members.{put, put_same, put_other, kept_if, here, there, none_there, split_if, all_of, AllLater, later_if, later_so, pairs_of}
+use Rattle.model.proofs.Linearizable.Acting.{Standing, call_at, entry_at, name_in, acted_clash, none_clash, passed}
+use Rattle.model.proofs.Linearizable.Acting.{response_late, calls_late, ActsOnce, order_in, completed_act}
+use Rattle.model.proofs.Linearizable.Members.{put, put_same, put_other, kept_if, here, there, none_there, split_if}
+use Rattle.model.proofs.Linearizable.Members.{all_of, AllLater, later_if, later_so, pairs_of}
 
 module _ {T : Type 0} (is_call : Start T → Bool) where
   -- ---- whatever stands there is a call of the object: one that is under way and has not acted, or one that begins later
@@ -20,11 +23,14 @@ module _ {T : Type 0} (is_call : Start T → Bool) where
     Pending : (p : ℕ) (start : Start T) → c ≡ call_at (begun p) p start (response_in p es place) → going p ≡ Some (start, None) → Source c es place going begun
     Later : Contains (calls_from es place) c → Source c es place going begun
 
-  late : (c : Call T) (r : Response T) (es : List (Event T)) (place : ℕ) (going : ℕ → Standing T) (begun : ℕ → ℕ) → Source c es place going begun → c.response ≡ Some r → place ≤ r.place
+  late : (c : Call T) (r : Response T) (es : List (Event T)) (place : ℕ) (going : ℕ → Standing T) (begun : ℕ → ℕ)
+      → Source c es place going begun → c.response ≡ Some r → place ≤ r.place
   late c r es place going begun (Pending p start is under) e = response_late p es place r (sym (ap (λ (c : Call T). c.response) is) ∙ e)
   late c r es place going begun (Later h) e = (calls_late es place c h).1 r e
 
-  source_begun : (p : ℕ) (s : Start T) (es : List (Event T)) (place : ℕ) (going : ℕ → Standing T) (begun : ℕ → ℕ) (c : Call T) → Source c es (place + 1) (put p (Some (s, None)) going) (put p place begun) → Source c (Begun p s ∷ es) place going begun
+  source_begun : (p : ℕ) (s : Start T) (es : List (Event T)) (place : ℕ) (going : ℕ → Standing T) (begun : ℕ → ℕ) (c : Call T)
+      → Source c es (place + 1) (put p (Some (s, None)) going) (put p place begun)
+      → Source c (Begun p s ∷ es) place going begun
   source_begun p s es place going begun c (Later h) = Later (there (call_at place p s (response_in p es (place + 1))) c (calls_from es (place + 1)) h)
   source_begun p s es place going begun c (Pending q start is under) = ⊎_elim mine theirs (cases_eq q p)
     where
@@ -42,7 +48,9 @@ module _ {T : Type 0} (is_call : Start T → Bool) where
           Pending q start (is ∙ ap (λ n. call_at n q start (response_in q es (place + 1))) (put_other p q place begun ne))
           (sym (put_other p q (Some (s, None)) going ne) ∙ under)
 
-  source_acted : (p : ℕ) (s : Start T) (a : Answer T) (es : List (Event T)) (place : ℕ) (going : ℕ → Standing T) (begun : ℕ → ℕ) (c : Call T) → Source c es (place + 1) (put p (Some (s, Some a)) going) begun → Source c (Acted p s a ∷ es) place going begun
+  source_acted : (p : ℕ) (s : Start T) (a : Answer T) (es : List (Event T)) (place : ℕ) (going : ℕ → Standing T)
+      (begun : ℕ → ℕ) (c : Call T)
+      → Source c es (place + 1) (put p (Some (s, Some a)) going) begun → Source c (Acted p s a ∷ es) place going begun
   source_acted p s a es place going begun c (Later h) = Later h
   source_acted p s a es place going begun c (Pending q start is under) = ⊎_elim mine theirs (cases_eq q p)
     where
@@ -53,7 +61,9 @@ module _ {T : Type 0} (is_call : Start T → Bool) where
       theirs : q ≢ p → Source c (Acted p s a ∷ es) place going begun
       theirs ne = Pending q start is (sym (put_other p q (Some (s, Some a)) going ne) ∙ under)
 
-  source_finished : (p : ℕ) (s : Start T) (a : Answer T) (es : List (Event T)) (place : ℕ) (going : ℕ → Standing T) (begun : ℕ → ℕ) (c : Call T) → Source c es (place + 1) (put p None going) begun → Source c (Finished p s a ∷ es) place going begun
+  source_finished : (p : ℕ) (s : Start T) (a : Answer T) (es : List (Event T)) (place : ℕ) (going : ℕ → Standing T)
+      (begun : ℕ → ℕ) (c : Call T)
+      → Source c es (place + 1) (put p None going) begun → Source c (Finished p s a ∷ es) place going begun
   source_finished p s a es place going begun c (Later h) = Later h
   source_finished p s a es place going begun c (Pending q start is under) = ⊎_elim mine theirs (cases_eq q p)
     where
@@ -66,16 +76,21 @@ module _ {T : Type 0} (is_call : Start T → Bool) where
           Pending q start (is ∙ ap (λ (o : Option (Response T)). call_at (begun q) q start o) (sym (passed q p s a es place (λ h. ne (sym h)))))
           (sym (put_other p q None going ne) ∙ under)
 
-  source_quiet : (e : Event T) (es : List (Event T)) (place : ℕ) (going : ℕ → Standing T) (begun : ℕ → ℕ) (c : Call T) → calls_from (e ∷ es) place ≡ calls_from es (place + 1) → ((p : ℕ) → response_in p (e ∷ es) place ≡ response_in p es (place + 1)) → Source c es (place + 1) going begun → Source c (e ∷ es) place going begun
+  source_quiet : (e : Event T) (es : List (Event T)) (place : ℕ) (going : ℕ → Standing T) (begun : ℕ → ℕ) (c : Call T)
+      → calls_from (e ∷ es) place ≡ calls_from es (place + 1)
+      → ((p : ℕ) → response_in p (e ∷ es) place ≡ response_in p es (place + 1)) → Source c es (place + 1) going begun
+      → Source c (e ∷ es) place going begun
   source_quiet e es place going begun c calls responses (Later h) = Later (subst (λ cs. Contains cs c) (sym calls) h)
-  source_quiet e es place going begun c calls responses (Pending q start is under) = Pending q start (is ∙ ap (λ (o : Option (Response T)). call_at (begun q) q start o) (sym (responses q))) under
+  source_quiet e es place going begun c calls responses (Pending q start is under) =
+      Pending q start (is ∙ ap (λ (o : Option (Response T)). call_at (begun q) q start o) (sym (responses q))) under
 
   -- the source of an entry, whose name is a call of the object
   pub record Comes (x : Call T × Answer T) (es : List (Event T)) (place : ℕ) (going : ℕ → Standing T) (begun : ℕ → ℕ) : Type 0 where
     pub source : Source x.0 es place going begun
     pub call : is_call x.0.start ≡ true
 
-  comes : (es : List (Event T)) (place : ℕ) (going : ℕ → Standing T) (begun : ℕ → ℕ) → ActsOnce is_call es going → (x : Call T × Answer T) → Contains (order_in is_call es place begun) x → Comes x es place going begun
+  comes : (es : List (Event T)) (place : ℕ) (going : ℕ → Standing T) (begun : ℕ → ℕ) → ActsOnce is_call es going
+      → (x : Call T × Answer T) → Contains (order_in is_call es place begun) x → Comes x es place going begun
   comes [] place going begun once x h = absurd (none_there x h)
   comes (Begun p s ∷ es) place going begun once x h =
       let more = comes es (place + 1) (put p (Some (s, None)) going) (put p place begun) once.1 x h in
@@ -89,7 +104,8 @@ module _ {T : Type 0} (is_call : Start T → Bool) where
           let its : call_at (begun p) p s (response_in p es (place + 1)) ≡ x.0 = ap (λ (x : Call T × Answer T). x.0) m.1 in
           record { source = Pending p s (sym its) once.0; call = subst (λ (c : Call T). is_call c.start ≡ true) its m.0 }
 
-      theirs : (Contains (order_in is_call es (place + 1) begun) x → Comes x es (place + 1) (put p (Some (s, Some a)) going) begun) → Contains (order_in is_call es (place + 1) begun) x → Comes x (Acted p s a ∷ es) place going begun
+      theirs : (Contains (order_in is_call es (place + 1) begun) x → Comes x es (place + 1) (put p (Some (s, Some a)) going) begun)
+          → Contains (order_in is_call es (place + 1) begun) x → Comes x (Acted p s a ∷ es) place going begun
       theirs more h = record { source = source_acted p s a es place going begun x.0 (more h).source; call = (more h).call }
   comes (Finished p s a ∷ es) place going begun once x h =
       let more = comes es (place + 1) (put p None going) begun once.1 x h in
@@ -107,7 +123,8 @@ module _ {T : Type 0} (is_call : Start T → Bool) where
   abbrev Apart : Call T × Answer T → Call T × Answer T → Type 0
   Apart x y = (x.0 ≢ y.0) × ¬ Precedes y.0 x.0
 
-  begun_begun : (p : ℕ) (s : Start T) (place : ℕ) (going : ℕ → Standing T) (begun : ℕ → ℕ) → AreBegun place going begun → AreBegun (place + 1) (put p (Some (s, None)) going) (put p place begun)
+  begun_begun : (p : ℕ) (s : Start T) (place : ℕ) (going : ℕ → Standing T) (begun : ℕ → ℕ)
+      → AreBegun place going begun → AreBegun (place + 1) (put p (Some (s, None)) going) (put p place begun)
   begun_begun p s place going begun all q x under = ⊎_elim mine theirs (cases_eq q p)
     where
       mine : q ≡ p → put p place begun q < place + 1
@@ -119,7 +136,9 @@ module _ {T : Type 0} (is_call : Start T → Bool) where
           let lt = all q x (sym (put_other p q (Some (s, None)) going ne) ∙ under) in
           omega arith
 
-  begun_acted : (p : ℕ) (s : Start T) (a : Answer T) (place : ℕ) (going : ℕ → Standing T) (begun : ℕ → ℕ) → going p ≡ Some (s, None) → AreBegun place going begun → AreBegun (place + 1) (put p (Some (s, Some a)) going) begun
+  begun_acted : (p : ℕ) (s : Start T) (a : Answer T) (place : ℕ) (going : ℕ → Standing T) (begun : ℕ → ℕ)
+      → going p ≡ Some (s, None) → AreBegun place going begun
+      → AreBegun (place + 1) (put p (Some (s, Some a)) going) begun
   begun_acted p s a place going begun here all q x under = ⊎_elim mine theirs (cases_eq q p)
     where
       mine : q ≡ p → begun q < place + 1
@@ -138,7 +157,9 @@ module _ {T : Type 0} (is_call : Start T → Bool) where
       theirs ne = let lt = all q x (sym (put_other p q None going ne) ∙ under) in omega arith
 
   -- a call that acts now and one that acts later
-  now_and_later : (p : ℕ) (s : Start T) (a : Answer T) (es : List (Event T)) (place : ℕ) (going : ℕ → Standing T) (begun : ℕ → ℕ) (o : Option (Response T)) (c : Call T) → begun p < place → Source c es (place + 1) (put p (Some (s, Some a)) going) begun
+  now_and_later : (p : ℕ) (s : Start T) (a : Answer T) (es : List (Event T)) (place : ℕ) (going : ℕ → Standing T)
+      (begun : ℕ → ℕ) (o : Option (Response T)) (c : Call T)
+      → begun p < place → Source c es (place + 1) (put p (Some (s, Some a)) going) begun
       → (call_at (begun p) p s o ≢ c) × ¬ Precedes c (call_at (begun p) p s o)
   now_and_later p s a es place going begun o c lt source = (differ source, before c.response refl)
     where
@@ -157,12 +178,15 @@ module _ {T : Type 0} (is_call : Start T → Bool) where
           let le = late c r es (place + 1) (put p (Some (s, Some a)) going) begun source e in
           omega arith
 
-  in_order : (es : List (Event T)) (place : ℕ) (going : ℕ → Standing T) (begun : ℕ → ℕ) → ActsOnce is_call es going → AreBegun place going begun → AllLater Apart (order_in is_call es place begun)
+  in_order : (es : List (Event T)) (place : ℕ) (going : ℕ → Standing T) (begun : ℕ → ℕ) → ActsOnce is_call es going
+      → AreBegun place going begun → AllLater Apart (order_in is_call es place begun)
   in_order [] place going begun once all = tt
-  in_order (Begun p s ∷ es) place going begun once all = in_order es (place + 1) (put p (Some (s, None)) going) (put p place begun) once.1 (begun_begun p s place going begun all)
+  in_order (Begun p s ∷ es) place going begun once all =
+      in_order es (place + 1) (put p (Some (s, None)) going) (put p place begun) once.1 (begun_begun p s place going begun all)
   in_order (Acted p s a ∷ es) place going begun once all =
       later_if Apart (is_call s) (entry_at (begun p) p s (response_in p es (place + 1)) a) (order_in is_call es (place + 1) begun)
-      (λ t y h. now_and_later p s a es place going begun (response_in p es (place + 1)) y.0 (all p (s, None) once.0) (comes es (place + 1) (put p (Some (s, Some a)) going) begun once.1 y h).source)
+      (λ t y h. now_and_later p s a es place going begun (response_in p es (place + 1)) y.0 (all p (s, None) once.0)
+      (comes es (place + 1) (put p (Some (s, Some a)) going) begun once.1 y h).source)
       (in_order es (place + 1) (put p (Some (s, Some a)) going) begun once.1 (begun_acted p s a place going begun once.0 all))
   in_order (Finished p s a ∷ es) place going begun once all = in_order es (place + 1) (put p None going) begun once.1 (begun_finished p place going begun all)
   in_order (e ∷ es) place going begun once all =
@@ -177,7 +201,8 @@ module _ {T : Type 0} (is_call : Start T → Bool) where
     abbrev IsLegalFrom : State → List (Start T × Answer T) → Type 0
     IsLegalFrom s xs = answers_from o s (map (λ m. m.0) xs) ≡ map (λ m. m.1) xs
 
-    legal_in : (es : List (Event T)) (place : ℕ) (begun : ℕ → ℕ) (s : State) → IsLegalFrom s (moments es) → IsLegalFrom s (names (order_in is_call es place begun))
+    legal_in : (es : List (Event T)) (place : ℕ) (begun : ℕ → ℕ) (s : State) → IsLegalFrom s (moments es)
+        → IsLegalFrom s (names (order_in is_call es place begun))
     legal_in [] place begun s legal = refl
     legal_in (Begun p start ∷ es) place begun s legal = legal_in es (place + 1) (put p place begun) s legal
     legal_in (Acted p start answer ∷ es) place begun s legal =
@@ -198,9 +223,13 @@ module _ {T : Type 0} (is_call : Start T → Bool) where
 -- the theorem: a history in which each call acts once is linearizable where its moments are legal
 module _ {T State : Type 0} (spec : Specification T State) where
   abbrev Answered : List (Event T) → Call T → Type 0
-  Answered history call = IfSome call.response (λ response. spec.is_call call.start ≡ true → Contains (order_in spec.is_call history 0 (λ p. 0)) (call, response.answer))
+  Answered history call =
+      IfSome call.response
+      (λ response. spec.is_call call.start ≡ true → Contains (order_in spec.is_call history 0 (λ p. 0)) (call, response.answer))
 
-  pub linearizable : (others : (s : State) (start : Start T) → spec.is_call start ≡ false → spec.object.after s start ≡ s) (history : List (Event T)) → ActsOnce spec.is_call history (λ p. None) → IsLegal spec.object (moments history)
+  pub linearizable : (others : (s : State) (start : Start T) → spec.is_call start ≡ false → spec.object.after s start ≡ s)
+      (history : List (Event T))
+      → ActsOnce spec.is_call history (λ p. None) → IsLegal spec.object (moments history)
       → IsLinearizable spec history
   linearizable others history once legal =
       let apart = in_order spec.is_call history 0 (λ p. None) (λ p. 0) once (λ p x e. absurd (cc)) in
@@ -209,18 +238,25 @@ module _ {T State : Type 0} (spec : Specification T State) where
         legal = legal_in spec.is_call spec.object others history 0 (λ p. 0) spec.object.opening legal;
         invoked = all_of (λ x. (spec.is_call x.0.start ≡ true) × Contains (calls_of history) x.0) (order_in spec.is_call history 0 (λ p. 0)) called;
         completed = all_of (Answered history) (calls_of history) answered;
-        once = pairs_of (λ x y. x.0 ≢ y.0) (order_in spec.is_call history 0 (λ p. 0)) (later_so (Apart spec.is_call) (λ x y. x.0 ≢ y.0) (λ x y h. h.0) (order_in spec.is_call history 0 (λ p. 0)) apart);
-        real_time = pairs_of (λ x y. ¬ Precedes y.0 x.0) (order_in spec.is_call history 0 (λ p. 0)) (later_so (Apart spec.is_call) (λ x y. ¬ Precedes y.0 x.0) (λ x y h. h.1) (order_in spec.is_call history 0 (λ p. 0)) apart);
+        once =
+            pairs_of (λ x y. x.0 ≢ y.0) (order_in spec.is_call history 0 (λ p. 0))
+            (later_so (Apart spec.is_call) (λ x y. x.0 ≢ y.0) (λ x y h. h.0) (order_in spec.is_call history 0 (λ p. 0)) apart);
+        real_time =
+            pairs_of (λ x y. ¬ Precedes y.0 x.0) (order_in spec.is_call history 0 (λ p. 0))
+            (later_so (Apart spec.is_call) (λ x y. ¬ Precedes y.0 x.0) (λ x y h. h.1) (order_in spec.is_call history 0 (λ p. 0)) apart);
       }
     where
       answered : (c : Call T) → Contains (calls_of history) c → Answered history c
       answered c h = go c.response refl
         where
-          go : (o : Option (Response T)) → c.response ≡ o → IfSome o (λ response. spec.is_call c.start ≡ true → Contains (order_in spec.is_call history 0 (λ p. 0)) (c, response.answer))
+          go : (o : Option (Response T)) → c.response ≡ o
+              → IfSome o
+              (λ response. spec.is_call c.start ≡ true → Contains (order_in spec.is_call history 0 (λ p. 0)) (c, response.answer))
           go None e = tt
           go (Some r) e = λ t. completed_act spec.is_call history 0 (λ p. None) (λ p. 0) once c r h e t
 
-      called : (x : Call T × Answer T) → Contains (order_in spec.is_call history 0 (λ p. 0)) x → (spec.is_call x.0.start ≡ true) × Contains (calls_of history) x.0
+      called : (x : Call T × Answer T) → Contains (order_in spec.is_call history 0 (λ p. 0)) x
+          → (spec.is_call x.0.start ≡ true) × Contains (calls_of history) x.0
       called x h = go (comes spec.is_call history 0 (λ p. None) (λ p. 0) once x h)
         where
           begins : Source spec.is_call x.0 history 0 (λ p. None) (λ p. 0) → Contains (calls_of history) x.0

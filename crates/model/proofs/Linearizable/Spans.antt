@@ -1,5 +1,6 @@
 -- Where every event stands right in its party's span, each call acts once, while it is under way, and ends with that answer.
-use Rattle.std.proofs.Common.{◌≡◌, ◌≢◌, ⊎_elim, ℕ, Bool, true, false, Option, Some, None, List, [], ◌∷◌, ◌++◌, refl, sym, ap, subst, ◌∙◌, append_assoc, append-nil}
+use Rattle.std.proofs.Common.{◌≡◌, ◌≢◌, ⊎_elim, ℕ, Bool, true, false, Option, Some, None, List, [], ◌∷◌, ◌++◌, refl}
+use Rattle.std.proofs.Common.{sym, ap, subst, ◌∙◌, append_assoc, append-nil}
 use Rattle.std.proofs.lemmas.Bool.{cases_eq}
 use Rattle.std.proofs.lemmas.List.Concat.{flat_map-append}
 use Rattle.std.proofs.lemmas.List.Sums.{fold-append}
@@ -42,7 +43,9 @@ module _ {T : Type 0} where
   not_acted start (Open call wrote) h = rw (h.0, h.1) refl
   not_acted start (Ended call answer wrote) h = absurd h
 
-  acted_now : (p : ℕ) (start : Start T) (answer : Answer T) (span : Span T) → IsOpenFor start (λ wrote. moments wrote ≡ []) span → Some (start, Some answer) ≡ standing (longer span (Acted p start answer))
+  acted_now : (p : ℕ) (start : Start T) (answer : Answer T) (span : Span T)
+      → IsOpenFor start (λ wrote. moments wrote ≡ []) span
+      → Some (start, Some answer) ≡ standing (longer span (Acted p start answer))
   acted_now p start answer Never h = absurd h
   acted_now p start answer (Open call wrote) h = rw (h.0, moments_more wrote (Acted p start answer), h.1) refl
   acted_now p start answer (Ended call was wrote) h = absurd h
@@ -62,7 +65,9 @@ module _ {T : Type 0} where
 
   -- ---- one event
 
-  own_step : (going : ℕ → Standing T) (before : List (Event T)) (p : ℕ) (e : Event T) (now : Standing T) → Agree going before → whose e ≡ Some p → now ≡ standing (own_after (span_of p before) e) → Agree (put p now going) (before ++ e ∷ [])
+  own_step : (going : ℕ → Standing T) (before : List (Event T)) (p : ℕ) (e : Event T) (now : Standing T)
+      → Agree going before → whose e ≡ Some p → now ≡ standing (own_after (span_of p before) e)
+      → Agree (put p now going) (before ++ e ∷ [])
   own_step going before p e now agree mine is q = ⊎_elim same other (cases_eq q p)
     where
       same : q ≡ p → put p now going q ≡ standing (span_of q (before ++ e ∷ []))
@@ -74,8 +79,10 @@ module _ {T : Type 0} where
       other ne =
           put_other p q now going ne ∙ (agree q ∙ ap standing (sym (span_of-other p q before (e ∷ []) ne (mine, tt))))
 
-  quiet_step : (going : ℕ → Standing T) (before : List (Event T)) (e : Event T) → Agree going before → ((span : Span T) → own_after span e ≡ longer span e) → acts e ≡ [] → Agree going (before ++ e ∷ [])
-  quiet_step going before e agree writes none q = agree q ∙ (sym (stays (is_party q (whose e)) refl) ∙ ap standing (sym (fold-append (span_after q) Never before (e ∷ []))))
+  quiet_step : (going : ℕ → Standing T) (before : List (Event T)) (e : Event T) → Agree going before
+      → ((span : Span T) → own_after span e ≡ longer span e) → acts e ≡ [] → Agree going (before ++ e ∷ [])
+  quiet_step going before e agree writes none q =
+      agree q ∙ (sym (stays (is_party q (whose e)) refl) ∙ ap standing (sym (fold-append (span_after q) Never before (e ∷ []))))
     where
       stays : (b : Bool) → is_party q (whose e) ≡ b → standing (span_after q (span_of q before) e) ≡ standing (span_of q before)
       stays true t = rw t (ap standing (writes (span_of q before)) ∙ quiet (span_of q before) e none)
@@ -83,13 +90,17 @@ module _ {T : Type 0} where
 
 -- ---- all events
 
-module _ {T : Type 0} (promise : Promise T) (capacity : ℕ) (is_call : Start T → Bool) (one : (start : Start T) (answer : Answer T) (wrote : List (Event T)) → is_call start ≡ true → promise.wrote capacity start answer wrote → moments wrote ≡ (start, answer) ∷ []) where
-  ends : (start : Start T) (answer : Answer T) (span : Span T) → IsOpenFor start (promise.wrote capacity start answer) span → Ends is_call start answer (standing span)
+module _ {T : Type 0} (promise : Promise T) (capacity : ℕ) (is_call : Start T → Bool)
+    (one : (start : Start T) (answer : Answer T) (wrote : List (Event T)) → is_call start ≡ true
+    → promise.wrote capacity start answer wrote → moments wrote ≡ (start, answer) ∷ []) where
+  ends : (start : Start T) (answer : Answer T) (span : Span T)
+      → IsOpenFor start (promise.wrote capacity start answer) span → Ends is_call start answer (standing span)
   ends start answer Never h = absurd h
   ends start answer (Open call wrote) h = (h.0, λ t. ap first_answer (one start answer wrote t h.1))
   ends start answer (Ended call was wrote) h = absurd h
 
-  follows : (es before : List (Event T)) (going : ℕ → Standing T) → Agree going before → AreRight (StandsRight promise capacity) before es → ActsOnce is_call es going
+  follows : (es before : List (Event T)) (going : ℕ → Standing T) → Agree going before
+      → AreRight (StandsRight promise capacity) before es → ActsOnce is_call es going
   follows [] before going agree right = tt
   follows (Begun p start ∷ es) before going agree right = (
     agree p ∙ shut (span_of p before) right.0,

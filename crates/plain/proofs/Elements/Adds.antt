@@ -1,5 +1,7 @@
 -- An add to a container that runs alone.
-use Rattle.std.proofs.Common.{◌≡◌, ℕ, zero, suc, ◌+◌, ◌-◌, ◌^◌, ◌<◌, ◌≤◌, ◌==◌, nat_lt, List, [], ◌∷◌, length, take, Some, None, Result, Ok, Err, ok_or, is_none, refl, sym, ap, subst, ◌∙◌, arith, slice_index, slice_set, eq-eqb, if◌then◌else◌}
+use Rattle.std.proofs.Common.{◌≡◌, ℕ, zero, suc, ◌+◌, ◌-◌, ◌^◌, ◌<◌, ◌≤◌, ◌==◌, nat_lt, List, [], ◌∷◌, length, take}
+use Rattle.std.proofs.Common.{Some, None, Result, Ok, Err, ok_or, is_none, refl, sym, ap, subst, ◌∙◌, arith}
+use Rattle.std.proofs.Common.{slice_index, slice_set, eq-eqb, if◌then◌else◌}
 use Rattle.std.specs.List.{position_or_len}
 use Rattle.std.proofs.lemmas.Bool.Decides.{nat_tests}
 use Rattle.std.proofs.lemmas.List.{length-map}
@@ -18,16 +20,17 @@ use Rattle.steps.specs.declared.container.handle.ContainerHandle.{ContainerHandl
 use Rattle.steps.specs.declared.container.add.Add.{Add}
 use Rattle.steps.specs.declared.container.add.AddStage as adds
 use Rattle.steps.specs.declared.container.add.Owned.{Owned}
-use Rattle.plain.specs.Alone.{Turns}
+use Rattle.plain.specs.Alone.{BehavesAs}
 use Rattle.plain.specs.Robust as robust
 use Rattle.plain.specs.Robust.{owner_in, owners_in}
-use Rattle.plain.specs.Contents.{Contents, changed, handle_at, added, put_at, after_add, contents_in, Fits}
+use Rattle.plain.specs.Contents.{Contents, changed, handle_at, added, put_at, after_add, contents_in, Represents}
 use Rattle.plain.proofs.Alone.{Runs}
 use Rattle.plain.proofs.Walks.{plus, plus_sum, Walks, Goes, OnEnd, longer, part_walks_low, runs}
 use Rattle.plain.proofs.Words.{stored}
 use Rattle.plain.proofs.Fronts.{Behind, stays, front_walks}
 use Rattle.plain.proofs.Elements.Sets.{AcquireLow, acquire_goes_low, acquire_below, acquire_front}
-use Rattle.plain.proofs.Elements.Values.{front_fits, behind_contents, behind_fits, hidden, shown, shows, after_change, change_fits, change_contents, all_small, cell_within}
+use Rattle.plain.proofs.Elements.Values.{front_fits, behind_contents, behind_fits, hidden, shown, shows, after_change}
+use Rattle.plain.proofs.Elements.Values.{change_fits, change_contents, all_small, cell_within}
 
 -- ---- which index is acquired
 
@@ -49,7 +52,7 @@ acquired_low s i =
     let low : position_or_len is_none s.owners < length s.owners = grind (arith, nat_tests) in omega arith)
     (λ _ e. absurd (subst IsAnswer e tt))))
 
-pub owners_long : (capacity : ℕ) (words : List ℕ) → robust.Fits capacity words
+pub owners_long : (capacity : ℕ) (words : List ℕ) → robust.Represents capacity words
     → length (owners_in words).owners ≡ capacity
 owners_long capacity [] fits = let e : 0 ≡ 1 + capacity = fits.long in absurd (omega arith)
 owners_long capacity (g ∷ cells) fits =
@@ -85,7 +88,9 @@ module _ {V : Type 0} (words_of : V → List ℕ) (value_of : List ℕ → V) (s
       → Ends (suc (suc (suc n))) P (at_add first (adds.TheVariants.Stores index at)) ws
   goes_in P index zero at end ws small h =
       let place : element_word capacity size index at ≡ word_at (element_word capacity size index 0) at = omega arith in
-      subst (λ p. From 2 P (if nat_lt (at + 1) size then GoOn (at_add first (adds.TheVariants.Stores index (at + 1))) else GoOn (at_add first (adds.TheVariants.AddsCount index))) (slice_set ws p (slice_index xs at)))
+      subst (λ p. From 2 P (if nat_lt (at + 1) size then GoOn (at_add first (adds.TheVariants.Stores index (at + 1))) else GoOn
+      (at_add first (adds.TheVariants.AddsCount index)))
+      (slice_set ws p (slice_index xs at)))
       (sym place)
       (by_test (λ a. From 2 P a (slice_set ws (word_at (element_word capacity size index 0) at) (slice_index xs at)))
       (nat_lt (at + 1) size) _ _
@@ -94,7 +99,10 @@ module _ {V : Type 0} (words_of : V → List ℕ) (value_of : List ℕ → V) (s
   goes_in P index (suc n) at end ws small h =
       let place : element_word capacity size index at ≡ word_at (element_word capacity size index 0) at = omega arith in
       let next = slice_set ws (word_at (element_word capacity size index 0) at) (slice_index xs at) in
-      subst (λ p. From (suc (suc (suc n))) P (if nat_lt (at + 1) size then GoOn (at_add first (adds.TheVariants.Stores index (at + 1))) else GoOn (at_add first (adds.TheVariants.AddsCount index))) (slice_set ws p (slice_index xs at)))
+      subst (λ p. From (suc (suc (suc n))) P
+      (if nat_lt (at + 1) size then GoOn (at_add first (adds.TheVariants.Stores index (at + 1))) else GoOn
+      (at_add first (adds.TheVariants.AddsCount index)))
+      (slice_set ws p (slice_index xs at)))
       (sym place)
       (by_test (λ a. From (suc (suc (suc n))) P a next)
       (nat_lt (at + 1) size) _ _
@@ -105,8 +113,9 @@ module _ {V : Type 0} (words_of : V → List ℕ) (value_of : List ℕ → V) (s
   few_steps = suc (suc (suc (suc (suc (size - 1)))))
 
   -- what stands there goes, and the value comes
-  puts : (P : Added → List ℕ → Type 0) (ws : List ℕ) (fits : Fits size capacity ws) (index : ℕ) (near : index < capacity)
-      → P (Ok index) (after_change value_of size capacity ws fits index near wide (shown value_of size capacity ws fits index near wide xs given.value (sized given.value) (given_back given.value)))
+  puts : (P : Added → List ℕ → Type 0) (ws : List ℕ) (fits : Represents size capacity ws) (index : ℕ) (near : index < capacity)
+      → P (Ok index) (after_change value_of size capacity ws fits index near wide
+      (shown value_of size capacity ws fits index near wide xs given.value (sized given.value) (given_back given.value)))
       → Ends few_steps P (at_add first (adds.TheVariants.LoadsCount index)) ws
   puts P ws fits index near h =
       let c = count_word capacity index in
@@ -137,16 +146,16 @@ module _ {V : Type 0} (words_of : V → List ℕ) (value_of : List ℕ → V) (s
 
   abbrev pub Put : List ℕ → Added → List ℕ → Type 0
   Put words end last =
-      Turns (Fits size capacity) (contents_in value_of size capacity container)
+      BehavesAs (Represents size capacity) (contents_in value_of size capacity container)
       (λ s. added s given.owner) (λ s. after_add s given.owner given.value) words (handle_of end) last
 
-  module _ (words : List ℕ) (fits : Fits size capacity words) (lives : given.owner < empty) where
+  module _ (words : List ℕ) (fits : Represents size capacity words) (lives : given.owner < empty) where
     abbrev old : Contents V
     old = contents_in value_of size capacity container words
 
     abbrev Took : Acquired → List ℕ → Type 0
     Took e last =
-        Turns (robust.Fits capacity) owners_in acquired (λ s. after_acquire s given.owner) (take (1 + capacity) words) e last
+        BehavesAs (robust.Represents capacity) owners_in acquired (λ s. after_acquire s given.owner) (take (1 + capacity) words) e last
 
     abbrev Then : Acquired → List ℕ → Type 0
     Then e last = From few_steps (Put words) (add_acquired first (Done e)) last
@@ -163,7 +172,8 @@ module _ {V : Type 0} (words_of : V → List ℕ) (value_of : List ℕ → V) (s
           change_fits value_of size capacity last fits₂ index near wide _ there.writes,
           ap (handle_at old given.owner) took.1,
           change_contents value_of size capacity last fits₂ index near wide container _ (Some given.value) there.writes there.here
-              ∙ (ap (λ s. changed s (owners_in (take (1 + capacity) last)) index (Some given.value)) (behind_contents value_of size capacity container words last behind)
+              ∙ (ap (λ s. changed s (owners_in (take (1 + capacity) last)) index (Some given.value))
+              (behind_contents value_of size capacity container words last behind)
               ∙ (ap (λ set. changed old set index (Some given.value)) set
               ∙ ap (put_at old given.owner given.value) took.1)),
         )
@@ -191,10 +201,11 @@ module _ {V : Type 0} (words_of : V → List ℕ) (value_of : List ℕ → V) (s
         (λ d old low. ap (λ n. add_acquired first (acquire_takes (inner_acquire n d.stage) d.stage old)) (sym low.0))
         (λ d. refl) a.0 few_steps (OnEnd (Put words)) (first_acquire capacity) words (refl, tt)
         (front_walks (λ c. acquire_want c given.owner) (λ c old. acquire_after c old) (1 + capacity) (AcquireLow capacity)
-        (acquire_below capacity given.owner) (acquire_goes_low capacity) words Took Then so a.0 (first_acquire capacity) words (refl, tt) (stays (1 + capacity) words) a.2))
+        (acquire_below capacity given.owner) (acquire_goes_low capacity) words Took Then so a.0
+        (first_acquire capacity) words (refl, tt) (stays (1 + capacity) words) a.2))
 
   pub add_at : (number : ℕ) → number ≡ given.owner → number < empty → (call : Add V) → call ≡ first
-      → (words : List ℕ) → Fits size capacity words
+      → (words : List ℕ) → Represents size capacity words
       → Runs (add_want words_of size) (λ c given old. add_after size c old) (λ c (room : Unit {0}) old. room) given
       (λ e room ws. Put words e ws) call tt words
   add_at number same lives call is words fits =

@@ -1,5 +1,7 @@
 -- Each index that has an owner keeps a value.
-use Rattle.std.proofs.Common.{◌≡◌, ◌≢◌, ℕ, zero, suc, ◌<◌, ⊎_elim, true, false, ◌==◌, List, [], ◌∷◌, length, take, Option, Some, None, Result, Ok, Err, refl, sym, ap, subst, ◌∙◌, arith, slice_set, get_or-set_same, get_or-set_other}
+use Rattle.std.proofs.Common.{◌≡◌, ◌≢◌, ℕ, zero, suc, ◌<◌, ⊎_elim, true, false, ◌==◌, List, [], ◌∷◌, length, take}
+use Rattle.std.proofs.Common.{Option, Some, None, Result, Ok, Err, refl, sym, ap, subst, ◌∙◌, arith, slice_set}
+use Rattle.std.proofs.Common.{get_or-set_same, get_or-set_other}
 use Rattle.std.specs.Prelude.{slice_index_or, replicate, ◌+◌, ◌&&◌, not}
 use Rattle.std.proofs.lemmas.Bool.Decides.{eqb_tells}
 use Rattle.std.proofs.lemmas.List.FromFn.{length-map-range_with_len}
@@ -9,8 +11,9 @@ use Rattle.steps.specs.declared.indices.enums.ReleaseMode.{ReleaseMode}
 use Rattle.steps.specs.declared.indices.enums.ReleaseMode.TheVariants.{LockIfLastIndex, Default}
 use Rattle.steps.specs.declared.indices.enums.UniqueIndexSetAcquireFailure.{UniqueIndexSetAcquireFailure}
 use Rattle.steps.specs.Objects.Owners.{Owners, acquired, without, raised, the_end, taken, given_back}
-use Rattle.plain.specs.Alone.{Turns}
-use Rattle.plain.specs.Contents.{Contents, opened, changed, names, put_at, after_add, after_remove, after_replace, counted, value_at, contents_in, IsFilled, Fits, Holds}
+use Rattle.plain.specs.Alone.{BehavesAs}
+use Rattle.plain.specs.Contents.{Contents, opened, changed, names, put_at, after_add, after_remove, after_replace}
+use Rattle.plain.specs.Contents.{counted, value_at, contents_in, IsFilled, Represents, Holds}
 use Rattle.plain.proofs.Elements.Adds.{acquired_low, owners_long}
 use Rattle.plain.proofs.Elements.Values.{front_fits}
 
@@ -70,7 +73,10 @@ module _ {V : Type 0} where
   put s owner value i low h j none =
       ⊎_elim
       (λ (t : ((j == i) ≡ true) × (j ≡ i)).
-      absurd (subst IsSome (sym (ap (λ k. slice_index_or (slice_set s.values i (Some value)) k None) t.1 ∙ get_or-set_same s.values i (Some value) None low) ∙ none) tt))
+      absurd (subst IsSome
+      (sym (ap (λ k. slice_index_or (slice_set s.values i (Some value)) k None) t.1 ∙ get_or-set_same s.values i (Some value) None low)
+      ∙ none)
+      tt))
       (λ (t : ((j == i) ≡ false) × (j ≢ i)).
       get_or-set_other s.owners.owners i j (Some owner) None t.1
       ∙ h j (sym (get_or-set_other s.values i j (Some value) None t.1) ∙ none))
@@ -102,12 +108,12 @@ module _ {V : Type 0} where
 -- a turn of the words keeps them so
 pub still : {V A : Type 0} (value_of : List ℕ → V) (size capacity container : ℕ) (answer : Contents V → A) (next : Contents V → Contents V)
     (words : List ℕ) → IsFilled (next (contents_in value_of size capacity container words)) → (a : A) (last : List ℕ)
-    → Turns (Fits size capacity) (contents_in value_of size capacity container) answer next words a last
-    → Turns (Holds value_of size capacity container) (contents_in value_of size capacity container) answer next words a last
+    → BehavesAs (Represents size capacity) (contents_in value_of size capacity container) answer next words a last
+    → BehavesAs (Holds value_of size capacity container) (contents_in value_of size capacity container) answer next words a last
 still value_of size capacity container answer next words filled a last t =
     ((t.0, subst IsFilled (sym t.2) filled), t.1, t.2)
 
-pub values_long : {V : Type 0} (value_of : List ℕ → V) (size capacity container : ℕ) (words : List ℕ) → Fits size capacity words
+pub values_long : {V : Type 0} (value_of : List ℕ → V) (size capacity container : ℕ) (words : List ℕ) → Represents size capacity words
     → length (contents_in value_of size capacity container words).values ≡ length (contents_in value_of size capacity container words).owners.owners
 values_long value_of size capacity container words fits =
     length-map-range_with_len (value_at value_of size capacity words) 0 capacity

@@ -1,5 +1,6 @@
 -- A find in a container with its closure, from one question to the next.
-use Rattle.std.proofs.Common.{◌≡◌, ℕ, suc, ◌+◌, ◌-◌, ◌^◌, ◌<◌, ◌≤◌, inl, inr, true, nat_lt, if◌then◌else◌, List, [], ◌∷◌, ◌++◌, length, refl, sym, ap, subst, ◌∙◌, arith, slice_set}
+use Rattle.std.proofs.Common.{◌≡◌, ℕ, suc, ◌+◌, ◌-◌, ◌^◌, ◌<◌, ◌≤◌, inl, inr, true, nat_lt, if◌then◌else◌, List, []}
+use Rattle.std.proofs.Common.{◌∷◌, ◌++◌, length, refl, sym, ap, subst, ◌∙◌, arith, slice_set}
 use Rattle.std.specs.List.{FoldsTo}
 use Rattle.std.proofs.lemmas.List.{append_assoc, append-nil, length-append, length-drop}
 use Rattle.std.proofs.lemmas.Bool.Decides.{nat_tests}
@@ -50,7 +51,8 @@ module _ {V R F : Type 0} (value_of : List ℕ → V) (words_in : R → List ℕ
   At ready found left stop last = StopsAt value_of words_in with_word put_in size capacity container owner words ready found left stop last
 
   abbrev Question_at : (ready : Ready value_of size capacity container owner words) → ℕ → List ℕ → Question (Unit {0}) → Find V R → R → List ℕ → Type 0
-  Question_at ready found left question call room last = AsksAt value_of words_in with_word put_in size capacity container owner words ready found left question call room last
+  Question_at ready found left question call room last =
+      AsksAt value_of words_in with_word put_in size capacity container owner words ready found left question call room last
 
   -- it came to these, was told each time to go on, and these are left
   pub record Finding (ready : Ready value_of size capacity container owner words) (done : ℕ) (call : Find V R) (room : R) (now : F) : Type 0 where
@@ -77,7 +79,8 @@ module _ {V R F : Type 0} (value_of : List ℕ → V) (words_in : R → List ℕ
 
     goes_on : (rest before left : List ℕ) (room : R) (now : F) (a : After (Find V R) ℕ) (done : ℕ) → length rest ≤ capacity → before ++ left ≡ all
         → FoldsTo (λ p x q. sees p x Continue q) f before now → length before ≡ done → done ≤ capacity
-        → Goes (want_both want (find_after size) kept owner) (after_both want (find_after size) kept owner) (plus (suc (length rest)) (suc (suc (suc (suc (size - 1)))))) (At ready done left) (with_room room a) words
+        → Goes (want_both want (find_after size) kept owner) (after_both want (find_after size) kept owner)
+        (plus (suc (length rest)) (suc (suc (suc (suc (size - 1)))))) (At ready done left) (with_room room a) words
         → Onward ready done a room now
     goes_on rest before left room now (GoOn d) done short joined calls number low t =
         record {
@@ -88,7 +91,11 @@ module _ {V R F : Type 0} (value_of : List ℕ → V) (words_in : R → List ℕ
           number = number;
           low = low;
           run = halts_both want (find_after size) kept owner (plus (suc (length rest)) (suc (suc (suc (suc (size - 1)))))) (At ready done left) d room words
-              (let e = plus_sum (suc (length rest)) (suc (suc (suc (suc (size - 1))))) in let few = ready.holds.0.few in let wide = ready.wide in omega arith) t;
+              (let e = plus_sum (suc (length rest)) (suc (suc (suc (suc (size - 1))))) in
+              let few = ready.holds.0.few in
+              let wide = ready.wide in
+              omega arith)
+              t;
         }
     goes_on rest before left room now (Done n) done short joined calls number low t =
         found_all before now n (ap (λ l. before ++ l) (sym t.0) ∙ joined) calls (t.1 ∙ sym number)
@@ -147,7 +154,9 @@ module _ {V R F : Type 0} (value_of : List ℕ → V) (words_in : R → List ℕ
             (folds_more (λ p x q. sees p x Continue q) f now next so_far.before at.index so_far.calls (saw Continue next t))
             (length-append so_far.before (at.index ∷ []) ∙ ap (λ n. n + 1) so_far.number)
             (omega arith)
-            (finds_on value_of words_in with_word put_in size capacity container owner words ready at.rest (at.index + 1) (done + 1) (mine owner (at.index + 1) at.rest) at.rest_is (omega arith) refl room at.wide))
+            (finds_on value_of words_in with_word put_in size capacity container owner words ready at.rest
+            (at.index + 1) (done + 1) (mine owner (at.index + 1) at.rest) at.rest_is (omega arith) refl room
+            at.wide))
         onward Stop next t =
             subst (λ c. Onward ready (done + 1) (find_after size c owner 0) room next) (sym at.stands)
             (record {

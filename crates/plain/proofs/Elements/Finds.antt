@@ -1,5 +1,7 @@
 -- A find in a container that runs alone, from one value to the next.
-use Rattle.std.proofs.Common.{◌≡◌, ℕ, zero, suc, ◌+◌, ◌-◌, ◌^◌, ◌<◌, ◌≤◌, ⊎_elim, true, false, nat_lt, List, [], ◌∷◌, length, drop, take, Some, None, refl, sym, ap, subst, ◌∙◌, arith, slice_index, slice_set, length-set, eq-eqb, get_or-take, if◌then◌else◌}
+use Rattle.std.proofs.Common.{◌≡◌, ℕ, zero, suc, ◌+◌, ◌-◌, ◌^◌, ◌<◌, ◌≤◌, ⊎_elim, true, false, nat_lt, List, [], ◌∷◌}
+use Rattle.std.proofs.Common.{length, drop, take, Some, None, refl, sym, ap, subst, ◌∙◌, arith, slice_index, slice_set}
+use Rattle.std.proofs.Common.{length-set, eq-eqb, get_or-take, if◌then◌else◌}
 use Rattle.std.specs.Prelude.{slice_index_or}
 use Rattle.std.proofs.lemmas.Bool.{cases_Bool}
 use Rattle.std.proofs.lemmas.Bool.Decides.{nat_tests}
@@ -22,7 +24,7 @@ use Rattle.plain.specs.declared.drive.Stop.{Stop}
 use Rattle.plain.specs.declared.drive.Stop.TheVariants.{Asked, Ended}
 use Rattle.plain.specs.Queues.{words_from}
 use Rattle.plain.specs.Robust.{owner_in, owners_in}
-use Rattle.plain.specs.Contents.{Contents, value_at, contents_in, Fits, Holds}
+use Rattle.plain.specs.Contents.{Contents, value_at, contents_in, Represents, Holds}
 use Rattle.plain.specs.Visited.{Stands}
 use Rattle.plain.proofs.Walks.{plus, Walks, Goes, longer}
 use Rattle.plain.proofs.Rooms.{with_room, want_both, after_both}
@@ -46,7 +48,7 @@ split n (w ∷ ws) e = refl
 -- ---- the cells and the values that stand there
 
 module _ {V : Type 0} (value_of : List ℕ → V) (size capacity container : ℕ) (words : List ℕ) (holds : Holds value_of size capacity container words) where
-  abbrev pub fits : Fits size capacity words
+  abbrev pub fits : Represents size capacity words
   fits = holds.0
 
   abbrev pub old : Contents V
@@ -180,16 +182,28 @@ module _ {V R : Type 0} (value_of : List ℕ → V) (words_in : R → List ℕ) 
       let s = small_at value_of size capacity container words ready.holds i near ready.wide in omega arith in
       let c = count_word capacity i in
       let next = with_word room k (slice_index words (word_at (cell_at i) k)) in
-      subst (λ p. Goes W A 2 P (with_room (with_word room k (slice_index words p)) (if nat_lt (k + 1) size then GoOn (at (finds.TheVariants.LoadsWord i found (number_at i) (k + 1))) else GoOn (at (finds.TheVariants.ChecksCount i found (number_at i))))) words) (sym place)
+      subst (λ p. Goes W A 2 P (with_room (with_word room k (slice_index words p))
+      (if nat_lt (k + 1) size then GoOn (at (finds.TheVariants.LoadsWord i found (number_at i) (k + 1))) else GoOn
+      (at (finds.TheVariants.ChecksCount i found (number_at i)))))
+      words)
+      (sym place)
       (by_test (λ a. Goes W A 2 P (with_room next a) words) (nat_lt (k + 1) size) _ _
       (λ t. let more : k + 1 < size = grind (arith, nat_tests) in absurd (omega arith))
-      (λ t. subst (λ b. Goes W A 1 P (with_room next (if b then GoOn (at (finds.TheVariants.Asks i found)) else find_comes_to (first_find capacity) (i + 1) found)) (if b then slice_set words c (number_at i) else words)) (sym (eq-eqb (number_at i) (number_at i) refl))
+      (λ t. subst (λ b. Goes W A 1 P
+      (with_room next (if b then GoOn (at (finds.TheVariants.Asks i found)) else find_comes_to (first_find capacity) (i + 1) found))
+      (if b then slice_set words c (number_at i) else words))
+      (sym (eq-eqb (number_at i) (number_at i) refl))
       (subst (λ ws. Walks W A 1 P (at (finds.TheVariants.Asks i found), next) ws) (sym (set-get_or words c 0)) h)))
   reads P i found near (suc n) k end room h =
       let place : element_word capacity size i k ≡ word_at (cell_at i) k =
       let s = small_at value_of size capacity container words ready.holds i near ready.wide in omega arith in
       let next = with_word room k (slice_index words (word_at (cell_at i) k)) in
-      subst (λ p. Goes W A (suc (suc (suc n))) P (with_room (with_word room k (slice_index words p)) (if nat_lt (k + 1) size then GoOn (at (finds.TheVariants.LoadsWord i found (number_at i) (k + 1))) else GoOn (at (finds.TheVariants.ChecksCount i found (number_at i))))) words) (sym place)
+      subst (λ p. Goes W A (suc (suc (suc n))) P
+      (with_room (with_word room k (slice_index words p))
+      (if nat_lt (k + 1) size then GoOn (at (finds.TheVariants.LoadsWord i found (number_at i) (k + 1))) else GoOn
+      (at (finds.TheVariants.ChecksCount i found (number_at i)))))
+      words)
+      (sym place)
       (by_test (λ a. Goes W A (suc (suc (suc n))) P (with_room next a) words) (nat_lt (k + 1) size) _ _
       (λ t. reads P i found near n (k + 1) (omega arith) next h)
       (λ t. let less : size ≤ k + 1 = grind (arith, nat_tests) in absurd (omega arith)))
@@ -207,9 +221,16 @@ module _ {V R : Type 0} (value_of : List ℕ → V) (words_in : R → List ℕ) 
       let small = small_at value_of size capacity container words ready.holds i near ready.wide in
       let few = ready.holds.0.few in
       let more : one_more found ≡ found + 1 = omega arith in
-      subst (λ b. Goes W A (suc (suc (suc (size - 1)))) (StopsAt found left) (with_room room (if b then find_comes_to (first_find capacity) (i + 1) (one_more found) else GoOn (at (finds.TheVariants.LoadsWord i (one_more found) (number_at i) 0)))) words) (sym odd)
+      subst (λ b. Goes W A (suc (suc (suc (size - 1)))) (StopsAt found left)
+      (with_room room (if b then find_comes_to (first_find capacity) (i + 1) (one_more found) else GoOn
+      (at (finds.TheVariants.LoadsWord i (one_more found) (number_at i) 0))))
+      words)
+      (sym odd)
       (reads (StopsAt found left) i (one_more found) near (size - 1) 0 (omega arith) room
-      (subst (λ n. StopsAt found left (Asked (questions.TheVariants.Value i tt) (at (finds.TheVariants.Asks i (one_more found)), after_reading room i n)) words) all
+      (subst (λ n. StopsAt found left
+      (Asked (questions.TheVariants.Value i tt) (at (finds.TheVariants.Asks i (one_more found)), after_reading room i n))
+      words)
+      all
       (record {
         index = i;
         rest = rest;

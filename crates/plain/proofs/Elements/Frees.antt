@@ -1,5 +1,7 @@
 -- What a recovery of a container does to the words once it was told to free an index.
-use Rattle.std.proofs.Common.{◌≡◌, ◌≢◌, ℕ, zero, suc, ◌+◌, ◌^◌, ◌<◌, ◌≤◌, false, List, [], ◌∷◌, length, take, None, refl, sym, ap, subst, ◌∙◌, arith, slice_index, slice_set, length-set, get_or-set_same, get_or-set_other, get_or-take, if◌then◌else◌}
+use Rattle.std.proofs.Common.{◌≡◌, ◌≢◌, ℕ, zero, suc, ◌+◌, ◌^◌, ◌<◌, ◌≤◌, false, List, [], ◌∷◌, length, take, None}
+use Rattle.std.proofs.Common.{refl, sym, ap, subst, ◌∙◌, arith, slice_index, slice_set, length-set, get_or-set_same}
+use Rattle.std.proofs.Common.{get_or-set_other, get_or-take, if◌then◌else◌}
 use Rattle.std.proofs.lemmas.List.{take-set-le}
 use Rattle.steps.specs.Indices.Robust.Parts.{cell_word, empty, locked, one_more, raise_want, raise_after, lock_want, lock_after, first_lock}
 use Rattle.steps.specs.Container.Layout.{change_word, count_word, is_even}
@@ -10,7 +12,7 @@ use Rattle.steps.specs.declared.indices.enums.ReleaseState.TheVariants.{Unlocked
 use Rattle.steps.specs.declared.indices.robust.parts.Raise as raises
 use Rattle.plain.specs.Robust as robust
 use Rattle.plain.specs.Robust.{owners_in}
-use Rattle.plain.specs.Contents.{Contents, value_at, contents_in, changed, IsFilled, Fits, Holds}
+use Rattle.plain.specs.Contents.{Contents, value_at, contents_in, changed, IsFilled, Represents, Holds}
 use Rattle.plain.specs.Visited.{freed, one_change}
 use Rattle.plain.proofs.Walks.{plus, Walks, OnEnd, any_low}
 use Rattle.plain.proofs.Fronts.{Behind, stays, take_set, front_walks}
@@ -33,7 +35,9 @@ module _ (capacity g : ℕ) (cells ws : List ℕ) (small : g < 2 ^ 64) (front : 
       (λ e last. (e ≡ Unlocked) × (last ≡ next_generation g ∷ cells)) Q
       (λ e last behind t. subst (λ s. Q s last) (sym t.0) (so last behind t.1))
       2 raises.TheVariants.LoadsCounter ws tt (stays (1 + capacity) ws)
-      (subst (λ vs. Walks raise_want raise_after 2 (OnEnd (λ e last. (e ≡ Unlocked) × (last ≡ next_generation g ∷ cells))) raises.TheVariants.LoadsCounter vs) (sym front)
+      (subst (λ vs. Walks raise_want raise_after 2 (OnEnd (λ e last. (e ≡ Unlocked) × (last ≡ next_generation g ∷ cells)))
+      raises.TheVariants.LoadsCounter vs)
+      (sym front)
       (raise_walks g cells small (λ e last. (e ≡ Unlocked) × (last ≡ next_generation g ∷ cells)) (λ e. absurd (opens e)) (λ _. (refl, refl))))
 
   pub lock_over : length cells ≡ capacity → capacity < 2 ^ 32 → (Q : ReleaseState → List ℕ → Type 0)
@@ -43,7 +47,9 @@ module _ (capacity g : ℕ) (cells ws : List ℕ) (small : g < 2 ^ 64) (front : 
       front_walks lock_want (lock_after capacity) (1 + capacity) (LockLow capacity) (lock_below capacity) (λ l old low. lock_goes_low capacity l old) ws
       (λ e last. last ≡ locking g cells ∷ cells) Q so
       (plus (suc (suc (suc (length cells)))) 1) first_lock ws tt (stays (1 + capacity) ws)
-      (subst (λ vs. Walks lock_want (lock_after capacity) (plus (suc (suc (suc (length cells)))) 1) (OnEnd (λ e last. last ≡ locking g cells ∷ cells)) first_lock vs) (sym front)
+      (subst (λ vs. Walks lock_want (lock_after capacity) (plus (suc (suc (suc (length cells)))) 1)
+      (OnEnd (λ e last. last ≡ locking g cells ∷ cells)) first_lock vs)
+      (sym front)
       (lock_walks capacity g cells small long few (λ e last. last ≡ locking g cells ∷ cells) refl))
 
 set_swap : (l : List ℕ) (i j x y : ℕ) → i ≢ j → slice_set (slice_set l i x) j y ≡ slice_set (slice_set l j y) i x
@@ -54,7 +60,7 @@ set_swap (z ∷ l) (suc i) zero x y ne = refl
 set_swap (z ∷ l) (suc i) (suc j) x y ne = ap (λ t. z ∷ t) (set_swap l i j x y (λ e. ne (ap suc e)))
 
 module _ {V : Type 0} (value_of : List ℕ → V) (size capacity container : ℕ) (words : List ℕ) (holds : Holds value_of size capacity container words) where
-  fits : Fits size capacity words
+  fits : Represents size capacity words
   fits = holds.0
 
   abbrev s : Contents V
@@ -160,7 +166,7 @@ module _ {V : Type 0} (value_of : List ℕ → V) (size capacity container : ℕ
     hid_is : hidden value_of size capacity words fits index near wide ≡ hid
     hid_is = ap (λ b. if b then words else hid) odd
 
-    hid_fits : Fits size capacity hid
+    hid_fits : Represents size capacity hid
     hid_fits =
         record {
           long = length-set words (count_word capacity index) (one_more n) ∙ fits.long;
@@ -180,7 +186,9 @@ module _ {V : Type 0} (value_of : List ℕ → V) (size capacity container : ℕ
     hidden_contents : contents_in value_of size capacity container both ≡ without_value
     hidden_contents =
         let there = hides value_of size capacity words fits index near wide in
-        let changed_is = change_contents value_of size capacity words fits index near wide container both None there.writes (gone value_of size capacity words fits index near wide both there) in
+        let changed_is =
+        change_contents value_of size capacity words fits index near wide container both None there.writes
+        (gone value_of size capacity words fits index near wide both there) in
         let later = after_change value_of size capacity words fits index near wide both in
         let c = one_more (slice_index both (change_word capacity)) in
         let values = map_same (value_at value_of size capacity both) (value_at value_of size capacity later) capacity 0
@@ -216,8 +224,13 @@ module _ {V : Type 0} (value_of : List ℕ → V) (size capacity container : ℕ
         record {
           fit = (
             behind_fits value_of size capacity hid last behind hid_fits
-                (subst (robust.Fits capacity) (sym front_is)
-                (record { long = (let e : suc (length emptied) ≡ 1 + capacity = omega arith in e); some = fits.some; few = fits.few; small = counter_small mode g emptied counter_low })),
+                (subst (robust.Represents capacity) (sym front_is)
+                (record {
+                  long = (let e : suc (length emptied) ≡ 1 + capacity = omega arith in e);
+                  some = fits.some;
+                  few = fits.few;
+                  small = counter_small mode g emptied counter_low;
+                })),
             subst IsFilled (sym is) (filled_gone s (freed mode s index) index refl (given_owners mode s.owners index) holds.1),
           );
           is = is;

@@ -1,10 +1,11 @@
 -- Whether a handle names a value.
-use Rattle.std.proofs.Common.{◌≡◌, ℕ, suc, ◌+◌, ◌<◌, ◌≤◌, ◌==◌, ◌&&◌, false, List, [], ◌∷◌, length, take, None, Some, sym, ap, ◌∙◌, arith, slice_index, eq-eqb, ne_eqb, refl}
+use Rattle.std.proofs.Common.{◌≡◌, ℕ, suc, ◌+◌, ◌<◌, ◌≤◌, ◌==◌, ◌&&◌, false, List, [], ◌∷◌, length, take, None, Some}
+use Rattle.std.proofs.Common.{sym, ap, ◌∙◌, arith, slice_index, eq-eqb, ne_eqb, refl}
 use Rattle.std.proofs.lemmas.List.{get_or-map, get_or_past, length-map}
 use Rattle.steps.specs.Picks.{by_eq}
 use Rattle.steps.specs.Indices.Robust.Parts.{cell_word, empty}
 use Rattle.steps.specs.Objects.Owners.{has, owns}
-use Rattle.plain.specs.Robust.{owner_in, owners_in, Fits}
+use Rattle.plain.specs.Robust.{owner_in, owners_in, Represents}
 use Rattle.plain.specs.Contents.{names, contents_in}
 use Rattle.plain.proofs.Robust.Parts.{next_cell}
 
@@ -13,7 +14,7 @@ owns_word owner lives w =
     by_eq (λ o. owns o owner ≡ (w == owner)) w empty None (Some w)
     (λ e. sym (ne_eqb w owner (λ same. absurd (omega arith)))) (λ _. refl)
 
-pub has_word : (capacity : ℕ) (words : List ℕ) → Fits capacity words → (index owner : ℕ) → owner < empty → index < capacity
+pub has_word : (capacity : ℕ) (words : List ℕ) → Represents capacity words → (index owner : ℕ) → owner < empty → index < capacity
     → has (owners_in words) index owner ≡ (slice_index words (cell_word index) == owner)
 has_word capacity [] fits index owner lives near = let e : 0 ≡ 1 + capacity = fits.long in absurd (omega arith)
 has_word capacity (g ∷ cells) fits index owner lives near =
@@ -21,7 +22,7 @@ has_word capacity (g ∷ cells) fits index owner lives near =
     ap (λ o. owns o owner) (get_or-map owner_in cells index 0 None (omega arith))
     ∙ (owns_word owner lives (slice_index cells index) ∙ ap (λ w. w == owner) (sym (next_cell g index cells)))
 
-pub has_past : (capacity : ℕ) (words : List ℕ) → Fits capacity words → (index owner : ℕ) → capacity ≤ index
+pub has_past : (capacity : ℕ) (words : List ℕ) → Represents capacity words → (index owner : ℕ) → capacity ≤ index
     → has (owners_in words) index owner ≡ false
 has_past capacity [] fits index owner far = let e : 0 ≡ 1 + capacity = fits.long in absurd (omega arith)
 has_past capacity (g ∷ cells) fits index owner far =

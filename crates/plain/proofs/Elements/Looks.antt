@@ -11,10 +11,10 @@ use Rattle.steps.specs.declared.indices.robust.looks.BorrowedIndices.{BorrowedIn
 use Rattle.steps.specs.declared.indices.robust.looks.IsLocked.{IsLocked}
 use Rattle.steps.specs.Objects.Owners.{borrowed, raised}
 use Rattle.steps.specs.Objects.Owners as owners
-use Rattle.plain.specs.Alone.{Turns}
+use Rattle.plain.specs.Alone.{BehavesAs}
 use Rattle.plain.specs.Robust as robust
 use Rattle.plain.specs.Robust.{owners_in}
-use Rattle.plain.specs.Contents.{is_locked, number, counted, contents_in, Fits}
+use Rattle.plain.specs.Contents.{is_locked, number, counted, contents_in, Represents}
 use Rattle.plain.proofs.Alone.{Runs}
 use Rattle.plain.proofs.Walks.{plus, plus_sum, Walks, OnEnd, LowThen, runs}
 use Rattle.plain.proofs.Fronts.{stays, front_walks}
@@ -22,9 +22,9 @@ use Rattle.plain.proofs.Robust.Looks.{borrowed_walks}
 use Rattle.plain.proofs.Elements.Sets.{CountLow, count_goes_low, count_below}
 use Rattle.plain.proofs.Elements.Values.{front_fits, behind_contents, behind_fits}
 
-borrowed_front : (capacity : ℕ) (words : List ℕ) → robust.Fits capacity words
+borrowed_front : (capacity : ℕ) (words : List ℕ) → robust.Represents capacity words
     → (n : ℕ) × (n ≤ 2 ^ 40) × Walks (λ (c : BorrowedIndices). borrowed_want c) (λ c old. borrowed_after c old) n
-    (OnEnd (λ e last. Turns (robust.Fits capacity) owners_in borrowed raised words e last)) (first_borrowed capacity) words
+    (OnEnd (λ e last. BehavesAs (robust.Represents capacity) owners_in borrowed raised words e last)) (first_borrowed capacity) words
 borrowed_front capacity [] fits = let e : 0 ≡ 1 + capacity = fits.long in absurd (omega arith)
 borrowed_front capacity (g ∷ cells) fits =
     let long : suc (length cells) ≡ 1 + capacity = fits.long in
@@ -54,9 +54,9 @@ goes_low capacity call old low =
 module _ {V : Type 0} (value_of : List ℕ → V) (size capacity container : ℕ) where
   abbrev pub Counted : List ℕ → ℕ → List ℕ → Type 0
   Counted words end last =
-      Turns (Fits size capacity) (contents_in value_of size capacity container) number counted words end last
+      BehavesAs (Represents size capacity) (contents_in value_of size capacity container) number counted words end last
 
-  pub count_at : (c : BorrowedIndices) → c ≡ first_borrowed capacity → (words : List ℕ) → Fits size capacity words
+  pub count_at : (c : BorrowedIndices) → c ≡ first_borrowed capacity → (words : List ℕ) → Represents size capacity words
       → Runs (λ (c : BorrowedIndices) (given : Unit {0}). borrowed_want c) (λ c given old. borrowed_after c old) (λ c (room : Unit {0}) old. room) tt
       (λ e room ws. Counted words e ws) c tt words
   count_at c is words fits =
@@ -64,10 +64,11 @@ module _ {V : Type 0} (value_of : List ℕ → V) (size capacity container : ℕ
       let bound = a.1 in
       subst (λ c. Runs (λ (c : BorrowedIndices) (given : Unit {0}). borrowed_want c) (λ c given old. borrowed_after c old) (λ c (room : Unit {0}) old. room) tt
       (λ e room ws. Counted words e ws) c tt words) (sym is)
-      (runs (λ (c : BorrowedIndices) (given : Unit {0}). borrowed_want c) (λ c given old. borrowed_after c old) tt a.0 (Counted words) (first_borrowed capacity) words (omega arith)
+      (runs (λ (c : BorrowedIndices) (given : Unit {0}). borrowed_want c) (λ c given old. borrowed_after c old) tt
+      a.0 (Counted words) (first_borrowed capacity) words (omega arith)
       (front_walks (λ (c : BorrowedIndices). borrowed_want c) (λ c old. borrowed_after c old) (1 + capacity) (BorrowedLow capacity)
       (λ call low. count_below capacity call.count low.1) (goes_low capacity) words
-      (λ e last. Turns (robust.Fits capacity) owners_in borrowed raised (take (1 + capacity) words) e last) (Counted words)
+      (λ e last. BehavesAs (robust.Represents capacity) owners_in borrowed raised (take (1 + capacity) words) e last) (Counted words)
       (λ e last behind took. (
         behind_fits value_of size capacity words last behind fits took.0,
         took.1,
@@ -78,9 +79,9 @@ module _ {V : Type 0} (value_of : List ℕ → V) (size capacity container : ℕ
 
   abbrev pub Looked : List ℕ → Bool → List ℕ → Type 0
   Looked words end last =
-      Turns (Fits size capacity) (contents_in value_of size capacity container) is_locked (λ s. s) words end last
+      BehavesAs (Represents size capacity) (contents_in value_of size capacity container) is_locked (λ s. s) words end last
 
-  pub look_at : (c : IsLocked) (words : List ℕ) → Fits size capacity words
+  pub look_at : (c : IsLocked) (words : List ℕ) → Represents size capacity words
       → Runs (λ (c : IsLocked) (given : Unit {0}). load 0) (λ c given old. locked_after c old) (λ c (room : Unit {0}) old. room) tt
       (λ e room ws. Looked words e ws) c tt words
   look_at c [] fits = let e : 0 ≡ 2 + (capacity + capacity) + size * capacity = fits.long in absurd (omega arith)

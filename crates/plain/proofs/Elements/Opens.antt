@@ -1,5 +1,7 @@
 -- A container as it opens.
-use Rattle.std.proofs.Common.{◌≡◌, ℕ, zero, suc, ◌+◌, ◌-◌, ◌<◌, ◌≤◌, List, [], ◌∷◌, ◌++◌, length, take, map, replicate, None, Some, refl, ap, ◌∙◌, arith, slice_index, slice_set, length-set, take_all, Result, Ok, Err, is_ok, is_err, false, true≢false, if◌then◌else◌}
+use Rattle.std.proofs.Common.{◌≡◌, ℕ, zero, suc, ◌+◌, ◌-◌, ◌<◌, ◌≤◌, List, [], ◌∷◌, ◌++◌, length, take, map, replicate}
+use Rattle.std.proofs.Common.{None, Some, refl, ap, ◌∙◌, arith, slice_index, slice_set, length-set, take_all, Result}
+use Rattle.std.proofs.Common.{Ok, Err, is_ok, is_err, false, true≢false, if◌then◌else◌}
 use Rattle.std.specs.List.{range_with_len}
 use Rattle.std.proofs.lemmas.List.{length-replicate}
 use Rattle.steps.specs.Indices.Robust.Parts.{empty}
@@ -57,7 +59,8 @@ module _ {V : Type 0} (value_of : List ℕ → V) (size capacity container : ℕ
       ap (λ ws. owners_in (take (1 + capacity) ws)) more_is
       ∙ (ap owners_in (take_front front (replicate number 0) (1 + capacity) front_long) ∙ opens set capacity 0 set_is) in
       let none = same_there None (value_at value_of size capacity more) capacity 0
-      (λ i. ap (λ n. if is_even n then None else Some (value_of (words_from more (element_word capacity size i 0) size))) (zeros (count_word capacity i) (omega arith))) in
+      (λ i. ap (λ n. if is_even n then None else Some (value_of (words_from more (element_word capacity size i 0) size)))
+      (zeros (count_word capacity i) (omega arith))) in
       let counts = same_there 0 (λ i. slice_index more (count_word capacity i)) capacity 0 (λ i. zeros (count_word capacity i) (omega arith)) in
       let changes = zeros (change_word capacity) (omega arith) in
       λ i. record { container = container; owners = set_opens i; values = none i; counts = counts i; changes = changes i }

@@ -1,5 +1,7 @@
 -- A recovery of a container with its closure, from one question to the next.
-use Rattle.std.proofs.Common.{◌≡◌, ◌≢◌, ℕ, suc, ◌+◌, ◌-◌, ◌^◌, ◌<◌, ◌≤◌, Bool, true, false, ◌==◌, nat_lt, if◌then◌else◌, List, [], ◌∷◌, ◌++◌, length, filter, None, refl, sym, ap, subst, ◌∙◌, arith, slice_index, slice_set, length-set, get_or-set_other, eq-eqb}
+use Rattle.std.proofs.Common.{◌≡◌, ◌≢◌, ℕ, suc, ◌+◌, ◌-◌, ◌^◌, ◌<◌, ◌≤◌, Bool, true, false, ◌==◌, nat_lt}
+use Rattle.std.proofs.Common.{if◌then◌else◌, List, [], ◌∷◌, ◌++◌, length, filter, None, refl, sym, ap, subst, ◌∙◌}
+use Rattle.std.proofs.Common.{arith, slice_index, slice_set, length-set, get_or-set_other, eq-eqb}
 use Rattle.std.specs.Prelude.{slice_index_or}
 use Rattle.std.specs.List.{FoldsTo}
 use Rattle.std.proofs.lemmas.List.{append_assoc, append-nil, length-drop, drop-set-lt}
@@ -106,7 +108,10 @@ module _ {V R F : Type 0} (value_of : List ℕ → V) (words_in : R → List ℕ
         shut = λ e. ap (λ b. filter (λ (o : Owned). o.owner == owner) (if b then [] else taken old.owners)) (eq-eqb old.owners.generation locked e);
         low = omega arith;
         high = omega arith;
-        run = halts_both want (recover_after size) kept given (suc (plus (suc (suc (suc (length its_cells)))) (suc (suc (suc (suc (size - 1))))))) (At ready old 0 all) (first_recover capacity) room words
+        run =
+            halts_both want (recover_after size) kept given
+            (suc (plus (suc (suc (suc (length its_cells)))) (suc (suc (suc (suc (size - 1))))))) (At ready old 0 all)
+            (first_recover capacity) room words
             (let e = plus_sum (suc (suc (suc (length its_cells)))) (suc (suc (suc (suc (size - 1))))) in omega arith)
             (begin_walk value_of words_in with_word put_in size capacity container owner mode ready.some ready.wide ready.lives words ready.holds room long);
       }
@@ -191,9 +196,15 @@ module _ {V R F : Type 0} (value_of : List ℕ → V) (words_in : R → List ℕ
           shut = λ e. absurd (opens (sym (ap (λ (o : Owners). o.generation) owners_are) ∙ e));
           low = omega arith;
           high = omega arith;
-          run = halts_both want (recover_after size) kept given (plus (suc (suc (suc (length at.rest)))) (suc (suc (suc (suc (size - 1)))))) (At ready t.s (at.index + 1) left_then) (record { capacity = capacity; stage = next_stage; of = record {} }) room last
+          run =
+              halts_both want (recover_after size) kept given
+              (plus (suc (suc (suc (length at.rest)))) (suc (suc (suc (suc (size - 1))))))
+              (At ready t.s (at.index + 1) left_then)
+              (record { capacity = capacity; stage = next_stage; of = record {} }) room last
               (let e = plus_sum (suc (suc (suc (length at.rest)))) (suc (suc (suc (suc (size - 1))))) in omega arith)
-              (recovers_on value_of words_in with_word put_in size capacity container owner mode ready.some ready.wide ready.lives last at.holds t.s at.is (at.index + 1) at.rest (at.index + 1) left_then at.rest_is refl (omega arith) room at.roomy);
+              (recovers_on value_of words_in with_word put_in size capacity container owner mode ready.some
+              ready.wide ready.lives last at.holds t.s at.is (at.index + 1) at.rest (at.index + 1) left_then
+              at.rest_is refl (omega arith) room at.roomy);
         }
 
     abbrev gone : List ℕ
@@ -244,8 +255,12 @@ module _ {V R F : Type 0} (value_of : List ℕ → V) (words_in : R → List ℕ
               (let a = plus_sum (suc (suc (suc (length at.rest)))) (suc (suc (suc (suc (size - 1))))) in
               let b = plus_sum (suc (suc (suc (length gone)))) 1 in
               let c = plus_sum (plus (suc (suc (suc (length gone)))) 1) (plus (suc (suc (suc (length at.rest)))) (suc (suc (suc (suc (size - 1)))))) in
-              let d = plus_sum 2 (plus (plus (suc (suc (suc (length gone)))) 1) (plus (suc (suc (suc (length at.rest)))) (suc (suc (suc (suc (size - 1))))))) in omega arith)
-              (frees_on value_of words_in with_word put_in size capacity container owner mode ready.some ready.wide ready.lives last at.holds t.s at.is at.index at.near at.owns opens at.rest at.rest_is room at.roomy);
+              let d =
+              plus_sum 2 (plus (plus (suc (suc (suc (length gone)))) 1)
+              (plus (suc (suc (suc (length at.rest)))) (suc (suc (suc (suc (size - 1))))))) in
+              omega arith)
+              (frees_on value_of words_in with_word put_in size capacity container owner mode ready.some ready.wide
+              ready.lives last at.holds t.s at.is at.index at.near at.owns opens at.rest at.rest_is room at.roomy);
         }
 
     onward : (said : Bool) (q : F) → step p value said q → Onward ready (done + 1) (recover_after size put given (if said then 1 else 0)) room q last

@@ -1,5 +1,7 @@
 -- A recovery of a container that runs alone, from one question to the next.
-use Rattle.std.proofs.Common.{◌≡◌, ◌≢◌, ℕ, zero, suc, ◌+◌, ◌-◌, ◌^◌, ◌<◌, ◌≤◌, ⊎_elim, true, false, cond, ◌==◌, nat_lt, List, [], ◌∷◌, length, drop, filter, map, take, Some, refl, sym, ap, subst, ◌∙◌, arith, slice_index, slice_set, eq-eqb, ne_eqb, get_or-set_other, if◌then◌else◌}
+use Rattle.std.proofs.Common.{◌≡◌, ◌≢◌, ℕ, zero, suc, ◌+◌, ◌-◌, ◌^◌, ◌<◌, ◌≤◌, ⊎_elim, true, false, cond, ◌==◌, nat_lt}
+use Rattle.std.proofs.Common.{List, [], ◌∷◌, length, drop, filter, map, take, Some, refl, sym, ap, subst, ◌∙◌, arith}
+use Rattle.std.proofs.Common.{slice_index, slice_set, eq-eqb, ne_eqb, get_or-set_other, if◌then◌else◌}
 use Rattle.std.proofs.lemmas.Bool.Decides.{nat_tests, eqb_tells}
 use Rattle.std.proofs.lemmas.List.{set-get_or, drop-set-lt}
 use Rattle.steps.specs.Picks.{by_test, by_eq}
@@ -7,7 +9,8 @@ use Rattle.steps.specs.Copied.{value_in}
 use Rattle.steps.specs.Queues.Ring.{word_at}
 use Rattle.steps.specs.Indices.Robust.Parts.{cell_word, empty, locked, one_more, raise_want, raise_after, lock_want, lock_after, first_lock}
 use Rattle.steps.specs.Container.Layout.{count_word, element_word, is_even}
-use Rattle.steps.specs.Container.Recover.{first_recover, goes_to, recover_comes_to, recover_raises, recover_raised, recover_locked, recover_sees, recover_want, recover_after, recover_kept}
+use Rattle.steps.specs.Container.Recover.{first_recover, goes_to, recover_comes_to, recover_raises, recover_raised}
+use Rattle.steps.specs.Container.Recover.{recover_locked, recover_sees, recover_want, recover_after, recover_kept}
 use Rattle.steps.specs.Objects.Owners.{Owned, taken, taken_from, state_of, next_generation}
 use Rattle.steps.specs.declared.ask.Want.{Want}
 use Rattle.steps.specs.declared.ask.After.{After}
@@ -34,7 +37,8 @@ use Rattle.plain.proofs.Words.{read_in, value_read}
 use Rattle.plain.proofs.Robust.Parts.{tail_of, here, past, next_small, owner_free, owner_some}
 use Rattle.plain.proofs.Robust.Releases.{counter_then}
 use Rattle.plain.proofs.Elements.Finds.{counter, cells_long, front, cell_is, odd_at, stands_at, small_at, long_read}
-use Rattle.plain.proofs.Elements.Frees.{head_is, generation_is, counter_low, counts_so, counted, bare, emptied_long, bare_front, bare_behind, frees_so, raise_over, lock_over}
+use Rattle.plain.proofs.Elements.Frees.{head_is, generation_is, counter_low, counts_so, counted, bare, emptied_long}
+use Rattle.plain.proofs.Elements.Frees.{bare_front, bare_behind, frees_so, raise_over, lock_over}
 
 module _ (owner : ℕ) where
   -- the indices of the owner in a list whose first index is this one
@@ -51,8 +55,10 @@ module _ (owner : ℕ) where
   of_miss : (index c : ℕ) (rest : List ℕ) → c ≢ owner → of_owner index (c ∷ rest) ≡ of_owner (index + 1) rest
   of_miss index c rest n =
       ⊎_elim
-      (λ (t : ((c == empty) ≡ true) × (c ≡ empty)). ap (λ o. filter (λ (o : Owned). o.owner == owner) (taken_from index (o ∷ map owner_in rest))) (owner_free c t.1))
-      (λ (t : ((c == empty) ≡ false) × (c ≢ empty)). ap (λ o. filter (λ (o : Owned). o.owner == owner) (taken_from index (o ∷ map owner_in rest))) (owner_some c t.1)
+      (λ (t : ((c == empty) ≡ true) × (c ≡ empty)). ap
+      (λ o. filter (λ (o : Owned). o.owner == owner) (taken_from index (o ∷ map owner_in rest))) (owner_free c t.1))
+      (λ (t : ((c == empty) ≡ false) × (c ≢ empty)). ap
+      (λ o. filter (λ (o : Owned). o.owner == owner) (taken_from index (o ∷ map owner_in rest))) (owner_some c t.1)
       ∙ ap (λ b. cond b (record { owner = c; index = index } ∷ of_owner (index + 1) rest) (of_owner (index + 1) rest)) (ne_eqb c owner n))
       (eqb_tells c empty)
 
@@ -128,38 +134,61 @@ module _ {V R : Type 0} (value_of : List ℕ → V) (words_in : R → List ℕ) 
 
     -- the words of a value, then its number for itself, then the question
     reads : (P : Stop (Recover V R × R) (ReleaseState × R) → List ℕ → Type 0) (i : ℕ) → i < capacity → (n k : ℕ) → k + suc n ≡ size → (room : R)
-        → P (Asked (questions.TheVariants.Value i tt) (at (recovers.TheVariants.Asks i (number_at i)), read_in with_word room words (cell_at i) k (suc n))) words
+        → P (Asked (questions.TheVariants.Value i tt)
+        (at (recovers.TheVariants.Asks i (number_at i)), read_in with_word room words (cell_at i) k (suc n)))
+        words
         → Walks W A (suc (suc (suc n))) P (at (recovers.TheVariants.LoadsWord i (number_at i) k), room) words
     reads P i near zero k end room h =
         let place : element_word capacity size i k ≡ word_at (cell_at i) k =
         let s = small_at value_of size capacity container words holds i near wide in omega arith in
         let c = count_word capacity i in
         let next = with_word room k (slice_index words (word_at (cell_at i) k)) in
-        subst (λ p. Goes W A 2 P (with_room (with_word room k (slice_index words p)) (if nat_lt (k + 1) size then goes_to first (recovers.TheVariants.LoadsWord i (number_at i) (k + 1)) else goes_to first (recovers.TheVariants.ChecksCount i (number_at i)))) words) (sym place)
+        subst (λ p. Goes W A 2 P (with_room (with_word room k (slice_index words p))
+        (if nat_lt (k + 1) size then goes_to first (recovers.TheVariants.LoadsWord i (number_at i) (k + 1)) else
+        goes_to first (recovers.TheVariants.ChecksCount i (number_at i))))
+        words)
+        (sym place)
         (by_test (λ a. Goes W A 2 P (with_room next a) words) (nat_lt (k + 1) size) _ _
         (λ t. let more : k + 1 < size = grind (arith, nat_tests) in absurd (omega arith))
-        (λ t. subst (λ b. Goes W A 1 P (with_room next (if b then goes_to first (recovers.TheVariants.Asks i (number_at i)) else recover_sees first i (number_at i))) (if b then slice_set words c (number_at i) else words)) (sym (eq-eqb (number_at i) (number_at i) refl))
+        (λ t. subst (λ b. Goes W A 1 P
+        (with_room next (if b then goes_to first (recovers.TheVariants.Asks i (number_at i)) else recover_sees first i (number_at i)))
+        (if b then slice_set words c (number_at i) else words))
+        (sym (eq-eqb (number_at i) (number_at i) refl))
         (subst (λ ws. Walks W A 1 P (at (recovers.TheVariants.Asks i (number_at i)), next) ws) (sym (set-get_or words c 0)) h)))
     reads P i near (suc n) k end room h =
         let place : element_word capacity size i k ≡ word_at (cell_at i) k =
         let s = small_at value_of size capacity container words holds i near wide in omega arith in
         let next = with_word room k (slice_index words (word_at (cell_at i) k)) in
-        subst (λ p. Goes W A (suc (suc (suc n))) P (with_room (with_word room k (slice_index words p)) (if nat_lt (k + 1) size then goes_to first (recovers.TheVariants.LoadsWord i (number_at i) (k + 1)) else goes_to first (recovers.TheVariants.ChecksCount i (number_at i)))) words) (sym place)
+        subst (λ p. Goes W A (suc (suc (suc n))) P
+        (with_room (with_word room k (slice_index words p))
+        (if nat_lt (k + 1) size then goes_to first (recovers.TheVariants.LoadsWord i (number_at i) (k + 1)) else
+        goes_to first (recovers.TheVariants.ChecksCount i (number_at i))))
+        words)
+        (sym place)
         (by_test (λ a. Goes W A (suc (suc (suc n))) P (with_room next a) words) (nat_lt (k + 1) size) _ _
         (λ t. reads P i near n (k + 1) (omega arith) next h)
         (λ t. let less : size ≤ k + 1 = grind (arith, nat_tests) in absurd (omega arith)))
 
     module _ (s : Contents V) (is : read words ≡ s) (from : ℕ) where
-      hit : (i : ℕ) (rest : List ℕ) (left : List Owned) → i < capacity → from ≤ i → slice_index (cells_of words) i ≡ owner → drop (i + 1) (cells_of words) ≡ rest
+      hit : (i : ℕ) (rest : List ℕ) (left : List Owned) → i < capacity → from ≤ i
+          → slice_index (cells_of words) i ≡ owner → drop (i + 1) (cells_of words) ≡ rest
           → left ≡ record { owner = owner; index = i } ∷ of_owner owner (i + 1) rest → (room : R) → size ≤ length (words_in room)
           → Walks W A each (StopsAt s from left) (at (recovers.TheVariants.LoadsCount i), room) words
       hit i rest left near low owns rest_is left_is room long =
           let odd = odd_at value_of size capacity container words holds i owner near lives owns in
           let all : size ≡ suc (size - 1) = omega arith in
           let small = small_at value_of size capacity container words holds i near wide in
-          subst (λ b. Goes W A (suc (suc (suc (size - 1)))) (StopsAt s from left) (with_room room (goes_to first (if b then recovers.TheVariants.EmptiesCell i (number_at i) else recovers.TheVariants.LoadsWord i (number_at i) 0))) words) (sym odd)
+          subst (λ b. Goes W A (suc (suc (suc (size - 1)))) (StopsAt s from left)
+          (with_room room (goes_to first
+          (if b then recovers.TheVariants.EmptiesCell i (number_at i) else recovers.TheVariants.LoadsWord i (number_at i) 0)))
+          words)
+          (sym odd)
           (reads (StopsAt s from left) i near (size - 1) 0 (omega arith) room
-          (subst (λ n. StopsAt s from left (Asked (questions.TheVariants.Value i tt) (at (recovers.TheVariants.Asks i (number_at i)), read_in with_word room words (cell_at i) 0 n)) words) all
+          (subst (λ n. StopsAt s from left
+          (Asked (questions.TheVariants.Value i tt)
+          (at (recovers.TheVariants.Asks i (number_at i)), read_in with_word room words (cell_at i) 0 n))
+          words)
+          all
           (record {
             index = i;
             rest = rest;
@@ -186,7 +215,8 @@ module _ {V R : Type 0} (value_of : List ℕ → V) (words_in : R → List ℕ) 
 
       state_at : (if slice_index words 0 == locked then Locked else Unlocked) ≡ state_of s.owners
       state_at =
-          ap (λ n. if n == locked then Locked else Unlocked) (head_is value_of size capacity container words holds ∙ sym (generation_is value_of size capacity container words holds))
+          ap (λ n. if n == locked then Locked else Unlocked)
+          (head_is value_of size capacity container words holds ∙ sym (generation_is value_of size capacity container words holds))
           ∙ ap (λ (t : Contents V). state_of t.owners) is
 
       pub recovers_on : (rest : List ℕ) (index : ℕ) (left : List Owned) → drop index (cells_of words) ≡ rest → left ≡ of_owner owner index rest → from ≤ index
@@ -204,8 +234,11 @@ module _ {V R : Type 0} (value_of : List ℕ → V) (words_in : R → List ℕ) 
           let below = there.near in
           let near : index < capacity = omega arith in
           let word = cell_is value_of size capacity container words holds index near ∙ there.word_is in
-          by_test (λ stage. Goes W A (suc (suc (suc (suc (plus (length rest) each))))) (StopsAt s from left) (with_room room (goes_to first stage)) words) (nat_lt index capacity) _ _
-          (λ _. by_eq (λ a. Goes W A (suc (suc (suc (plus (length rest) each)))) (StopsAt s from left) (with_room room a) words) (slice_index words (cell_word index)) owner _ _
+          by_test (λ stage. Goes W A (suc (suc (suc (suc (plus (length rest) each))))) (StopsAt s from left)
+          (with_room room (goes_to first stage)) words)
+          (nat_lt index capacity) _ _
+          (λ _. by_eq (λ a. Goes W A (suc (suc (suc (plus (length rest) each)))) (StopsAt s from left) (with_room room a) words)
+          (slice_index words (cell_word index)) owner _ _
           (λ e. longer W A (suc (suc (suc (length rest)))) each (StopsAt s from left) (at (recovers.TheVariants.LoadsCount index), room) words
           (hit index rest left near low (there.word_is ∙ (sym word ∙ e)) there.rest_is (all ∙ of_hit owner index c rest lives (sym word ∙ e)) room long))
           (λ n. recovers_on rest (index + 1) left there.rest_is (all ∙ of_miss owner index c rest (λ e. n (word ∙ e))) (omega arith) room long))
@@ -217,12 +250,15 @@ module _ {V R : Type 0} (value_of : List ℕ → V) (words_in : R → List ℕ) 
         let g = counter value_of size capacity container words holds in
         let generation = generation_is value_of size capacity container words holds in
         let head = head_is value_of size capacity container words holds in
-        by_eq (λ a. Goes W A (fuel (cells_of words)) (StopsAt (read words) 0 (to_ask (read words) owner)) (with_room room a) words) (slice_index words 0) locked _ _
+        by_eq (λ a. Goes W A (fuel (cells_of words)) (StopsAt (read words) 0 (to_ask (read words) owner)) (with_room room a) words)
+        (slice_index words 0) locked _ _
         (λ e. ends (read words) refl 0 (to_ask (read words) owner) Locked
-        (ap (λ b. filter (λ (o : Owned). o.owner == owner) (if b then [] else taken (read words).owners)) (eq-eqb (read words).owners.generation locked (generation ∙ (sym head ∙ e))))
+        (ap (λ b. filter (λ (o : Owned). o.owner == owner) (if b then [] else taken (read words).owners))
+        (eq-eqb (read words).owners.generation locked (generation ∙ (sym head ∙ e))))
         (sym (ap (λ b. if b then Locked else Unlocked) (eq-eqb (read words).owners.generation locked (generation ∙ (sym head ∙ e))))))
         (λ other. recovers_on (read words) refl 0 (cells_of words) 0 (to_ask (read words) owner) refl
-        (ap (λ b. filter (λ (o : Owned). o.owner == owner) (if b then [] else taken (read words).owners)) (ne_eqb (read words).owners.generation locked (λ e. other (head ∙ (sym generation ∙ e))))
+        (ap (λ b. filter (λ (o : Owned). o.owner == owner) (if b then [] else taken (read words).owners))
+        (ne_eqb (read words).owners.generation locked (λ e. other (head ∙ (sym generation ∙ e))))
         ∙ ap (λ ws. filter (λ (o : Owned). o.owner == owner) (taken (owners_in ws))) (front value_of size capacity container words holds))
         (omega arith) room long)
 
@@ -263,8 +299,10 @@ module _ {V R : Type 0} (value_of : List ℕ → V) (words_in : R → List ℕ) 
         → Goes W A (fuel rest) P (with_room room (recover_comes_to first (index + 1))) last
     then_on last behind front_is =
         let there = frees_so value_of size capacity container words holds wide mode index near odd last behind front_is in
-        recovers_on last there.fit (freed mode s index) (there.is ∙ ap (λ t. freed mode t index) is) (index + 1) rest (index + 1) (of_owner owner (index + 1) rest)
-        (ap (λ ws. drop (index + 1) (tail_of ws)) front_is ∙ (drop-set-lt (index + 1) (cells_of words) index empty (let t : index < index + 1 = omega arith in t) ∙ rest_is))
+        recovers_on last there.fit (freed mode s index) (there.is ∙ ap (λ t. freed mode t index) is) (index + 1)
+        rest (index + 1) (of_owner owner (index + 1) rest)
+        (ap (λ ws. drop (index + 1) (tail_of ws)) front_is
+        ∙ (drop-set-lt (index + 1) (cells_of words) index empty (let t : index < index + 1 = omega arith in t) ∙ rest_is))
         refl (let t : index + 1 ≤ index + 1 = omega arith in t) room long
 
     abbrev After_raise : ReleaseMode → List ℕ → Type 0
@@ -276,20 +314,29 @@ module _ {V R : Type 0} (value_of : List ℕ → V) (words_in : R → List ℕ) 
         goes_longer W A locks (fuel rest) P (with_room room (recover_comes_to first (index + 1))) last
         (then_on last behind (front_is ∙ ap (λ m. counter_then m g gone ∷ gone) (sym e)))
     on_raised LockIfLastIndex e last behind front_is =
-        part_walks W A lock_want (lock_after capacity) (λ l. (at (recovers.TheVariants.Locks index l), room)) (λ a. with_room room (recover_locked first index a))
+        part_walks W A lock_want (lock_after capacity) (λ l. (at (recovers.TheVariants.Locks index l), room))
+        (λ a. with_room room (recover_locked first index a))
         (λ d. refl) (λ d old. refl) (λ d. refl) locks (fuel rest) P first_lock last
         (lock_over capacity (next_generation g) gone last (next_small g low) front_is gone_long holds.0.few _
-        (λ state later more front_later. then_on later (behind_more (1 + capacity) hid last later behind more) (front_later ∙ ap (λ m. counter_then m g gone ∷ gone) (sym e))))
+        (λ state later more front_later. then_on later (behind_more (1 + capacity) hid last later behind more)
+        (front_later ∙ ap (λ m. counter_then m g gone ∷ gone) (sym e))))
 
     abbrev pub rounds : ℕ
     rounds = suc (suc (plus 2 (plus locks (fuel rest))))
 
-    raises_on : Walks W A (plus 2 (plus locks (fuel rest))) P (at (recovers.TheVariants.Raises index raises.TheVariants.LoadsCounter), room) (bare value_of size capacity container words holds wide mode index near odd)
+    raises_on : Walks W A (plus 2 (plus locks (fuel rest))) P
+        (at (recovers.TheVariants.Raises index raises.TheVariants.LoadsCounter), room)
+        (bare value_of size capacity container words holds wide mode index near odd)
     raises_on =
         part_walks W A raise_want raise_after (λ r. (at (recovers.TheVariants.Raises index r), room)) (λ a. with_room room (recover_raised first index mode a))
-        (λ d. refl) (λ d old. refl) (λ d. refl) 2 (plus locks (fuel rest)) P raises.TheVariants.LoadsCounter (bare value_of size capacity container words holds wide mode index near odd)
-        (raise_over capacity g gone (bare value_of size capacity container words holds wide mode index near odd) low (bare_front value_of size capacity container words holds wide mode index near odd) opens _
-        (λ last behind front_is. on_raised mode refl last (behind_more (1 + capacity) hid (bare value_of size capacity container words holds wide mode index near odd) last (bare_behind value_of size capacity container words holds wide mode index near odd) behind) front_is))
+        (λ d. refl) (λ d old. refl) (λ d. refl) 2 (plus locks (fuel rest)) P raises.TheVariants.LoadsCounter
+        (bare value_of size capacity container words holds wide mode index near odd)
+        (raise_over capacity g gone (bare value_of size capacity container words holds wide mode index near odd) low
+        (bare_front value_of size capacity container words holds wide mode index near odd) opens _
+        (λ last behind front_is. on_raised mode refl last
+        (behind_more (1 + capacity) hid (bare value_of size capacity container words holds wide mode index near odd)
+        last (bare_behind value_of size capacity container words holds wide mode index near odd) behind)
+        front_is))
 
     -- from a yes to the next question, or to the end
     pub frees_on : Walks W A rounds P (at (recovers.TheVariants.EmptiesCell index n), room) words
@@ -297,8 +344,20 @@ module _ {V R : Type 0} (value_of : List ℕ → V) (words_in : R → List ℕ) 
         let word = cell_is value_of size capacity container words holds index near ∙ owns in
         let ci = cell_word index in
         let without = slice_set words ci empty in
-        let same : slice_index without (count_word capacity index) ≡ n = get_or-set_other words ci (count_word capacity index) empty 0 (λ e. absurd (omega arith)) in
-        subst (λ b. Goes W A (suc (plus 2 (plus locks (fuel rest)))) P (with_room room (if b then (if is_even n then recover_raises first index else goes_to first (recovers.TheVariants.Hides index n)) else recover_comes_to first (index + 1))) (if b then slice_set words ci empty else words)) (sym (eq-eqb (slice_index words ci) owner word))
-        (subst (λ b. Goes W A (suc (plus 2 (plus locks (fuel rest)))) P (with_room room (if b then recover_raises first index else goes_to first (recovers.TheVariants.Hides index n))) without) (sym odd)
-        (subst (λ b. Walks W A (plus 2 (plus locks (fuel rest))) P (at (recovers.TheVariants.Raises index raises.TheVariants.LoadsCounter), room) (if b then slice_set without (count_word capacity index) (one_more n) else without)) (sym (eq-eqb (slice_index without (count_word capacity index)) n same))
+        let same : slice_index without (count_word capacity index) ≡ n =
+        get_or-set_other words ci (count_word capacity index) empty 0 (λ e. absurd (omega arith)) in
+        subst (λ b. Goes W A (suc (plus 2 (plus locks (fuel rest)))) P
+        (with_room room
+        (if b then (if is_even n then recover_raises first index else goes_to first (recovers.TheVariants.Hides index n))
+        else recover_comes_to first (index + 1)))
+        (if b then slice_set words ci empty else words))
+        (sym (eq-eqb (slice_index words ci) owner word))
+        (subst (λ b. Goes W A (suc (plus 2 (plus locks (fuel rest)))) P
+        (with_room room (if b then recover_raises first index else goes_to first (recovers.TheVariants.Hides index n)))
+        without)
+        (sym odd)
+        (subst (λ b. Walks W A (plus 2 (plus locks (fuel rest))) P
+        (at (recovers.TheVariants.Raises index raises.TheVariants.LoadsCounter), room)
+        (if b then slice_set without (count_word capacity index) (one_more n) else without))
+        (sym (eq-eqb (slice_index without (count_word capacity index)) n same))
         raises_on))

@@ -1,5 +1,6 @@
 -- A remove from a container that runs alone.
-use Rattle.std.proofs.Common.{◌≡◌, ℕ, suc, ◌+◌, ◌<◌, ◌≤◌, ⊎_elim, true, false, nat_lt, List, take, None, Result, Ok, Err, refl, sym, ap, subst, ◌∙◌, arith, slice_index, slice_set, eq-eqb, if◌then◌else◌}
+use Rattle.std.proofs.Common.{◌≡◌, ℕ, suc, ◌+◌, ◌<◌, ◌≤◌, ⊎_elim, true, false, nat_lt, List, take, None, Result, Ok}
+use Rattle.std.proofs.Common.{Err, refl, sym, ap, subst, ◌∙◌, arith, slice_index, slice_set, eq-eqb, if◌then◌else◌}
 use Rattle.std.proofs.lemmas.Bool.{cases_Bool}
 use Rattle.std.proofs.lemmas.Bool.Decides.{nat_tests}
 use Rattle.steps.specs.Picks.{by_test}
@@ -19,10 +20,10 @@ use Rattle.steps.specs.declared.container.enums.ContainerRemoveError.TheVariants
 use Rattle.steps.specs.declared.container.handle.ContainerHandle.{ContainerHandle}
 use Rattle.steps.specs.declared.container.remove.Remove.{Remove}
 use Rattle.steps.specs.declared.container.remove.RemoveStage as removes
-use Rattle.plain.specs.Alone.{Turns}
+use Rattle.plain.specs.Alone.{BehavesAs}
 use Rattle.plain.specs.Robust as robust
 use Rattle.plain.specs.Robust.{owners_in}
-use Rattle.plain.specs.Contents.{Contents, changed, names, removed, after_remove, contents_in, Fits}
+use Rattle.plain.specs.Contents.{Contents, changed, names, removed, after_remove, contents_in, Represents}
 use Rattle.plain.proofs.Alone.{Runs}
 use Rattle.plain.proofs.Walks.{plus, plus_sum, Walks, Goes, OnEnd, part_walks_low, runs}
 use Rattle.plain.proofs.Fronts.{Behind, stays, front_walks}
@@ -54,11 +55,11 @@ module _ {V : Type 0} (value_of : List ℕ → V) (size : ℕ) (wide : size ≤ 
 
   abbrev pub Gone : List ℕ → Removed → List ℕ → Type 0
   Gone words end last =
-      Turns (Fits size capacity) (contents_in value_of size capacity container)
+      BehavesAs (Represents size capacity) (contents_in value_of size capacity container)
       (λ s. removed s handle mode) (λ s. after_remove s handle mode) words end last
 
   -- what stands there goes
-  hides_on : (P : Removed → List ℕ → Type 0) (state : ReleaseState) (ws : List ℕ) (fits : Fits size capacity ws) (near : index < capacity) (count : ℕ)
+  hides_on : (P : Removed → List ℕ → Type 0) (state : ReleaseState) (ws : List ℕ) (fits : Represents size capacity ws) (near : index < capacity) (count : ℕ)
       → slice_index ws (count_word capacity index) ≡ count
       → P (Ok state) (after_change value_of size capacity ws fits index near wide (hidden value_of size capacity ws fits index near wide))
       → From 2 P (remove_released (call removes.TheVariants.LoadsCount) count (Done (Ok state))) ws
@@ -67,12 +68,16 @@ module _ {V : Type 0} (value_of : List ℕ → V) (size : ℕ) (wide : size ≤ 
       let hid = slice_set ws (count_word capacity index) (one_more n) in
       subst (λ m. From 2 P (if is_even m then GoOn (call (removes.TheVariants.AddsChange state)) else GoOn (call (removes.TheVariants.Hides m state))) ws) is
       (by_test (λ a. From 2 P a ws) (is_even n) _ _
-      (λ t. subst (λ later. P (Ok state) (slice_set later (change_word capacity) (one_more (slice_index later (change_word capacity))))) (ap (λ b. if b then ws else slice_set ws (count_word capacity index) (one_more (slice_index ws (count_word capacity index)))) t) h)
+      (λ t. subst (λ later. P (Ok state) (slice_set later (change_word capacity) (one_more (slice_index later (change_word capacity)))))
+      (ap (λ b. if b then ws else slice_set ws (count_word capacity index) (one_more (slice_index ws (count_word capacity index)))) t)
+      h)
       (λ t. subst (λ vs. From 1 P (GoOn (call (removes.TheVariants.AddsChange state))) vs)
       (sym (ap (λ b. if b then slice_set ws (count_word capacity index) (one_more (slice_index ws (count_word capacity index))) else ws) (eq-eqb n n refl)))
-      (subst (λ later. P (Ok state) (slice_set later (change_word capacity) (one_more (slice_index later (change_word capacity))))) (ap (λ b. if b then ws else slice_set ws (count_word capacity index) (one_more (slice_index ws (count_word capacity index)))) t) h)))
+      (subst (λ later. P (Ok state) (slice_set later (change_word capacity) (one_more (slice_index later (change_word capacity)))))
+      (ap (λ b. if b then ws else slice_set ws (count_word capacity index) (one_more (slice_index ws (count_word capacity index)))) t)
+      h)))
 
-  module _ (words : List ℕ) (fits : Fits size capacity words) (lives : owner < empty) where
+  module _ (words : List ℕ) (fits : Represents size capacity words) (lives : owner < empty) where
     abbrev old : Contents V
     old = contents_in value_of size capacity container words
 
@@ -82,7 +87,7 @@ module _ {V : Type 0} (value_of : List ℕ → V) (size : ℕ) (wide : size ≤ 
     own : names old handle ≡ has old.owners index owner
     own = names_own capacity size container value_of words index owner
 
-    refused : names old handle ≡ false → (last : List ℕ) → Fits size capacity last → contents_in value_of size capacity container last ≡ old
+    refused : names old handle ≡ false → (last : List ℕ) → Represents size capacity last → contents_in value_of size capacity container last ≡ old
         → Gone words (Err ContainerHandleNotOwnedByContainer) last
     refused miss last fits₂ same = (
       fits₂,
@@ -92,7 +97,8 @@ module _ {V : Type 0} (value_of : List ℕ → V) (size : ℕ) (wide : size ≤ 
 
     abbrev Gave : Released → List ℕ → Type 0
     Gave e last =
-        Turns (robust.Fits capacity) owners_in (λ s. released s index owner mode) (λ s. after_release s index owner mode) (take (1 + capacity) words) e last
+        BehavesAs (robust.Represents capacity) owners_in (λ s. released s index owner mode)
+        (λ s. after_release s index owner mode) (take (1 + capacity) words) e last
 
     abbrev Then : Released → List ℕ → Type 0
     Then e last =
@@ -112,18 +118,23 @@ module _ {V : Type 0} (value_of : List ℕ → V) (size : ℕ) (wide : size ≤ 
         hides_on (Gone words) state last fits₂ near count (behind.same (count_word capacity index) (omega arith)) (
           change_fits value_of size capacity last fits₂ index near wide _ there.writes,
           ap Ok state_is ∙ sym (ap (λ b. if b then Ok (release_state mode (given_back mode old.owners index)) else Err ContainerHandleNotOwnedByContainer) hit),
-          change_contents value_of size capacity last fits₂ index near wide container _ None there.writes (gone value_of size capacity last fits₂ index near wide _ there)
+          change_contents value_of size capacity last fits₂ index near wide container _ None there.writes
+              (gone value_of size capacity last fits₂ index near wide _ there)
               ∙ (ap (λ s. changed s (owners_in (take (1 + capacity) last)) index None) (behind_contents value_of size capacity container words last behind)
               ∙ (ap (λ set. changed old set index None) set
               ∙ sym (ap (λ b. if b then changed old (given_back mode old.owners index) index None else old) hit))),
         ))
         (λ (t : has old.owners index owner ≡ false).
-        absurd (subst IsAnswer (gave.1 ∙ ap (λ b. if b then Ok (release_state mode (given_back mode old.owners index)) else Err IndexIsNotOwnedByProvidedOwner) t) tt))
+        absurd (subst IsAnswer (gave.1
+        ∙ ap (λ b. if b then Ok (release_state mode (given_back mode old.owners index)) else Err IndexIsNotOwnedByProvidedOwner) t)
+        tt))
         (cases_Bool (has old.owners index owner))
     so near (Err failure) last behind gave =
         ⊎_elim
         (λ (t : has old.owners index owner ≡ true).
-        absurd (subst IsAnswer (sym (gave.1 ∙ ap (λ b. if b then Ok (release_state mode (given_back mode old.owners index)) else Err IndexIsNotOwnedByProvidedOwner) t)) tt))
+        absurd (subst IsAnswer (sym (gave.1
+        ∙ ap (λ b. if b then Ok (release_state mode (given_back mode old.owners index)) else Err IndexIsNotOwnedByProvidedOwner) t))
+        tt))
         (λ (t : has old.owners index owner ≡ false).
         let set : owners_in (take (1 + capacity) last) ≡ old.owners =
         gave.2 ∙ ap (λ b. if b then given_back mode old.owners index else old.owners) t in
@@ -145,16 +156,19 @@ module _ {V : Type 0} (value_of : List ℕ → V) (size : ℕ) (wide : size ≤ 
         (λ c. release_want c given) (λ c old. release_after c given old)
         (λ d. call (removes.TheVariants.Releases count d.stage)) (remove_released (call removes.TheVariants.LoadsCount) count) (ReleaseLow capacity)
         (release_goes_low capacity given) (λ d. refl)
-        (λ d old low. ap (λ n. remove_released (call removes.TheVariants.LoadsCount) count (release_takes (inner_release n d.stage) d.stage given old)) (sym low.0))
+        (λ d old low. ap
+        (λ n. remove_released (call removes.TheVariants.LoadsCount) count (release_takes (inner_release n d.stage) d.stage given old))
+        (sym low.0))
         (λ d. refl) a.0 2 (OnEnd (Gone words)) (first_release capacity) words (refl, tt)
         (front_walks (λ c. release_want c given) (λ c old. release_after c given old) (1 + capacity) (ReleaseLow capacity)
-        (release_below capacity given near) (release_goes_low capacity given) words Gave Then (so near) a.0 (first_release capacity) words (refl, tt) (stays (1 + capacity) words) a.2)))
+        (release_below capacity given near) (release_goes_low capacity given) words Gave Then (so near) a.0
+        (first_release capacity) words (refl, tt) (stays (1 + capacity) words) a.2)))
         (λ t. let far : capacity ≤ index = grind (arith, nat_tests) in
         runs remove_want remove_after given 1 (Gone words) (call removes.TheVariants.Refuses) words (omega arith)
         (refused (own ∙ has_past capacity (take (1 + capacity) words) (front_fits value_of size capacity words fits) index owner far) words fits refl))
 
   pub remove_at : (number : ℕ) → number ≡ owner → number < empty → (c : Remove) → c ≡ first_remove capacity index
-      → (words : List ℕ) → Fits size capacity words
+      → (words : List ℕ) → Represents size capacity words
       → Runs remove_want remove_after (λ c (room : Unit {0}) old. room) given (λ e room ws. Gone words e ws) c tt words
   remove_at number same lives c is words fits =
       subst (λ c. Runs remove_want remove_after (λ c (room : Unit {0}) old. room) given (λ e room ws. Gone words e ws) c tt words)

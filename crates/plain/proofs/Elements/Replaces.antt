@@ -1,5 +1,7 @@
 -- A replace in a container that runs alone.
-use Rattle.std.proofs.Common.{◌≡◌, ℕ, zero, suc, ◌+◌, ◌-◌, ◌^◌, ◌<◌, ◌≤◌, true, false, nat_lt, List, length, take, Some, Ok, Err, refl, sym, ap, subst, ◌∙◌, arith, slice_index, slice_set, get_or-take, eq-eqb, ne_eqb, if◌then◌else◌}
+use Rattle.std.proofs.Common.{◌≡◌, ℕ, zero, suc, ◌+◌, ◌-◌, ◌^◌, ◌<◌, ◌≤◌, true, false, nat_lt, List, length, take}
+use Rattle.std.proofs.Common.{Some, Ok, Err, refl, sym, ap, subst, ◌∙◌, arith, slice_index, slice_set, get_or-take}
+use Rattle.std.proofs.Common.{eq-eqb, ne_eqb, if◌then◌else◌}
 use Rattle.std.proofs.lemmas.Bool.Decides.{nat_tests}
 use Rattle.steps.specs.Picks.{by_test, by_eq}
 use Rattle.steps.specs.Queues.Ring.{word_at}
@@ -13,8 +15,8 @@ use Rattle.steps.specs.declared.container.handle.ContainerHandle.{ContainerHandl
 use Rattle.steps.specs.declared.container.replace.Replace.{Replace}
 use Rattle.steps.specs.declared.container.replace.ReplaceStage as replaces
 use Rattle.steps.specs.declared.container.replace.Replacement.{Replacement}
-use Rattle.plain.specs.Alone.{Turns}
-use Rattle.plain.specs.Contents.{Contents, changed, names, replaced, after_replace, contents_in, Fits}
+use Rattle.plain.specs.Alone.{BehavesAs}
+use Rattle.plain.specs.Contents.{Contents, changed, names, replaced, after_replace, contents_in, Represents}
 use Rattle.plain.proofs.Alone.{Runs}
 use Rattle.plain.proofs.Walks.{Walks, Goes, OnEnd, longer, runs}
 use Rattle.plain.proofs.Words.{stored}
@@ -50,7 +52,9 @@ module _ {V : Type 0} (words_of : V → List ℕ) (value_of : List ℕ → V) (s
       → Ends (suc (suc (suc n))) P (call (replaces.TheVariants.Stores at)) ws
   goes_in P zero at end ws small h =
       let place : element_word capacity size given.index at ≡ word_at (element_word capacity size given.index 0) at = omega arith in
-      subst (λ p. From 2 P (if nat_lt (at + 1) size then GoOn (call (replaces.TheVariants.Stores (at + 1))) else GoOn (call (replaces.TheVariants.AddsCount))) (slice_set ws p (slice_index xs at)))
+      subst (λ p. From 2 P (if nat_lt (at + 1) size then GoOn (call (replaces.TheVariants.Stores (at + 1))) else GoOn
+      (call (replaces.TheVariants.AddsCount)))
+      (slice_set ws p (slice_index xs at)))
       (sym place)
       (by_test (λ a. From 2 P a (slice_set ws (word_at (element_word capacity size given.index 0) at) (slice_index xs at)))
       (nat_lt (at + 1) size) _ _
@@ -59,7 +63,10 @@ module _ {V : Type 0} (words_of : V → List ℕ) (value_of : List ℕ → V) (s
   goes_in P (suc n) at end ws small h =
       let place : element_word capacity size given.index at ≡ word_at (element_word capacity size given.index 0) at = omega arith in
       let next = slice_set ws (word_at (element_word capacity size given.index 0) at) (slice_index xs at) in
-      subst (λ p. From (suc (suc (suc n))) P (if nat_lt (at + 1) size then GoOn (call (replaces.TheVariants.Stores (at + 1))) else GoOn (call (replaces.TheVariants.AddsCount))) (slice_set ws p (slice_index xs at)))
+      subst (λ p. From (suc (suc (suc n))) P
+      (if nat_lt (at + 1) size then GoOn (call (replaces.TheVariants.Stores (at + 1))) else GoOn
+      (call (replaces.TheVariants.AddsCount)))
+      (slice_set ws p (slice_index xs at)))
       (sym place)
       (by_test (λ a. From (suc (suc (suc n))) P a next)
       (nat_lt (at + 1) size) _ _
@@ -70,8 +77,9 @@ module _ {V : Type 0} (words_of : V → List ℕ) (value_of : List ℕ → V) (s
   few_steps = suc (suc (suc (suc (suc (size - 1)))))
 
   -- what stands there goes, and the value comes
-  puts : (P : Replaced → List ℕ → Type 0) (ws : List ℕ) (fits : Fits size capacity ws) (near : given.index < capacity)
-      → P (Ok tt) (after_change value_of size capacity ws fits given.index near wide (shown value_of size capacity ws fits given.index near wide xs given.value (sized given.value) (given_back given.value)))
+  puts : (P : Replaced → List ℕ → Type 0) (ws : List ℕ) (fits : Represents size capacity ws) (near : given.index < capacity)
+      → P (Ok tt) (after_change value_of size capacity ws fits given.index near wide
+      (shown value_of size capacity ws fits given.index near wide xs given.value (sized given.value) (given_back given.value)))
       → Ends few_steps P (call (replaces.TheVariants.LoadsCount)) ws
   puts P ws fits near h =
       let c = count_word capacity given.index in
@@ -83,13 +91,16 @@ module _ {V : Type 0} (words_of : V → List ℕ) (value_of : List ℕ → V) (s
       let on : (hs : List ℕ) → hidden value_of size capacity ws fits given.index near wide ≡ hs
       → Ends (suc (suc (suc (size - 1)))) P (call (replaces.TheVariants.Stores 0)) hs =
       λ hs e. goes_in P (size - 1) 0 (omega arith) hs small
-      (subst (λ (z : List ℕ × ℕ). P (Ok tt) (last_of given.index (stored z.0 (element_word capacity size given.index 0) xs 0 z.1))) (λ i. (e i, sym count i)) h) in
+      (subst (λ (z : List ℕ × ℕ). P (Ok tt) (last_of given.index (stored z.0 (element_word capacity size given.index 0) xs 0 z.1)))
+      (λ i. (e i, sym count i)) h) in
       by_test (λ a. From (suc (suc (suc (suc (size - 1))))) P a ws) (is_even n) _ _
       (λ t. longer (λ c. replace_want words_of size c given) (λ c old. replace_after size c given old) 1 (suc (suc (suc (size - 1)))) (OnEnd P)
       (call (replaces.TheVariants.Stores 0)) ws
       (on ws (ap (λ b. if b then ws else slice_set ws (count_word capacity given.index) (one_more (slice_index ws (count_word capacity given.index)))) t)))
       (λ t. subst (λ vs. From (suc (suc (suc (size - 1)))) P (GoOn (call (replaces.TheVariants.Stores 0))) vs)
-      (sym (ap (λ b. if b then slice_set ws (count_word capacity given.index) (one_more (slice_index ws (count_word capacity given.index))) else ws) (eq-eqb n n refl)))
+      (sym (ap (λ b. if b then slice_set ws (count_word capacity given.index)
+      (one_more (slice_index ws (count_word capacity given.index))) else ws)
+      (eq-eqb n n refl)))
       (on (slice_set ws (count_word capacity given.index) (one_more (slice_index ws (count_word capacity given.index))))
       (ap (λ b. if b then ws else slice_set ws (count_word capacity given.index) (one_more (slice_index ws (count_word capacity given.index)))) t)))
 
@@ -100,10 +111,10 @@ module _ {V : Type 0} (words_of : V → List ℕ) (value_of : List ℕ → V) (s
 
   abbrev pub Put : List ℕ → Replaced → List ℕ → Type 0
   Put words end last =
-      Turns (Fits size capacity) (contents_in value_of size capacity container)
+      BehavesAs (Represents size capacity) (contents_in value_of size capacity container)
       (λ s. replaced s handle) (λ s. after_replace s handle given.value) words end last
 
-  module _ (words : List ℕ) (fits : Fits size capacity words) (lives : given.owner < empty) where
+  module _ (words : List ℕ) (fits : Represents size capacity words) (lives : given.owner < empty) where
     abbrev old : Contents V
     old = contents_in value_of size capacity container words
 
@@ -115,7 +126,8 @@ module _ {V : Type 0} (words_of : V → List ℕ) (value_of : List ℕ → V) (s
     )
 
     put_in : (near : given.index < capacity) → names old handle ≡ true
-        → Put words (Ok tt) (after_change value_of size capacity words fits given.index near wide (shown value_of size capacity words fits given.index near wide xs given.value (sized given.value) (given_back given.value)))
+        → Put words (Ok tt) (after_change value_of size capacity words fits given.index near wide
+        (shown value_of size capacity words fits given.index near wide xs given.value (sized given.value) (given_back given.value)))
     put_in near hit =
         let there = shows value_of size capacity words fits given.index near wide xs given.value (sized given.value) (given_back given.value) in (
           change_fits value_of size capacity words fits given.index near wide _ there.writes,
@@ -128,16 +140,21 @@ module _ {V : Type 0} (words_of : V → List ℕ) (value_of : List ℕ → V) (s
     walks =
         by_test (λ stage. Ends (suc few_steps) (Put words) (call stage) words) (nat_lt given.index capacity) _ _
         (λ t. let near : given.index < capacity = grind (arith, nat_tests) in
-        let is = names_own capacity size container value_of words given.index given.owner ∙ has_word capacity (take (1 + capacity) words) (front_fits value_of size capacity words fits) given.index given.owner lives near in
-        let word : slice_index (take (1 + capacity) words) (cell_word given.index) ≡ slice_index words (cell_word given.index) = get_or-take (1 + capacity) words (cell_word given.index) 0 (omega arith) in
+        let is =
+        names_own capacity size container value_of words given.index given.owner
+        ∙ has_word capacity (take (1 + capacity) words) (front_fits value_of size capacity words fits) given.index
+        given.owner lives near in
+        let word : slice_index (take (1 + capacity) words) (cell_word given.index) ≡ slice_index words (cell_word given.index) =
+        get_or-take (1 + capacity) words (cell_word given.index) 0 (omega arith) in
         by_eq (λ a. From few_steps (Put words) a words) (slice_index words (cell_word given.index)) given.owner _ _
         (λ e. puts (Put words) words fits near (put_in near (is ∙ eq-eqb _ _ (word ∙ e))))
         (λ other. refused (is ∙ ne_eqb _ _ (λ e. other (sym word ∙ e)))))
         (λ t. let far : capacity ≤ given.index = grind (arith, nat_tests) in
-        refused (names_own capacity size container value_of words given.index given.owner ∙ has_past capacity (take (1 + capacity) words) (front_fits value_of size capacity words fits) given.index given.owner far))
+        refused (names_own capacity size container value_of words given.index given.owner
+        ∙ has_past capacity (take (1 + capacity) words) (front_fits value_of size capacity words fits) given.index given.owner far))
 
   pub replace_at : (number : ℕ) → number ≡ given.owner → number < empty → (c : Replace V) → c ≡ first_replace capacity given.index
-      → (words : List ℕ) → Fits size capacity words
+      → (words : List ℕ) → Represents size capacity words
       → Runs (replace_want words_of size) (replace_after size) (λ c (room : Unit {0}) old. room) given
       (λ e room ws. Put words e ws) c tt words
   replace_at number same lives c is words fits =

@@ -1,10 +1,14 @@
 -- The calls of the robust set over the first words of a container.
-use Rattle.std.proofs.Common.{◌≡◌, ℕ, suc, ◌+◌, ◌^◌, ◌<◌, ◌≤◌, nat_lt, List, [], ◌∷◌, length, sym, subst, arith, length-set, slice_set, ◌==◌, ◌&&◌, not, if◌then◌else◌}
+use Rattle.std.proofs.Common.{◌≡◌, ℕ, suc, ◌+◌, ◌^◌, ◌<◌, ◌≤◌, nat_lt, List, [], ◌∷◌, length, sym, subst, arith}
+use Rattle.std.proofs.Common.{length-set, slice_set, ◌==◌, ◌&&◌, not, if◌then◌else◌}
 use Rattle.std.proofs.lemmas.Bool.Decides.{nat_tests}
 use Rattle.steps.specs.Picks.{by_test, by_eq}
-use Rattle.steps.specs.Indices.Robust.Parts.{empty, locked, greatest, one_more, raise_want, raise_after, count_want, count_after, count_comes_to, lock_want, lock_after, lock_counted}
-use Rattle.steps.specs.Indices.Robust.Acquire.{Acquired, first_acquire, at_acquire, acquire_asks, acquire_tries, acquire_sees, acquire_raised, acquire_takes, acquire_want, acquire_after}
-use Rattle.steps.specs.Indices.Robust.Release.{Released, first_release, release_asks, release_raised, release_locked, release_takes, release_want, release_after}
+use Rattle.steps.specs.Indices.Robust.Parts.{empty, locked, greatest, one_more, raise_want, raise_after, count_want}
+use Rattle.steps.specs.Indices.Robust.Parts.{count_after, count_comes_to, lock_want, lock_after, lock_counted}
+use Rattle.steps.specs.Indices.Robust.Acquire.{Acquired, first_acquire, at_acquire, acquire_asks, acquire_tries}
+use Rattle.steps.specs.Indices.Robust.Acquire.{acquire_sees, acquire_raised, acquire_takes, acquire_want, acquire_after}
+use Rattle.steps.specs.Indices.Robust.Release.{Released, first_release, release_asks, release_raised, release_locked}
+use Rattle.steps.specs.Indices.Robust.Release.{release_takes, release_want, release_after}
 use Rattle.steps.specs.declared.ask.After.{After}
 use Rattle.steps.specs.declared.ask.After.TheVariants.{GoOn, Done}
 use Rattle.steps.specs.declared.indices.enums.ReleaseMode.{ReleaseMode}
@@ -21,8 +25,8 @@ use Rattle.steps.specs.declared.indices.robust.release.Release.{Release}
 use Rattle.steps.specs.declared.indices.robust.release.GiveBack.{GiveBack}
 use Rattle.steps.specs.declared.indices.robust.release.ReleaseStage as releases
 use Rattle.steps.specs.Objects.Owners.{acquired, after_acquire, released, after_release}
-use Rattle.plain.specs.Alone.{Turns}
-use Rattle.plain.specs.Robust.{owners_in, Fits}
+use Rattle.plain.specs.Alone.{BehavesAs}
+use Rattle.plain.specs.Robust.{owners_in, Represents}
 use Rattle.plain.proofs.Walks.{plus, plus_sum, Walks, OnEnd, LowThen}
 use Rattle.plain.proofs.Fronts.{AsksBelow}
 use Rattle.plain.proofs.Robust.Acquires.{take_walks}
@@ -189,9 +193,9 @@ module _ (capacity : ℕ) where
 
 -- ---- the walks over any words that fit
 
-pub acquire_front : (capacity owner : ℕ) → owner < empty → (words : List ℕ) → Fits capacity words
+pub acquire_front : (capacity owner : ℕ) → owner < empty → (words : List ℕ) → Represents capacity words
     → (n : ℕ) × (n ≤ 2 ^ 40) × Walks (λ c. acquire_want c owner) (λ c old. acquire_after c old) n
-    (OnEnd (λ e last. Turns (Fits capacity) owners_in acquired (λ s. after_acquire s owner) words e last)) (first_acquire capacity) words
+    (OnEnd (λ e last. BehavesAs (Represents capacity) owners_in acquired (λ s. after_acquire s owner) words e last)) (first_acquire capacity) words
 acquire_front capacity owner lives [] fits = let e : 0 ≡ 1 + capacity = fits.long in absurd (omega arith)
 acquire_front capacity owner lives (g ∷ cells) fits =
     let long : suc (length cells) ≡ 1 + capacity = fits.long in
@@ -201,9 +205,12 @@ acquire_front capacity owner lives (g ∷ cells) fits =
       take_walks capacity owner g cells fits.small (omega arith) fits.few lives fits.some,
     )
 
-pub release_front : (capacity index owner : ℕ) (mode : ReleaseMode) → owner < empty → (words : List ℕ) → Fits capacity words → index < capacity
-    → (n : ℕ) × (n ≤ 2 ^ 40) × Walks (λ c. release_want c (record { index = index; owner = owner; mode = mode })) (λ c old. release_after c (record { index = index; owner = owner; mode = mode }) old) n
-    (OnEnd (λ e last. Turns (Fits capacity) owners_in (λ s. released s index owner mode) (λ s. after_release s index owner mode) words e last)) (first_release capacity) words
+pub release_front : (capacity index owner : ℕ) (mode : ReleaseMode) → owner < empty → (words : List ℕ) → Represents capacity words → index < capacity
+    → (n : ℕ) × (n ≤ 2 ^ 40) × Walks (λ c. release_want c (record { index = index; owner = owner; mode = mode }))
+    (λ c old. release_after c (record { index = index; owner = owner; mode = mode }) old) n
+    (OnEnd (λ e last. BehavesAs (Represents capacity) owners_in (λ s. released s index owner mode)
+    (λ s. after_release s index owner mode) words e last))
+    (first_release capacity) words
 release_front capacity index owner mode lives [] fits near = let e : 0 ≡ 1 + capacity = fits.long in absurd (omega arith)
 release_front capacity index owner mode lives (g ∷ cells) fits near =
     let long : suc (length cells) ≡ 1 + capacity = fits.long in

@@ -1,5 +1,7 @@
 -- What a state shows after a look.
-use Rattle.std.proofs.Common.{◌≡◌, ◌≢◌, ⊎_elim, ℕ, zero, suc, ◌+◌, ◌<◌, ◌≤◌, Bool, true, false, not, ◌==◌, List, [], ◌∷◌, length, take, map, None, refl, sym, ap, subst, ◌∙◌, arith, slice_index, if◌then◌else◌, true≢false}
+use Rattle.std.proofs.Common.{◌≡◌, ◌≢◌, ⊎_elim, ℕ, zero, suc, ◌+◌, ◌<◌, ◌≤◌, Bool, true, false, not, ◌==◌, List, []}
+use Rattle.std.proofs.Common.{◌∷◌, length, take, map, None, refl, sym, ap, subst, ◌∙◌, arith, slice_index}
+use Rattle.std.proofs.Common.{if◌then◌else◌, true≢false}
 use Rattle.std.specs.Prelude.{slice_index_or, replicate}
 use Rattle.std.specs.List.{range_with_len}
 use Rattle.std.proofs.lemmas.Bool.Decides.{eqb_tells}
@@ -10,7 +12,7 @@ use Rattle.steps.specs.Container.State.{Numbers, Showing, value_shown, numbers_o
 use Rattle.steps.specs.declared.container.state.Element.{Element}
 use Rattle.steps.specs.declared.container.state.ContainerState.{ContainerState}
 use Rattle.plain.specs.Contents as contents
-use Rattle.plain.specs.Contents.{Contents, value_at, values_in, counts_in, contents_in, Fits}
+use Rattle.plain.specs.Contents.{Contents, value_at, values_in, counts_in, contents_in, Represents}
 use Rattle.plain.specs.States.{blank, snapshot_of, IsStateOf, IsSettled, value_then, updated, Brought}
 use Rattle.plain.proofs.Elements.Adds.{owners_long}
 use Rattle.plain.proofs.Elements.Values.{front_fits}
@@ -29,7 +31,7 @@ over_all [] (x ∷ elements) e = absurd (omega arith)
 over_all (n ∷ counts) (x ∷ elements) e = ap (λ l. x.count ∷ l) (over_all counts elements (omega arith))
 
 module _ {V : Type 0} (value_of : List ℕ → V) (size : ℕ) (some : 1 ≤ size) (wide : size ≤ 128) (capacity container : ℕ)
-    (words : List ℕ) (fits : Fits size capacity words) (old : ContainerState V) where
+    (words : List ℕ) (fits : Represents size capacity words) (old : ContainerState V) where
   abbrev s : Contents V
   s = contents_in value_of size capacity container words
 
@@ -86,7 +88,11 @@ module _ {V : Type 0} (value_of : List ℕ → V) (size : ℕ) (some : 1 ≤ siz
             long = ap (λ (r : Showing V). length r.elements) t.2 ∙ h.long;
             room = ap (λ (r : Showing V). length r.copy) t.2 ∙ h.room;
           },
-          snap ∙ sym (ap (λ b. if b then snapshot_of old else record { changes = s.changes; counts = s.counts; values = map (value_then s (snapshot_of old)) (range_with_len 0 (contents.capacity s)) }) t.1),
+          snap ∙ sym (ap (λ b. if b then snapshot_of old else record {
+            changes = s.changes;
+            counts = s.counts;
+            values = map (value_then s (snapshot_of old)) (range_with_len 0 (contents.capacity s));
+          }) t.1),
         );
       }
 
@@ -105,8 +111,16 @@ module _ {V : Type 0} (value_of : List ℕ → V) (size : ℕ) (some : 1 ≤ siz
             let counts = counts_are room p in
             let values = values_are room p in (
               record { change = refl; counts = sym over; long = p.long ∙ sym (long ∙ capacity_is); room = p.room },
-              (λ i. record { changes = p.change i; counts = (over ∙ counts) i; values = (values ∙ ap (λ n. map (value_then s (snapshot_of old)) (range_with_len 0 n)) (sym capacity_is)) i })
-                  ∙ sym (ap (λ b. if b then snapshot_of old else record { changes = s.changes; counts = s.counts; values = map (value_then s (snapshot_of old)) (range_with_len 0 (contents.capacity s)) }) t.1),
+              (λ i. record {
+                changes = p.change i;
+                counts = (over ∙ counts) i;
+                values = (values ∙ ap (λ n. map (value_then s (snapshot_of old)) (range_with_len 0 n)) (sym capacity_is)) i;
+              })
+                  ∙ sym (ap (λ b. if b then snapshot_of old else record {
+                    changes = s.changes;
+                    counts = s.counts;
+                    values = map (value_then s (snapshot_of old)) (range_with_len 0 (contents.capacity s));
+                  }) t.1),
             );
       }
 
@@ -154,7 +168,7 @@ module _ {V : Type 0} (value_of : List ℕ → V) (size capacity : ℕ) (s : Con
   got_settled answer new b =
       let t = b.shows settled (is ∙ sym long) in (t.0, t.1 ∙ ap (updated s) is_blank)
 
-pub got : {V : Type 0} (value_of : List ℕ → V) (size capacity container : ℕ) (words : List ℕ) → Fits size capacity words
+pub got : {V : Type 0} (value_of : List ℕ → V) (size capacity container : ℕ) (words : List ℕ) → Represents size capacity words
     → (self : Contents V) → contents_in value_of size capacity container words ≡ self
     → (fresh : ContainerState V) → fresh.container ≡ container → fresh.capacity ≡ capacity → fresh.seen ≡ no_numbers capacity
     → fresh.shown ≡ shows_nothing value_of size capacity → (answer : Bool) (new : ContainerState V)

@@ -1,5 +1,7 @@
 -- A look of a state at a container that runs alone.
-use Rattle.std.proofs.Common.{◌≡◌, ◌≢◌, ℕ, zero, suc, ◌+◌, ◌*◌, ◌-◌, ◌^◌, ◌<◌, ◌≤◌, ⊎_elim, Bool, true, false, ◌==◌, nat_lt, List, [], ◌∷◌, length, map, Option, Some, None, refl, sym, ap, subst, ◌∙◌, arith, slice_index, slice_set, length-set, eq-eqb, ne_eqb, if◌then◌else◌}
+use Rattle.std.proofs.Common.{◌≡◌, ◌≢◌, ℕ, zero, suc, ◌+◌, ◌*◌, ◌-◌, ◌^◌, ◌<◌, ◌≤◌, ⊎_elim, Bool, true, false, ◌==◌}
+use Rattle.std.proofs.Common.{nat_lt, List, [], ◌∷◌, length, map, Option, Some, None, refl, sym, ap, subst, ◌∙◌, arith}
+use Rattle.std.proofs.Common.{slice_index, slice_set, length-set, eq-eqb, ne_eqb, if◌then◌else◌}
 use Rattle.std.specs.Prelude.{slice_get, slice_index_or}
 use Rattle.std.proofs.lemmas.Bool.Decides.{nat_tests, eqb_tells}
 use Rattle.std.proofs.lemmas.List.{set-get_or}
@@ -16,7 +18,7 @@ use Rattle.steps.specs.declared.container.look.Look.{Look}
 use Rattle.steps.specs.declared.container.look.LookStage as looks
 use Rattle.steps.specs.declared.container.state.Element.{Element}
 use Rattle.plain.specs.Queues.{words_from}
-use Rattle.plain.specs.Contents.{value_at, Fits}
+use Rattle.plain.specs.Contents.{value_at, Represents}
 use Rattle.plain.proofs.Alone.{Runs}
 use Rattle.plain.proofs.Walks.{plus, plus_sum, Walks, Goes, OnEnd, goes_longer}
 use Rattle.plain.proofs.Rooms.{with_room, want_both, after_both, runs_both}
@@ -64,7 +66,7 @@ set_twice (z ∷ l) zero x y = refl
 set_twice (z ∷ l) (suc i) x y = ap (λ t. z ∷ t) (set_twice l i x y)
 
 module _ {V : Type 0} (value_of : List ℕ → V) (size : ℕ) (some : 1 ≤ size) (wide : size ≤ 128) (capacity : ℕ)
-    (words : List ℕ) (fits : Fits size capacity words) (seen : Numbers) (first : Showing V) where
+    (words : List ℕ) (fits : Represents size capacity words) (seen : Numbers) (first : Showing V) where
   abbrev want : Look V → Numbers → Want (Unit {0})
   want c given = look_want size c
 
@@ -154,16 +156,27 @@ module _ {V : Type 0} (value_of : List ℕ → V) (size : ℕ) (some : 1 ≤ siz
       let place : element_word capacity size i k ≡ word_at (cell i) k =
       let w = cell_within value_of size capacity words fits i near wide in let a = all_small value_of size capacity words fits i near wide in omega arith in
       let c = count_word capacity i in
-      subst (λ p. From (suc m) (if nat_lt (k + 1) size then at_look (first_look capacity) (looks.TheVariants.LoadsWord i (count i) (k + 1)) else at_look (first_look capacity) (looks.TheVariants.ChecksCount i (count i))) (with_word room k (slice_index words p)) words) (sym place)
+      subst
+      (λ p. From (suc m) (if nat_lt (k + 1) size then at_look (first_look capacity) (looks.TheVariants.LoadsWord i (count i) (k + 1))
+      else at_look (first_look capacity) (looks.TheVariants.ChecksCount i (count i)))
+      (with_word room k (slice_index words p)) words)
+      (sym place)
       (by_test (λ a. From (suc m) a (with_word room k (slice_index words (word_at (cell i) k))) words) (nat_lt (k + 1) size) _ _
       (λ t. let more : k + 1 < size = grind (arith, nat_tests) in absurd (omega arith))
       (λ t. let next = with_word room k (slice_index words (word_at (cell i) k)) in
-      subst (λ b. From m (if b then look_comes_to (first_look capacity) (i + 1) else look_finds (first_look capacity) i (count i)) (if b then with_value value_of size next i (count i) else with_count next i (count i)) (if b then slice_set words c (count i) else words)) (sym (eq-eqb (count i) (count i) refl))
+      subst (λ b. From m (if b then look_comes_to (first_look capacity) (i + 1) else look_finds (first_look capacity) i (count i))
+      (if b then with_value value_of size next i (count i) else with_count next i (count i))
+      (if b then slice_set words c (count i) else words))
+      (sym (eq-eqb (count i) (count i) refl))
       (subst (λ ws. From m (look_comes_to (first_look capacity) (i + 1)) (with_value value_of size next i (count i)) ws) (sym (set-get_or words c 0)) h)))
   reads m i near (suc n) k end room h =
       let place : element_word capacity size i k ≡ word_at (cell i) k =
       let w = cell_within value_of size capacity words fits i near wide in let a = all_small value_of size capacity words fits i near wide in omega arith in
-      subst (λ p. From (suc (suc (plus n m))) (if nat_lt (k + 1) size then at_look (first_look capacity) (looks.TheVariants.LoadsWord i (count i) (k + 1)) else at_look (first_look capacity) (looks.TheVariants.ChecksCount i (count i))) (with_word room k (slice_index words p)) words) (sym place)
+      subst (λ p. From (suc (suc (plus n m)))
+      (if nat_lt (k + 1) size then at_look (first_look capacity) (looks.TheVariants.LoadsWord i (count i) (k + 1))
+      else at_look (first_look capacity) (looks.TheVariants.ChecksCount i (count i)))
+      (with_word room k (slice_index words p)) words)
+      (sym place)
       (by_test (λ a. From (suc (suc (plus n m))) a (with_word room k (slice_index words (word_at (cell i) k))) words) (nat_lt (k + 1) size) _ _
       (λ t. reads m i near n (k + 1) (omega arith) (with_word room k (slice_index words (word_at (cell i) k))) h)
       (λ t. let less : size ≤ k + 1 = grind (arith, nat_tests) in absurd (omega arith)))
@@ -187,7 +200,8 @@ module _ {V : Type 0} (value_of : List ℕ → V) (size : ℕ) (some : 1 ≤ siz
       let h = most_few k in let p = plus_sum (size - 1) (most k) in
       let e : suc (suc (suc (plus (size - 1) (most k)))) ≤ 130 * suc k = omega arith in e
 
-  is_at : (i : ℕ) → i < capacity → (r : Showing V) → Meets → Part r i → (e : Element V) × (slice_get r.elements i ≡ Some e) × (slice_get first.elements i ≡ Some e)
+  is_at : (i : ℕ) → i < capacity → (r : Showing V) → Meets → Part r i
+      → (e : Element V) × (slice_get r.elements i ≡ Some e) × (slice_get first.elements i ≡ Some e)
   is_at i near r m h =
       let l = m.0 in
       let e = element_at first.elements i (omega arith) in (e.0, h.rest i (omega arith) ∙ e.1, e.1)
@@ -245,10 +259,12 @@ module _ {V : Type 0} (value_of : List ℕ → V) (size : ℕ) (some : 1 ≤ siz
         (λ e. goes_longer W A (suc (suc (size - 1))) (most k) (OnEnd P) (with_room room₁ (look_comes_to (first_look capacity) (i + 1))) words
         (looks_on k (i + 1) (omega arith) room₁
         (counts_next room i near₀ (slice_index_or (map value_shown first.elements) i None)
-        (ap (λ b. if b then slice_index_or (map value_shown first.elements) i None else value_at value_of size capacity words i) (eq-eqb (count i) (slice_index seen.counts i) e))
+        (ap (λ b. if b then slice_index_or (map value_shown first.elements) i None else value_at value_of size capacity words i)
+        (eq-eqb (count i) (slice_index seen.counts i) e))
         (λ x there m. ap (λ n. value_shown (with_number x n)) (e ∙ seen_at i x m there) ∙ sym (get_mapped value_shown first.elements i x None there)) known)))
         (λ ne. let is : target i ≡ value_at value_of size capacity words i =
-        ap (λ b. if b then slice_index_or (map value_shown first.elements) i None else value_at value_of size capacity words i) (ne_eqb (count i) (slice_index seen.counts i) ne) in
+        ap (λ b. if b then slice_index_or (map value_shown first.elements) i None else value_at value_of size capacity words i)
+        (ne_eqb (count i) (slice_index seen.counts i) ne) in
         by_test (λ a. From (suc (suc (plus (size - 1) (most k)))) a room₁ words) (is_even (count i)) _ _
         (λ even. goes_longer W A (suc (suc (size - 1))) (most k) (OnEnd P) (with_room room₁ (look_comes_to (first_look capacity) (i + 1))) words
         (looks_on k (i + 1) (omega arith) room₁
@@ -257,8 +273,12 @@ module _ {V : Type 0} (value_of : List ℕ → V) (size : ℕ) (some : 1 ≤ siz
         (λ x there m. ap (λ b. if b then None else Some x.value) even) known)))
         (λ odd. let all : suc (size - 1) ≡ size = omega arith in
         reads (most k) i near₀ (size - 1) 0 (omega arith) room₁
-        (subst (λ n. From (most k) (look_comes_to (first_look capacity) (i + 1)) (with_value value_of size (read_in with_word room₁ words (cell i) 0 n) i (count i)) words) (sym all)
-        (looks_on k (i + 1) (omega arith) (with_value value_of size (read_in with_word room₁ words (cell i) 0 size) i (count i)) (value_next room i near₀ odd is known))))))
+        (subst (λ n. From (most k) (look_comes_to (first_look capacity) (i + 1))
+        (with_value value_of size (read_in with_word room₁ words (cell i) 0 n) i (count i)) words)
+        (sym all)
+        (looks_on k (i + 1) (omega arith)
+        (with_value value_of size (read_in with_word room₁ words (cell i) 0 size) i (count i))
+        (value_next room i near₀ odd is known))))))
         (λ t. let far : capacity ≤ i = grind (arith, nat_tests) in absurd (omega arith))
 
   begins : Known (with_change first (slice_index words (change_word capacity))) 0

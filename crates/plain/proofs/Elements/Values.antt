@@ -1,5 +1,8 @@
 -- The values in the words of a container.
-use Rattle.std.proofs.Common.{◌≡◌, ◌≢◌, ℕ, zero, suc, ◌+◌, ◌*◌, ◌%◌, ◌^◌, ◌<◌, ◌≤◌, ◌⊎◌, inl, inr, ⊎_elim, true, false, List, length, take, Option, Some, None, refl, sym, ap, subst, ◌∙◌, arith, slice_index, slice_set, get_or-set_same, get_or-set_other, get_or-take, length-set, length-take-le, eq-eqb, ne_eqb, if◌then◌else◌, true≢false}
+use Rattle.std.proofs.Common.{◌≡◌, ◌≢◌, ℕ, zero, suc, ◌+◌, ◌*◌, ◌%◌, ◌^◌, ◌<◌, ◌≤◌, ◌⊎◌, inl, inr, ⊎_elim, true, false}
+use Rattle.std.proofs.Common.{List, length, take, Option, Some, None, refl, sym, ap, subst, ◌∙◌, arith, slice_index}
+use Rattle.std.proofs.Common.{slice_set, get_or-set_same, get_or-set_other, get_or-take, length-set, length-take-le}
+use Rattle.std.proofs.Common.{eq-eqb, ne_eqb, if◌then◌else◌, true≢false}
 use Rattle.std.proofs.Math.Nat.{mul-le-mul_left}
 use Rattle.std.proofs.lemmas.Bool.{cases_lt}
 use Rattle.std.proofs.lemmas.List.{take-set-le}
@@ -11,7 +14,7 @@ use Rattle.steps.specs.Queues.Ring.{word_at}
 use Rattle.plain.specs.Queues.{words_from}
 use Rattle.plain.specs.Robust as robust
 use Rattle.plain.specs.Robust.{owners_in}
-use Rattle.plain.specs.Contents.{count_without, count_with, changed, value_at, values_in, counts_in, contents_in, Fits}
+use Rattle.plain.specs.Contents.{count_without, count_with, changed, value_at, values_in, counts_in, contents_in, Represents}
 use Rattle.plain.proofs.Fronts.{Behind}
 use Rattle.plain.proofs.Places.Flags.{map_same, map_changed_within}
 use Rattle.plain.proofs.Words.{words_same, words_all, stored, stored_length, stored_other, stored_words}
@@ -45,7 +48,7 @@ stored_front ws k xs at (suc n) m small low =
 
 module _ {V : Type 0} (value_of : List ℕ → V) (size capacity : ℕ) where
   -- the words of the set alone
-  pub front_fits : (words : List ℕ) → Fits size capacity words → robust.Fits capacity (take (1 + capacity) words)
+  pub front_fits : (words : List ℕ) → Represents size capacity words → robust.Represents capacity (take (1 + capacity) words)
   front_fits words fits =
       let long = fits.long in
       record {
@@ -80,8 +83,8 @@ module _ {V : Type 0} (value_of : List ℕ → V) (size capacity : ℕ) where
       let changes = h.same (change_word capacity) (omega arith) in
       λ i. record { container = container; owners = owners_in (take (1 + capacity) vs); values = values i; counts = counts i; changes = changes i }
 
-  pub behind_fits : (ws vs : List ℕ) → Behind (1 + capacity) ws vs → Fits size capacity ws
-      → robust.Fits capacity (take (1 + capacity) vs) → Fits size capacity vs
+  pub behind_fits : (ws vs : List ℕ) → Behind (1 + capacity) ws vs → Represents size capacity ws
+      → robust.Represents capacity (take (1 + capacity) vs) → Represents size capacity vs
   behind_fits ws vs h fits front =
       record {
         long = h.long ∙ fits.long;
@@ -92,7 +95,7 @@ module _ {V : Type 0} (value_of : List ℕ → V) (size capacity : ℕ) where
 
   -- ---- the value of one index changes
 
-  module _ (words : List ℕ) (fits : Fits size capacity words) (index : ℕ) (near : index < capacity)
+  module _ (words : List ℕ) (fits : Represents size capacity words) (index : ℕ) (near : index < capacity)
       (wide : size ≤ 128) where
     abbrev count_at : ℕ
     count_at = count_word capacity index
@@ -199,7 +202,9 @@ module _ {V : Type 0} (value_of : List ℕ → V) (size capacity : ℕ) where
           subst (λ k. words_from filled k size ≡ xs) (let e : cell + 0 ≡ cell = omega arith in e)
           (stored_words hidden cell xs 0 size small (omega arith)
           ∙ subst (λ n. words_from xs 0 n ≡ xs) sized (words_all xs)) in
-          words_same shown filled cell size (λ i low high. get_or-set_other filled count_at i (one_more (slice_index filled count_at)) 0 (λ e. absurd (omega arith))) ∙ at
+          words_same shown filled cell size
+          (λ i low high. get_or-set_other filled count_at i (one_more (slice_index filled count_at)) 0 (λ e. absurd (omega arith)))
+          ∙ at
 
       -- another's words
       beside : (j k : ℕ) → j ≢ index → element_word capacity size j 0 ≤ k → k < element_word capacity size j 0 + size
@@ -221,7 +226,9 @@ module _ {V : Type 0} (value_of : List ℕ → V) (size capacity : ℕ) where
           record {
             writes = record {
               long = length-set filled count_at n ∙ filled_long;
-              front = take-set-le (1 + capacity) filled count_at n (omega arith) ∙ stored_front hidden cell xs 0 size (1 + capacity) small (omega arith) ∙ h.writes.front;
+              front =
+                  take-set-le (1 + capacity) filled count_at n (omega arith)
+                  ∙ stored_front hidden cell xs 0 size (1 + capacity) small (omega arith) ∙ h.writes.front;
               changes = get_or-set_other filled count_at (change_word capacity) n 0 (λ e. absurd (omega arith))
                   ∙ fills_not (change_word capacity) (inl (omega arith)) ∙ h.writes.changes;
               others = λ j low ne. value_same hidden shown j
@@ -246,7 +253,7 @@ module _ {V : Type 0} (value_of : List ℕ → V) (size capacity : ℕ) where
     after_change later =
         slice_set later (change_word capacity) (one_more (slice_index later (change_word capacity)))
 
-    pub change_fits : (later : List ℕ) → Writes later → Fits size capacity (after_change later)
+    pub change_fits : (later : List ℕ) → Writes later → Represents size capacity (after_change later)
     change_fits later w =
         let head : slice_index later 0 ≡ slice_index words 0 =
         sym (get_or-take (1 + capacity) later 0 0 (omega arith)) ∙ ap (λ ws. slice_index ws 0) w.front
@@ -272,7 +279,9 @@ module _ {V : Type 0} (value_of : List ℕ → V) (size capacity : ℕ) where
         λ j low. value_same later (after_change later) j
         (get_or-set_other later (change_word capacity) (count_word capacity j) c 0 (λ e. absurd (omega arith)))
         (λ k from below. get_or-set_other later (change_word capacity) k c 0 (λ e. absurd (omega arith))) in
-        let values = map_changed_within (value_at value_of size capacity words) (value_at value_of size capacity (after_change later)) o capacity 0 index index near (omega arith)
+        let values =
+        map_changed_within (value_at value_of size capacity words)
+        (value_at value_of size capacity (after_change later)) o capacity 0 index index near (omega arith)
         (stays index near ∙ here.0) (λ j from below ne. stays j (omega arith) ∙ w.others j (omega arith) ne) in
         let kept : (j : ℕ) → j < capacity → slice_index (after_change later) (count_word capacity j) ≡ slice_index later (count_word capacity j) =
         λ j low. get_or-set_other later (change_word capacity) (count_word capacity j) c 0 (λ e. absurd (omega arith)) in

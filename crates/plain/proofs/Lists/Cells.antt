@@ -62,4 +62,6 @@ module _ {V : Type 0} (value_of : List ℕ → V) (size capacity : ℕ) where
   values_more ws p (suc n) =
       let there : p + 1 + n ≡ p + suc n = omega arith in
       ap (λ z. value_at value_of size capacity ws p ∷ z)
-      (subst (λ q. values_from value_of size capacity ws (p + 1) (suc n) ≡ values_from value_of size capacity ws (p + 1) n ++ value_at value_of size capacity ws q ∷ []) there (values_more ws (p + 1) n))
+      (subst (λ q. values_from value_of size capacity ws (p + 1) (suc n)
+      ≡ values_from value_of size capacity ws (p + 1) n ++ value_at value_of size capacity ws q ∷ [])
+      there (values_more ws (p + 1) n))

@@ -6,7 +6,7 @@ use Rattle.steps.specs.Queues.Lengths.{number_waiting, first_len, len_want, len_
 use Rattle.steps.specs.declared.ask.After.{After}
 use Rattle.steps.specs.declared.queues.lengths.Len.{Len}
 use Rattle.plain.specs.Alone.{EndsFrom}
-use Rattle.plain.specs.Queues.{list_in, Fits}
+use Rattle.plain.specs.Queues.{list_in, Represents}
 use Rattle.plain.specs.Overflowing as over
 use Rattle.plain.proofs.Alone.{Runs}
 use Rattle.plain.proofs.Lists.Cells.{values_length}
@@ -44,7 +44,7 @@ module _ (capacity : ℕ) (words : List ℕ) where
       }
 
 module _ {V : Type 0} (value_of : List ℕ → V) (size capacity : ℕ) (call : Len)
-    (is : call ≡ first_len capacity) (words : List ℕ) (fits : Fits size capacity words) where
+    (is : call ≡ first_len capacity) (words : List ℕ) (fits : Represents size capacity words) where
   abbrev pub CountRuns : Type 0
   CountRuns =
       CountsTo capacity words (λ end. end ≡ length (list_in value_of size capacity words).values) call
@@ -56,7 +56,7 @@ module _ {V : Type 0} (value_of : List ℕ → V) (size capacity : ℕ) (call : 
       (sym (values_length value_of size capacity words (slice_index words 1) (slice_index words 0 - slice_index words 1))))
 
 module _ (capacity : ℕ) (call : Len) (is : call ≡ first_len capacity) (words : List ℕ)
-    (fits : over.Fits capacity words) where
+    (fits : over.Represents capacity words) where
   abbrev pub OverCountRuns : Type 0
   OverCountRuns =
       CountsTo capacity words (λ end. end ≡ length (over.list_in capacity words).values) call

@@ -1,5 +1,8 @@
 -- A push and a pop of the overflowing queue that run alone.
-use Rattle.std.proofs.Common.{◌≡◌, ◌≢◌, ℕ, suc, ◌+◌, ◌-◌, ◌*◌, ◌%◌, ◌^◌, ◌<◌, ◌≤◌, ⊎_elim, Bool, true, false, not, ◌&&◌, ◌==◌, nat_lt, min, Option, Some, None, slice_get, List, [], ◌∷◌, ◌++◌, length, drop, refl, sym, ap, subst, ◌∙◌, arith, slice_index, slice_set, get_or-set_same, get_or-set_other, length-set, eq-eqb, ne_eqb, if◌then◌else◌}
+use Rattle.std.proofs.Common.{◌≡◌, ◌≢◌, ℕ, suc, ◌+◌, ◌-◌, ◌*◌, ◌%◌, ◌^◌, ◌<◌, ◌≤◌, ⊎_elim, Bool, true, false, not}
+use Rattle.std.proofs.Common.{◌&&◌, ◌==◌, nat_lt, min, Option, Some, None, slice_get, List, [], ◌∷◌, ◌++◌, length}
+use Rattle.std.proofs.Common.{drop, refl, sym, ap, subst, ◌∙◌, arith, slice_index, slice_set, get_or-set_same}
+use Rattle.std.proofs.Common.{get_or-set_other, length-set, eq-eqb, ne_eqb, if◌then◌else◌}
 use Rattle.std.proofs.lemmas.Bool.Decides.{nat_tests}
 use Rattle.std.proofs.lemmas.Bool.{cases_lt}
 use Rattle.std.proofs.lemmas.List.{length-append}
@@ -7,7 +10,8 @@ use mathlib.Core.Logic.{dite}
 use native.Mathlib.Decide.{ℕ_discrete}
 use Rattle.steps.specs.Picks.{by_eq}
 use Rattle.steps.specs.Queues.Ring.{distance, after_position}
-use Rattle.steps.specs.Queues.Overflow.{cell_word, first_push, at_push, push_want, push_after, push_kept, push_answer, first_pop, pop_want, pop_after, pop_kept, pop_answer}
+use Rattle.steps.specs.Queues.Overflow.{cell_word, first_push, at_push, push_want, push_after, push_kept, push_answer}
+use Rattle.steps.specs.Queues.Overflow.{first_pop, pop_want, pop_after, pop_kept, pop_answer}
 use Rattle.steps.specs.declared.ask.After.{After}
 use Rattle.steps.specs.declared.ask.After.TheVariants.{GoOn}
 use Rattle.steps.specs.declared.copied.OneWord.{OneWord}
@@ -18,9 +22,9 @@ use Rattle.steps.specs.declared.queues.overflow.PushEnd.TheVariants.{Added, Own,
 use Rattle.steps.specs.declared.queues.overflow.Pop.{Pop}
 use Rattle.steps.specs.declared.queues.overflow.PopStage as pops
 use Rattle.steps.specs.Objects.Lists.{Bounded, front, popped, takes_in, handed_back, pushed_over}
-use Rattle.plain.specs.Alone.{EndsFrom, EndsIn, Turns}
+use Rattle.plain.specs.Alone.{EndsFrom, EndsIn, BehavesAs}
 use Rattle.plain.specs.Queues.{value_at}
-use Rattle.plain.specs.Overflowing.{number_of, numbers_from, list_in, Fits}
+use Rattle.plain.specs.Overflowing.{number_of, numbers_from, list_in, Represents}
 use Rattle.plain.proofs.Alone.{Runs}
 use Rattle.plain.proofs.Lists.Cells.{cells_apart, values_same, values_length, values_more}
 
@@ -124,16 +128,16 @@ module _ (capacity : ℕ) where
 
     abbrev pub Pushed : List ℕ → PushEnd → OneWord → List ℕ → Type 0
     Pushed words end room last =
-        Turns (Fits capacity) (list_in capacity) (λ q. handed_back q value)
+        BehavesAs (Represents capacity) (list_in capacity) (λ q. handed_back q value)
         (λ q. pushed_over q value) words (push_answer value room.0 end) last
 
-    stays_out : (room : OneWord) (words : List ℕ) → Fits capacity words
+    stays_out : (room : OneWord) (words : List ℕ) → Represents capacity words
         → takes_in (list_in capacity words) ≡ false → Pushed words Own room words
     stays_out room words fits refused =
         let m = made_of value (list_in capacity words) false _ refused refl in
         (fits, sym m.1, sym m.0)
 
-    module _ (room : OneWord) (words : List ℕ) (fits : Fits capacity words) (some : capacity ≢ 0)
+    module _ (room : OneWord) (words : List ℕ) (fits : Represents capacity words) (some : capacity ≢ 0)
         (position : slice_index words 0 ≢ 2 ^ 64 - 1) where
       abbrev wp : ℕ
       wp = slice_index words 0
@@ -276,7 +280,13 @@ module _ (capacity : ℕ) where
             values_same number_of 1 (capacity + 1) last kept (rp + 1) (wp - rp) (λ p from below. moved_number p) in
             let values : numbers_from capacity last (slice_index last 1) (slice_index last 0 - slice_index last 1) ≡ drop 1 (waiting ++ value ∷ []) =
             (λ i. numbers_from capacity last (b i) (many i)) ∙ (same ∙ ap (drop 1) all_kept) in (
-              record { long = length-set kept 1 (after_position rp) ∙ kept_long; small = fits.small; behind = omega arith; near = omega arith; fits = omega (arith, position) },
+              record {
+                long = length-set kept 1 (after_position rp) ∙ kept_long;
+                small = fits.small;
+                behind = omega arith;
+                near = omega arith;
+                fits = omega (arith, position);
+              },
               ap Some oldest_is ∙ (sym (head (wp - rp - 1) (omega (arith, some))) ∙ sym m.1),
               (λ i. record { capacity = capacity; first = first i; values = values i }) ∙ sym m.0,
             )
@@ -284,7 +294,7 @@ module _ (capacity : ℕ) where
     abbrev pub PushRuns : Push → OneWord → List ℕ → Type 0
     PushRuns call room words = Runs push_want (λ c given old. push_after c old) push_kept value (Pushed words) call room words
 
-    runs_first : (room : OneWord) (words : List ℕ) → Fits capacity words → PushRuns (first_push capacity) room words
+    runs_first : (room : OneWord) (words : List ℕ) → Represents capacity words → PushRuns (first_push capacity) room words
     runs_first room words fits =
         let wp = slice_index words 0 in
         let rp = slice_index words 1 in
@@ -298,7 +308,10 @@ module _ (capacity : ℕ) where
           last_room = room;
           last_words = words;
           ends = hands_back room words none;
-          holds = stays_out room words fits (let b : nat_lt 0 capacity ≡ false = grind (arith, nat_tests, none) in ap (λ b. b && not (rp + length (numbers_from capacity words rp (wp - rp)) == 2 ^ 64 - 1)) b);
+          holds =
+              stays_out room words fits
+              (let b : nat_lt 0 capacity ≡ false = grind (arith, nat_tests, none) in
+              ap (λ b. b && not (rp + length (numbers_from capacity words rp (wp - rp)) == 2 ^ 64 - 1)) b);
         })
         (λ some. dite (ℕ_discrete wp (2 ^ 64 - 1))
         (λ e. record {
@@ -340,7 +353,7 @@ module _ (capacity : ℕ) where
         (cases_lt (wp - rp) capacity)))
 
     pub push_runs : (call : Push) → call ≡ first_push capacity → (room : OneWord) (words : List ℕ)
-        → Fits capacity words → PushRuns call room words
+        → Represents capacity words → PushRuns call room words
     push_runs call is room words fits =
         subst (λ c. PushRuns c room words) (sym is) (runs_first room words fits)
 
@@ -356,7 +369,7 @@ module _ (capacity : ℕ) where
 
   abbrev pub Popped : List ℕ → Bool → OneWord → List ℕ → Type 0
   Popped words end room last =
-      Turns (Fits capacity) (list_in capacity) front popped words (pop_answer room.0 end) last
+      BehavesAs (Represents capacity) (list_in capacity) front popped words (pop_answer room.0 end) last
 
   abbrev pub PopRuns : Pop → OneWord → List ℕ → Type 0
   PopRuns call room words =
@@ -401,7 +414,7 @@ module _ (capacity : ℕ) where
         (λ _. by_eq (λ a. PopFrom 0 true found taken a found (if read == read then taken else words)) read read _ _
         (λ _. (refl, refl, sym written)) (λ ne. absurd (ne refl))))
 
-    stays_empty : Fits capacity words → write ≡ read → Popped words false room words
+    stays_empty : Represents capacity words → write ≡ read → Popped words false room words
     stays_empty fits e =
         let none : write - read ≡ 0 = omega arith in
         let empty : numbers_from capacity words read (write - read) ≡ [] = ap (numbers_from capacity words read) none in
@@ -415,7 +428,7 @@ module _ (capacity : ℕ) where
           },
         )
 
-    taken_out : (m : ℕ) → write - read ≡ suc m → Fits capacity words → Popped words true found taken
+    taken_out : (m : ℕ) → write - read ≡ suc m → Represents capacity words → Popped words true found taken
     taken_out m is fits =
         let behind = fits.behind in
         let near = fits.near in
@@ -432,14 +445,21 @@ module _ (capacity : ℕ) where
         (λ p from below. get_or-set_other words 1 (4 + 1 * (p % (capacity + 1))) (after_position read) 0 (λ e. absurd (omega arith))) in
         let n = values_length number_of 1 (capacity + 1) words read (write - read) in
         let first : slice_index taken 1 ≡ read + min 1 (length (numbers_from capacity words read (write - read))) = omega arith in
-        let values : numbers_from capacity taken (slice_index taken 1) (slice_index taken 0 - slice_index taken 1) ≡ drop 1 (numbers_from capacity words read (write - read)) =
+        let values : numbers_from capacity taken (slice_index taken 1) (slice_index taken 0 - slice_index taken 1)
+        ≡ drop 1 (numbers_from capacity words read (write - read)) =
         (λ i. numbers_from capacity taken (a i) (many i)) ∙ (same ∙ ap (drop 1) (sym all)) in (
-          record { long = length-set words 1 (after_position read) ∙ fits.long; small = fits.small; behind = omega arith; near = omega arith; fits = omega arith },
+          record {
+            long = length-set words 1 (after_position read) ∙ fits.long;
+            small = fits.small;
+            behind = omega arith;
+            near = omega arith;
+            fits = omega arith;
+          },
           ap (λ p. Some (slice_index words p)) place ∙ sym (ap (λ xs. slice_get xs 0) all),
           λ i. record { capacity = capacity; first = first i; values = values i },
         )
 
-    pops_first : Fits capacity words → PopRuns (first_pop capacity) room words
+    pops_first : Represents capacity words → PopRuns (first_pop capacity) room words
     pops_first fits =
         let behind = fits.behind in
         let near = fits.near in
@@ -473,5 +493,5 @@ module _ (capacity : ℕ) where
           holds = taken_out (write - read - 1) (omega (arith, other)) fits;
         }))
 
-    pub pop_runs : (call : Pop) → call ≡ first_pop capacity → Fits capacity words → PopRuns call room words
+    pub pop_runs : (call : Pop) → call ≡ first_pop capacity → Represents capacity words → PopRuns call room words
     pop_runs call is fits = subst (λ c. PopRuns c room words) (sym is) (pops_first fits)

@@ -1,5 +1,8 @@
 -- A pop that runs alone.
-use Rattle.std.proofs.Common.{◌≡◌, ◌≢◌, ℕ, zero, suc, ◌+◌, ◌-◌, ◌*◌, ◌%◌, ◌^◌, ◌<◌, ◌≤◌, ◌⊎◌, inr, ⊎_elim, Bool, true, false, nat_lt, min, List, [], ◌∷◌, length, drop, Some, slice_get, refl, sym, ap, subst, ◌∙◌, arith, slice_index, slice_set, get_or-set_same, get_or-set_other, length-set, ne_eqb, if◌then◌else◌}
+use Rattle.std.proofs.Common.{◌≡◌, ◌≢◌, ℕ, zero, suc, ◌+◌, ◌-◌, ◌*◌, ◌%◌, ◌^◌, ◌<◌, ◌≤◌, ◌⊎◌, inr, ⊎_elim, Bool, true}
+use Rattle.std.proofs.Common.{false, nat_lt, min, List, [], ◌∷◌, length, drop, Some, slice_get, refl, sym, ap, subst}
+use Rattle.std.proofs.Common.{◌∙◌, arith, slice_index, slice_set, get_or-set_same, get_or-set_other, length-set}
+use Rattle.std.proofs.Common.{ne_eqb, if◌then◌else◌}
 use Rattle.std.proofs.Math.Nat.{mul-le-mul_right}
 use Rattle.std.proofs.lemmas.Bool.Decides.{nat_tests}
 use mathlib.Core.Logic.{dite}
@@ -10,9 +13,9 @@ use Rattle.steps.specs.Queues.Ring.{cell_word, after_position, word_at, at_pop, 
 use Rattle.steps.specs.declared.ask.After.{After}
 use Rattle.steps.specs.declared.queues.ring.Pop.{Pop}
 use Rattle.steps.specs.declared.queues.ring.PopStage as pops
-use Rattle.plain.specs.Alone.{EndsFrom, EndsIn, Turns}
+use Rattle.plain.specs.Alone.{EndsFrom, EndsIn, BehavesAs}
 use Rattle.steps.specs.Objects.Lists.{Bounded, front, popped}
-use Rattle.plain.specs.Queues.{words_from, value_at, values_from, list_in, Fits}
+use Rattle.plain.specs.Queues.{words_from, value_at, values_from, list_in, Represents}
 use Rattle.plain.proofs.Alone.{Runs}
 use Rattle.plain.proofs.Words.{words_same, read_in, value_read}
 use Rattle.plain.proofs.Lists.Cells.{cell_within, values_same, values_length}
@@ -34,7 +37,8 @@ module _ {V R : Type 0} (value_of : List ℕ → V) (size : ℕ) (some : 1 ≤ s
       → Ends (suc (suc n)) true (read_in with_word room words cell at (suc n)) (slice_set words 1 (after_position p))
       (at_pop (first_pop capacity) (pops.TheVariants.LoadsCell p cell at)) room words
   loads p cell zero at end room words =
-      by_test (λ a. From 1 true (read_in with_word room words cell at 1) (slice_set words 1 (after_position p)) a (with_word room at (slice_index words (word_at cell at))) words)
+      by_test (λ a. From 1 true (read_in with_word room words cell at 1) (slice_set words 1 (after_position p)) a
+      (with_word room at (slice_index words (word_at cell at))) words)
       (nat_lt (at + 1) size) _ _
       (λ t. let more : at + 1 < size = grind (arith, nat_tests) in absurd (omega arith))
       (λ t. (refl, refl, refl))
@@ -60,7 +64,9 @@ module _ {V R : Type 0} (value_of : List ℕ → V) (size : ℕ) (some : 1 ≤ s
       (read_in with_word room words (cell_word capacity size (slice_index words 1)) 0 (suc n))
       (slice_set words 1 (after_position (slice_index words 1))) (first_pop capacity) room words
   comes_out n is room words there other =
-      by_either (λ a. From (suc (suc n)) true (read_in with_word room words (cell_word capacity size (slice_index words 1)) 0 (suc n)) (slice_set words 1 (after_position (slice_index words 1))) a room words)
+      by_either (λ a. From (suc (suc n)) true
+      (read_in with_word room words (cell_word capacity size (slice_index words 1)) 0 (suc n))
+      (slice_set words 1 (after_position (slice_index words 1))) a room words)
       capacity 0 (slice_index words 0) (slice_index words 1) _ _
       (λ e. absurd (there e)) (λ e. absurd (other e))
       (λ _ _. loads (slice_index words 1) (cell_word capacity size (slice_index words 1)) n 0 (omega arith) room words)
@@ -72,10 +78,10 @@ module _ {V R : Type 0} (value_of : List ℕ → V) (size : ℕ) (some : 1 ≤ s
 
   abbrev pub Popped : List ℕ → Bool → R → List ℕ → Type 0
   Popped words end room last =
-      Turns (Fits size capacity) list front popped words
+      BehavesAs (Represents size capacity) list front popped words
       (pop_answer (value_in value_of size (words_in room)) end) last
 
-  stays_empty : (room : R) (words : List ℕ) → Fits size capacity words
+  stays_empty : (room : R) (words : List ℕ) → Represents size capacity words
       → slice_index words 0 ≡ slice_index words 1 → Popped words false room words
   stays_empty room words fits e =
       let none : slice_index words 0 - slice_index words 1 ≡ 0 = omega arith in
@@ -91,7 +97,7 @@ module _ {V R : Type 0} (value_of : List ℕ → V) (size : ℕ) (some : 1 ≤ s
         },
       )
 
-  module _ (room : R) (wide : size ≤ length (words_in room)) (words : List ℕ) (fits : Fits size capacity words)
+  module _ (room : R) (wide : size ≤ length (words_in room)) (words : List ℕ) (fits : Represents size capacity words)
       (m : ℕ) (there : slice_index words 0 - slice_index words 1 ≡ suc m) where
     abbrev w : ℕ
     w = slice_index words 0
@@ -129,7 +135,7 @@ module _ {V R : Type 0} (value_of : List ℕ → V) (size : ℕ) (some : 1 ≤ s
     kept_word : (j : ℕ) → j ≢ 1 → slice_index last j ≡ slice_index words j
     kept_word j other = get_or-set_other words 1 j (after_position r) 0 other
 
-    last_fits : Fits size capacity last
+    last_fits : Represents size capacity last
     last_fits =
         let a = read_is in
         let b = kept_word 0 (omega arith) in
@@ -149,20 +155,23 @@ module _ {V R : Type 0} (value_of : List ℕ → V) (size : ℕ) (some : 1 ≤ s
         let b = kept_word 0 (omega arith) in
         let behind = fits.behind in
         let many : slice_index last 0 - slice_index last 1 ≡ m = omega arith in
-        let all : values_from value_of size capacity words r (w - r) ≡ value_at value_of size capacity words r ∷ values_from value_of size capacity words (r + 1) m =
+        let all : values_from value_of size capacity words r (w - r)
+        ≡ value_at value_of size capacity words r ∷ values_from value_of size capacity words (r + 1) m =
         ap (values_from value_of size capacity words r) there in
         let same : values_from value_of size capacity last (r + 1) m ≡ values_from value_of size capacity words (r + 1) m =
         values_same value_of size capacity last words (r + 1) m
         (λ q low high. ap value_of (words_same last words (4 + size * (q % capacity)) size (λ i from below. kept_word i (omega arith)))) in
         let first : slice_index last 1 ≡ r + min 1 (length (values_from value_of size capacity words r (w - r))) =
         let long = values_length value_of size capacity words r (w - r) in omega arith in
-        let values : values_from value_of size capacity last (slice_index last 1) (slice_index last 0 - slice_index last 1) ≡ drop 1 (values_from value_of size capacity words r (w - r)) =
+        let values : values_from value_of size capacity last (slice_index last 1) (slice_index last 0 - slice_index last 1)
+        ≡ drop 1 (values_from value_of size capacity words r (w - r)) =
         (λ i. values_from value_of size capacity last (a i) (many i)) ∙ same ∙ ap (drop 1) (sym all) in
         λ i. record { capacity = capacity; first = first i; values = values i }
 
     last_popped : Popped words true last_room last
     last_popped =
-        let all : values_from value_of size capacity words r (w - r) ≡ value_at value_of size capacity words r ∷ values_from value_of size capacity words (r + 1) m =
+        let all : values_from value_of size capacity words r (w - r)
+        ≡ value_at value_of size capacity words r ∷ values_from value_of size capacity words (r + 1) m =
         ap (values_from value_of size capacity words r) there in
         (last_fits, ap Some own ∙ sym (ap (λ xs. slice_get xs 0) all), comes_off)
 
@@ -177,7 +186,7 @@ module _ {V R : Type 0} (value_of : List ℕ → V) (size : ℕ) (some : 1 ≤ s
       Runs (λ (c : Pop V R) (given : Unit {0}). pop_want c) (λ c given old. pop_after size c old) (pop_kept with_word) tt
       (Popped words) call room words
 
-  runs_first : (room : R) → size ≤ length (words_in room) → (words : List ℕ) → Fits size capacity words
+  runs_first : (room : R) → size ≤ length (words_in room) → (words : List ℕ) → Represents size capacity words
       → PopRuns (first_pop capacity) room words
   runs_first room wide words fits =
       dite (ℕ_discrete (slice_index words 0) (slice_index words 1))
@@ -204,7 +213,7 @@ module _ {V R : Type 0} (value_of : List ℕ → V) (size : ℕ) (some : 1 ≤ s
       })
 
   pub pop_runs : (call : Pop V R) → call ≡ first_pop capacity → (room : R)
-      → size ≤ length (words_in room) → (words : List ℕ) → Fits size capacity words
+      → size ≤ length (words_in room) → (words : List ℕ) → Represents size capacity words
       → PopRuns call room words
   pop_runs call is room wide words fits =
       subst (λ c. PopRuns c room words) (sym is) (runs_first room wide words fits)

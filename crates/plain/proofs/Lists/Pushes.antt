@@ -1,5 +1,8 @@
 -- A push that runs alone.
-use Rattle.std.proofs.Common.{◌≡◌, ◌≢◌, ℕ, zero, suc, ◌+◌, ◌-◌, ◌*◌, ◌%◌, ◌^◌, ◌<◌, ◌≤◌, ◌⊎◌, inl, inr, ⊎_elim, Bool, true, false, not, ◌&&◌, ◌==◌, nat_lt, List, [], ◌∷◌, ◌++◌, length, refl, sym, ap, subst, ◌∙◌, arith, slice_index, slice_set, get_or-set_same, get_or-set_other, length-set, eq-eqb, ne_eqb, if◌then◌else◌, true≢false}
+use Rattle.std.proofs.Common.{◌≡◌, ◌≢◌, ℕ, zero, suc, ◌+◌, ◌-◌, ◌*◌, ◌%◌, ◌^◌, ◌<◌, ◌≤◌, ◌⊎◌, inl, inr, ⊎_elim, Bool}
+use Rattle.std.proofs.Common.{true, false, not, ◌&&◌, ◌==◌, nat_lt, List, [], ◌∷◌, ◌++◌, length, refl, sym, ap, subst}
+use Rattle.std.proofs.Common.{◌∙◌, arith, slice_index, slice_set, get_or-set_same, get_or-set_other, length-set}
+use Rattle.std.proofs.Common.{eq-eqb, ne_eqb, if◌then◌else◌, true≢false}
 use Rattle.std.proofs.Math.Nat.{mul-le-mul_right}
 use Rattle.std.proofs.lemmas.Bool.Decides.{nat_tests}
 use Rattle.std.proofs.lemmas.Bool.{cases_lt}
@@ -8,9 +11,9 @@ use Rattle.steps.specs.Queues.Ring.{cell_word, distance, after_position, word_at
 use Rattle.steps.specs.declared.ask.After.{After}
 use Rattle.steps.specs.declared.queues.ring.Push.{Push}
 use Rattle.steps.specs.declared.queues.ring.PushStage as pushes
-use Rattle.plain.specs.Alone.{EndsFrom, EndsIn, Turns}
+use Rattle.plain.specs.Alone.{EndsFrom, EndsIn, BehavesAs}
 use Rattle.steps.specs.Objects.Lists.{Bounded, takes_more, pushed}
-use Rattle.plain.specs.Queues.{words_from, value_at, values_from, list_in, Fits}
+use Rattle.plain.specs.Queues.{words_from, value_at, values_from, list_in, Represents}
 use mathlib.Core.Logic.{dite}
 use native.Mathlib.Decide.{ℕ_discrete}
 use Rattle.plain.proofs.Alone.{Runs}
@@ -53,7 +56,8 @@ module _ {V : Type 0} (words_of : V → List ℕ) (value_of : List ℕ → V) (s
       (slice_set (stored words cell (words_of value) at (suc n)) 0 (after_position p))
       (at_push (first_push capacity) (pushes.TheVariants.StoresCell p cell at)) words
   stores p cell zero at end words =
-      by_test (λ a. From 1 true (slice_set (stored words cell (words_of value) at 1) 0 (after_position p)) a (slice_set words (word_at cell at) (slice_index (words_of value) at)))
+      by_test (λ a. From 1 true (slice_set (stored words cell (words_of value) at 1) 0 (after_position p)) a
+      (slice_set words (word_at cell at) (slice_index (words_of value) at)))
       (nat_lt (at + 1) size) _ _
       (λ t. let more : at + 1 < size = grind (arith, nat_tests) in absurd (omega arith))
       (λ t. (refl, refl, refl))
@@ -109,10 +113,10 @@ module _ {V : Type 0} (words_of : V → List ℕ) (value_of : List ℕ → V) (s
 
   abbrev pub Pushed : List ℕ → Bool → Unit {0} → List ℕ → Type 0
   Pushed words end room last =
-      Turns (Fits size capacity) list takes_more (λ q. pushed q value) words end last
+      BehavesAs (Represents size capacity) list takes_more (λ q. pushed q value) words end last
 
   -- in numbers
-  takes_numbers : (words : List ℕ) → Fits size capacity words
+  takes_numbers : (words : List ℕ) → Represents size capacity words
       → takes_more (list words) ≡ nat_lt (slice_index words 0 - slice_index words 1) capacity && not (slice_index words 0 == 2 ^ 64 - 1)
   takes_numbers words fits =
       let r : ℕ = slice_index words 1 in
@@ -122,7 +126,7 @@ module _ {V : Type 0} (words_of : V → List ℕ) (value_of : List ℕ → V) (s
       ap (λ n. nat_lt n capacity && not (r + n == 2 ^ 64 - 1)) long
       ∙ ap (λ n. nat_lt (w - r) capacity && not (n == 2 ^ 64 - 1)) (omega arith)
 
-  stays_out : (words : List ℕ) → Fits size capacity words → takes_more (list words) ≡ false
+  stays_out : (words : List ℕ) → Represents size capacity words → takes_more (list words) ≡ false
       → Pushed words false tt words
   stays_out words fits refused =
       (fits, sym refused, sym (left_out value (list words) _ _ refused))
@@ -131,7 +135,7 @@ module _ {V : Type 0} (words_of : V → List ℕ) (value_of : List ℕ → V) (s
       → value_of (words_from words k size) ≡ value_of (words_from vs k size)
   same_place k words vs h = ap value_of (words_same words vs k size h)
 
-  module _ (words : List ℕ) (fits : Fits size capacity words) (position : slice_index words 0 ≢ 2 ^ 64 - 1)
+  module _ (words : List ℕ) (fits : Represents size capacity words) (position : slice_index words 0 ≢ 2 ^ 64 - 1)
       (room : capacity ≢ 0) (near : slice_index words 0 - slice_index words 1 < capacity) where
     abbrev w : ℕ
     w = slice_index words 0
@@ -184,7 +188,7 @@ module _ {V : Type 0} (words_of : V → List ℕ) (value_of : List ℕ → V) (s
     read_is : slice_index last 1 ≡ r
     read_is = kept_word 1 (omega arith) (inl (let c = cell_is in omega arith))
 
-    last_fits : Fits size capacity last
+    last_fits : Represents size capacity last
     last_fits =
         let a = write_is in
         let b = read_is in
@@ -221,7 +225,8 @@ module _ {V : Type 0} (words_of : V → List ℕ) (value_of : List ℕ → V) (s
         values_same value_of size capacity last words r (w - r) (λ q low high. kept_value q low (omega arith)) in
         let back : value_at value_of size capacity last (r + (w - r)) ≡ value =
         ap (value_at value_of size capacity last) end ∙ own in
-        let values : values_from value_of size capacity last (slice_index last 1) (slice_index last 0 - slice_index last 1) ≡ values_from value_of size capacity words r (w - r) ++ value ∷ [] =
+        let values : values_from value_of size capacity last (slice_index last 1) (slice_index last 0 - slice_index last 1)
+        ≡ values_from value_of size capacity words r (w - r) ++ value ∷ [] =
         subst (λ (z : ℕ × ℕ). values_from value_of size capacity last z.0 z.1 ≡ values_from value_of size capacity words r (w - r) ++ value ∷ [])
         (λ i. (sym b i, sym many i))
         (values_more value_of size capacity last r (w - r) ∙ (λ i. front i ++ back i ∷ [])) in
@@ -240,7 +245,8 @@ module _ {V : Type 0} (words_of : V → List ℕ) (value_of : List ℕ → V) (s
     goes =
         let n : suc (size - 1) ≡ size = omega arith in
         let apart : distance w r ≢ capacity = λ e. let b = fits.behind in let f = fits.fits in absurd (omega arith) in
-        subst (λ k. Ends (suc (suc (suc (suc (size - 1))))) true (slice_set (stored words cell (words_of value) 0 k) 0 (after_position w)) (first_push capacity) words)
+        subst (λ k. Ends (suc (suc (suc (suc (size - 1))))) true
+        (slice_set (stored words cell (words_of value) 0 k) 0 (after_position w)) (first_push capacity) words)
         n (goes_in (size - 1) n words position room apart)
 
   abbrev pub PushRuns : Push V → List ℕ → Type 0
@@ -248,7 +254,7 @@ module _ {V : Type 0} (words_of : V → List ℕ) (value_of : List ℕ → V) (s
       Runs (push_want words_of) (λ c given old. push_after size c old) (λ c (room : Unit {0}) old. room) value
       (Pushed words) call tt words
 
-  runs_first : (words : List ℕ) → Fits size capacity words → PushRuns (first_push capacity) words
+  runs_first : (words : List ℕ) → Represents size capacity words → PushRuns (first_push capacity) words
   runs_first words fits =
       dite (ℕ_discrete (slice_index words 0) (2 ^ 64 - 1))
       (λ e. record {
@@ -258,7 +264,9 @@ module _ {V : Type 0} (words_of : V → List ℕ) (value_of : List ℕ → V) (s
         last_room = tt;
         last_words = words;
         ends = no_position words e;
-        holds = stays_out words fits (takes_numbers words fits ∙ (let b : (slice_index words 0 == 2 ^ 64 - 1) ≡ true = eq-eqb _ _ e in grind (arith, b, nat_tests)));
+        holds =
+            stays_out words fits
+            (takes_numbers words fits ∙ (let b : (slice_index words 0 == 2 ^ 64 - 1) ≡ true = eq-eqb _ _ e in grind (arith, b, nat_tests)));
       })
       (λ position.
       ⊎_elim (λ (near : slice_index words 0 - slice_index words 1 < capacity).
@@ -282,10 +290,13 @@ module _ {V : Type 0} (words_of : V → List ℕ) (value_of : List ℕ → V) (s
         last_room = tt;
         last_words = words;
         ends = no_room words position full;
-        holds = stays_out words fits (takes_numbers words fits ∙ (let b : nat_lt (slice_index words 0 - slice_index words 1) capacity ≡ false = grind (arith, nat_tests, far) in ap (λ z. z && not (slice_index words 0 == 2 ^ 64 - 1)) b));
+        holds =
+            stays_out words fits (takes_numbers words fits
+            ∙ (let b : nat_lt (slice_index words 0 - slice_index words 1) capacity ≡ false = grind (arith, nat_tests, far) in
+            ap (λ z. z && not (slice_index words 0 == 2 ^ 64 - 1)) b));
       })
       (cases_lt (slice_index words 0 - slice_index words 1) capacity))
 
   pub push_runs : (call : Push V) → call ≡ first_push capacity → (words : List ℕ)
-      → Fits size capacity words → PushRuns call words
+      → Represents size capacity words → PushRuns call words
   push_runs call is words fits = subst (λ c. PushRuns c words) (sym is) (runs_first words fits)

@@ -1,5 +1,7 @@
 -- The words of a bit set that is emptied, one word after another, while its places are handed out.
-use Rattle.std.proofs.Common.{◌≡◌, ◌≢◌, ℕ, zero, suc, ◌+◌, ◌/◌, ◌%◌, ◌<◌, ◌≤◌, ⊎_elim, Bool, true, false, eqb, List, [], ◌∷◌, length, drop, replicate, refl, sym, ap, subst, ◌∙◌, arith, slice_index, slice_set, get_or-set_same, get_or-set_other, length-set, if◌then◌else◌}
+use Rattle.std.proofs.Common.{◌≡◌, ◌≢◌, ℕ, zero, suc, ◌+◌, ◌/◌, ◌%◌, ◌<◌, ◌≤◌, ⊎_elim, Bool, true, false, eqb, List}
+use Rattle.std.proofs.Common.{[], ◌∷◌, length, drop, replicate, refl, sym, ap, subst, ◌∙◌, arith, slice_index}
+use Rattle.std.proofs.Common.{slice_set, get_or-set_same, get_or-set_other, length-set, if◌then◌else◌}
 use Rattle.std.specs.List.{FoldsTo, range_with_len}
 use Rattle.std.specs.Prelude.{map, slice_index_or}
 use mathlib.Core.Logic.{dite}
@@ -10,7 +12,7 @@ use Rattle.steps.specs.Bits.ResetAll.{all_bits}
 use Rattle.steps.specs.Objects.Places.{standing_from, standing, emptied, unset}
 use Rattle.steps.specs.declared.bits.reset_all.ResetAll.{ResetAll}
 use Rattle.steps.proofs.Flags.Words.{none_stands}
-use Rattle.plain.specs.Bits.{flags_in, places_in, Fits}
+use Rattle.plain.specs.Bits.{flags_in, places_in, Represents}
 use Rattle.plain.specs.Visits.{Takes, WasCalled}
 use Rattle.plain.proofs.Places.Flags.{flag_at, flags_length}
 
@@ -58,7 +60,7 @@ module _ {F : Type 0} (pre : F → ℕ → Type 0) (step : F → ℕ → Unit {0
 
   -- so many places have been handed out; their words, and no others, are 0
   pub record Emptying (place : ℕ) (call : ResetAll) (found : ℕ) (words : List ℕ) (visit : F) : Type 0 where
-    pub fits : Fits capacity before
+    pub fits : Represents capacity before
     pub at : next_word place < 1 + elements capacity
         → call ≡ record { word = next_word place; end = 1 + elements capacity }
     pub long : length words ≡ length before
@@ -71,7 +73,7 @@ module _ {F : Type 0} (pre : F → ℕ → Type 0) (step : F → ℕ → Unit {0
         → FoldsTo (λ p x q. step p x tt q) visit (standing_from place (drop place (flags_in capacity before))) last
         → FoldsTo (λ p x q. step p x tt q) first (standing (places_in capacity before)) last
 
-  pub begins : Fits capacity before → Takes pre step (standing (places_in capacity before)) first
+  pub begins : Represents capacity before → Takes pre step (standing (places_in capacity before)) first
       → (call : ResetAll) → call ≡ all_bits capacity → Emptying 0 call 0 before first
   begins fits takes call is =
       record {
@@ -89,7 +91,7 @@ module _ {F : Type 0} (pre : F → ℕ → Type 0) (step : F → ℕ → Unit {0
   -- ---- the word of a place has been swapped
 
   pub record Swapped (place : ℕ) (call : ResetAll) (found : ℕ) (words : List ℕ) (visit : F) : Type 0 where
-    pub fits : Fits capacity before
+    pub fits : Represents capacity before
     pub at : next_word (place + 1) < 1 + elements capacity
         → call ≡ record { word = next_word (place + 1); end = 1 + elements capacity }
     pub long : length words ≡ length before
@@ -251,7 +253,7 @@ module _ {F : Type 0} (pre : F → ℕ → Type 0) (step : F → ℕ → Unit {0
     pub all_emptied : places_in capacity words ≡ emptied (places_in capacity before)
     all_emptied = λ i. record { flags = flags_are i; start = h.head i }
 
-    pub still_fits : Fits capacity words
+    pub still_fits : Represents capacity words
     still_fits =
         let fits = h.fits in
         record { long = h.long ∙ fits.long; small = fits.small; start = subst (λ n. n ≤ capacity) (sym h.head) fits.start }

@@ -1,5 +1,8 @@
 -- The next place that is reset, alone.
-use Rattle.std.proofs.Common.{◌≡◌, ℕ, zero, suc, ◌+◌, ◌-◌, ◌<◌, ◌≤◌, ◌⊎◌, inl, inr, ⊎_elim, Bool, true, false, Option, Some, None, slice_get, List, [], ◌∷◌, length, drop, refl, sym, ap, subst, ◌∙◌, arith, slice_index, slice_set, get_or-set_same, get_or-set_other, length-set, eq-eqb, ◌==◌, nat_lt, if◌then◌else◌, true≢false}
+use Rattle.std.proofs.Common.{◌≡◌, ℕ, zero, suc, ◌+◌, ◌-◌, ◌<◌, ◌≤◌, ◌⊎◌, inl, inr, ⊎_elim, Bool, true, false, Option}
+use Rattle.std.proofs.Common.{Some, None, slice_get, List, [], ◌∷◌, length, drop, refl, sym, ap, subst, ◌∙◌, arith}
+use Rattle.std.proofs.Common.{slice_index, slice_set, get_or-set_same, get_or-set_other, length-set, eq-eqb, ◌==◌}
+use Rattle.std.proofs.Common.{nat_lt, if◌then◌else◌, true≢false}
 use Rattle.std.specs.Prelude.{slice_index_or}
 use Rattle.std.proofs.lemmas.Bool.{cases_Bool, cases_lt}
 use Rattle.std.proofs.lemmas.Bool.Decides.{nat_tests}
@@ -13,8 +16,8 @@ use Rattle.steps.specs.declared.ask.After.{After}
 use Rattle.steps.specs.declared.bits.bit_set.ResetNext.{ResetNext}
 use Rattle.steps.specs.declared.bits.bit_set.ResetNextStage as resets
 use Rattle.steps.proofs.Flags.Words.{without_clear, without_leaves}
-use Rattle.plain.specs.Alone.{EndsFrom, EndsIn, Turns}
-use Rattle.plain.specs.Bits.{flags_in, places_in, Fits}
+use Rattle.plain.specs.Alone.{EndsFrom, EndsIn, BehavesAs}
+use Rattle.plain.specs.Bits.{flags_in, places_in, Represents}
 use Rattle.plain.proofs.Alone.{Runs}
 use Rattle.plain.proofs.Places.Flags.{flag_at, flag_past, flags_change, same_flags}
 
@@ -38,7 +41,7 @@ none_standing place (flag ∷ flags) clear =
     ap (λ b. if b then place ∷ standing_from (place + 1) flags else standing_from (place + 1) flags) (clear 0)
     ∙ none_standing (place + 1) flags (λ i. clear (suc i))
 
-module _ (capacity : ℕ) (words : List ℕ) (fits : Fits capacity words) where
+module _ (capacity : ℕ) (words : List ℕ) (fits : Represents capacity words) where
   abbrev start : ℕ
   start = slice_index words 0
 
@@ -151,7 +154,7 @@ module _ (capacity : ℕ) (words : List ℕ) (fits : Fits capacity words) where
 
   abbrev Did : Option ℕ → List ℕ → Type 0
   Did end last =
-      Turns (Fits capacity) (places_in capacity) next_place after_next words end last
+      BehavesAs (Represents capacity) (places_in capacity) next_place after_next words end last
 
   -- from where so many places have been passed it ends within so many steps
   pub record Comes (most k : ℕ) : Type 0 where
@@ -161,7 +164,7 @@ module _ (capacity : ℕ) (words : List ℕ) (fits : Fits capacity words) where
     pub last : List ℕ
     pub ends : EndsIn (λ c (given : Unit {0}). reset_want c) (λ c given old. reset_after c old) (λ c (room : Unit {0}) old. room) tt steps end tt last
         (at_reset (first_reset capacity) (resets.TheVariants.LoadsElement start k)) tt words
-    pub holds : Turns (Fits capacity) (places_in capacity) next_place after_next words end last
+    pub holds : BehavesAs (Represents capacity) (places_in capacity) next_place after_next words end last
 
   module _ (k : ℕ) (low : k < capacity) where
     abbrev place : ℕ
@@ -208,7 +211,8 @@ module _ (capacity : ℕ) (words : List ℕ) (fits : Fits capacity words) where
           last = last;
           ends = by_test (λ a. From 2 (Some place) last a words) (has_flag found place) _ _
               (λ _. by_eq (λ a. From 1 (Some place) last a (if found == found then cleared else words)) found found _ _
-              (λ _. subst (λ ws. EndsIn (λ c (given : Unit {0}). reset_want c) (λ c given old. reset_after c old) (λ c (room : Unit {0}) old. room) tt 1 (Some place) tt last
+              (λ _. subst (λ ws. EndsIn (λ c (given : Unit {0}). reset_want c) (λ c given old. reset_after c old)
+              (λ c (room : Unit {0}) old. room) tt 1 (Some place) tt last
               (at_reset (first_reset capacity) (resets.TheVariants.StoresPosition place)) tt ws) (sym written) (refl, refl, refl))
               (λ ne. absurd (ne refl)))
               (λ t. absurd (true≢false (sym is ∙ t)));
@@ -274,7 +278,7 @@ module _ (capacity : ℕ) (words : List ℕ) (fits : Fits capacity words) where
   abbrev pub ResetRuns : ResetNext → Type 0
   ResetRuns call =
       Runs (λ (c : ResetNext) (given : Unit {0}). reset_want c) (λ c given old. reset_after c old) (λ c (room : Unit {0}) old. room) tt
-      (λ end room last. Turns (Fits capacity) (places_in capacity) next_place after_next words end last) call tt words
+      (λ end room last. BehavesAs (Represents capacity) (places_in capacity) next_place after_next words end last) call tt words
 
   nowhere : capacity ≡ 0 → ResetRuns (first_reset capacity)
   nowhere is =

@@ -1,5 +1,7 @@
 -- A place that is set, alone.
-use Rattle.std.proofs.Common.{◌≡◌, ℕ, ◌<◌, ◌≤◌, ⊎_elim, Bool, true, false, not, List, length, refl, sym, ap, subst, ◌∙◌, arith, slice_index, slice_set, get_or-set_other, length-set, eq-eqb, ◌==◌, if◌then◌else◌, true≢false}
+use Rattle.std.proofs.Common.{◌≡◌, ℕ, ◌<◌, ◌≤◌, ⊎_elim, Bool, true, false, not, List, length, refl, sym, ap, subst}
+use Rattle.std.proofs.Common.{◌∙◌, arith, slice_index, slice_set, get_or-set_other, length-set, eq-eqb, ◌==◌}
+use Rattle.std.proofs.Common.{if◌then◌else◌, true≢false}
 use Rattle.std.proofs.lemmas.Bool.{cases_Bool}
 use Rattle.steps.specs.Bits.Words.{element_of, has_flag, with_flag, stands}
 use Rattle.steps.specs.Bits.BitSet.{first_set, set_want, set_after}
@@ -8,12 +10,12 @@ use Rattle.steps.specs.Picks.{by_test, by_eq}
 use Rattle.steps.specs.declared.ask.After.{After}
 use Rattle.steps.specs.declared.bits.bit_set.Set.{Set}
 use Rattle.steps.proofs.Flags.Words.{with_stands, with_leaves}
-use Rattle.plain.specs.Alone.{EndsFrom, Turns}
-use Rattle.plain.specs.Bits.{flags_in, places_in, Fits}
+use Rattle.plain.specs.Alone.{EndsFrom, BehavesAs}
+use Rattle.plain.specs.Bits.{flags_in, places_in, Represents}
 use Rattle.plain.proofs.Alone.{Runs}
 use Rattle.plain.proofs.Places.Flags.{map_changed, flag_at, flags_change}
 
-module _ (capacity place : ℕ) (low : place < capacity) (words : List ℕ) (fits : Fits capacity words) where
+module _ (capacity place : ℕ) (low : place < capacity) (words : List ℕ) (fits : Represents capacity words) where
   abbrev From : ℕ → Bool → List ℕ → After Set Bool → List ℕ → Type 0
   From n end last a ws =
       EndsFrom set_want set_after (λ c (room : Unit {0}) old. room) place n end tt last a tt ws
@@ -21,7 +23,7 @@ module _ (capacity place : ℕ) (low : place < capacity) (words : List ℕ) (fit
   abbrev pub SetRuns : Set → Type 0
   SetRuns call =
       Runs set_want set_after (λ c (room : Unit {0}) old. room) place
-      (λ end room last. Turns (Fits capacity) (places_in capacity) (λ (s : Places). not (has s place))
+      (λ end room last. BehavesAs (Represents capacity) (places_in capacity) (λ (s : Places). not (has s place))
       (λ s. with_place s place) words end last) call tt words
 
   abbrev found : ℕ

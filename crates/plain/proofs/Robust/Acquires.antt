@@ -1,5 +1,7 @@
 -- An acquire that runs alone.
-use Rattle.std.proofs.Common.{◌≡◌, ◌≢◌, ℕ, suc, ◌+◌, ◌^◌, ◌<◌, ◌≤◌, true, false, cond, ◌==◌, nat_lt, List, [], ◌∷◌, length, drop, map, Some, None, Ok, Err, ok_or, position, is_none, refl, sym, ap, subst, ◌∙◌, arith, slice_index, slice_set, length-set, eq-eqb, ne_eqb, if◌then◌else◌}
+use Rattle.std.proofs.Common.{◌≡◌, ◌≢◌, ℕ, suc, ◌+◌, ◌^◌, ◌<◌, ◌≤◌, true, false, cond, ◌==◌, nat_lt, List, [], ◌∷◌}
+use Rattle.std.proofs.Common.{length, drop, map, Some, None, Ok, Err, ok_or, position, is_none, refl, sym, ap, subst}
+use Rattle.std.proofs.Common.{◌∙◌, arith, slice_index, slice_set, length-set, eq-eqb, ne_eqb, if◌then◌else◌}
 use Rattle.std.specs.List.{position_or_len}
 use Rattle.std.proofs.lemmas.Bool.Decides.{nat_tests}
 use Rattle.std.proofs.lemmas.List.{length-map, map-set}
@@ -12,9 +14,9 @@ use Rattle.steps.specs.declared.indices.enums.UniqueIndexSetAcquireFailure.TheVa
 use Rattle.steps.specs.declared.indices.robust.parts.Raise as raises
 use Rattle.steps.specs.declared.indices.robust.acquire.Acquire.{Acquire}
 use Rattle.steps.specs.declared.indices.robust.acquire.AcquireStage as acquires
-use Rattle.plain.specs.Alone.{Turns}
+use Rattle.plain.specs.Alone.{BehavesAs}
 use Rattle.steps.specs.Objects.Owners.{Owners, next_generation, acquired, granted, after_acquire}
-use Rattle.plain.specs.Robust.{owner_in, owners_in, Fits}
+use Rattle.plain.specs.Robust.{owner_in, owners_in, Represents}
 use Rattle.plain.proofs.Alone.{Runs}
 use Rattle.plain.proofs.Walks.{Walks, Goes, OnEnd, part_walks, runs}
 use Rattle.plain.proofs.Robust.Parts.{here, past, next_cell, next_set, raise_walks, next_below, owner_free, owner_some}
@@ -60,11 +62,16 @@ module _ (capacity owner g : ℕ) (cells : List ℕ) (small : g < 2 ^ 64) (long 
       let near = at.near in
       let word = next_cell g index cells ∙ at.word_is in
       by_test (λ stage. Ends (suc (suc (suc (suc (suc (length rest)))))) P (at_acquire first stage) (g ∷ cells)) (nat_lt index capacity) _ _
-      (λ _. by_eq (λ a. From (suc (suc (suc (suc (length rest))))) P a (if slice_index (g ∷ cells) (cell_word index) == empty then slice_set (g ∷ cells) (cell_word index) owner else g ∷ cells)) (slice_index (g ∷ cells) (cell_word index)) empty _ _
+      (λ _. by_eq (λ a. From (suc (suc (suc (suc (length rest))))) P a
+      (if slice_index (g ∷ cells) (cell_word index) == empty then slice_set (g ∷ cells) (cell_word index) owner else g ∷ cells))
+      (slice_index (g ∷ cells) (cell_word index)) empty _ _
       (λ e. let free = owner_free c (sym word ∙ e) in
       let front_is : front (c ∷ rest) ≡ 0 = ap (λ o. position_or_len is_none (o ∷ map owner_in rest)) free in
-      subst (λ ws. From (suc (suc (suc (suc (length rest))))) P (GoOn (at_acquire first (acquires.TheVariants.Raises index raises.TheVariants.LoadsCounter))) ws)
-      (sym (ap (λ b. if b then slice_set (g ∷ cells) (cell_word index) owner else g ∷ cells) (eq-eqb (slice_index (g ∷ cells) (cell_word index)) empty e) ∙ next_set g index owner cells))
+      subst (λ ws. From (suc (suc (suc (suc (length rest))))) P
+      (GoOn (at_acquire first (acquires.TheVariants.Raises index raises.TheVariants.LoadsCounter))) ws)
+      (sym (ap (λ b. if b then slice_set (g ∷ cells) (cell_word index) owner else g ∷ cells)
+      (eq-eqb (slice_index (g ∷ cells) (cell_word index)) empty e)
+      ∙ next_set g index owner cells))
       (raises_on (suc (suc (length rest))) P index (slice_set cells index owner) other
       (hit index (sym (ap (λ k. index + k) front_is ∙ (let n : index + 0 ≡ index = omega arith in n))) (omega arith))))
       (λ n. let some = owner_some c (λ e. n (word ∙ e)) in
@@ -82,25 +89,34 @@ module _ (capacity owner g : ℕ) (cells : List ℕ) (small : g < 2 ^ 64) (long 
   old = owners_in (g ∷ cells)
 
   abbrev pub Took : Acquired → List ℕ → Type 0
-  Took end last = Turns (Fits capacity) owners_in acquired (λ s. after_acquire s owner) (g ∷ cells) end last
+  Took end last = BehavesAs (Represents capacity) owners_in acquired (λ s. after_acquire s owner) (g ∷ cells) end last
 
-  some_cells : 1 ≤ capacity → (n : ℕ) (cells₂ : List ℕ) → length cells₂ ≡ length cells → n < 2 ^ 64 → Fits capacity (n ∷ cells₂)
+  some_cells : 1 ≤ capacity → (n : ℕ) (cells₂ : List ℕ) → length cells₂ ≡ length cells → n < 2 ^ 64 → Represents capacity (n ∷ cells₂)
   some_cells some n cells₂ same low = record { long = omega arith; some = some; few = few; small = low }
 
   -- what it answers says what comes of the map
-  so : (e : Acquired) (last : List ℕ) → Fits capacity last → acquired old ≡ e → owners_in last ≡ granted old owner e → Took e last
+  so : (e : Acquired) (last : List ℕ) → Represents capacity last → acquired old ≡ e → owners_in last ≡ granted old owner e → Took e last
   so e last fits is next = (fits, sym is, next ∙ ap (granted old owner) (sym is))
 
   pub take_walks : 1 ≤ capacity → Ends (suc (suc (suc (suc (suc (length cells)))))) Took first (g ∷ cells)
   take_walks some =
       let kept = some_cells some g cells refl small in
       by_eq (λ a. From (suc (suc (suc (suc (length cells))))) Took a (g ∷ cells)) g locked _ _
-      (λ e. so (Err failures.IsLocked) (g ∷ cells) kept (ap (λ b. if b then Err failures.IsLocked else if g == greatest then Err failures.OutOfIndices else ok_or (position is_none (map owner_in cells)) failures.OutOfIndices) (eq-eqb g locked e)) refl)
+      (λ e. so (Err failures.IsLocked) (g ∷ cells) kept
+      (ap (λ b. if b then Err failures.IsLocked else if g
+      == greatest then Err failures.OutOfIndices else ok_or (position is_none (map owner_in cells)) failures.OutOfIndices)
+      (eq-eqb g locked e))
+      refl)
       (λ other.
       let opens : acquired old ≡ (if g == greatest then Err failures.OutOfIndices else ok_or (position is_none (map owner_in cells)) failures.OutOfIndices) =
-      ap (λ b. if b then Err failures.IsLocked else if g == greatest then Err failures.OutOfIndices else ok_or (position is_none (map owner_in cells)) failures.OutOfIndices) (ne_eqb g locked other) in
+      ap (λ b. if b then Err failures.IsLocked else if g
+      == greatest then Err failures.OutOfIndices else ok_or (position is_none (map owner_in cells)) failures.OutOfIndices)
+      (ne_eqb g locked other) in
       by_eq (λ a. From (suc (suc (suc (suc (length cells))))) Took a (g ∷ cells)) g greatest _ _
-      (λ e. so (Err failures.OutOfIndices) (g ∷ cells) kept (opens ∙ ap (λ b. if b then Err failures.OutOfIndices else ok_or (position is_none (map owner_in cells)) failures.OutOfIndices) (eq-eqb g greatest e)) refl)
+      (λ e. so (Err failures.OutOfIndices) (g ∷ cells) kept
+      (opens ∙ ap (λ b. if b then Err failures.OutOfIndices else ok_or (position is_none (map owner_in cells)) failures.OutOfIndices)
+      (eq-eqb g greatest e))
+      refl)
       (λ less.
       let looks : acquired old ≡ ok_or (position is_none (map owner_in cells)) failures.OutOfIndices =
       opens ∙ ap (λ b. if b then Err failures.OutOfIndices else ok_or (position is_none (map owner_in cells)) failures.OutOfIndices) (ne_eqb g greatest less) in
@@ -110,27 +126,33 @@ module _ (capacity owner g : ℕ) (cells : List ℕ) (small : g < 2 ^ 64) (long 
       let next = next_below g other less small in
       let at : front cells ≡ i = omega arith in
       let own : owner_in owner ≡ Some owner = owner_some owner (λ e. absurd (omega arith)) in
-      let lt : nat_lt (front cells) (length (map owner_in cells)) ≡ true = let low : front cells < length (map owner_in cells) = omega arith in grind (arith, nat_tests, low) in
+      let lt : nat_lt (front cells) (length (map owner_in cells)) ≡ true =
+      let low : front cells < length (map owner_in cells) = omega arith in
+      grind (arith, nat_tests, low) in
       so (Ok i) (next_generation g ∷ slice_set cells i owner)
       (some_cells some (next_generation g) (slice_set cells i owner) (length-set cells i owner) (omega (arith, other)))
       (looks ∙ (ap (λ b. ok_or (cond b (Some (front cells)) None) failures.OutOfIndices) lt ∙ ap Ok at))
       (λ j. record { owners = (map-set owner_in cells i owner ∙ ap (slice_set (map owner_in cells) i) own) j; generation = next_generation g }))
       (λ e.
-      let ge : nat_lt (front cells) (length (map owner_in cells)) ≡ false = let far : length (map owner_in cells) ≤ front cells = omega arith in grind (arith, nat_tests, far) in
+      let ge : nat_lt (front cells) (length (map owner_in cells)) ≡ false =
+      let far : length (map owner_in cells) ≤ front cells = omega arith in
+      grind (arith, nat_tests, far) in
       so (Err failures.OutOfIndices) (g ∷ cells) kept
       (looks ∙ ap (λ b. ok_or (cond b (Some (front cells)) None) failures.OutOfIndices) ge) refl)))
 
   pub take_runs : 1 ≤ capacity
       → Runs acquire_want (λ c given old. acquire_after c old) (λ c (room : Unit {0}) old. room) owner (λ e room ws. Took e ws) first tt (g ∷ cells)
-  take_runs some = runs acquire_want (λ c given old. acquire_after c old) owner (suc (suc (suc (suc (suc (length cells)))))) Took first (g ∷ cells) (omega arith) (take_walks some)
+  take_runs some =
+      runs acquire_want (λ c given old. acquire_after c old) owner (suc (suc (suc (suc (suc (length cells)))))) Took
+      first (g ∷ cells) (omega arith) (take_walks some)
 
 -- the same over any words that fit
 pub take_at : (capacity owner number : ℕ) → number ≡ owner → number < empty → (call : Acquire) → call ≡ first_acquire capacity
-    → (words : List ℕ) → Fits capacity words
+    → (words : List ℕ) → Represents capacity words
     → Runs acquire_want (λ c given old. acquire_after c old) (λ c (room : Unit {0}) old. room) owner
-    (λ e room ws. Turns (Fits capacity) owners_in acquired (λ s. after_acquire s owner) words e ws) call tt words
+    (λ e room ws. BehavesAs (Represents capacity) owners_in acquired (λ s. after_acquire s owner) words e ws) call tt words
 take_at capacity owner number same lives call is [] fits = let e : 0 ≡ 1 + capacity = fits.long in absurd (omega arith)
 take_at capacity owner number same lives call is (g ∷ cells) fits =
     subst (λ c. Runs acquire_want (λ c given old. acquire_after c old) (λ c (room : Unit {0}) old. room) owner
-    (λ e room ws. Turns (Fits capacity) owners_in acquired (λ s. after_acquire s owner) (g ∷ cells) e ws) c tt (g ∷ cells)) (sym is)
+    (λ e room ws. BehavesAs (Represents capacity) owners_in acquired (λ s. after_acquire s owner) (g ∷ cells) e ws) c tt (g ∷ cells)) (sym is)
     (take_runs capacity owner g cells fits.small (let e : suc (length cells) ≡ 1 + capacity = fits.long in omega arith) fits.few (omega arith) fits.some)

@@ -1,5 +1,6 @@
 -- A find with its closure, from one question to the next.
-use Rattle.std.proofs.Common.{◌≡◌, ℕ, suc, ◌+◌, ◌-◌, ◌^◌, ◌<◌, ◌≤◌, inl, inr, true, nat_lt, if◌then◌else◌, List, [], ◌∷◌, ◌++◌, length, refl, sym, ap, subst, ◌∙◌, arith}
+use Rattle.std.proofs.Common.{◌≡◌, ℕ, suc, ◌+◌, ◌-◌, ◌^◌, ◌<◌, ◌≤◌, inl, inr, true, nat_lt, if◌then◌else◌, List, []}
+use Rattle.std.proofs.Common.{◌∷◌, ◌++◌, length, refl, sym, ap, subst, ◌∙◌, arith}
 use Rattle.std.specs.List.{FoldsTo}
 use Rattle.std.proofs.lemmas.List.{append_assoc, append-nil, length-append, length-drop}
 use Rattle.std.proofs.lemmas.Bool.Decides.{nat_tests}
@@ -16,7 +17,7 @@ use Rattle.plain.specs.declared.drive.Stop as stops
 use Rattle.steps.specs.declared.ask.Want.{Want}
 use Rattle.plain.specs.Alone.{CanStop, StopsAlike}
 use Rattle.plain.specs.Callable.{TakesIndices, HasFound, index_in, as_answer}
-use Rattle.plain.specs.Robust.{owners_in, Fits}
+use Rattle.plain.specs.Robust.{owners_in, Represents}
 use Rattle.plain.proofs.Alone.{Halts, can_stop, stops_so}
 use Rattle.plain.proofs.Walks.{Goes, halts}
 use Rattle.plain.proofs.Robust.Finds.{mine, StopsAt, finds_on}
@@ -33,7 +34,8 @@ module _ {F : Type 0} (step : F → ℕ → CallbackProgression → F → Type 0
 
   abbrev HaltsAt : ℕ → List ℕ → Find → Type 0
   HaltsAt count left call =
-      Halts (λ c (given : ℕ). find_want c) find_after (λ c (room : Unit {0}) old. room) owner (λ s room ws. StopsAt capacity owner g cells long few lives count left s ws) call tt (g ∷ cells)
+      Halts (λ c (given : ℕ). find_want c) find_after (λ c (room : Unit {0}) old. room) owner
+      (λ s room ws. StopsAt capacity owner g cells long few lives count left s ws) call tt (g ∷ cells)
 
   -- it came to these, was told each time to go on, and these are left
   pub record Finding (done : ℕ) (call : Find) (now : F) : Type 0 where
@@ -66,7 +68,9 @@ module _ {F : Type 0} (step : F → ℕ → CallbackProgression → F → Type 0
         calls = calls;
         number = number;
         low = low;
-        run = halts (λ c (given : ℕ). find_want c) find_after owner (suc (length rest)) (StopsAt capacity owner g cells long few lives done left) d (g ∷ cells) (omega arith) t;
+        run =
+            halts (λ c (given : ℕ). find_want c) find_after owner (suc (length rest))
+            (StopsAt capacity owner g cells long few lives done left) d (g ∷ cells) (omega arith) t;
       }
   goes_on rest before left now (Done n) done short joined calls number low t =
       found_all before now n (ap (λ l. before ++ l) (sym t.0) ∙ joined) calls (t.1 ∙ sym number)
@@ -145,7 +149,7 @@ module _ {F : Type 0} (step : F → ℕ → CallbackProgression → F → Type 0
   Further first done (Done n) now words =
       HasFound step (indices_of (owners_in first) owner) f n now × (words ≡ first)
 
-  pub starts : (first : List ℕ) (call : Find) → call ≡ first_find capacity → Fits capacity first → owner < empty → Searching first 0 call f first
+  pub starts : (first : List ℕ) (call : Find) → call ≡ first_find capacity → Represents capacity first → owner < empty → Searching first 0 call f first
   starts [] call is fits lives = let e : 0 ≡ 1 + capacity = fits.long in absurd (omega arith)
   starts (g ∷ cells) call is fits lives =
       let long : length cells ≡ capacity = let e : suc (length cells) ≡ 1 + capacity = fits.long in omega arith in (
@@ -153,7 +157,8 @@ module _ {F : Type 0} (step : F → ℕ → CallbackProgression → F → Type 0
         fits.few,
         lives,
         refl,
-        subst (λ c. Finding step f capacity owner g cells long fits.few lives 0 c f) (sym is) (begins step f capacity owner g cells long fits.few lives fits.some),
+        subst (λ c. Finding step f capacity owner g cells long fits.few lives 0 c f) (sym is)
+            (begins step f capacity owner g cells long fits.few lives fits.some),
       )
 
   abbrev kept : Find → Unit {0} → ℕ → Unit {0}
@@ -179,7 +184,8 @@ module _ {F : Type 0} (step : F → ℕ → CallbackProgression → F → Type 0
       (stops_so want find_after kept owner _ call tt (g ∷ cells) t.4.run (stops.TheVariants.Ended n) r last
       (subst (λ ws. StopsAlike want find_after kept owner call tt ws (stops.TheVariants.Ended n) r last) t.3 alike))
 
-  pub may_so : (first : List ℕ) (done : ℕ) (call : Find) (now : F) (words : List ℕ) (question : Question (Unit {0})) (asks : Find) (r : Unit {0}) (last : List ℕ)
+  pub may_so : (first : List ℕ) (done : ℕ) (call : Find) (now : F) (words : List ℕ) (question : Question (Unit {0}))
+      (asks : Find) (r : Unit {0}) (last : List ℕ)
       → Searching first done call now words
       → StopsAlike want find_after kept owner call tt words (stops.TheVariants.Asked question asks) r last
       → (index : ℕ) → index ≡ index_in question
@@ -197,7 +203,8 @@ module _ {F : Type 0} (step : F → ℕ → CallbackProgression → F → Type 0
   further g cells long few lives done (GoOn call) now words same h = (long, few, lives, same, h)
   further g cells long few lives done (Done n) now words same h = (h, same)
 
-  pub goes_further : (first : List ℕ) (done : ℕ) (call : Find) (now : F) (words : List ℕ) (question : Question (Unit {0})) (asks : Find) (r : Unit {0}) (last : List ℕ)
+  pub goes_further : (first : List ℕ) (done : ℕ) (call : Find) (now : F) (words : List ℕ)
+      (question : Question (Unit {0})) (asks : Find) (r : Unit {0}) (last : List ℕ)
       → Searching first done call now words
       → StopsAlike want find_after kept owner call tt words (stops.TheVariants.Asked question asks) r last
       → (a : CallbackProgression) (next : F) → step now (index_in question) a next
@@ -210,7 +217,8 @@ module _ {F : Type 0} (step : F → ℕ → CallbackProgression → F → Type 0
       (same step f capacity owner g cells t.0 t.1 t.2 done call now t.4 last question asks at)
       (onward step f capacity owner g cells t.0 t.1 t.2 done call now t.4 last question asks at a next called)
 
-  pub further_so : (first : List ℕ) (done : ℕ) (call : Find) (now : F) (words : List ℕ) (question : Question (Unit {0})) (asks : Find) (r : Unit {0}) (last : List ℕ)
+  pub further_so : (first : List ℕ) (done : ℕ) (call : Find) (now : F) (words : List ℕ)
+      (question : Question (Unit {0})) (asks : Find) (r : Unit {0}) (last : List ℕ)
       → Searching first done call now words
       → StopsAlike want find_after kept owner call tt words (stops.TheVariants.Asked question asks) r last
       → (index : ℕ) → index ≡ index_in question → (a : CallbackProgression) (next : F) → step now index a next

@@ -1,5 +1,6 @@
 -- A find that runs alone, from one question to the next.
-use Rattle.std.proofs.Common.{◌≡◌, ◌≢◌, ℕ, suc, ◌+◌, ◌^◌, ◌<◌, ◌≤◌, ⊎_elim, true, false, cond, ◌==◌, nat_lt, List, [], ◌∷◌, length, drop, map, filter, refl, sym, ap, ◌∙◌, arith, slice_index, eq-eqb, ne_eqb}
+use Rattle.std.proofs.Common.{◌≡◌, ◌≢◌, ℕ, suc, ◌+◌, ◌^◌, ◌<◌, ◌≤◌, ⊎_elim, true, false, cond, ◌==◌, nat_lt, List, []}
+use Rattle.std.proofs.Common.{◌∷◌, length, drop, map, filter, refl, sym, ap, ◌∙◌, arith, slice_index, eq-eqb, ne_eqb}
 use Rattle.std.proofs.lemmas.Bool.Decides.{nat_tests, eqb_tells}
 use Rattle.steps.specs.Picks.{by_test, by_eq}
 use Rattle.steps.specs.Indices.Robust.Parts.{cell_word, empty, one_more}
@@ -26,14 +27,22 @@ module _ (owner : ℕ) where
   pub hits : (index c : ℕ) (rest : List ℕ) → owner < empty → c ≡ owner → mine index (c ∷ rest) ≡ index ∷ mine (index + 1) rest
   hits index c rest lives e =
       ap (λ o. mine_in (taken_from index (o ∷ map owner_in rest))) (owner_some c (λ x. absurd (omega arith)))
-      ∙ ap (λ b. map (λ (o : Owned). o.index) (cond b (record { owner = c; index = index } ∷ filter (λ (o : Owned). o.owner == owner) (taken_from (index + 1) (map owner_in rest))) (filter (λ (o : Owned). o.owner == owner) (taken_from (index + 1) (map owner_in rest))))) (eq-eqb c owner e)
+      ∙ ap (λ b. map (λ (o : Owned). o.index)
+      (cond b
+      (record { owner = c; index = index } ∷ filter (λ (o : Owned). o.owner == owner) (taken_from (index + 1) (map owner_in rest)))
+      (filter (λ (o : Owned). o.owner == owner) (taken_from (index + 1) (map owner_in rest)))))
+      (eq-eqb c owner e)
 
   pub misses : (index c : ℕ) (rest : List ℕ) → c ≢ owner → mine index (c ∷ rest) ≡ mine (index + 1) rest
   misses index c rest n =
       ⊎_elim
       (λ (t : ((c == empty) ≡ true) × (c ≡ empty)). ap (λ o. mine_in (taken_from index (o ∷ map owner_in rest))) (owner_free c t.1))
       (λ (t : ((c == empty) ≡ false) × (c ≢ empty)). ap (λ o. mine_in (taken_from index (o ∷ map owner_in rest))) (owner_some c t.1)
-      ∙ ap (λ b. map (λ (o : Owned). o.index) (cond b (record { owner = c; index = index } ∷ filter (λ (o : Owned). o.owner == owner) (taken_from (index + 1) (map owner_in rest))) (filter (λ (o : Owned). o.owner == owner) (taken_from (index + 1) (map owner_in rest))))) (ne_eqb c owner n))
+      ∙ ap (λ b. map (λ (o : Owned). o.index)
+      (cond b
+      (record { owner = c; index = index } ∷ filter (λ (o : Owned). o.owner == owner) (taken_from (index + 1) (map owner_in rest)))
+      (filter (λ (o : Owned). o.owner == owner) (taken_from (index + 1) (map owner_in rest)))))
+      (ne_eqb c owner n))
       (eqb_tells c empty)
 
 module _ (capacity owner g : ℕ) (cells : List ℕ) (long : length cells ≡ capacity) (few : capacity < 2 ^ 32) (lives : owner < empty) where
@@ -54,7 +63,8 @@ module _ (capacity owner g : ℕ) (cells : List ℕ) (long : length cells ≡ ca
   StopsAt count left (Asked question call) last = AsksAt count left question call last
 
   pub finds_on : (rest : List ℕ) (index count : ℕ) (left : List ℕ) → drop index cells ≡ rest → count ≤ index → left ≡ mine owner index rest
-      → Goes (λ c. find_want c) (λ c old. find_after c owner old) (suc (length rest)) (StopsAt count left) (find_comes_to (first_find capacity) index count) (g ∷ cells)
+      → Goes (λ c. find_want c) (λ c old. find_after c owner old) (suc (length rest)) (StopsAt count left)
+      (find_comes_to (first_find capacity) index count) (g ∷ cells)
   finds_on [] index count left is low all =
       let far = past cells index is in
       by_test (λ a. Goes (λ c. find_want c) (λ c old. find_after c owner old) 1 (StopsAt count left) a (g ∷ cells)) (nat_lt index capacity) _ _
@@ -64,8 +74,12 @@ module _ (capacity owner g : ℕ) (cells : List ℕ) (long : length cells ≡ ca
       let at = here cells index c rest is in
       let near = at.near in
       let word = next_cell g index cells ∙ at.word_is in
-      by_test (λ a. Goes (λ c. find_want c) (λ c old. find_after c owner old) (suc (suc (length rest))) (StopsAt count left) a (g ∷ cells)) (nat_lt index capacity) _ _
-      (λ _. by_eq (λ a. Goes (λ c. find_want c) (λ c old. find_after c owner old) (suc (length rest)) (StopsAt count left) a (g ∷ cells)) (slice_index (g ∷ cells) (cell_word index)) owner _ _
+      by_test
+      (λ a. Goes (λ c. find_want c) (λ c old. find_after c owner old) (suc (suc (length rest))) (StopsAt count left) a (g ∷ cells))
+      (nat_lt index capacity) _ _
+      (λ _. by_eq
+      (λ a. Goes (λ c. find_want c) (λ c old. find_after c owner old) (suc (length rest)) (StopsAt count left) a (g ∷ cells))
+      (slice_index (g ∷ cells) (cell_word index)) owner _ _
       (λ e. record {
         index = index;
         rest = rest;

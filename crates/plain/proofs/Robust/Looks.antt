@@ -1,24 +1,26 @@
 -- The looks at a robust set that run alone.
-use Rattle.std.proofs.Common.{◌≡◌, ℕ, zero, suc, ◌+◌, ◌^◌, ◌<◌, ◌≤◌, Bool, List, [], ◌∷◌, length, map, replicate, slice_set, None, refl, sym, ap, subst, ◌∙◌, arith, eq-eqb, ne_eqb, if◌then◌else◌}
+use Rattle.std.proofs.Common.{◌≡◌, ℕ, zero, suc, ◌+◌, ◌^◌, ◌<◌, ◌≤◌, Bool, List, [], ◌∷◌, length, map, replicate}
+use Rattle.std.proofs.Common.{slice_set, None, refl, sym, ap, subst, ◌∙◌, arith, eq-eqb, ne_eqb, if◌then◌else◌}
 use Rattle.steps.specs.Queues.Ring.{load}
 use Rattle.steps.specs.Indices.Robust.Parts.{empty, locked, count_want, count_after}
 use Rattle.steps.specs.Indices.Robust.Looks.{first_borrowed, borrowed_want, borrowed_after, borrowed_counted, locked_after}
 use Rattle.steps.specs.declared.indices.robust.parts.Count as counts
 use Rattle.steps.specs.declared.indices.robust.looks.BorrowedIndices.{BorrowedIndices}
 use Rattle.steps.specs.declared.indices.robust.looks.IsLocked.{IsLocked}
-use Rattle.plain.specs.Alone.{Turns}
+use Rattle.plain.specs.Alone.{BehavesAs}
 use Rattle.steps.specs.Objects.Owners.{opened_at, is_locked, raised, borrowed}
-use Rattle.plain.specs.Robust.{owner_in, owners_in, Fits}
+use Rattle.plain.specs.Robust.{owner_in, owners_in, Represents}
 use Rattle.plain.proofs.Alone.{Runs}
 use Rattle.plain.proofs.Walks.{plus, plus_sum, Walks, OnEnd, part_walks, runs}
 use Rattle.plain.proofs.Robust.Parts.{number, count_walks, next_there, next_small}
 
 module _ (capacity g : ℕ) (cells : List ℕ) (small : g < 2 ^ 64) (long : length cells ≡ capacity) (few : capacity < 2 ^ 32) where
   abbrev pub Counted : ℕ → List ℕ → Type 0
-  Counted end last = Turns (Fits capacity) owners_in borrowed raised (g ∷ cells) end last
+  Counted end last = BehavesAs (Represents capacity) owners_in borrowed raised (g ∷ cells) end last
 
   pub borrowed_walks : 1 ≤ capacity
-      → Walks (λ (c : BorrowedIndices). borrowed_want c) (λ c old. borrowed_after c old) (plus (suc (suc (suc (length cells)))) 0) (OnEnd Counted) (first_borrowed capacity) (g ∷ cells)
+      → Walks (λ (c : BorrowedIndices). borrowed_want c) (λ c old. borrowed_after c old)
+      (plus (suc (suc (suc (length cells)))) 0) (OnEnd Counted) (first_borrowed capacity) (g ∷ cells)
   borrowed_walks some =
       part_walks (λ c. borrowed_want c) (λ c old. borrowed_after c old) count_want (count_after capacity)
       (λ count. record { capacity = capacity; count = count }) (borrowed_counted (first_borrowed capacity))
@@ -36,34 +38,37 @@ module _ (capacity g : ℕ) (cells : List ℕ) (small : g < 2 ^ 64) (long : leng
       )))
 
   pub borrowed_runs : 1 ≤ capacity
-      → Runs (λ (c : BorrowedIndices) (given : Unit {0}). borrowed_want c) (λ c given old. borrowed_after c old) (λ c (room : Unit {0}) old. room) tt (λ e room ws. Counted e ws) (first_borrowed capacity) tt (g ∷ cells)
+      → Runs (λ (c : BorrowedIndices) (given : Unit {0}). borrowed_want c) (λ c given old. borrowed_after c old)
+      (λ c (room : Unit {0}) old. room) tt (λ e room ws. Counted e ws) (first_borrowed capacity) tt (g ∷ cells)
   borrowed_runs some =
-      runs (λ (c : BorrowedIndices) (given : Unit {0}). borrowed_want c) (λ c given old. borrowed_after c old) tt (plus (suc (suc (suc (length cells)))) 0) Counted (first_borrowed capacity) (g ∷ cells)
+      runs (λ (c : BorrowedIndices) (given : Unit {0}). borrowed_want c) (λ c given old. borrowed_after c old) tt
+      (plus (suc (suc (suc (length cells)))) 0) Counted (first_borrowed capacity) (g ∷ cells)
       (let e = plus_sum (suc (suc (suc (length cells)))) 0 in omega arith) (borrowed_walks some)
 
   abbrev pub Looked : Bool → List ℕ → Type 0
-  Looked end last = Turns (Fits capacity) owners_in is_locked (λ s. s) (g ∷ cells) end last
+  Looked end last = BehavesAs (Represents capacity) owners_in is_locked (λ s. s) (g ∷ cells) end last
 
   pub looked_runs : (call : IsLocked) → 1 ≤ capacity
-      → Runs (λ (c : IsLocked) (given : Unit {0}). load 0) (λ c given old. locked_after c old) (λ c (room : Unit {0}) old. room) tt (λ e room ws. Looked e ws) call tt (g ∷ cells)
+      → Runs (λ (c : IsLocked) (given : Unit {0}). load 0) (λ c given old. locked_after c old)
+      (λ c (room : Unit {0}) old. room) tt (λ e room ws. Looked e ws) call tt (g ∷ cells)
   looked_runs call some =
       runs (λ (c : IsLocked) (given : Unit {0}). load 0) (λ c given old. locked_after c old) tt 1 Looked call (g ∷ cells) (omega arith)
       (record { long = omega arith; some = some; few = few; small = small }, refl, refl)
 
 -- ---- the same over any words that fit
 
-pub borrowed_at : (capacity : ℕ) (call : BorrowedIndices) → call ≡ first_borrowed capacity → (words : List ℕ) → Fits capacity words
+pub borrowed_at : (capacity : ℕ) (call : BorrowedIndices) → call ≡ first_borrowed capacity → (words : List ℕ) → Represents capacity words
     → Runs (λ (c : BorrowedIndices) (given : Unit {0}). borrowed_want c) (λ c given old. borrowed_after c old) (λ c (room : Unit {0}) old. room) tt
-    (λ e room ws. Turns (Fits capacity) owners_in borrowed raised words e ws) call tt words
+    (λ e room ws. BehavesAs (Represents capacity) owners_in borrowed raised words e ws) call tt words
 borrowed_at capacity call is [] fits = let e : 0 ≡ 1 + capacity = fits.long in absurd (omega arith)
 borrowed_at capacity call is (g ∷ cells) fits =
     subst (λ c. Runs (λ (c : BorrowedIndices) (given : Unit {0}). borrowed_want c) (λ c given old. borrowed_after c old) (λ c (room : Unit {0}) old. room) tt
-    (λ e room ws. Turns (Fits capacity) owners_in borrowed raised (g ∷ cells) e ws) c tt (g ∷ cells)) (sym is)
+    (λ e room ws. BehavesAs (Represents capacity) owners_in borrowed raised (g ∷ cells) e ws) c tt (g ∷ cells)) (sym is)
     (borrowed_runs capacity g cells fits.small (let e : suc (length cells) ≡ 1 + capacity = fits.long in omega arith) fits.few fits.some)
 
-pub looked_at : (capacity : ℕ) (call : IsLocked) (words : List ℕ) → Fits capacity words
+pub looked_at : (capacity : ℕ) (call : IsLocked) (words : List ℕ) → Represents capacity words
     → Runs (λ (c : IsLocked) (given : Unit {0}). load 0) (λ c given old. locked_after c old) (λ c (room : Unit {0}) old. room) tt
-    (λ e room ws. Turns (Fits capacity) owners_in is_locked (λ s. s) words e ws) call tt words
+    (λ e room ws. BehavesAs (Represents capacity) owners_in is_locked (λ s. s) words e ws) call tt words
 looked_at capacity call [] fits = let e : 0 ≡ 1 + capacity = fits.long in absurd (omega arith)
 looked_at capacity call (g ∷ cells) fits =
     looked_runs capacity g cells fits.small (let e : suc (length cells) ≡ 1 + capacity = fits.long in omega arith) fits.few call fits.some

@@ -1,10 +1,14 @@
 -- Raise, count and lock that run alone.
-use Rattle.std.proofs.Common.{◌≡◌, ◌≢◌, ℕ, suc, ◌+◌, ◌^◌, ◌<◌, ◌≤◌, ⊎_elim, true, false, not, ◌==◌, ◌&&◌, nat_lt, List, [], ◌∷◌, length, drop, map, refl, sym, ap, subst, ◌∙◌, arith, Some, None, slice_index, slice_set, eq-eqb, ne_eqb, if◌then◌else◌}
+use Rattle.std.proofs.Common.{◌≡◌, ◌≢◌, ℕ, suc, ◌+◌, ◌^◌, ◌<◌, ◌≤◌, ⊎_elim, true, false, not, ◌==◌, ◌&&◌, nat_lt, List}
+use Rattle.std.proofs.Common.{[], ◌∷◌, length, drop, map, refl, sym, ap, subst, ◌∙◌, arith, Some, None, slice_index}
+use Rattle.std.proofs.Common.{slice_set, eq-eqb, ne_eqb, if◌then◌else◌}
 use Rattle.std.proofs.lemmas.Bool.Decides.{nat_tests}
 use Rattle.std.proofs.lemmas.Bool.{cases_lt}
 use Rattle.std.proofs.lemmas.List.{drop_more, length-drop}
 use Rattle.steps.specs.Picks.{by_test, by_eq}
-use Rattle.steps.specs.Indices.Robust.Parts.{cell_word, empty, locked, greatest, one_more, raise_want, raise_after, raise_sees, count_want, count_after, count_comes_to, lock_want, lock_after, lock_counted, first_lock}
+use Rattle.steps.specs.Indices.Robust.Parts.{cell_word, empty, locked, greatest, one_more, raise_want, raise_after}
+use Rattle.steps.specs.Indices.Robust.Parts.{raise_sees, count_want, count_after, count_comes_to, lock_want}
+use Rattle.steps.specs.Indices.Robust.Parts.{lock_after, lock_counted, first_lock}
 use Rattle.steps.specs.declared.ask.After.TheVariants.{GoOn, Done}
 use Rattle.steps.specs.declared.indices.enums.ReleaseState.{ReleaseState}
 use Rattle.steps.specs.declared.indices.enums.ReleaseState.TheVariants.{Locked, Unlocked}
@@ -131,7 +135,10 @@ module _ (capacity g : ℕ) (cells : List ℕ) (small : g < 2 ^ 64) (long : leng
       (λ _. by_eq (λ a. Goes count_want (count_after capacity) 2 (OnEnd P) a (g ∷ cells)) g greatest _ _
       (λ e. let same : filled ≡ total = omega arith in
       subst (λ (z : ℕ × ℕ). P (ends.TheVariants.Filled z.0 z.1) (z.1 ∷ cells)) (λ i. (sym same i, next_there g (omega arith) i)) h)
-      (λ less. subst (λ ws. Goes count_want (count_after capacity) 1 (OnEnd P) (if g == g then Done (ends.TheVariants.Filled filled (one_more g)) else GoOn counts.TheVariants.LoadsCounter) ws) (sym (exchanged g cells small (one_more g)))
+      (λ less. subst (λ ws. Goes count_want (count_after capacity) 1 (OnEnd P)
+      (if g == g then Done (ends.TheVariants.Filled filled (one_more g)) else GoOn counts.TheVariants.LoadsCounter)
+      ws)
+      (sym (exchanged g cells small (one_more g)))
       (by_eq (λ a. Goes count_want (count_after capacity) 1 (OnEnd P) a (one_more g ∷ cells)) g g _ _
       (λ _. let same : filled ≡ total = omega arith in
       subst (λ (z : ℕ × ℕ). P (ends.TheVariants.Filled z.0 z.1) (z.1 ∷ cells)) (λ i. (sym same i, next_below g other less small i)) h)
@@ -141,7 +148,9 @@ module _ (capacity g : ℕ) (cells : List ℕ) (small : g < 2 ^ 64) (long : leng
       let near = at.near in
       let word = next_cell g index cells ∙ at.word_is in
       by_test (λ a. Goes count_want (count_after capacity) (suc (suc (suc (length rest)))) (OnEnd P) a (g ∷ cells)) (nat_lt index capacity) _ _
-      (λ _. by_eq (λ f. Goes count_want (count_after capacity) (suc (suc (length rest))) (OnEnd P) (count_comes_to capacity g (index + 1) f) (g ∷ cells)) (slice_index (g ∷ cells) (cell_word index)) empty filled (one_more filled)
+      (λ _. by_eq (λ f. Goes count_want (count_after capacity) (suc (suc (length rest))) (OnEnd P)
+      (count_comes_to capacity g (index + 1) f) (g ∷ cells))
+      (slice_index (g ∷ cells) (cell_word index)) empty filled (one_more filled)
       (λ e. let free = owner_free c (sym word ∙ e) in
       scans P total h other rest (index + 1) filled at.rest_is (omega arith)
       (sym (ap (λ o. filled + length (taken_from index (o ∷ map owner_in rest))) free) ∙ sum))
@@ -188,7 +197,9 @@ module _ (capacity g : ℕ) (cells : List ℕ) (small : g < 2 ^ 64) (long : leng
       (λ t. let lock : (locking g cells) ≡ locked = ap (λ b. if b then locked else next_generation g) t in
       let written : (if next_generation g == next_generation g then locked ∷ cells else next_generation g ∷ cells) ≡ locked ∷ cells =
       ap (λ b. if b then locked ∷ cells else next_generation g ∷ cells) (eq-eqb (next_generation g) (next_generation g) refl) in
-      subst (λ ws. Goes lock_want (lock_after capacity) 0 (OnEnd P) (if next_generation g == next_generation g then Done Locked else GoOn first_lock) ws) (sym written)
+      subst (λ ws. Goes lock_want (lock_after capacity) 0 (OnEnd P)
+      (if next_generation g == next_generation g then Done Locked else GoOn first_lock) ws)
+      (sym written)
       (by_eq (λ a. Goes lock_want (lock_after capacity) 0 (OnEnd P) a (locked ∷ cells)) (next_generation g) (next_generation g) _ _
       (λ _. as_locked lock) (λ no. absurd (no refl))))
       (λ t. let stays : (locking g cells) ≡ next_generation g = ap (λ b. if b then locked else next_generation g) t in

@@ -1,5 +1,8 @@
 -- A recovery with its closures, from one question to the next.
-use Rattle.std.proofs.Common.{◌≡◌, ◌≢◌, ℕ, zero, suc, ◌+◌, ◌-◌, ◌^◌, ◌<◌, ◌≤◌, ⊎_elim, Bool, true, false, ◌==◌, not, ◌&&◌, nat_lt, if◌then◌else◌, List, [], ◌∷◌, ◌++◌, length, drop, map, filter, Option, Some, None, refl, sym, ap, subst, ◌∙◌, arith, slice_set, length-set, eq-eqb, ne_eqb, IsTrue, IsFalse}
+use Rattle.std.proofs.Common.{◌≡◌, ◌≢◌, ℕ, zero, suc, ◌+◌, ◌-◌, ◌^◌, ◌<◌, ◌≤◌, ⊎_elim, Bool, true, false, ◌==◌, not}
+use Rattle.std.proofs.Common.{◌&&◌, nat_lt, if◌then◌else◌, List, [], ◌∷◌, ◌++◌, length, drop, map, filter, Option}
+use Rattle.std.proofs.Common.{Some, None, refl, sym, ap, subst, ◌∙◌, arith, slice_set, length-set, eq-eqb, ne_eqb}
+use Rattle.std.proofs.Common.{IsTrue, IsFalse}
 use Rattle.std.specs.List.{FoldsTo}
 use Rattle.std.proofs.lemmas.List.{drop-set-lt, map-append, append_assoc, append-nil, length-append, length-map, length-drop}
 use Rattle.std.proofs.lemmas.List.Sums.{fold-append}
@@ -24,7 +27,7 @@ use Rattle.plain.specs.declared.drive.Stop as stops
 use Rattle.plain.specs.Alone.{CanStop, StopsAlike}
 use Rattle.plain.specs.Callable.{index_in, Asked, asks, tells, agreed, TakesQuestions, TakesFreed, HasRecovered}
 use Rattle.plain.specs.Callable as said
-use Rattle.plain.specs.Robust.{owner_in, owners_in, Fits}
+use Rattle.plain.specs.Robust.{owner_in, owners_in, Represents}
 use Rattle.plain.proofs.Alone.{Halts, can_stop, stops_so}
 use Rattle.plain.proofs.Walks.{plus, plus_sum, Walks, Goes, halts}
 use Rattle.plain.proofs.Robust.Parts.{number, locking, next_below, next_there, next_small}
@@ -78,7 +81,10 @@ none_left (x ∷ xs) low = absurd (omega arith)
 next_opens : (g : ℕ) → g < 2 ^ 64 → g ≢ locked → next_generation g ≢ locked
 next_opens g small other e =
     ⊎_elim
-    (λ (t : ((g == greatest) ≡ true) × (g ≡ greatest)). let far : greatest ≤ g = (let x = t.1 in omega arith) in let n = next_there g far in let x = t.1 in absurd (omega arith))
+    (λ (t : ((g == greatest) ≡ true) × (g ≡ greatest)). let far : greatest ≤ g = (let x = t.1 in omega arith) in
+    let n = next_there g far in
+    let x = t.1 in
+    absurd (omega arith))
     (λ (t : ((g == greatest) ≡ false) × (g ≢ greatest)). let n = next_below g other t.1 small in let x = t.1 in absurd (omega (arith, other, x)))
     (eqb_tells g greatest)
 
@@ -131,7 +137,7 @@ module _ {F S : Type 0} (step : F → ℕ → ℕ → Bool → F → Type 0) (te
   pub record Recovering (done : ℕ) (call : Recover) (p : F) (q : S) (words : List ℕ) : Type 0 where
     pub g : ℕ
     pub cells : List ℕ
-    pub fits : Fits capacity (g ∷ cells)
+    pub fits : Represents capacity (g ∷ cells)
     pub asked : List Asked
     pub left : List Owned
     pub joined : said.questions asked ++ left ≡ to_recover old
@@ -144,7 +150,7 @@ module _ {F S : Type 0} (step : F → ℕ → ℕ → Bool → F → Type 0) (te
 
   -- what there is to say at the end
   pub record Gone (state : ReleaseState) (p : F) (q : S) (last : List ℕ) : Type 0 where
-    pub fits : Fits capacity last
+    pub fits : Represents capacity last
     pub state_is : state ≡ state_of (owners_in last)
     pub calls : HasRecovered step tell mode old (owners_in last) f s p q
 
@@ -200,14 +206,20 @@ module _ {F S : Type 0} (step : F → ℕ → ℕ → Bool → F → Type 0) (te
     number_then b = length-append t.asked (an_answer it b ∷ []) ∙ ap (λ n. n + 1) t.number
 
     opens : t.g ≢ locked
-    opens e = let none = t.shut e in let some = at.left_is in absurd (let l : length t.left ≡ 0 = ap length none in let m : length t.left ≡ suc (length left_then) = ap length some in omega arith)
+    opens e = let none = t.shut e in
+        let some = at.left_is in
+        absurd
+        (let l : length t.left ≡ 0 = ap length none in let m : length t.left ≡ suc (length left_then) = ap length some in omega arith)
 
     short : length at.rest ≤ capacity
     short = let l = length-drop (at.index + 1) t.cells in let e = ap length at.rest_is in let k = long in omega arith
 
     on_no : (p₂ : F) → step p at.owner at.index false p₂
         → Recovering (done + 1)
-        (at_recover (first_recover capacity) (if nat_lt (at.index + 1) capacity then recovers.TheVariants.LoadsCell (at.index + 1) else recovers.TheVariants.LoadsCounterAgain)) p₂ q last
+        (at_recover (first_recover capacity)
+        (if nat_lt (at.index + 1) capacity then recovers.TheVariants.LoadsCell (at.index + 1) else
+        recovers.TheVariants.LoadsCounterAgain))
+        p₂ q last
     on_no p₂ called =
         let size = short in
         let few = t.fits.few in
@@ -223,8 +235,18 @@ module _ {F S : Type 0} (step : F → ℕ → ℕ → Bool → F → Type 0) (te
           map_is = t.map_is ∙ ap (recovered mode old) (sym (agreed_no t.asked it));
           shut = λ e. absurd (opens e);
           number = number_then false;
-          run = subst (λ ws. Halts want recover_after kept mode (λ s room vs. StopsAt capacity t.g t.cells left_then s vs) (at_recover (first_recover capacity) (if nat_lt (at.index + 1) capacity then recovers.TheVariants.LoadsCell (at.index + 1) else recovers.TheVariants.LoadsCounterAgain)) tt ws) (sym at.same)
-              (halts want recover_after mode (suc (suc (length at.rest))) (StopsAt capacity t.g t.cells left_then) (at_recover (first_recover capacity) (if nat_lt (at.index + 1) capacity then recovers.TheVariants.LoadsCell (at.index + 1) else recovers.TheVariants.LoadsCounterAgain)) (t.g ∷ t.cells) (omega arith)
+          run =
+              subst (λ ws. Halts want recover_after kept mode (λ s room vs. StopsAt capacity t.g t.cells left_then s vs)
+              (at_recover (first_recover capacity)
+              (if nat_lt (at.index + 1) capacity then recovers.TheVariants.LoadsCell (at.index + 1) else
+              recovers.TheVariants.LoadsCounterAgain))
+              tt ws)
+              (sym at.same)
+              (halts want recover_after mode (suc (suc (length at.rest))) (StopsAt capacity t.g t.cells left_then)
+              (at_recover (first_recover capacity)
+              (if nat_lt (at.index + 1) capacity then recovers.TheVariants.LoadsCell (at.index + 1) else
+              recovers.TheVariants.LoadsCounterAgain))
+              (t.g ∷ t.cells) (omega arith)
               (recovers_on capacity mode t.g t.cells long at.rest (at.index + 1) left_then at.rest_is refl));
         }
 
@@ -254,13 +276,24 @@ module _ {F S : Type 0} (step : F → ℕ → ℕ → Bool → F → Type 0) (te
               ∙ (ap (λ m. given_back mode m at.index) t.map_is
               ∙ (sym (fold-append (λ m (o : Owned). given_back mode m o.index) old (agreed t.asked) (it ∷ []))
               ∙ ap (recovered mode old) (sym (agreed_yes t.asked it))));
-          shut = λ e. ap (λ r. taken_from (at.index + 1) (map owner_in r)) (sym at.rest_is ∙ sym (drop-set-lt (at.index + 1) t.cells at.index empty (let l : at.index < at.index + 1 = omega arith in l)))
+          shut =
+              λ e. ap (λ r. taken_from (at.index + 1) (map owner_in r))
+              (sym at.rest_is
+              ∙ sym (drop-set-lt (at.index + 1) t.cells at.index empty (let l : at.index < at.index + 1 = omega arith in l)))
               ∙ locked_leaves mode t.g emptied (at.index + 1) (at.index + 1) t.fits.small opens e;
           number = number_then true;
-          run = subst (λ ws. Halts want recover_after kept mode (λ s room vs. StopsAt capacity (counter_then mode t.g emptied) emptied left_then s vs) (at_recover (first_recover capacity) (recovers.TheVariants.EmptiesCell at.index at.owner)) tt ws) (sym at.same)
+          run =
+              subst (λ ws. Halts want recover_after kept mode
+              (λ s room vs. StopsAt capacity (counter_then mode t.g emptied) emptied left_then s vs)
+              (at_recover (first_recover capacity) (recovers.TheVariants.EmptiesCell at.index at.owner)) tt ws)
+              (sym at.same)
               (halts want recover_after mode (suc (suc (suc (rounds capacity t.g t.cells t.fits.small long t.fits.few opens at.index at.rest at.rest_is))))
-              (StopsAt capacity (counter_then mode t.g emptied) emptied left_then) (at_recover (first_recover capacity) (recovers.TheVariants.EmptiesCell at.index at.owner)) (t.g ∷ t.cells)
-              (let a = plus_sum (plus (suc (suc (suc (length emptied)))) 1) (suc (suc (length at.rest))) in let b = plus_sum (suc (suc (suc (length emptied)))) 1 in omega arith)
+              (StopsAt capacity (counter_then mode t.g emptied) emptied left_then)
+              (at_recover (first_recover capacity) (recovers.TheVariants.EmptiesCell at.index at.owner))
+              (t.g ∷ t.cells)
+              (let a = plus_sum (plus (suc (suc (suc (length emptied)))) 1) (suc (suc (length at.rest))) in
+              let b = plus_sum (suc (suc (suc (length emptied)))) 1 in
+              omega arith)
               (frees_on capacity t.g t.cells t.fits.small long t.fits.few opens at.index at.rest at.rest_is mode at.owner at.word_is));
         }
 
@@ -313,7 +346,9 @@ module _ {F S : Type 0} (step : F → ℕ → ℕ → Bool → F → Type 0) (te
           (subst (λ (z : ℕ × ℕ). tell q z.0 z.1 q₂) (λ i. (owner_is i, index_is i)) (told refl)))
       onward false p₂ q₂ called told passed =
           subst (λ c. Onward p₂ q₂ (recover_after c mode 0)) (sym at.stands)
-          (subst (λ z. Onward p₂ z (recover_after (at_recover (first_recover capacity) (recovers.TheVariants.Asks at.index at.owner)) mode 0)) (sym (passed refl))
+          (subst
+          (λ z. Onward p₂ z (recover_after (at_recover (first_recover capacity) (recovers.TheVariants.Asks at.index at.owner)) mode 0))
+          (sym (passed refl))
           (on_no p₂ (subst (λ (z : ℕ × ℕ). step p z.0 z.1 false p₂) (λ i. (owner_is i, index_is i)) called)))
 
       pub onward_so : (agrees : Bool) (p₂ : F) (q₂ : S) → step p owner index agrees p₂ → (IsTrue agrees → tell q owner index q₂) → (IsFalse agrees → q₂ ≡ q)
@@ -326,13 +361,22 @@ module _ {F S : Type 0} (step : F → ℕ → ℕ → Bool → F → Type 0) (te
 module _ {F S : Type 0} (step : F → ℕ → ℕ → Bool → F → Type 0) (tell : S → ℕ → ℕ → S → Type 0) (mode : ReleaseMode)
     (f : F) (s : S) (capacity : ℕ) where
   begin_walk : (g : ℕ) (cells : List ℕ) → length cells ≡ capacity
-      → Walks (λ c. recover_want c) (λ c old. recover_after c mode old) (suc (suc (suc (length cells)))) (StopsAt capacity g cells (to_recover (owners_in (g ∷ cells)))) (first_recover capacity) (g ∷ cells)
+      → Walks (λ c. recover_want c) (λ c old. recover_after c mode old) (suc (suc (suc (length cells))))
+      (StopsAt capacity g cells (to_recover (owners_in (g ∷ cells)))) (first_recover capacity) (g ∷ cells)
   begin_walk g cells long =
-      by_eq (λ a. Goes (λ c. recover_want c) (λ c old. recover_after c mode old) (suc (suc (length cells))) (StopsAt capacity g cells (to_recover (owners_in (g ∷ cells)))) a (g ∷ cells)) g locked _ _
-      (λ e. (ap (λ b. if b then [] else taken (owners_in (g ∷ cells))) (eq-eqb g locked e), sym (ap (λ b. if b then Locked else Unlocked) (eq-eqb g locked e)), refl))
-      (λ other. recovers_on capacity mode g cells long cells 0 (to_recover (owners_in (g ∷ cells))) refl (ap (λ b. if b then [] else taken (owners_in (g ∷ cells))) (ne_eqb g locked other)))
+      by_eq (λ a. Goes (λ c. recover_want c) (λ c old. recover_after c mode old) (suc (suc (length cells)))
+      (StopsAt capacity g cells (to_recover (owners_in (g ∷ cells)))) a (g ∷ cells))
+      g locked _ _
+      (λ e. (
+        ap (λ b. if b then [] else taken (owners_in (g ∷ cells))) (eq-eqb g locked e),
+        sym (ap (λ b. if b then Locked else Unlocked) (eq-eqb g locked e)),
+        refl,
+      ))
+      (λ other. recovers_on capacity mode g cells long cells 0 (to_recover (owners_in (g ∷ cells))) refl
+      (ap (λ b. if b then [] else taken (owners_in (g ∷ cells))) (ne_eqb g locked other)))
 
-  pub starts : (first : List ℕ) (call : Recover) → call ≡ first_recover capacity → Fits capacity first → Recovering step tell mode f s capacity first 0 call f s first
+  pub starts : (first : List ℕ) (call : Recover) → call ≡ first_recover capacity → Represents capacity first
+      → Recovering step tell mode f s capacity first 0 call f s first
   starts [] call is fits = let e : 0 ≡ 1 + capacity = fits.long in absurd (omega arith)
   starts (g ∷ cells) call is fits =
       let long : length cells ≡ capacity = let e : suc (length cells) ≡ 1 + capacity = fits.long in omega arith in
@@ -349,12 +393,17 @@ module _ {F S : Type 0} (step : F → ℕ → ℕ → Bool → F → Type 0) (te
         map_is = refl;
         shut = λ e. ap (λ b. if b then [] else taken (owners_in (g ∷ cells))) (eq-eqb g locked e);
         number = refl;
-        run = subst (λ c. Halts (λ c (given : ReleaseMode). recover_want c) recover_after (λ c (room : Unit {0}) old. room) mode (λ s room vs. StopsAt capacity g cells (to_recover (owners_in (g ∷ cells))) s vs) c tt (g ∷ cells)) (sym is)
-            (halts (λ c (given : ReleaseMode). recover_want c) recover_after mode (suc (suc (suc (length cells)))) (StopsAt capacity g cells (to_recover (owners_in (g ∷ cells)))) (first_recover capacity) (g ∷ cells) (omega arith) (begin_walk g cells long));
+        run =
+            subst (λ c. Halts (λ c (given : ReleaseMode). recover_want c) recover_after (λ c (room : Unit {0}) old. room) mode
+            (λ s room vs. StopsAt capacity g cells (to_recover (owners_in (g ∷ cells))) s vs) c tt (g ∷ cells))
+            (sym is)
+            (halts (λ c (given : ReleaseMode). recover_want c) recover_after mode (suc (suc (suc (length cells))))
+            (StopsAt capacity g cells (to_recover (owners_in (g ∷ cells)))) (first_recover capacity) (g ∷ cells)
+            (omega arith) (begin_walk g cells long));
       }
 
 pub few_rounds : {F S : Type 0} (step : F → ℕ → ℕ → Bool → F → Type 0) (tell : S → ℕ → ℕ → S → Type 0) (mode : ReleaseMode)
-    (f : F) (s : S) (capacity : ℕ) (first : List ℕ) → Fits capacity first → (done : ℕ) (call : Recover) (p : F) (q : S) (words : List ℕ)
+    (f : F) (s : S) (capacity : ℕ) (first : List ℕ) → Represents capacity first → (done : ℕ) (call : Recover) (p : F) (q : S) (words : List ℕ)
     → Recovering step tell mode f s capacity first done call p q words → done < 2 ^ 64 - 1
 few_rounds step tell mode f s capacity [] fits done call p q words t = let e : 0 ≡ 1 + capacity = fits.long in absurd (omega arith)
 few_rounds step tell mode f s capacity (g ∷ cells) fits done call p q words t =
@@ -373,7 +422,8 @@ pub questions_at : {F : Type 0} {pre : F → ℕ → ℕ → Type 0} {step : F �
     → a ≡ b → TakesQuestions pre step a f → TakesQuestions pre step b f
 questions_at {F} {pre} {step} {a} {b} {f} e h = subst (λ z. TakesQuestions pre step z f) e h
 
-pub freed_at : {F S : Type 0} {step : F → ℕ → ℕ → Bool → F → Type 0} {pre : S → ℕ → ℕ → Type 0} {tell : S → ℕ → ℕ → S → Type 0} {a b : List Owned} {f : F} {s : S}
+pub freed_at : {F S : Type 0} {step : F → ℕ → ℕ → Bool → F → Type 0} {pre : S → ℕ → ℕ → Type 0}
+    {tell : S → ℕ → ℕ → S → Type 0} {a b : List Owned} {f : F} {s : S}
     → a ≡ b → TakesFreed step pre tell a f s → TakesFreed step pre tell b f s
 freed_at {F} {S} {step} {pre} {tell} {a} {b} {f} {s} e h = subst (λ z. TakesFreed step pre tell z f s) e h
 

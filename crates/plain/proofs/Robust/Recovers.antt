@@ -1,5 +1,7 @@
 -- A recovery that runs alone, from one question to the next.
-use Rattle.std.proofs.Common.{◌≡◌, ◌≢◌, ℕ, suc, ◌+◌, ◌^◌, ◌<◌, ◌≤◌, ◌==◌, nat_lt, List, [], ◌∷◌, length, drop, map, refl, sym, ap, subst, ◌∙◌, arith, slice_index, slice_set, length-set, eq-eqb, if◌then◌else◌}
+use Rattle.std.proofs.Common.{◌≡◌, ◌≢◌, ℕ, suc, ◌+◌, ◌^◌, ◌<◌, ◌≤◌, ◌==◌, nat_lt, List, [], ◌∷◌, length, drop, map}
+use Rattle.std.proofs.Common.{refl, sym, ap, subst, ◌∙◌, arith, slice_index, slice_set, length-set, eq-eqb}
+use Rattle.std.proofs.Common.{if◌then◌else◌}
 use Rattle.std.proofs.lemmas.Bool.Decides.{nat_tests}
 use Rattle.std.proofs.lemmas.List.{drop-set-lt}
 use Rattle.steps.specs.Picks.{by_test, by_eq}
@@ -62,8 +64,11 @@ module _ (capacity : ℕ) (mode : ReleaseMode) where
       let at = here cells index c rest is in
       let near = at.near in
       let word = next_cell g index cells ∙ at.word_is in
-      by_test (λ stage. Walks want after (suc (suc (suc (length rest)))) (StopsAt capacity g cells left) (at_recover first stage) (g ∷ cells)) (nat_lt index capacity) _ _
-      (λ _. by_eq (λ a. Goes want after (suc (suc (length rest))) (StopsAt capacity g cells left) a (g ∷ cells)) (slice_index (g ∷ cells) (cell_word index)) empty _ _
+      by_test
+      (λ stage. Walks want after (suc (suc (suc (length rest)))) (StopsAt capacity g cells left) (at_recover first stage) (g ∷ cells))
+      (nat_lt index capacity) _ _
+      (λ _. by_eq (λ a. Goes want after (suc (suc (length rest))) (StopsAt capacity g cells left) a (g ∷ cells))
+      (slice_index (g ∷ cells) (cell_word index)) empty _ _
       (λ e. recovers_on g cells long rest (index + 1) left at.rest_is
       (all ∙ ap (λ o. taken_from index (o ∷ map owner_in rest)) (owner_free c (sym word ∙ e))))
       (λ n. record {
@@ -108,7 +113,8 @@ module _ (capacity g : ℕ) (cells : List ℕ) (small : g < 2 ^ 64) (long : leng
   rounds = plus (plus (suc (suc (suc (length emptied)))) 1) scan
 
   then_on : (mode : ReleaseMode) (n : ℕ)
-      → Goes (λ c. recover_want c) (λ c old. recover_after c mode old) scan (StopsAt capacity n emptied left_then) (recover_comes_to (first_recover capacity) (index + 1)) (n ∷ emptied)
+      → Goes (λ c. recover_want c) (λ c old. recover_after c mode old) scan (StopsAt capacity n emptied left_then)
+      (recover_comes_to (first_recover capacity) (index + 1)) (n ∷ emptied)
   then_on mode n =
       recovers_on capacity mode n emptied emptied_long rest (index + 1) left_then
       (drop-set-lt (index + 1) cells index empty (let t : index < index + 1 = omega arith in t) ∙ rest_is) refl
@@ -144,10 +150,13 @@ module _ (capacity g : ℕ) (cells : List ℕ) (small : g < 2 ^ 64) (long : leng
   pub frees_on : (mode : ReleaseMode) (owner : ℕ) → slice_index (g ∷ cells) (cell_word index) ≡ owner
       → Ends mode (suc (suc (suc rounds))) (counter_then mode g emptied) (at (recovers.TheVariants.EmptiesCell index owner)) (g ∷ cells)
   frees_on mode owner is =
-      by_eq (λ a. Goes (λ c. recover_want c) (λ c old. recover_after c mode old) (suc (suc rounds)) (StopsAt capacity (counter_then mode g emptied) emptied left_then) a
+      by_eq (λ a. Goes (λ c. recover_want c) (λ c old. recover_after c mode old) (suc (suc rounds))
+      (StopsAt capacity (counter_then mode g emptied) emptied left_then) a
       (if slice_index (g ∷ cells) (cell_word index) == owner then slice_set (g ∷ cells) (cell_word index) empty else g ∷ cells))
       (slice_index (g ∷ cells) (cell_word index)) owner _ _
       (λ e. subst (λ ws. Ends mode (suc (suc rounds)) (counter_then mode g emptied) (at (recovers.TheVariants.Raises index raises.TheVariants.LoadsCounter)) ws)
-      (sym (ap (λ b. if b then slice_set (g ∷ cells) (cell_word index) empty else g ∷ cells) (eq-eqb (slice_index (g ∷ cells) (cell_word index)) owner e) ∙ next_set g index empty cells))
+      (sym (ap (λ b. if b then slice_set (g ∷ cells) (cell_word index) empty else g ∷ cells)
+      (eq-eqb (slice_index (g ∷ cells) (cell_word index)) owner e)
+      ∙ next_set g index empty cells))
       (raises_on mode))
       (λ other. absurd (other is))

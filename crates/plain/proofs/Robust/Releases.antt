@@ -1,5 +1,7 @@
 -- A release that runs alone.
-use Rattle.std.proofs.Common.{◌≡◌, ℕ, suc, ◌+◌, ◌^◌, ◌<◌, ◌≤◌, Bool, true, false, not, ◌==◌, ◌&&◌, List, [], ◌∷◌, length, map, Option, Some, None, Ok, Err, refl, sym, ap, subst, ◌∙◌, arith, slice_index, slice_set, length-set, eq-eqb, ne_eqb, if◌then◌else◌}
+use Rattle.std.proofs.Common.{◌≡◌, ℕ, suc, ◌+◌, ◌^◌, ◌<◌, ◌≤◌, Bool, true, false, not, ◌==◌, ◌&&◌, List, [], ◌∷◌}
+use Rattle.std.proofs.Common.{length, map, Option, Some, None, Ok, Err, refl, sym, ap, subst, ◌∙◌, arith, slice_index}
+use Rattle.std.proofs.Common.{slice_set, length-set, eq-eqb, ne_eqb, if◌then◌else◌}
 use Rattle.std.proofs.lemmas.List.{map-set, get_or-map}
 use Rattle.steps.specs.Picks.{by_eq}
 use Rattle.steps.specs.Indices.Robust.Parts.{cell_word, empty, locked, greatest, raise_want, raise_after, lock_want, lock_after, first_lock}
@@ -13,9 +15,9 @@ use Rattle.steps.specs.declared.indices.robust.parts.Raise as raises
 use Rattle.steps.specs.declared.indices.robust.release.Release.{Release}
 use Rattle.steps.specs.declared.indices.robust.release.GiveBack.{GiveBack}
 use Rattle.steps.specs.declared.indices.robust.release.ReleaseStage as releases
-use Rattle.plain.specs.Alone.{Turns}
+use Rattle.plain.specs.Alone.{BehavesAs}
 use Rattle.steps.specs.Objects.Owners.{Owners, next_generation, has, owns, locked_if_none, without, given_back, release_state, released, after_release}
-use Rattle.plain.specs.Robust.{owner_in, owners_in, Fits}
+use Rattle.plain.specs.Robust.{owner_in, owners_in, Represents}
 use Rattle.plain.proofs.Alone.{Runs}
 use Rattle.plain.proofs.Walks.{plus, plus_sum, Walks, Goes, OnEnd, part_walks, runs}
 use Rattle.plain.proofs.Robust.Parts.{number, next_cell, next_set, raise_walks, next_small, lock_walks, locking, locking_small, owner_free}
@@ -104,7 +106,7 @@ module _ (capacity index owner g : ℕ) (cells : List ℕ) (small : g < 2 ^ 64) 
 
   abbrev pub GaveBack : ReleaseMode → Released → List ℕ → Type 0
   GaveBack mode end last =
-      Turns (Fits capacity) owners_in (λ s. released s index owner mode) (λ s. after_release s index owner mode) (g ∷ cells) end last
+      BehavesAs (Represents capacity) owners_in (λ s. released s index owner mode) (λ s. after_release s index owner mode) (g ∷ cells) end last
 
   owns_is : (w : ℕ) → owns (owner_in w) owner ≡ (w == owner)
   owns_is w =
@@ -118,10 +120,14 @@ module _ (capacity index owner g : ℕ) (cells : List ℕ) (small : g < 2 ^ 64) 
 
   pub give_walks : (mode : ReleaseMode) → 1 ≤ capacity → Ends mode (suc (suc (suc fuel))) (GaveBack mode) first (g ∷ cells)
   give_walks mode some =
-      by_eq (λ a. From mode (suc (suc fuel)) (GaveBack mode) a (if slice_index (g ∷ cells) (cell_word index) == owner then slice_set (g ∷ cells) (cell_word index) empty else g ∷ cells)) (slice_index (g ∷ cells) (cell_word index)) owner _ _
+      by_eq (λ a. From mode (suc (suc fuel)) (GaveBack mode) a
+      (if slice_index (g ∷ cells) (cell_word index) == owner then slice_set (g ∷ cells) (cell_word index) empty else g ∷ cells))
+      (slice_index (g ∷ cells) (cell_word index)) owner _ _
       (λ e. let hit : has old index owner ≡ true = has_is ∙ eq-eqb (slice_index (g ∷ cells) (cell_word index)) owner e in
       subst (λ ws. From mode (suc (suc fuel)) (GaveBack mode) (GoOn (at_release first (releases.TheVariants.Raises raises.TheVariants.LoadsCounter))) ws)
-      (sym (ap (λ b. if b then slice_set (g ∷ cells) (cell_word index) empty else g ∷ cells) (eq-eqb (slice_index (g ∷ cells) (cell_word index)) owner e) ∙ next_set g index empty cells))
+      (sym (ap (λ b. if b then slice_set (g ∷ cells) (cell_word index) empty else g ∷ cells)
+      (eq-eqb (slice_index (g ∷ cells) (cell_word index)) owner e)
+      ∙ next_set g index empty cells))
       (raises_on mode (GaveBack mode) (
         let same = emptied_long in record { long = omega arith; some = some; few = few; small = counter_small mode g emptied small },
         sym (ap (λ b. if b then Ok (release_state mode (given_back mode old index)) else Err IndexIsNotOwnedByProvidedOwner) hit
@@ -130,7 +136,8 @@ module _ (capacity index owner g : ℕ) (cells : List ℕ) (small : g < 2 ^ 64) 
       )))
       (λ other. let miss : has old index owner ≡ false = has_is ∙ ne_eqb (slice_index (g ∷ cells) (cell_word index)) owner other in
       subst (λ ws. GaveBack mode (Err IndexIsNotOwnedByProvidedOwner) ws)
-      (sym (ap (λ b. if b then slice_set (g ∷ cells) (cell_word index) empty else g ∷ cells) (ne_eqb (slice_index (g ∷ cells) (cell_word index)) owner other))) (
+      (sym (ap (λ b. if b then slice_set (g ∷ cells) (cell_word index) empty else g ∷ cells)
+      (ne_eqb (slice_index (g ∷ cells) (cell_word index)) owner other))) (
         record { long = omega arith; some = some; few = few; small = small },
         sym (ap (λ b. if b then Ok (release_state mode (given_back mode old index)) else Err IndexIsNotOwnedByProvidedOwner) miss),
         sym (ap (λ b. if b then given_back mode old index else old) miss),
@@ -146,11 +153,16 @@ module _ (capacity index owner g : ℕ) (cells : List ℕ) (small : g < 2 ^ 64) 
 
 -- the same over any words that fit
 pub give_at : (capacity index owner : ℕ) (mode : ReleaseMode) (number : ℕ) → number ≡ owner → number < empty → (call : Release)
-    → call ≡ first_release capacity → (words : List ℕ) → Fits capacity words → index < capacity
+    → call ≡ first_release capacity → (words : List ℕ) → Represents capacity words → index < capacity
     → Runs release_want release_after (λ c (room : Unit {0}) old. room) (record { index = index; owner = owner; mode = mode })
-    (λ e room ws. Turns (Fits capacity) owners_in (λ s. released s index owner mode) (λ s. after_release s index owner mode) words e ws) call tt words
+    (λ e room ws. BehavesAs (Represents capacity) owners_in (λ s. released s index owner mode) (λ s. after_release s index owner mode) words e ws) call tt words
 give_at capacity index owner mode number same lives call is [] fits near = let e : 0 ≡ 1 + capacity = fits.long in absurd (omega arith)
 give_at capacity index owner mode number same lives call is (g ∷ cells) fits near =
     subst (λ c. Runs release_want release_after (λ c (room : Unit {0}) old. room) (record { index = index; owner = owner; mode = mode })
-    (λ e room ws. Turns (Fits capacity) owners_in (λ s. released s index owner mode) (λ s. after_release s index owner mode) (g ∷ cells) e ws) c tt (g ∷ cells)) (sym is)
-    (give_runs capacity index owner g cells fits.small (let e : suc (length cells) ≡ 1 + capacity = fits.long in omega arith) fits.few (omega arith) near mode fits.some)
+    (λ e room ws. BehavesAs (Represents capacity) owners_in (λ s. released s index owner mode)
+    (λ s. after_release s index owner mode) (g ∷ cells) e ws)
+    c tt (g ∷ cells))
+    (sym is)
+    (give_runs capacity index owner g cells fits.small
+    (let e : suc (length cells) ≡ 1 + capacity = fits.long in omega arith) fits.few (omega arith) near mode
+    fits.some)

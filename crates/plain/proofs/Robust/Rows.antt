@@ -4,7 +4,8 @@ use Rattle.steps.specs.declared.indices.enums.ReleaseMode.TheVariants.{LockIfLas
 use Rattle.steps.specs.declared.indices.enums.ReleaseState.TheVariants.{Locked, Unlocked}
 use Rattle.steps.specs.declared.indices.enums.RobustUniqueIndexSetReleaseError.TheVariants.{IndexIsNotOwnedByProvidedOwner}
 use Rattle.steps.specs.declared.indices.enums.UniqueIndexSetAcquireFailure.TheVariants as failures
-use Rattle.steps.specs.Objects.Owners.{Owners, Owned, opened_at, is_locked, state_of, indices_of, borrowed, acquired, after_acquire, released, after_release, to_recover, recovered}
+use Rattle.steps.specs.Objects.Owners.{Owners, Owned, opened_at, is_locked, state_of, indices_of, borrowed, acquired}
+use Rattle.steps.specs.Objects.Owners.{after_acquire, released, after_release, to_recover, recovered}
 
 -- ---- the end of the generation
 

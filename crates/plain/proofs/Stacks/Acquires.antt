@@ -1,5 +1,7 @@
 -- An acquire that runs alone.
-use Rattle.std.proofs.Common.{◌≡◌, ◌≢◌, ℕ, suc, ◌+◌, ◌-◌, ◌%◌, ◌^◌, ◌<◌, ⊎_elim, true, false, not, ◌==◌, eqb, eq-eqb, ne_eqb, if◌then◌else◌, nat_lt, List, [], ◌∷◌, length, drop, refl, sym, ap, subst, ◌∙◌, arith, slice_index, slice_set, get_or-set_same, get_or-set_other, length-set, true≢false}
+use Rattle.std.proofs.Common.{◌≡◌, ◌≢◌, ℕ, suc, ◌+◌, ◌-◌, ◌%◌, ◌^◌, ◌<◌, ⊎_elim, true, false, not, ◌==◌, eqb, eq-eqb}
+use Rattle.std.proofs.Common.{ne_eqb, if◌then◌else◌, nat_lt, List, [], ◌∷◌, length, drop, refl, sym, ap, subst, ◌∙◌}
+use Rattle.std.proofs.Common.{arith, slice_index, slice_set, get_or-set_same, get_or-set_other, length-set, true≢false}
 use Rattle.std.specs.Prelude.{bit_or, Ok, Err}
 use Rattle.std.specs.List.{IsDistinct}
 use Rattle.std.proofs.lemmas.Bool.Decides.{nat_tests, eqb_tells}
@@ -11,9 +13,9 @@ use Rattle.steps.specs.declared.ask.After.{After}
 use Rattle.steps.specs.declared.ask.After.TheVariants.{GoOn}
 use Rattle.steps.specs.declared.indices.enums.UniqueIndexSetAcquireFailure.TheVariants as failures
 use Rattle.steps.specs.declared.indices.unique.Acquire.{Acquire}
-use Rattle.plain.specs.Alone.{EndsFrom, EndsIn, Turns}
+use Rattle.plain.specs.Alone.{EndsFrom, EndsIn, BehavesAs}
 use Rattle.steps.specs.Objects.Stacks.{top, acquired, after_acquire}
-use Rattle.plain.specs.Unique.{chain, free_in, stack_in, claimed, Fits}
+use Rattle.plain.specs.Unique.{chain, free_in, stack_in, claimed, Represents}
 use Rattle.plain.proofs.Alone.{Runs}
 use Rattle.plain.proofs.Stacks.Chains.{is_in, in_first, in_rest, in_other, one_less, chain_same, claimed_elsewhere, claims, claims_leave}
 
@@ -28,7 +30,7 @@ module _ (capacity : ℕ) where
 
   abbrev pub Took : List ℕ → Acquired → Unit {0} → List ℕ → Type 0
   Took words end room last =
-      Turns (Fits capacity) (stack_in capacity) acquired after_acquire words end last
+      BehavesAs (Represents capacity) (stack_in capacity) acquired after_acquire words end last
 
   abbrev pub TakeRuns : Acquire → List ℕ → Type 0
   TakeRuns call words =
@@ -91,7 +93,7 @@ module _ (capacity : ℕ) where
   number_of : (words : List ℕ) → says_locked (slice_index words 0) ≡ false → borrowed_number (slice_index words 0) ≡ borrowed (slice_index words 0)
   number_of words unlocked = ap (λ b. if b then 0 else borrowed (slice_index words 0)) unlocked
 
-  stays_locked : (words : List ℕ) → Fits capacity words → says_locked (slice_index words 0) ≡ true → Took words (Err failures.IsLocked) tt words
+  stays_locked : (words : List ℕ) → Represents capacity words → says_locked (slice_index words 0) ≡ true → Took words (Err failures.IsLocked) tt words
   stays_locked words fits shut = (
     fits,
     sym (ap (λ b. if b then Err failures.IsLocked else top (free_in capacity words)) shut),
@@ -102,10 +104,11 @@ module _ (capacity : ℕ) where
   answers : (words : List ℕ) → says_locked (slice_index words 0) ≡ false → acquired (stack_in capacity words) ≡ top (free_in capacity words)
   answers words unlocked = ap (λ b. if b then Err failures.IsLocked else top (free_in capacity words)) unlocked
 
-  leaves : (words : List ℕ) → says_locked (slice_index words 0) ≡ false → after_acquire (stack_in capacity words) ≡ record (stack_in capacity words) { free = drop 1 (free_in capacity words) }
+  leaves : (words : List ℕ) → says_locked (slice_index words 0) ≡ false
+      → after_acquire (stack_in capacity words) ≡ record (stack_in capacity words) { free = drop 1 (free_in capacity words) }
   leaves words unlocked = ap (λ b. if b then stack_in capacity words else record (stack_in capacity words) { free = drop 1 (free_in capacity words) }) unlocked
 
-  stays_empty : (words : List ℕ) → Fits capacity words → says_locked (slice_index words 0) ≡ false → borrowed (slice_index words 0) ≡ capacity
+  stays_empty : (words : List ℕ) → Represents capacity words → says_locked (slice_index words 0) ≡ false → borrowed (slice_index words 0) ≡ capacity
       → Took words (Err failures.OutOfIndices) tt words
   stays_empty words fits unlocked all =
       let number = number_of words unlocked in
@@ -116,7 +119,7 @@ module _ (capacity : ℕ) where
         sym (leaves words unlocked ∙ (λ i. record { capacity = capacity; free = (ap (drop 1) free ∙ sym free) i; locked = says_locked (slice_index words 0) })),
       )
 
-  module _ (words : List ℕ) (fits : Fits capacity words) (unlocked : says_locked (slice_index words 0) ≡ false)
+  module _ (words : List ℕ) (fits : Represents capacity words) (unlocked : says_locked (slice_index words 0) ≡ false)
       (m : ℕ) (there : capacity - borrowed (slice_index words 0) ≡ suc m) where
     rest : List ℕ
     rest = chain words (next words) m
@@ -149,7 +152,9 @@ module _ (capacity : ℕ) where
 
     head_is : slice_index (last words) 0 ≡ head_taken (h words) (next words)
     head_is =
-        get_or-set_other (headed words) (flag_word capacity (p words)) 0 (bit_or (slice_index (headed words) (flag_word capacity (p words))) (flag (p words))) 0 (λ e. absurd (omega arith))
+        get_or-set_other (headed words) (flag_word capacity (p words)) 0
+        (bit_or (slice_index (headed words) (flag_word capacity (p words))) (flag (p words))) 0
+        (λ e. absurd (omega arith))
         ∙ get_or-set_same words 0 (head_taken (h words) (next words)) 0 (let all = fits.long in omega arith)
 
     open_head : borrowed (h words) < locked
@@ -172,7 +177,9 @@ module _ (capacity : ℕ) where
 
     kept_next : (i : ℕ) → i < capacity → slice_index (last words) (next_word i) ≡ slice_index words (next_word i)
     kept_next i low =
-        get_or-set_other (headed words) (flag_word capacity (p words)) (next_word i) (bit_or (slice_index (headed words) (flag_word capacity (p words))) (flag (p words))) 0 (λ e. absurd (omega arith))
+        get_or-set_other (headed words) (flag_word capacity (p words)) (next_word i)
+        (bit_or (slice_index (headed words) (flag_word capacity (p words))) (flag (p words))) 0
+        (λ e. absurd (omega arith))
         ∙ get_or-set_other words 0 (next_word i) (head_taken (h words) (next words)) 0 (λ e. absurd (omega arith))
 
     last_free : free_in capacity (last words) ≡ chain words (next words) m
@@ -185,7 +192,7 @@ module _ (capacity : ℕ) where
         (λ i. chain (last words) (start i) (number i))
         ∙ sym (chain_same words (last words) (next words) m (λ i h. sym (kept_next i (rest_below i h))))
 
-    last_fits : Fits capacity (last words)
+    last_fits : Represents capacity (last words)
     last_fits =
         let apart = one_less (p words) (chain words (next words) m) (subst (IsDistinct eqb) free_is fits.distinct) in
         record {
@@ -215,7 +222,7 @@ module _ (capacity : ℕ) where
           ∙ sym (leaves words unlocked),
     )
 
-  runs_first : (words : List ℕ) → Fits capacity words → TakeRuns (first_acquire capacity) words
+  runs_first : (words : List ℕ) → Represents capacity words → TakeRuns (first_acquire capacity) words
   runs_first words fits =
       ⊎_elim (λ shut. record {
         steps = 1;
@@ -256,5 +263,5 @@ module _ (capacity : ℕ) where
       (cases_Bool (says_locked (slice_index words 0)))
 
   pub take_runs : (call : Acquire) → call ≡ first_acquire capacity → (words : List ℕ)
-      → Fits capacity words → TakeRuns call words
+      → Represents capacity words → TakeRuns call words
   take_runs call is words fits = subst (λ c. TakeRuns c words) (sym is) (runs_first words fits)

@@ -1,5 +1,7 @@
 -- The list of free indices in the words of a set, and its claim flags.
-use Rattle.std.proofs.Common.{◌≡◌, ◌≢◌, ℕ, zero, suc, ◌-◌, ◌%◌, ◌^◌, ◌<◌, ◌≤◌, ⊎_elim, Bool, true, false, ◌||◌, eqb, eq-eqb, ne_eqb, List, [], ◌∷◌, length, refl, sym, ap, ◌∙◌, arith, slice_index, slice_set, get_or-set_same, get_or-set_other, true≢false}
+use Rattle.std.proofs.Common.{◌≡◌, ◌≢◌, ℕ, zero, suc, ◌-◌, ◌%◌, ◌^◌, ◌<◌, ◌≤◌, ⊎_elim, Bool, true, false, ◌||◌, eqb}
+use Rattle.std.proofs.Common.{eq-eqb, ne_eqb, List, [], ◌∷◌, length, refl, sym, ap, ◌∙◌, arith, slice_index, slice_set}
+use Rattle.std.proofs.Common.{get_or-set_same, get_or-set_other, true≢false}
 use Rattle.std.specs.Prelude.{bit_or, bit_and}
 use Rattle.std.specs.List.{list_any, IsDistinct, AllByRecursion}
 use Rattle.std.proofs.lemmas.Bool.Decides.{eqb_tells}
@@ -100,5 +102,6 @@ module _ (capacity : ℕ) (words : List ℕ) where
     pub claims_leave : (i : ℕ) → i ≢ p → claimed capacity (slice_set words (flag_word capacity p) (bit_or found (flag p))) i ≡ claimed capacity words i
     claims_leave i other = leaves (bit_or found (flag p)) i other (λ ne. with_leaves found p i ne)
 
-    pub frees_leave : (i : ℕ) → i ≢ p → claimed capacity (slice_set words (flag_word capacity p) (bit_and found (2 ^ 64 - 1 - flag p))) i ≡ claimed capacity words i
+    pub frees_leave : (i : ℕ) → i ≢ p
+        → claimed capacity (slice_set words (flag_word capacity p) (bit_and found (2 ^ 64 - 1 - flag p))) i ≡ claimed capacity words i
     frees_leave i other = leaves (bit_and found (2 ^ 64 - 1 - flag p)) i other (λ ne. without_leaves found p i ne)

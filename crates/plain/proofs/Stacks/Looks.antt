@@ -6,8 +6,8 @@ use Rattle.steps.specs.Indices.Unique.{borrowed_after, borrowed_number, locked_a
 use Rattle.steps.specs.Objects.Stacks.{Stack, out}
 use Rattle.steps.specs.declared.indices.looks.BorrowedIndices.{BorrowedIndices}
 use Rattle.steps.specs.declared.indices.looks.IsLocked.{IsLocked}
-use Rattle.plain.specs.Alone.{Turns}
-use Rattle.plain.specs.Unique.{stack_in, Fits}
+use Rattle.plain.specs.Alone.{BehavesAs}
+use Rattle.plain.specs.Unique.{stack_in, Represents}
 use Rattle.plain.proofs.Alone.{Runs}
 use Rattle.plain.proofs.Stacks.Chains.{chain_length}
 
@@ -15,9 +15,9 @@ module _ (capacity : ℕ) (words : List ℕ) where
   abbrev pub CountRuns : BorrowedIndices → Type 0
   CountRuns call =
       Runs (λ (c : BorrowedIndices) (given : Unit {0}). load 0) (λ c given old. borrowed_after c old) (λ c (room : Unit {0}) old. room) tt
-      (λ end room last. Turns (Fits capacity) (stack_in capacity) out (λ s. s) words end last) call tt words
+      (λ end room last. BehavesAs (Represents capacity) (stack_in capacity) out (λ s. s) words end last) call tt words
 
-  pub count_runs : (call : BorrowedIndices) → Fits capacity words → CountRuns call
+  pub count_runs : (call : BorrowedIndices) → Represents capacity words → CountRuns call
   count_runs call fits =
       let long = chain_length words (proposed (slice_index words 0)) (capacity - borrowed_number (slice_index words 0)) in
       let count = fits.count in
@@ -34,9 +34,9 @@ module _ (capacity : ℕ) (words : List ℕ) where
   abbrev pub LookRuns : IsLocked → Type 0
   LookRuns call =
       Runs (λ (c : IsLocked) (given : Unit {0}). load 0) (λ c given old. locked_after c old) (λ c (room : Unit {0}) old. room) tt
-      (λ end room last. Turns (Fits capacity) (stack_in capacity) (λ (s : Stack). s.locked) (λ s. s) words end last) call tt words
+      (λ end room last. BehavesAs (Represents capacity) (stack_in capacity) (λ (s : Stack). s.locked) (λ s. s) words end last) call tt words
 
-  pub look_runs : (call : IsLocked) → Fits capacity words → LookRuns call
+  pub look_runs : (call : IsLocked) → Represents capacity words → LookRuns call
   look_runs call fits =
       record {
         steps = 1;

@@ -1,12 +1,14 @@
 -- The words of a set of which all indices are free.
-use Rattle.std.proofs.Common.{◌≡◌, ◌≢◌, ℕ, zero, suc, ◌+◌, ◌-◌, ◌%◌, ◌/◌, ◌^◌, ◌<◌, ◌≤◌, ⊎_elim, true, false, not, eqb, List, ◌∷◌, length, refl, sym, ap, subst, ◌∙◌, arith, slice_index, slice_set, get_or-set_same, get_or-set_other, length-set, true≢false}
+use Rattle.std.proofs.Common.{◌≡◌, ◌≢◌, ℕ, zero, suc, ◌+◌, ◌-◌, ◌%◌, ◌/◌, ◌^◌, ◌<◌, ◌≤◌, ⊎_elim, true, false, not, eqb}
+use Rattle.std.proofs.Common.{List, ◌∷◌, length, refl, sym, ap, subst, ◌∙◌, arith, slice_index, slice_set}
+use Rattle.std.proofs.Common.{get_or-set_same, get_or-set_other, length-set, true≢false}
 use Rattle.std.specs.List.{IsDistinct, range_with_len}
 use Rattle.std.proofs.lemmas.Bool.Decides.{eqb_tells}
 use Rattle.std.proofs.lemmas.Bool.{cases_Bool}
 use Rattle.steps.specs.Indices.Head.{next_word, flag_word, has_flag, proposed, says_locked}
 use Rattle.steps.specs.Indices.Unique.{borrowed_number}
 use Rattle.steps.specs.Objects.Stacks.{opened}
-use Rattle.plain.specs.Unique.{chain, free_in, stack_in, claimed, Fits}
+use Rattle.plain.specs.Unique.{chain, free_in, stack_in, claimed, Represents}
 use Rattle.plain.proofs.Stacks.Chains.{is_in, in_first, in_rest, in_other, one_more}
 
 -- the next indices of the first few are linked, and all other words are 0
@@ -84,7 +86,7 @@ module _ (capacity : ℕ) (words : List ℕ) (some : 1 ≤ capacity) (few : capa
   none_claimed : (i : ℕ) → claimed capacity words i ≡ false
   none_claimed i = ap (λ w. has_flag w i) (h.flags (flag_word capacity i) (omega arith))
 
-  fits : Fits capacity words
+  fits : Represents capacity words
   fits =
       record {
         long = h.long;
@@ -101,6 +103,6 @@ module _ (capacity : ℕ) (words : List ℕ) (some : 1 ≤ capacity) (few : capa
             ∙ sym (ap not (ap (is_in i) free_is ∙ in_range i 0 capacity (omega arith) (omega arith)));
       }
 
-  pub all_free : Fits capacity words × (stack_in capacity words ≡ opened capacity)
+  pub all_free : Represents capacity words × (stack_in capacity words ≡ opened capacity)
   all_free =
       (fits, λ i. record { capacity = capacity; free = free_is i; locked = ap says_locked h.head i })

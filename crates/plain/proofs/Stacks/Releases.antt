@@ -1,5 +1,7 @@
 -- A release that runs alone, in either mode.
-use Rattle.std.proofs.Common.{◌≡◌, ◌≢◌, ℕ, suc, ◌+◌, ◌-◌, ◌%◌, ◌^◌, ◌<◌, ◌≤◌, ⊎_elim, Bool, true, false, not, ◌||◌, ◌==◌, eqb, eq-eqb, ne_eqb, if◌then◌else◌, List, ◌∷◌, length, refl, sym, ap, subst, ◌∙◌, arith, slice_index, slice_set, get_or-set_same, get_or-set_other, length-set, true≢false}
+use Rattle.std.proofs.Common.{◌≡◌, ◌≢◌, ℕ, suc, ◌+◌, ◌-◌, ◌%◌, ◌^◌, ◌<◌, ◌≤◌, ⊎_elim, Bool, true, false, not, ◌||◌}
+use Rattle.std.proofs.Common.{◌==◌, eqb, eq-eqb, ne_eqb, if◌then◌else◌, List, ◌∷◌, length, refl, sym, ap, subst, ◌∙◌}
+use Rattle.std.proofs.Common.{arith, slice_index, slice_set, get_or-set_same, get_or-set_other, length-set, true≢false}
 use Rattle.std.specs.Prelude.{bit_and}
 use Rattle.std.specs.List.{IsDistinct}
 use Rattle.std.proofs.lemmas.Bool.Decides.{nat_tests, eqb_tells}
@@ -7,15 +9,16 @@ use Rattle.std.proofs.lemmas.Bool.{cases_Bool}
 use Rattle.std.proofs.lemmas.Map.Steps.{length-le_from_distinct_below}
 use Rattle.steps.specs.Picks.{by_eq}
 use Rattle.steps.specs.Indices.Head.{next_word, flag_word, flag, proposed, borrowed, locked, says_locked}
-use Rattle.steps.specs.Indices.Unique.{first_release, at_release, head_given_back, head_locked, head_released, state_after, release_want, release_after, borrowed_number}
+use Rattle.steps.specs.Indices.Unique.{first_release, at_release, head_given_back, head_locked, head_released}
+use Rattle.steps.specs.Indices.Unique.{state_after, release_want, release_after, borrowed_number}
 use Rattle.steps.specs.declared.ask.After.{After}
 use Rattle.steps.specs.declared.indices.enums.ReleaseState.{ReleaseState}
 use Rattle.steps.specs.declared.indices.enums.ReleaseState.TheVariants.{Locked, Unlocked}
 use Rattle.steps.specs.declared.indices.unique.Release.{Release}
 use Rattle.steps.specs.declared.indices.unique.ReleaseStage as releases
-use Rattle.plain.specs.Alone.{EndsFrom, EndsIn, Turns}
+use Rattle.plain.specs.Alone.{EndsFrom, EndsIn, BehavesAs}
 use Rattle.steps.specs.Objects.Stacks.{IsOut, out, released, released_or_locked, release_state}
-use Rattle.plain.specs.Unique.{chain, free_in, stack_in, claimed, Fits}
+use Rattle.plain.specs.Unique.{chain, free_in, stack_in, claimed, Represents}
 use Rattle.plain.proofs.Alone.{Runs}
 use Rattle.plain.proofs.Stacks.Chains.{is_in, in_first, in_other, one_more, chain_same, chain_length, claimed_elsewhere, frees, frees_leave}
 
@@ -51,7 +54,7 @@ module _ (lock : Bool) (capacity index : ℕ) (words : List ℕ) where
 
   -- ---- what it makes of the stack
 
-  module _ (fits : Fits capacity words) (is_out : IsOut (stack_in capacity words) index) where
+  module _ (fits : Represents capacity words) (is_out : IsOut (stack_in capacity words) index) where
     abbrev free : List ℕ
     free = free_in capacity words
 
@@ -137,7 +140,7 @@ module _ (lock : Bool) (capacity index : ℕ) (words : List ℕ) where
       last_free =
           (λ i. chain last ((ap proposed head_is ∙ new) i) ((ap (λ n. capacity - borrowed_number n) head_is ∙ counts) i)) ∙ longer
 
-      last_fits : Fits capacity last
+      last_fits : Represents capacity last
       last_fits =
           record {
             long = last_long ∙ fits.long;
@@ -156,9 +159,9 @@ module _ (lock : Bool) (capacity index : ℕ) (words : List ℕ) where
 
 abbrev pub Gave : ℕ → ℕ → List ℕ → ReleaseState → Unit {0} → List ℕ → Type 0
 Gave capacity index words end room now =
-    Turns (Fits capacity) (stack_in capacity) (λ s. Unlocked) (λ s. released s index) words end now
+    BehavesAs (Represents capacity) (stack_in capacity) (λ s. Unlocked) (λ s. released s index) words end now
 
-module _ (M : Type 0) (capacity index : ℕ) (words : List ℕ) (fits : Fits capacity words) (is_out : IsOut (stack_in capacity words) index) where
+module _ (M : Type 0) (capacity index : ℕ) (words : List ℕ) (fits : Represents capacity words) (is_out : IsOut (stack_in capacity words) index) where
   abbrev pub GiveRuns : Release M → Type 0
   GiveRuns call =
       Runs (release_want {M = M} false) (λ c given old. release_after false c old) (λ c (room : Unit {0}) old. room) index
@@ -202,10 +205,10 @@ module _ (M : Type 0) (capacity index : ℕ) (words : List ℕ) (fits : Fits cap
 
 abbrev pub GaveOrLocked : ℕ → ℕ → List ℕ → ReleaseState → Unit {0} → List ℕ → Type 0
 GaveOrLocked capacity index words end room now =
-    Turns (Fits capacity) (stack_in capacity) release_state (λ s. released_or_locked s index) words
+    BehavesAs (Represents capacity) (stack_in capacity) release_state (λ s. released_or_locked s index) words
     end now
 
-module _ (M : Type 0) (capacity index : ℕ) (words : List ℕ) (fits : Fits capacity words) (is_out : IsOut (stack_in capacity words) index) where
+module _ (M : Type 0) (capacity index : ℕ) (words : List ℕ) (fits : Represents capacity words) (is_out : IsOut (stack_in capacity words) index) where
   abbrev pub LockRuns : Release M → Type 0
   LockRuns call =
       Runs (release_want {M = M} true) (λ c given old. release_after true c old) (λ c (room : Unit {0}) old. room) index
@@ -213,7 +216,7 @@ module _ (M : Type 0) (capacity index : ℕ) (words : List ℕ) (fits : Fits cap
 
   -- a release of the last one makes a locked head, and any other one counts one less
   shaped : (b : Bool) → (borrowed (slice_index words 0) == 1) ≡ b
-      → Fits capacity (last true capacity index words)
+      → Represents capacity (last true capacity index words)
       × (stack_in capacity (last true capacity index words) ≡ record { capacity = capacity; free = index ∷ free_in capacity words; locked = b })
   shaped true only =
       let is = number true capacity index words fits is_out in
@@ -227,7 +230,8 @@ module _ (M : Type 0) (capacity index : ℕ) (words : List ℕ) (fits : Fits cap
       let here : proposed (head_locked (slice_index words 0) index) ≡ index = omega arith in
       let shut : borrowed (head_locked (slice_index words 0) index) ≡ locked = omega arith in
       let says : says_locked (head_locked (slice_index words 0) index) ≡ true = eq-eqb _ locked shut in
-      let none : borrowed_number (head_locked (slice_index words 0) index) ≡ 0 = ap (λ b. if b then 0 else borrowed (head_locked (slice_index words 0) index)) says in
+      let none : borrowed_number (head_locked (slice_index words 0) index) ≡ 0 =
+      ap (λ b. if b then 0 else borrowed (head_locked (slice_index words 0) index)) says in
       let a : proposed (head_released true (slice_index words 0) index) ≡ index = ap proposed head ∙ here in
       let n : borrowed_number (head_released true (slice_index words 0) index) ≡ 0 = ap borrowed_number head ∙ none in
       let low : head_locked (slice_index words 0) index < 2 ^ 64 = omega arith in
@@ -253,7 +257,9 @@ module _ (M : Type 0) (capacity index : ℕ) (words : List ℕ) (fits : Fits cap
       let now : borrowed_number (head_given_back (slice_index words 0) index) ≡ borrowed (head_given_back (slice_index words 0) index) =
       ap (λ b. if b then 0 else borrowed (head_given_back (slice_index words 0) index)) still in
       let a : proposed (head_released true (slice_index words 0) index) ≡ index = ap proposed head ∙ here in
-      let n : borrowed_number (head_released true (slice_index words 0) index) ≡ borrowed (head_given_back (slice_index words 0) index) = ap borrowed_number head ∙ now in
+      let n : borrowed_number (head_released true (slice_index words 0) index)
+      ≡ borrowed (head_given_back (slice_index words 0) index) =
+      ap borrowed_number head ∙ now in
       let low : head_given_back (slice_index words 0) index < 2 ^ 64 = omega arith in
       let small : head_released true (slice_index words 0) index < 2 ^ 64 = subst (λ z. z < 2 ^ 64) (sym head) low in
       let all = last_free true capacity index words fits is_out a (omega arith) (omega arith) small in (

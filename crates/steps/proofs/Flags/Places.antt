@@ -1,5 +1,6 @@
 -- The places that a word's flags name: of its element, ascending, each that stands and no other.
-use Rattle.std.proofs.Common.{◌≡◌, ◌≢◌, ℕ, zero, suc, ◌+◌, ◌<◌, ◌≤◌, ◌⊎◌, inl, inr, ⊎_elim, Bool, true, false, List, ◌∷◌, refl, ap, ◌∙◌, arith, eq-eqb, ne_eqb, eqb}
+use Rattle.std.proofs.Common.{◌≡◌, ◌≢◌, ℕ, zero, suc, ◌+◌, ◌<◌, ◌≤◌, ◌⊎◌, inl, inr, ⊎_elim, Bool, true, false, List}
+use Rattle.std.proofs.Common.{◌∷◌, refl, ap, ◌∙◌, arith, eq-eqb, ne_eqb, eqb}
 use Rattle.std.specs.Prelude.{cond, ◌==◌}
 use Rattle.std.specs.List.{All, AllPairs, filter, range_with_len, count_by}
 use Rattle.std.proofs.lemmas.Bool.{cases_lt}
@@ -16,7 +17,9 @@ range_within : (a n : ℕ) → All (λ p. (a ≤ p) × (p < a + n)) (range_with_
 range_within a zero = All-nil (λ p. (a ≤ p) × (p < a + 0))
 range_within a (suc n) =
     All-cons (λ p. (a ≤ p) × (p < a + suc n)) a (range_with_len (a + 1) n) (omega arith, omega arith)
-    (All-weaker (λ p. (a + 1 ≤ p) × (p < a + 1 + n)) (λ p. (a ≤ p) × (p < a + suc n)) (λ p h. let l = h.0 in let r = h.1 in (omega arith, omega arith)) (range_with_len (a + 1) n) (range_within (a + 1) n))
+    (All-weaker (λ p. (a + 1 ≤ p) × (p < a + 1 + n)) (λ p. (a ≤ p) × (p < a + suc n))
+    (λ p h. let l = h.0 in let r = h.1 in (omega arith, omega arith)) (range_with_len (a + 1) n)
+    (range_within (a + 1) n))
 
 range_rises : (a n : ℕ) → AllPairs (λ x y. x < y) (range_with_len a n)
 range_rises a zero = λ i j d lt within. absurd (omega arith)
@@ -32,7 +35,9 @@ module _ (test : ℕ → Bool) (p : ℕ) where
   times xs = count_by (λ q. q == p) xs
 
   head_other : (a : ℕ) (rest : List ℕ) (n : ℕ) → a ≢ p → times rest ≡ n → (t : Bool) → times (cond t (a ∷ rest) rest) ≡ n
-  head_other a rest n ne is true = sum_by-cons (λ q. cond (q == p) 1 0) a rest ∙ (ap (λ b. cond b 1 0 + times rest) (ne_eqb a p ne) ∙ (let z : 0 + times rest ≡ n = omega arith in z))
+  head_other a rest n ne is true =
+      sum_by-cons (λ q. cond (q == p) 1 0) a rest
+      ∙ (ap (λ b. cond b 1 0 + times rest) (ne_eqb a p ne) ∙ (let z : 0 + times rest ≡ n = omega arith in z))
   head_other a rest n ne is false = is
 
   named_never : (a n : ℕ) → (p < a) ⊎ (a + n ≤ p) → times (filter test (range_with_len a n)) ≡ 0
@@ -43,7 +48,9 @@ module _ (test : ℕ → Bool) (p : ℕ) where
       (named_never (a + 1) n (⊎_elim (λ l. inl (omega arith)) (λ l. inr (omega arith)) out)) (test a)
 
   head_same : (a : ℕ) (rest : List ℕ) → a ≡ p → times rest ≡ 0 → (t : Bool) → times (cond t (a ∷ rest) rest) ≡ cond t 1 0
-  head_same a rest same is true = sum_by-cons (λ q. cond (q == p) 1 0) a rest ∙ (ap (λ b. cond b 1 0 + times rest) (eq-eqb a p same) ∙ (let z : 1 + times rest ≡ 1 = omega arith in z))
+  head_same a rest same is true =
+      sum_by-cons (λ q. cond (q == p) 1 0) a rest
+      ∙ (ap (λ b. cond b 1 0 + times rest) (eq-eqb a p same) ∙ (let z : 1 + times rest ≡ 1 = omega arith in z))
   head_same a rest same is false = is
 
   named_once : (a n : ℕ) → a ≤ p → p < a + n → times (filter test (range_with_len a n)) ≡ cond (test p) 1 0

@@ -1,5 +1,7 @@
 -- What each operation on a word leaves of its flags.
-use Rattle.std.proofs.Common.{◌≡◌, ◌≢◌, ℕ, ◌-◌, ◌^◌, ◌<◌, ◌==◌, true, false, ◌⊎◌, inl, inr, ⊎_elim, List, length, get_or, set, eqb, eq-eqb, ne_eqb, sym, refl, ap, ◌∙◌, arith, true≢false, get_or-set_same, get_or-set_other}
+use Rattle.std.proofs.Common.{◌≡◌, ◌≢◌, ℕ, ◌-◌, ◌^◌, ◌<◌, ◌==◌, true, false, ◌⊎◌, inl, inr, ⊎_elim, List, length}
+use Rattle.std.proofs.Common.{get_or, set, eqb, eq-eqb, ne_eqb, sym, refl, ap, ◌∙◌, arith, true≢false, get_or-set_same}
+use Rattle.std.proofs.Common.{get_or-set_other}
 use Rattle.std.specs.Prelude.{not, bit_and}
 use Rattle.std.proofs.lemmas.Bool.Decides.{eqb_tells}
 use Rattle.std.proofs.lemmas.Nat.{and_or_self, and_or_apart, and_le_l, or_lt, pow_apart, pow_below, pow_pos}
@@ -88,7 +90,8 @@ module _ (words : List ℕ) where
   pub set_stands : (p : ℕ) → element_of p < length words → stands (set words (element_of p) (with_flag (get_or words (element_of p) 0) p)) p ≡ true
   set_stands p near = stands_in (with_flag (get_or words (element_of p) 0) p) p near ∙ with_stands (get_or words (element_of p) 0) p
 
-  pub set_leaves : (p q : ℕ) → element_of p < length words → p ≢ q → stands (set words (element_of p) (with_flag (get_or words (element_of p) 0) p)) q ≡ stands words q
+  pub set_leaves : (p q : ℕ) → element_of p < length words → p ≢ q
+      → stands (set words (element_of p) (with_flag (get_or words (element_of p) 0) p)) q ≡ stands words q
   set_leaves p q near ne =
       let x : ℕ = with_flag (get_or words (element_of p) 0) p in
       ⊎_elim
@@ -104,7 +107,8 @@ module _ (words : List ℕ) where
   pub cleared_clear : (p : ℕ) → element_of p < length words → stands (set words (element_of p) (without_flag (get_or words (element_of p) 0) p)) p ≡ false
   cleared_clear p near = stands_in (without_flag (get_or words (element_of p) 0) p) p near ∙ without_clear (get_or words (element_of p) 0) p
 
-  pub cleared_leaves : (p q : ℕ) → element_of p < length words → p ≢ q → stands (set words (element_of p) (without_flag (get_or words (element_of p) 0) p)) q ≡ stands words q
+  pub cleared_leaves : (p q : ℕ) → element_of p < length words → p ≢ q
+      → stands (set words (element_of p) (without_flag (get_or words (element_of p) 0) p)) q ≡ stands words q
   cleared_leaves p q near ne =
       let x : ℕ = without_flag (get_or words (element_of p) 0) p in
       ⊎_elim

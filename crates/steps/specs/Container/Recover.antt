@@ -2,7 +2,8 @@
 -- T is the type of the values, size the number of their words, R the room for them.
 use Rattle.std.specs.Prelude.{ℕ, ◌+◌, ◌==◌, Bool, false, not, if◌then◌else◌, nat_lt}
 use Rattle.steps.specs.Queues.Ring.{load}
-use Rattle.steps.specs.Indices.Robust.Parts.{cell_word, empty, locked, exchange, raise_want, raise_after, raise_goes_back, first_lock, lock_want, lock_after, lock_goes_back}
+use Rattle.steps.specs.Indices.Robust.Parts.{cell_word, empty, locked, exchange, raise_want, raise_after}
+use Rattle.steps.specs.Indices.Robust.Parts.{raise_goes_back, first_lock, lock_want, lock_after, lock_goes_back}
 use Rattle.steps.specs.Container.Layout.{change_word, count_word, element_word, is_even, add_one, hide, check}
 use Rattle.steps.specs.declared.ask.Question as questions
 use Rattle.steps.specs.declared.ask.Want.{Want}

@@ -14,7 +14,8 @@ use Rattle.steps.specs.declared.indices.unique.Release.{Release}
 use Rattle.steps.specs.declared.indices.unique.ReleaseStage as releases
 use Rattle.steps.specs.declared.indices.looks.BorrowedIndices.{BorrowedIndices}
 use Rattle.steps.specs.declared.indices.looks.IsLocked.{IsLocked}
-use Rattle.steps.specs.Indices.Unique.{acquire_asks, acquire_takes, at_release, release_asks, release_takes, release_after, release_left, state_after, borrowed_after, locked_after}
+use Rattle.steps.specs.Indices.Unique.{acquire_asks, acquire_takes, at_release, release_asks, release_takes}
+use Rattle.steps.specs.Indices.Unique.{release_after, release_left, state_after, borrowed_after, locked_after}
 
 no_store : {A : Type 0} → IsTrue false → A
 no_store t = absurd (true≢false (sym t))

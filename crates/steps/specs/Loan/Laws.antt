@@ -60,9 +60,13 @@ send_tells c (sends.TheVariants.Pushes (pushes.TheVariants.StoresCell write read
 send_tells c (sends.TheVariants.Pushes (pushes.TheVariants.StoresWrite write read)) given room m n t = (
   by_equal
       (λ b. send.send_pushed c given m
-      (if b then GoOn (overflow.at_push (send.inner_push c.queue (pushes.TheVariants.StoresWrite write read)) (pushes.TheVariants.MovesRead read)) else Done Added)
+      (if b then GoOn
+      (overflow.at_push (send.inner_push c.queue (pushes.TheVariants.StoresWrite write read)) (pushes.TheVariants.MovesRead read))
+      else Done Added)
       ≡ send.send_pushed c given n
-      (if b then GoOn (overflow.at_push (send.inner_push c.queue (pushes.TheVariants.StoresWrite write read)) (pushes.TheVariants.MovesRead read)) else Done Added))
+      (if b then GoOn
+      (overflow.at_push (send.inner_push c.queue (pushes.TheVariants.StoresWrite write read)) (pushes.TheVariants.MovesRead read))
+      else Done Added))
       (distance write read) c.queue (λ e. refl) (λ e. refl),
   refl,
 )

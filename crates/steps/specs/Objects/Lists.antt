@@ -1,5 +1,6 @@
 -- The lists that queues are.
-use Rattle.std.specs.Prelude.{ℕ, ◌+◌, ◌-◌, ◌^◌, ◌==◌, ◌&&◌, Bool, not, Option, Some, None, List, [], ◌∷◌, ◌++◌, length, drop, min, nat_lt, slice_get, if◌then◌else◌}
+use Rattle.std.specs.Prelude.{ℕ, ◌+◌, ◌-◌, ◌^◌, ◌==◌, ◌&&◌, Bool, not, Option, Some, None, List, [], ◌∷◌, ◌++◌, length}
+use Rattle.std.specs.Prelude.{drop, min, nat_lt, slice_get, if◌then◌else◌}
 
 -- A list of at most so many values. Each value has a position, one more than the value before it;
 -- the greatest number of 64 bits is the position of none.

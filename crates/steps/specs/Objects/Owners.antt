@@ -1,5 +1,7 @@
 -- The map from index to owner that a robust set of indices is.
-use Rattle.std.specs.Prelude.{◌≡◌, ℕ, ◌+◌, ◌-◌, ◌^◌, ◌<◌, ◌==◌, ◌&&◌, Bool, false, not, Option, Some, None, Result, Ok, Err, List, [], ◌∷◌, length, map, fold, filter, position, replicate, slice_set, slice_index_or, is_none, ok_or, nat_lt, if◌then◌else◌}
+use Rattle.std.specs.Prelude.{◌≡◌, ℕ, ◌+◌, ◌-◌, ◌^◌, ◌<◌, ◌==◌, ◌&&◌, Bool, false, not, Option, Some, None, Result, Ok}
+use Rattle.std.specs.Prelude.{Err, List, [], ◌∷◌, length, map, fold, filter, position, replicate, slice_set}
+use Rattle.std.specs.Prelude.{slice_index_or, is_none, ok_or, nat_lt, if◌then◌else◌}
 use Rattle.steps.specs.declared.indices.enums.ReleaseMode.{ReleaseMode}
 use Rattle.steps.specs.declared.indices.enums.ReleaseMode.TheVariants.{LockIfLastIndex, Default}
 use Rattle.steps.specs.declared.indices.enums.ReleaseState.{ReleaseState}

@@ -4,7 +4,7 @@ ghost use Rattle.steps.specs.Copied.{value_in};
 ghost use Rattle.steps.specs.Container.State.{Numbers, Showing, no_numbers, shows_nothing, shown_at, shown_number, with_change, with_count, with_word, with_value, numbers_over, seen_of, shown_from, at_value, HasShown};
 
 use crate::container::enums::ContainerStateError;
-use crate::copied::{Copied, Kept, Room};
+use crate::copied::{Buffer, Copied, Room};
 use crate::enums::CallbackProgression;
 use crate::words::Words;
 use std::alloc::{AllocError, Global};
@@ -123,7 +123,7 @@ impl<T: Words> Shown<T> {
     fn new(alloc: Global, capacity: u32) -> Result<Shown<T>, AllocError>
         ensures { IfOk result (λ s. s ≡ shows_nothing T.value_of T.WORDS capacity) }
     {
-        let copy: Copied = Kept { words: [0; 128] };
+        let copy: Copied = Buffer { words: [0; 128] };
         let element = Element {
             count: 0,
             value: <Copied as Room<T>>::value(&copy),

@@ -2,7 +2,7 @@
 ghost use Rattle.std.specs.Prelude.{◌≡◌, ◌+◌, ◌<◌, ◌^◌, ℕ, None, IfSome, IsTrue, IsFalse};
 ghost use Rattle.steps.specs.Bits.Words.{elements, has_flag as flag_of};
 ghost use Rattle.model.specs.declared.turn.Kind.TheVariants as kinds;
-ghost use Rattle.lock_free_sp.specs.Seats.{seen, IsSame, IsAt};
+ghost use Rattle.threaded.specs.Seats.{seen, IsSame, IsAt};
 ghost use Rattle.history.specs.declared.view.View.{View as Views};
 ghost use Rattle.lock_free.specs.Counts.Driven.{IsIdle, HasDone};
 ghost use Rattle.lock_free.specs.Bits.Calls.{capacity_of, IsPassOf, view, GoesOn};
@@ -13,7 +13,6 @@ use super::drives::{ClearsNone, ResetsBits, ResetsNext, Sets};
 use super::rule::BitsRule;
 use super::{BitSet, Pass};
 use history::view::View;
-use lock_free_sp::driver::seated::Seated;
 use std::sync::Wait;
 use steps::ask::After;
 use steps::bits::bit_set::{ResetNext, Set};
@@ -21,6 +20,7 @@ use steps::bits::flags::{has_flag, without_flag};
 use steps::bits::reset_all::ResetAll;
 use steps::copied::OneWord;
 use steps::routine::Routine;
+use threaded::driver::seated::Seated;
 
 /// Calls the closure with the place where it stood, and hands the closure back.
 #[inline(always)]

@@ -4,9 +4,9 @@ ghost use Rattle.model.specs.declared.turn.Kind.TheVariants as kinds;
 
 use atomic_table::Play;
 use history::view::View;
-use lock_free_sp::driver::rule::Drives;
 use steps::bits::bit_set::{ResetNext, ResetNextStage, Set};
 use steps::bits::reset_all::ResetAll;
+use threaded::driver::rule::Drives;
 
 /// Setting a place.
 pub struct Sets;

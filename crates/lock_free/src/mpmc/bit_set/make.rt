@@ -2,16 +2,16 @@
 ghost use Rattle.std.specs.Prelude.{◌≡◌, ◌⊎◌, ◌-◌, ◌^◌, None, Some, [], IfOk, IfErr, OnOk};
 ghost use Rattle.steps.specs.Enums.{capacity_refusal};
 ghost use Rattle.steps.specs.declared.enums.UniqueIndexCreationError.TheVariants.{NoMemory};
-ghost use Rattle.lock_free_sp.specs.Shares.{all_shares};
+ghost use Rattle.threaded.specs.Shares.{all_shares};
 ghost use Rattle.lock_free.specs.Bits.Calls.{capacity_of, IsPassOf, inner, history, made, party, share};
 
 use super::{BitSet, FixedSizeBitSet, Pass};
 use atomic_table::Table;
-use lock_free_sp::driver::seated::Seated;
 use std::alloc::{AllocError, Global};
 use std::sync::Arc;
 use steps::bits::flags::{FIRST_ELEMENT, elements};
 use steps::enums::{UniqueIndexCreationError, capacity_refusal};
+use threaded::driver::seated::Seated;
 
 impl BitSet {
     /// A set with all words 0, and its first pass.

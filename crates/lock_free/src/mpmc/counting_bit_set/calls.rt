@@ -1,7 +1,7 @@
 //! The calls on a counting bit set: the calls of `steps`, driven.
 ghost use Rattle.std.specs.Prelude.{◌≡◌, ◌+◌, ◌<◌, ℕ};
 ghost use Rattle.model.specs.declared.turn.Kind.TheVariants as kinds;
-ghost use Rattle.lock_free_sp.specs.Seats.{seen, IsSame, IsAt};
+ghost use Rattle.threaded.specs.Seats.{seen, IsSame, IsAt};
 ghost use Rattle.history.specs.declared.view.View.{View as Views};
 ghost use Rattle.lock_free.specs.Counts.Calls.{capacity_of, IsPassOf, view, GoesOn};
 ghost use Rattle.lock_free.specs.Counts.Callable.{TakesCounts};
@@ -12,12 +12,12 @@ use super::drives::{Counts, ResetsCounts, TakesNone};
 use super::rule::CountsRule;
 use super::{CountingBitSet, Pass};
 use history::view::View;
-use lock_free_sp::driver::seated::Seated;
 use steps::ask::After;
 use steps::bits::counting_bit_set::{BitState, Set};
 use steps::bits::reset_all::ResetAll;
 use steps::copied::OneWord;
 use steps::routine::Routine;
+use threaded::driver::seated::Seated;
 
 /// Calls the closure with a place and its count, where that is above 0, and hands it back.
 fn call_where<F: FnMut(BitState)>(mut visit: F, place: u32, count: u64) -> F

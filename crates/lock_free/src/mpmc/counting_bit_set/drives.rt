@@ -5,9 +5,9 @@ ghost use Rattle.model.specs.declared.turn.Kind.TheVariants as kinds;
 
 use atomic_table::Play;
 use history::view::View;
-use lock_free_sp::driver::rule::Drives;
 use steps::bits::counting_bit_set;
 use steps::bits::reset_all::ResetAll;
+use threaded::driver::rule::Drives;
 
 /// Counting a place.
 pub struct Counts;

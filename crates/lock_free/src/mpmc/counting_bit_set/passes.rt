@@ -6,8 +6,8 @@ ghost use Rattle.lock_free.specs.Counts.Calls.{set_of, view, HasHistory, MissesN
 use super::Pass;
 use super::drives::Look;
 use history::plays::{Both, Cut};
-use lock_free_sp::driver::seated::Seated;
 use std::sync::Arc;
+use threaded::driver::seated::Seated;
 
 impl Pass {
     /// A new pass of the same set, which has seen the same and made nothing. None, and nothing changes, where no further

@@ -5,9 +5,9 @@ ghost use Rattle.model.specs.declared.turn.Kind.TheVariants as kinds;
 
 use atomic_table::Play;
 use history::view::View;
-use lock_free_sp::driver::rule::Drives;
 use steps::indices::looks::{BorrowedIndices, IsLocked};
 use steps::indices::unique::{Acquire, DefaultMode, LockMode, Release};
+use threaded::driver::rule::Drives;
 
 /// Taking an index.
 pub struct Takes;

@@ -8,8 +8,8 @@ ghost use Rattle.lock_free.specs.UniqueIndexSet.{set_of, view, made, HasHistory,
 use super::Pass;
 use super::drives::Look;
 use history::plays::{Both, Cut};
-use lock_free_sp::driver::seated::Seated;
 use std::sync::Arc;
+use threaded::driver::seated::Seated;
 
 impl Pass {
     /// A new pass of the same set, which has seen the same and holds nothing; this one keeps all that it holds, and each

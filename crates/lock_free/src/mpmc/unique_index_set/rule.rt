@@ -4,7 +4,7 @@ ghost use Rattle.model.specs.declared.turn.Kind.TheVariants as kinds;
 
 use atomic_table::TableRule;
 use history::view::View;
-use lock_free_sp::driver::rule::Rule;
+use threaded::driver::rule::Rule;
 
 /// The rule, for the capacity that is the key.
 pub struct IndicesRule;

@@ -9,7 +9,7 @@ use Rattle.steps.specs.declared.ask.After.{After}
 use Rattle.steps.specs.declared.ask.Op.TheVariants as ops
 use Rattle.model.specs.declared.turn.Kind.TheVariants as kinds
 use Rattle.model.specs.Coding.{Coding}
-use Rattle.lock_free_sp.specs.Driver.{Next, Told, moves}
+use Rattle.threaded.specs.Driver.{Next, Told, moves}
 use Rattle.history.specs.declared.view.View.{View}
 use Rattle.history.specs.History.{IsMachine}
 use Rattle.history.proofs.Passes.{set_same}

@@ -19,7 +19,7 @@ use Rattle.steps.specs.Indices.Robust.Parts.{one_more}
 use Rattle.steps.specs.Container.Layout.{is_even}
 use Rattle.steps.specs.Container.Find.{at_find, find_comes_to, find_keeps, find_takes}
 use Rattle.history.specs.ContainerFind.{copies_after}
-use Rattle.lock_free_sp.specs.Callable.{Ascends}
+use Rattle.threaded.specs.Callable.{Ascends}
 use Rattle.lock_free_owners.specs.Container.Callable.{Visit, VisitsAscend, goes_on, TakesVisits, HasFound}
 use Rattle.lock_free_owners.specs.Container.Visits.{FindStage, FindAsks, IsNamed, named, visits_of}
 use Rattle.lock_free_owners.proofs.Rules.Robust.Finding.{ascend_push, below_push, below_more}

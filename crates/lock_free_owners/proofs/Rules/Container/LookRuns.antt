@@ -11,7 +11,7 @@ use Rattle.steps.specs.declared.container.look.LookStage as looks
 use Rattle.steps.specs.Container.Layout.{change_word, count_word, element_word, total_words, is_even}
 use Rattle.steps.specs.Container.State.{Numbers, Showing}
 use Rattle.steps.specs.Container.Look.{at_look, look_asks, look_want, look_comes_to, look_finds, look_takes, look_after, look_kept}
-use Rattle.lock_free_sp.specs.Driver.{Next, Owes, Told, KeepsRule}
+use Rattle.threaded.specs.Driver.{Next, Owes, Told, KeepsRule}
 use Rattle.history.specs.declared.view.View.{View}
 use Rattle.history.specs.History.{IsMachine}
 use Rattle.model.specs.declared.turn.Kind.TheVariants as kinds

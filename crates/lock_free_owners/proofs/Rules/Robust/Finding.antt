@@ -3,7 +3,7 @@ use Rattle.std.proofs.Common.{ℕ, ◌+◌, ◌<◌, List, [], ◌∷◌, ◌++�
 use Rattle.std.specs.List.{All}
 use Rattle.std.proofs.lemmas.List.Elements.{All-push, All-weaker}
 use Rattle.std.proofs.lemmas.List.Quantifiers.{all_pairs_push}
-use Rattle.lock_free_sp.specs.Callable.{Ascends}
+use Rattle.threaded.specs.Callable.{Ascends}
 
 pub ascend_push : (cap : ℕ) (xs : List ℕ) (x : ℕ) → Ascends cap xs → All (λ y. y < x) xs → x < cap → Ascends cap (xs ++ x ∷ [])
 ascend_push cap xs x h below within = (all_pairs_push (λ y z. y < z) xs x h.0 below, All-push (λ y. y < cap) xs x h.1 within)

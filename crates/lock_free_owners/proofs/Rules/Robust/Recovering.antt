@@ -357,8 +357,8 @@ module _ {F S : Type 0} (step : F → ℕ → ℕ → Bool → F → Type 0) (te
       subst (λ a. Onward a visits p q) (sym (h.1 ∙ ap (λ stage. recover_takes call stage mode h.0) is)) (past.0, past.0, past.1)
 
   -- each of them has a right owner
-  pub proper : (visits : List Visit) (low high : ℕ) (p : F) (q : S) → Visits visits low high p q → All (λ (v : Visit). v.owner < empty) visits
-  proper visits low high p q h i d within =
+  pub well_formed : (visits : List Visit) (low high : ℕ) (p : F) (q : S) → Visits visits low high p q → All (λ (v : Visit). v.owner < empty) visits
+  well_formed visits low high p q h i d within =
       subst (λ (a : Asked). a.of.owner < empty) (get_or-map question_at visits i d (question_at d) within)
       (h.asked_ascend.1 i (question_at d) (subst (λ n. i < n) (sym (length-map visits question_at)) within)).0
 

@@ -5,7 +5,6 @@ ghost use Rattle.model.specs.declared.turn.Kind.TheVariants as kinds;
 
 use atomic_table::Play;
 use history::view::View;
-use lock_free_sp::driver::rule::Drives;
 use std::marker::{Brand, PhantomData};
 use steps::container::add::{Add, AddStage};
 use steps::container::look::Look;
@@ -14,6 +13,7 @@ use steps::container::replace::Replace;
 use steps::indices::robust::acquire::AcquireStage;
 use steps::indices::robust::looks::{BorrowedIndices, IsLocked};
 use steps::words::Words;
+use threaded::driver::rule::Drives;
 
 /// Adding a value.
 pub struct Adds;

@@ -4,7 +4,7 @@ ghost use Rattle.steps.specs.Container.Look.{first_look};
 ghost use Rattle.steps.specs.declared.ask.After.TheVariants.{Done};
 ghost use Rattle.model.specs.Coding.{coding_of};
 ghost use Rattle.model.specs.Families.Container.Calls.{settled_if};
-ghost use Rattle.lock_free_sp.specs.Seats.{seen, IsSame};
+ghost use Rattle.threaded.specs.Seats.{seen, IsSame};
 ghost use Rattle.history.specs.ContainerLooks.{ShowsCopied};
 ghost use Rattle.lock_free_owners.specs.Container.LookTurns.{IsOnHistory, LookAt, LookOver};
 ghost use Rattle.lock_free_owners.specs.Container.Turns.{IsBoard};
@@ -56,7 +56,7 @@ fn bring_up<T: Words, B: Beginning<T>>(
 
 impl<T: Words> Container<T> {
     /// A state that shows the values that stand in the container: each whole, as it stood when the call came to it
-    /// (whole in a proper faithful history of few turns, `laws`; that it stood then tests say). It shows nothing while
+    /// (whole in a well-formed faithful history of few turns, `laws`; that it stood then tests say). It shows nothing while
     /// the number of changes is 0: so until the first add, replace, remove or recovery has counted its change, which is
     /// its last step. It is a call of the history, which copies at most one value at each index, ascending, and answers
     /// how many the state shows; each of these the party of the pass has copied from its index. From now on the state is

@@ -7,13 +7,13 @@ ghost use Rattle.lock_free_owners.specs.Container.Names.{view, number_of, capaci
 use super::token::Held;
 use super::{Container, Pass};
 use atomic_table::Table;
-use lock_free_sp::driver::seated::Seated;
 use std::alloc::{AllocError, Global};
 use std::sync::Arc;
 use steps::container::layout::total_words;
 use steps::enums::{UniqueIndexCreationError, capacity_refusal};
 use steps::indices::robust::parts::{EMPTY, FIRST_CELL};
 use steps::words::Words;
+use threaded::driver::seated::Seated;
 
 /// A container without a value, and its first pass.
 fn open<T: Words>(

@@ -9,9 +9,9 @@ use super::Pass;
 use super::drives::{Glance, Settle};
 use super::token::Held;
 use history::plays::{Both, Cut};
-use lock_free_sp::driver::seated::Seated;
 use std::sync::Arc;
 use steps::words::Words;
+use threaded::driver::seated::Seated;
 
 impl<T: Words> Pass<T> {
     /// A new pass of the same container, which has seen the same and made nothing; this one keeps all that it made, and

@@ -8,7 +8,7 @@ ghost use Rattle.model.specs.declared.families.container.ContainerStart.TheVaria
 ghost use Rattle.model.specs.Families.Indices.Reading.{is_locked};
 ghost use Rattle.model.specs.Families.Queues.Calls.{fresh_cell};
 ghost use Rattle.history.specs.ContainerLooks.{KeepsState};
-ghost use Rattle.lock_free_sp.specs.Seats.{seen, IsSame};
+ghost use Rattle.threaded.specs.Seats.{seen, IsSame};
 ghost use Rattle.lock_free_owners.specs.Robust.Told.{FoundState};
 ghost use Rattle.lock_free_owners.specs.Container.Questions.{TakesValues};
 ghost use Rattle.lock_free_owners.specs.Container.RecoverTold.{HasRecovered};
@@ -144,7 +144,7 @@ impl<T: Words> Container<T> {
     /// caller's concern; nobody acts for it from then on. It is a call of the history, in which it copied and asked about
     /// just what `predicate` was asked, in turn, and was told to free, and freed, just indices about which it said yes,
     /// or at which it found no value. Where it answers `Unlocked` it asked about each index that `owner` had through the
-    /// whole call, but those at which it found no value (`answered`); in a proper faithful history of few turns each copy
+    /// whole call, but those at which it found no value (`answered`); in a well-formed faithful history of few turns each copy
     /// is whole (`laws`). That only values of `owner` are asked about is tested. Where a remove stopped before it hid the
     /// value, and `owner` was given the index, it is the value of an earlier owner.
     ///

@@ -7,8 +7,8 @@ ghost use Rattle.lock_free_owners.specs.Container.Idle.{IsIdle};
 use super::rule::ContainerRule;
 use atomic_table::TableRule;
 use history::view::View;
-use lock_free_sp::driver::seated::Seated;
 use steps::words::Words;
+use threaded::driver::seated::Seated;
 
 /// What a caller steps with: a seat with no call under way, but for a find that an answer has ended, which rests at its
 /// question. Its rule is a parameter: only so can its size be told by `T::WORDS`.

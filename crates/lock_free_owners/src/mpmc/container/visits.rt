@@ -5,7 +5,7 @@ ghost use Rattle.steps.specs.Copied.{value_in};
 ghost use Rattle.model.specs.Coding.{coding_of};
 ghost use Rattle.model.specs.Families.Queues.Calls.{fresh_cell};
 ghost use Rattle.model.specs.declared.turn.Kind.TheVariants as kinds;
-ghost use Rattle.lock_free_sp.specs.Seats.{seen, IsSame};
+ghost use Rattle.threaded.specs.Seats.{seen, IsSame};
 ghost use Rattle.history.specs.ContainerLooks.{KeepsState};
 ghost use Rattle.history.specs.Passes.{Goes};
 ghost use Rattle.lock_free_owners.specs.Container.Callable.{Visit, TakesVisits, HasFound};
@@ -127,7 +127,7 @@ impl<T: Words> Container<T> {
     /// indices; that it comes to each that `owner` has through the whole call, up to the one on which it is told to stop,
     /// is tested.
     ///
-    /// It is a call of the history, in which it copied just what `visit` was called with, in turn; in a proper faithful
+    /// It is a call of the history, in which it copied just what `visit` was called with, in turn; in a well-formed faithful
     /// history of few turns each copy is whole (`laws`). A find that an answer ends, a `Stop` or the one at the last
     /// index, rests: its end is an event of the history before anything else that the pass does, with the first step of
     /// its next call, or once another pass takes it in.

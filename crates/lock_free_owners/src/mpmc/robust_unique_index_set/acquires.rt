@@ -2,7 +2,7 @@
 ghost use Rattle.std.specs.Prelude.{◌≡◌, ℕ};
 ghost use Rattle.steps.specs.Indices.Robust.Acquire.{first_acquire, acquire_after};
 ghost use Rattle.steps.specs.declared.indices.robust.acquire.AcquireStage.TheVariants as stages;
-ghost use Rattle.lock_free_sp.specs.Seats.{seen, IsSame};
+ghost use Rattle.threaded.specs.Seats.{seen, IsSame};
 ghost use Rattle.lock_free_owners.specs.Robust.Turns.{IsBoard, AcquireAt, AcquireEnds, AcquireStands, AcquireGoes};
 
 use super::OwnerId;

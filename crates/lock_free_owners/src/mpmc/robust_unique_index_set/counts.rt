@@ -2,7 +2,7 @@
 ghost use Rattle.std.specs.Prelude.{◌≡◌, ℕ};
 ghost use Rattle.steps.specs.Indices.Robust.Looks.{first_borrowed, borrowed_after};
 ghost use Rattle.steps.specs.declared.indices.robust.parts.Count.TheVariants as stages;
-ghost use Rattle.lock_free_sp.specs.Seats.{seen, IsSame};
+ghost use Rattle.threaded.specs.Seats.{seen, IsSame};
 ghost use Rattle.lock_free_owners.specs.Robust.Turns.{IsBoard, CountAt, CountEnds, BorrowedStands, BorrowedGoes};
 
 use super::drives::CountsOwned;

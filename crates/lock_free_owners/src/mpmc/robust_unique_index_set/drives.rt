@@ -5,10 +5,10 @@ ghost use Rattle.model.specs.declared.turn.Kind.TheVariants as kinds;
 
 use atomic_table::Play;
 use history::view::View;
-use lock_free_sp::driver::rule::Drives;
 use steps::indices::robust::acquire::Acquire;
 use steps::indices::robust::looks::{BorrowedIndices, IsLocked};
 use steps::indices::robust::release::Release;
+use threaded::driver::rule::Drives;
 
 /// Taking an index for an owner.
 pub struct Takes;

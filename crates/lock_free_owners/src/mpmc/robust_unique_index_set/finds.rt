@@ -8,8 +8,8 @@ ghost use Rattle.steps.specs.declared.enums.CallbackProgression.TheVariants.{Con
 ghost use Rattle.steps.specs.declared.indices.robust.find.FindStage.TheVariants as stages;
 ghost use Rattle.model.specs.Coding.{one_word};
 ghost use Rattle.model.specs.declared.turn.Kind.TheVariants as kinds;
-ghost use Rattle.lock_free_sp.specs.Callable.{TakesPlaces};
-ghost use Rattle.lock_free_sp.specs.Seats.{seen, IsSame};
+ghost use Rattle.threaded.specs.Callable.{TakesPlaces};
+ghost use Rattle.threaded.specs.Seats.{seen, IsSame};
 ghost use Rattle.history.specs.declared.view.View.{View};
 ghost use Rattle.history.specs.Views.{Looks, LooksAt};
 ghost use Rattle.lock_free_owners.specs.Robust.Callable.{HasFound};

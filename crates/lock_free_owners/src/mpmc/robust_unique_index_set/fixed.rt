@@ -1,7 +1,7 @@
 //! A set whose greatest capacity is part of its type.
 ghost use Rattle.std.specs.Prelude.{◌≡◌, ◌⊎◌, [], None, Some, IfOk, IfErr, OnOk};
 ghost use Rattle.steps.specs.declared.enums.UniqueIndexCreationError.TheVariants.{NoMemory};
-ghost use Rattle.lock_free_sp.specs.Shares.{all_shares};
+ghost use Rattle.threaded.specs.Shares.{all_shares};
 ghost use Rattle.lock_free_owners.specs.RobustUniqueIndexSet.{capacity_of, IsPassOf, history, made, share, set_in, set_refusal, reduced_refusal};
 
 use super::{Pass, RobustUniqueIndexSet, StaticRobustUniqueIndexSet};

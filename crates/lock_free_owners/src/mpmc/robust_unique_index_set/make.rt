@@ -1,16 +1,16 @@
 //! How a set is made.
 ghost use Rattle.std.specs.Prelude.{◌≡◌, ◌⊎◌, ◌<◌, None, Some, [], IfOk, IfErr, OnOk};
 ghost use Rattle.steps.specs.declared.enums.UniqueIndexCreationError.TheVariants.{NoMemory};
-ghost use Rattle.lock_free_sp.specs.Shares.{all_shares};
+ghost use Rattle.threaded.specs.Shares.{all_shares};
 ghost use Rattle.lock_free_owners.specs.RobustUniqueIndexSet.{capacity_of, IsPassOf, history, made, share, set_refusal};
 
 use super::{Pass, RobustUniqueIndexSet};
 use atomic_table::Table;
-use lock_free_sp::driver::seated::Seated;
 use std::alloc::{AllocError, Global};
 use std::sync::Arc;
 use steps::enums::{UniqueIndexCreationError, capacity_refusal};
 use steps::indices::robust::parts::{EMPTY, FIRST_CELL};
+use threaded::driver::seated::Seated;
 
 /// A set of which no index is out, and its first pass.
 fn open(alloc: Global, capacity: u32) -> Result<(RobustUniqueIndexSet, Pass), AllocError>

@@ -6,8 +6,8 @@ ghost use Rattle.lock_free_owners.specs.RobustUniqueIndexSet.{set_of, view, HasH
 use super::Pass;
 use super::drives::Look;
 use history::plays::{Both, Cut};
-use lock_free_sp::driver::seated::Seated;
 use std::sync::Arc;
+use threaded::driver::seated::Seated;
 
 impl Pass {
     /// A new pass of the same set, which has seen the same and made nothing; this one keeps all that it made, and each has

@@ -13,8 +13,8 @@ ghost use Rattle.model.specs.Coding.{one_word};
 ghost use Rattle.model.specs.Families.Indices.Reading.{is_locked};
 ghost use Rattle.history.specs.History.{IsMachine};
 ghost use Rattle.history.specs.Robust.{Visit};
-ghost use Rattle.lock_free_sp.specs.Driver.{OwesAsk};
-ghost use Rattle.lock_free_sp.specs.Seats.{seen, table_of, key_of, IsSame};
+ghost use Rattle.threaded.specs.Driver.{OwesAsk};
+ghost use Rattle.threaded.specs.Seats.{seen, table_of, key_of, IsSame};
 ghost use Rattle.lock_free_owners.specs.Robust.Callable.{TakesQuestions, TakesFreed, HasVisited};
 ghost use Rattle.lock_free_owners.specs.Robust.Stages.{HasPassed, PassesCells, LooksAgain, RecoverAsks, RecoverMoves, has_freed};
 ghost use Rattle.lock_free_owners.specs.Robust.Told.{HasRecovered, Answered, FoundState};
@@ -24,8 +24,6 @@ ghost use Rattle.lock_free_owners.specs.RobustUniqueIndexSet.{view, history, cap
 use super::rule::Seat;
 use super::{OwnerId, Pass, RobustUniqueIndexSet};
 use history::view::View;
-use lock_free_sp::driver::drive::Says;
-use lock_free_sp::driver::rule::Tells;
 use std::marker::Brand;
 use std::sync::Wait;
 use steps::ask::After;
@@ -33,6 +31,8 @@ use steps::indices::enums::{ReleaseMode, ReleaseState};
 use steps::indices::robust::parts::{EMPTY, FIRST_CELL};
 use steps::indices::robust::recover::{Recover, RecoverStage};
 use steps::routine::Routine;
+use threaded::driver::drive::Says;
+use threaded::driver::rule::Tells;
 
 /// Takes one step of the call on the table.
 #[inline(always)]

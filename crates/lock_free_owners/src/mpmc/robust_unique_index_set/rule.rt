@@ -4,9 +4,9 @@ ghost use Rattle.model.specs.declared.turn.Kind.TheVariants as kinds;
 
 use atomic_table::{Table, TableRule};
 use history::view::View;
-use lock_free_sp::driver::rule::Rule;
-use lock_free_sp::driver::seated::Seated;
 use std::alloc::Global;
+use threaded::driver::rule::Rule;
+use threaded::driver::seated::Seated;
 
 /// The rule, for the capacity that is the key.
 pub struct RobustRule;

@@ -3,9 +3,9 @@ ghost use Rattle.model.specs.Coding.{one_word};
 ghost use Rattle.model.specs.declared.turn.Kind.TheVariants as kinds;
 
 use history::view::View;
-use lock_free_sp::driver::rule::Drives;
 use steps::copied::OneWord;
 use steps::queues::ring::{Pop, Push};
+use threaded::driver::rule::Drives;
 
 /// Pushing.
 pub struct Pushes;

@@ -3,11 +3,11 @@ ghost use Rattle.model.specs.Coding.{coding_of};
 ghost use Rattle.model.specs.declared.turn.Kind.TheVariants as kinds;
 
 use history::view::View;
-use lock_free_sp::driver::rule::Drives;
 use std::marker::PhantomData;
 use steps::copied::Room;
 use steps::queues::ring::{Pop, Push};
 use steps::words::Words;
+use threaded::driver::rule::Drives;
 
 /// Pushing a value.
 pub struct Pushes<T> {

@@ -11,7 +11,7 @@ use super::{Pass, Queue, Ring};
 use crate::spsc::places::{cells_used, empty_words, start_at};
 use crate::spsc::ring;
 use std::alloc::{AllocError, Global};
-use steps::copied::{Kept, Room};
+use steps::copied::{Buffer, Room};
 use steps::enums::{UniqueIndexCreationError, capacity_refusal};
 use steps::queues::ring::FIRST_CELL;
 use steps::words::Words;
@@ -20,7 +20,7 @@ use steps::words::Words;
 fn of_zeros<T: Words>() -> T
     ensures { result ≡ T.value_of (replicate T.WORDS 0) }
 {
-    Kept::<128> { words: [0; 128] }.value()
+    Buffer::<128> { words: [0; 128] }.value()
 }
 
 impl<T: Words> Ring<T> {

@@ -12,7 +12,7 @@ ghost use Rattle.lock_free_queues.specs.Queues.Values.{token_view, IsSameQueue};
 use super::drives::Pops;
 use crate::spsc::ring::Held;
 use crate::spsc::ring::rule::{RingRule, Values};
-use steps::copied::{Kept, Room};
+use steps::copied::{Buffer, Room};
 use steps::queues::ring::Pop;
 use steps::routine::Routine;
 use steps::words::Words;
@@ -29,11 +29,11 @@ impl<T: Words> Held<Values, T, RingRule<Values, T>> {
     {
         // a room is filled with zeros: the smallest that the words fit in
         if T::WORDS <= 2 {
-            self.pop_by(Kept::<2> { words: [0; 2] })
+            self.pop_by(Buffer::<2> { words: [0; 2] })
         } else if T::WORDS <= 16 {
-            self.pop_by(Kept::<16> { words: [0; 16] })
+            self.pop_by(Buffer::<16> { words: [0; 16] })
         } else {
-            self.pop_by(Kept::<128> { words: [0; 128] })
+            self.pop_by(Buffer::<128> { words: [0; 128] })
         }
     }
 

@@ -11,12 +11,12 @@ ghost use Rattle.lock_free_queues.specs.Queues.Bounded.{machine_of};
 use super::rule::Kind;
 use atomic_table::Play;
 use history::view::View;
-use lock_free_sp::driver::rule::Drives;
 use std::marker::PhantomData;
 use steps::queues::lengths::Len;
 use steps::queues::ring::{CONSUMER, PRODUCER};
 use steps::queues::roles::{AcquireRole, ReleaseRole};
 use steps::words::Words;
+use threaded::driver::rule::Drives;
 
 /// Which role a call is for, as a type.
 pub trait Side {

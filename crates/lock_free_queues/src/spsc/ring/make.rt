@@ -14,12 +14,12 @@ use super::rule::{Kind, Origin};
 use super::{Held, Pass, Ring};
 use crate::spsc::places::{empty_words, start_at};
 use atomic_table::Table;
-use lock_free_sp::driver::seated::Seated;
 use std::alloc::{AllocError, Global};
 use std::marker::PhantomData;
 use std::sync::Arc;
 use steps::enums::{UniqueIndexCreationError, capacity_refusal};
 use steps::words::Words;
+use threaded::driver::seated::Seated;
 
 impl<E: Kind, T: Words> Ring<E, T> {
     /// A queue with these words, as it opens at this position, and its first pass.

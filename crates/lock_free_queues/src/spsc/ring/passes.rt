@@ -8,11 +8,11 @@ use super::drives::Look;
 use super::rule::{Kind, RingRule};
 use super::{Consumer, Held, Pass, Producer, Token};
 use history::plays::{Both, Cut};
-use lock_free_sp::driver::seated::Seated;
 use std::marker::PhantomData;
 use std::sync::Arc;
 use steps::queues::ring::WRITE;
 use steps::words::Words;
+use threaded::driver::seated::Seated;
 
 impl<E: Kind, T: Words> Held<E, T, RingRule<E, T>> {
     /// A new seat of the same queue, which has seen the same and made nothing. None where no further reference can be

@@ -5,10 +5,10 @@ ghost use Rattle.model.specs.declared.families.queues.QueueKind.TheVariants as q
 
 use atomic_table::{Table, TableRule};
 use history::view::View;
-use lock_free_sp::driver::rule::Rule;
 use std::alloc::Global;
 use std::marker::PhantomData;
 use steps::words::Words;
+use threaded::driver::rule::Rule;
 
 /// Which queue of the model it is, as a type.
 pub trait Kind {

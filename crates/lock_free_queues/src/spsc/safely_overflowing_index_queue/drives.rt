@@ -3,8 +3,8 @@ ghost use Rattle.model.specs.Coding.{one_word};
 ghost use Rattle.model.specs.declared.turn.Kind.TheVariants as kinds;
 
 use history::view::View;
-use lock_free_sp::driver::rule::Drives;
 use steps::queues::overflow::{Pop, Push};
+use threaded::driver::rule::Drives;
 
 /// Pushing.
 pub struct Pushes;

@@ -5,12 +5,12 @@ ghost use Rattle.model.specs.declared.turn.Kind.TheVariants as kinds;
 
 use atomic_table::Play;
 use history::view::View;
-use lock_free_sp::driver::rule::Drives;
 use std::marker::PhantomData;
 use steps::atomic::{Load, Store};
 use steps::copied::Room;
 use steps::queues::roles::{AcquireRole, ReleaseRole};
 use steps::words::Words;
+use threaded::driver::rule::Drives;
 
 /// Taking the producer's role.
 pub struct TakesProducer;

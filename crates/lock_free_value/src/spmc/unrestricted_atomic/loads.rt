@@ -3,7 +3,7 @@ ghost use Rattle.std.specs.Prelude.{◌≡◌, ◌≤◌, ℕ, replicate};
 ghost use Rattle.steps.specs.Atomic.{at_load, first_load, load_after};
 ghost use Rattle.steps.specs.declared.atomic.LoadStage.TheVariants as stages;
 ghost use Rattle.model.specs.Coding.{coding_of};
-ghost use Rattle.lock_free_sp.specs.Seats as seats;
+ghost use Rattle.threaded.specs.Seats as seats;
 ghost use Rattle.lock_free_value.specs.Calls.{seen, IsSame};
 ghost use Rattle.lock_free_value.specs.Loads.{IsBoard, LoadAt, LoadEnds, LoadNext};
 ghost use Rattle.lock_free_value.specs.Roles.{Moved};
@@ -13,14 +13,14 @@ use super::Held;
 use super::drives::Loads;
 use super::rule::{Origin, ValueRule};
 use history::view::View;
-use lock_free_sp::driver::seated::Seated;
 use std::marker::PhantomData;
 use std::sync::Wait;
 use steps::ask::After;
 use steps::atomic::{Load, LoadStage};
-use steps::copied::{Kept, Room};
+use steps::copied::{Buffer, Room};
 use steps::routine::Routine;
 use steps::words::Words;
+use threaded::driver::seated::Seated;
 
 type Seat<T> = Seated<View<T>, Origin<T>, ValueRule<T>>;
 
@@ -142,11 +142,11 @@ impl<T: Words> Held<T, ValueRule<T>> {
     {
         // a room is filled with zeros: the smallest that the words fit in
         if T::WORDS <= 2 {
-            self.load_by(rt, Kept::<2> { words: [0; 2] })
+            self.load_by(rt, Buffer::<2> { words: [0; 2] })
         } else if T::WORDS <= 16 {
-            self.load_by(rt, Kept::<16> { words: [0; 16] })
+            self.load_by(rt, Buffer::<16> { words: [0; 16] })
         } else {
-            self.load_by(rt, Kept::<128> { words: [0; 128] })
+            self.load_by(rt, Buffer::<128> { words: [0; 128] })
         }
     }
 

@@ -7,12 +7,12 @@ ghost use Rattle.lock_free_value.specs.Calls.{view, IsPassOf};
 use super::rule::Origin;
 use super::{Held, Pass, UnrestrictedAtomic};
 use atomic_table::Table;
-use lock_free_sp::driver::seated::Seated;
 use std::alloc::{AllocError, Global};
 use std::sync::Arc;
 use steps::atomic::{FIRST_CELL, PRODUCER, VERSION};
 use steps::enums::UniqueIndexCreationError;
 use steps::words::Words;
+use threaded::driver::seated::Seated;
 
 /// The version at which a table opens: there is one store at least.
 fn opening_version(version: u64) -> u64

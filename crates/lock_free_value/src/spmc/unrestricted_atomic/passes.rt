@@ -9,10 +9,10 @@ use super::drives::Look;
 use super::rule::ValueRule;
 use super::{Held, Pass, Producer, Token};
 use history::plays::{Both, Cut};
-use lock_free_sp::driver::seated::Seated;
 use std::sync::Arc;
 use steps::atomic::VERSION;
 use steps::words::Words;
+use threaded::driver::seated::Seated;
 
 impl<T: Words> Held<T, ValueRule<T>> {
     /// A new seat of the same value, which has seen the same and made nothing. None where no further reference can be

@@ -4,10 +4,10 @@ ghost use Rattle.model.specs.declared.turn.Kind.TheVariants as kinds;
 
 use atomic_table::{Table, TableRule};
 use history::view::View;
-use lock_free_sp::driver::rule::Rule;
 use std::alloc::Global;
 use std::marker::PhantomData;
 use steps::words::Words;
+use threaded::driver::rule::Rule;
 
 /// What a table is made with, and so its key: the value that it opens with, and at which version.
 #[derive(Clone, Copy)]

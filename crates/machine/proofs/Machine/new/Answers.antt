@@ -7,6 +7,10 @@ use Rattle.machine.proofs.Machine.new.Goals as goal
 pub invariant_of-result-2 : goal.invariant_of-result-2
 invariant_of-result-2 g c =
     let laws = g.met.T.Words in
-    let coded : IsCoding (coding_of g.T.Words.WORDS g.T.Words.words_of g.T.Words.value_of) = record { some = laws.some; few = laws.few; sized = laws.sized; given_back = laws.given_back } in
-    reached_is (trace_of (coding_of g.T.Words.WORDS g.T.Words.words_of g.T.Words.value_of) c.in_ok-parts.parts) (opening (coding_of g.T.Words.WORDS g.T.Words.words_of g.T.Words.value_of) c.args.kind c.args.capacity c.args.parties) c.in_ok-parts.ensures.ok
-    (reached_opening (coding_of g.T.Words.WORDS g.T.Words.words_of g.T.Words.value_of) c.args.kind c.args.capacity c.args.parties coded c.in_ok-parts.ensures.admitted)
+    let coded : IsCoding (coding_of g.T.Words.WORDS g.T.Words.words_of g.T.Words.value_of) =
+    record { some = laws.some; few = laws.few; sized = laws.sized; given_back = laws.given_back } in
+    reached_is (trace_of (coding_of g.T.Words.WORDS g.T.Words.words_of g.T.Words.value_of) c.in_ok-parts.parts)
+    (opening (coding_of g.T.Words.WORDS g.T.Words.words_of g.T.Words.value_of) c.args.kind c.args.capacity c.args.parties)
+    c.in_ok-parts.ensures.ok
+    (reached_opening (coding_of g.T.Words.WORDS g.T.Words.words_of g.T.Words.value_of) c.args.kind c.args.capacity
+    c.args.parties coded c.in_ok-parts.ensures.admitted)

@@ -11,13 +11,24 @@ use Rattle.machine.proofs.Laws.{laws_of}
 use Rattle.machine.proofs.Machine.run_all.Goals as goal
 
 pub loop-taken-init : goal.loop-taken-init
-loop-taken-init g c = record { allowed = tt; taken = refl; kept = reached_kept laws_of (trace_in (coding_of g.T.Words.WORDS g.T.Words.words_of g.T.Words.value_of) c.args.self.now) (subst (λ (s : State _). IsReached (trace_in (coding_of g.T.Words.WORDS g.T.Words.words_of g.T.Words.value_of) s)) c.self.view_is c.self.invariant) }
+loop-taken-init g c =
+    record {
+      allowed = tt;
+      taken = refl;
+      kept =
+          reached_kept laws_of (trace_in (coding_of g.T.Words.WORDS g.T.Words.words_of g.T.Words.value_of) c.args.self.now)
+          (subst (λ (s : State _). IsReached (trace_in (coding_of g.T.Words.WORDS g.T.Words.words_of g.T.Words.value_of) s))
+          c.self.view_is c.self.invariant);
+    }
 
 pub loop-taken-preserved : goal.loop-taken-preserved
 loop-taken-preserved g c =
     let within : c.loop-taken.taken < length c.args.turns.now = omega arith in
     let more =
-    one_more (trace_in (coding_of g.T.Words.WORDS g.T.Words.words_of g.T.Words.value_of) c.args.self.now) (trace_in (coding_of g.T.Words.WORDS g.T.Words.words_of g.T.Words.value_of) c.loop-taken.self) (trace_in (coding_of g.T.Words.WORDS g.T.Words.words_of g.T.Words.value_of) c.step.new.self) c.args.turns.now c.loop-taken.taken c.index-turns-taken.result within c.index-turns-taken.is
+    one_more (trace_in (coding_of g.T.Words.WORDS g.T.Words.words_of g.T.Words.value_of) c.args.self.now)
+    (trace_in (coding_of g.T.Words.WORDS g.T.Words.words_of g.T.Words.value_of) c.loop-taken.self)
+    (trace_in (coding_of g.T.Words.WORDS g.T.Words.words_of g.T.Words.value_of) c.step.new.self) c.args.turns.now
+    c.loop-taken.taken c.index-turns-taken.result within c.index-turns-taken.is
     c.loop-taken.invariant.allowed
     c.loop-taken.invariant.taken
     c.in_default.ensures.allowed
@@ -31,15 +42,28 @@ returns-in-Err-clause-refused g c =
     let here : slice_get c.args.turns.now c.loop-taken.taken ≡ Some c.index-turns-taken.result =
     slice_get_read c.args.turns.now (length c.args.turns.now) c.loop-taken.taken c.index-turns-taken.result refl within c.index-turns-taken.is
     in
-    let why = subst (λ (s : State _). IsRefusal (world_in (coding_of g.T.Words.WORDS g.T.Words.words_of g.T.Words.value_of) s) c.index-turns-taken.result c.in-Err.refusal) (sym c.in-Err.ensures.err) c.in-Err.ensures.refused in
-    subst (λ o. IfSome o (λ turn. IsRefusal (world_in (coding_of g.T.Words.WORDS g.T.Words.words_of g.T.Words.value_of) c.step.new.self) turn c.in-Err.refusal)) (sym here) why
+    let why =
+    subst (λ (s : State _). IsRefusal (world_in (coding_of g.T.Words.WORDS g.T.Words.words_of g.T.Words.value_of) s)
+    c.index-turns-taken.result c.in-Err.refusal)
+    (sym c.in-Err.ensures.err) c.in-Err.ensures.refused in
+    subst (λ o. IfSome o (λ turn. IsRefusal (world_in (coding_of g.T.Words.WORDS g.T.Words.words_of g.T.Words.value_of) c.step.new.self)
+    turn c.in-Err.refusal))
+    (sym here) why
 
 pub returns-in-Err-clause-each_before : goal.returns-in-Err-clause-each_before
 returns-in-Err-clause-each_before g c =
-    reached_turns laws_of (trace_in (coding_of g.T.Words.WORDS g.T.Words.words_of g.T.Words.value_of) c.args.self.now) (take c.loop-taken.taken c.args.turns.now) (subst (λ (s : State _). IsReached (trace_in (coding_of g.T.Words.WORDS g.T.Words.words_of g.T.Words.value_of) s)) c.self.view_is c.self.invariant) c.loop-taken.invariant.allowed
+    reached_turns laws_of (trace_in (coding_of g.T.Words.WORDS g.T.Words.words_of g.T.Words.value_of) c.args.self.now)
+    (take c.loop-taken.taken c.args.turns.now)
+    (subst (λ (s : State _). IsReached (trace_in (coding_of g.T.Words.WORDS g.T.Words.words_of g.T.Words.value_of) s))
+    c.self.view_is c.self.invariant)
+    c.loop-taken.invariant.allowed
 
 pub returns-clause-each : goal.returns-clause-each
 returns-clause-each g c =
     let all : c.loop-taken.taken ≡ length c.args.turns.now = omega arith in
     let whole : take c.loop-taken.taken c.args.turns.now ≡ c.args.turns.now = ap (λ n. take n c.args.turns.now) all ∙ take-length c.args.turns.now in
-    reached_turns laws_of (trace_in (coding_of g.T.Words.WORDS g.T.Words.words_of g.T.Words.value_of) c.args.self.now) c.args.turns.now (subst (λ (s : State _). IsReached (trace_in (coding_of g.T.Words.WORDS g.T.Words.words_of g.T.Words.value_of) s)) c.self.view_is c.self.invariant) (rw whole at c.loop-taken.invariant.allowed)
+    reached_turns laws_of (trace_in (coding_of g.T.Words.WORDS g.T.Words.words_of g.T.Words.value_of) c.args.self.now)
+    c.args.turns.now
+    (subst (λ (s : State _). IsReached (trace_in (coding_of g.T.Words.WORDS g.T.Words.words_of g.T.Words.value_of) s))
+    c.self.view_is c.self.invariant)
+    (rw whole at c.loop-taken.invariant.allowed)

@@ -9,6 +9,7 @@ abbrev pub invariant-loop-taken : goal.invariant-loop-taken
 invariant-loop-taken g l =
     record {
       allowed : AreAllowed (trace_in (coding_of g.T.Words.WORDS g.T.Words.words_of g.T.Words.value_of) l.fn.self) (take l.taken l.turns);
-      taken : trace_in (coding_of g.T.Words.WORDS g.T.Words.words_of g.T.Words.value_of) l.self ≡ after_turns (trace_in (coding_of g.T.Words.WORDS g.T.Words.words_of g.T.Words.value_of) l.fn.self) (take l.taken l.turns);
+      taken : trace_in (coding_of g.T.Words.WORDS g.T.Words.words_of g.T.Words.value_of) l.self
+          ≡ after_turns (trace_in (coding_of g.T.Words.WORDS g.T.Words.words_of g.T.Words.value_of) l.fn.self) (take l.taken l.turns);
       kept : IsKept (trace_in (coding_of g.T.Words.WORDS g.T.Words.words_of g.T.Words.value_of) l.self);
     }

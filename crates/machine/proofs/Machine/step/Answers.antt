@@ -15,8 +15,11 @@ step-requires g c = reached_small (trace_of (coding_of g.T.Words.WORDS g.T.Words
 
 pub invariant_of-self-2 : goal.invariant_of-self-2
 invariant_of-self-2 g c =
-    reached_is (trace_of (coding_of g.T.Words.WORDS g.T.Words.words_of g.T.Words.value_of) c.step.new.self) (after_turn (trace_of (coding_of g.T.Words.WORDS g.T.Words.words_of g.T.Words.value_of) c.self.inside.parts) c.args.turn) c.in_ok-step.ensures.ok
-    (reached_more (trace_of (coding_of g.T.Words.WORDS g.T.Words.words_of g.T.Words.value_of) c.self.inside.parts) c.args.turn c.in_ok-step.ensures.allowed c.self.invariant)
+    reached_is (trace_of (coding_of g.T.Words.WORDS g.T.Words.words_of g.T.Words.value_of) c.step.new.self)
+    (after_turn (trace_of (coding_of g.T.Words.WORDS g.T.Words.words_of g.T.Words.value_of) c.self.inside.parts) c.args.turn)
+    c.in_ok-step.ensures.ok
+    (reached_more (trace_of (coding_of g.T.Words.WORDS g.T.Words.words_of g.T.Words.value_of) c.self.inside.parts)
+    c.args.turn c.in_ok-step.ensures.allowed c.self.invariant)
 
 pub returns-clause-allowed : goal.returns-clause-allowed
 returns-clause-allowed g c = rw (← c.self.view_is) c.in_ok-step.ensures.allowed
@@ -25,25 +28,60 @@ pub returns-clause-ok : goal.returns-clause-ok
 returns-clause-ok g c = rw (← c.self.view_is) c.in_ok-step.ensures.ok
 
 pub returns-clause-later : goal.returns-clause-later
-returns-clause-later g c = (step_turn laws_of (trace_of (coding_of g.T.Words.WORDS g.T.Words.words_of g.T.Words.value_of) c.self.inside.parts) (trace_in (coding_of g.T.Words.WORDS g.T.Words.words_of g.T.Words.value_of) c.args.self.now) (trace_of (coding_of g.T.Words.WORDS g.T.Words.words_of g.T.Words.value_of) c.step.new.self) c.args.turn (ap (trace_in (coding_of g.T.Words.WORDS g.T.Words.words_of g.T.Words.value_of)) c.self.view_is) c.self.invariant c.in_ok-step.ensures.allowed c.in_ok-step.ensures.ok).later
+returns-clause-later g c =
+    (step_turn laws_of (trace_of (coding_of g.T.Words.WORDS g.T.Words.words_of g.T.Words.value_of) c.self.inside.parts)
+    (trace_in (coding_of g.T.Words.WORDS g.T.Words.words_of g.T.Words.value_of) c.args.self.now)
+    (trace_of (coding_of g.T.Words.WORDS g.T.Words.words_of g.T.Words.value_of) c.step.new.self) c.args.turn
+    (ap (trace_in (coding_of g.T.Words.WORDS g.T.Words.words_of g.T.Words.value_of)) c.self.view_is) c.self.invariant
+    c.in_ok-step.ensures.allowed c.in_ok-step.ensures.ok).later
 
 pub returns-clause-word : goal.returns-clause-word
-returns-clause-word g c = (step_turn laws_of (trace_of (coding_of g.T.Words.WORDS g.T.Words.words_of g.T.Words.value_of) c.self.inside.parts) (trace_in (coding_of g.T.Words.WORDS g.T.Words.words_of g.T.Words.value_of) c.args.self.now) (trace_of (coding_of g.T.Words.WORDS g.T.Words.words_of g.T.Words.value_of) c.step.new.self) c.args.turn (ap (trace_in (coding_of g.T.Words.WORDS g.T.Words.words_of g.T.Words.value_of)) c.self.view_is) c.self.invariant c.in_ok-step.ensures.allowed c.in_ok-step.ensures.ok).word
+returns-clause-word g c =
+    (step_turn laws_of (trace_of (coding_of g.T.Words.WORDS g.T.Words.words_of g.T.Words.value_of) c.self.inside.parts)
+    (trace_in (coding_of g.T.Words.WORDS g.T.Words.words_of g.T.Words.value_of) c.args.self.now)
+    (trace_of (coding_of g.T.Words.WORDS g.T.Words.words_of g.T.Words.value_of) c.step.new.self) c.args.turn
+    (ap (trace_in (coding_of g.T.Words.WORDS g.T.Words.words_of g.T.Words.value_of)) c.self.view_is) c.self.invariant
+    c.in_ok-step.ensures.allowed c.in_ok-step.ensures.ok).word
 
 pub returns-clause-call : goal.returns-clause-call
-returns-clause-call g c = (step_turn laws_of (trace_of (coding_of g.T.Words.WORDS g.T.Words.words_of g.T.Words.value_of) c.self.inside.parts) (trace_in (coding_of g.T.Words.WORDS g.T.Words.words_of g.T.Words.value_of) c.args.self.now) (trace_of (coding_of g.T.Words.WORDS g.T.Words.words_of g.T.Words.value_of) c.step.new.self) c.args.turn (ap (trace_in (coding_of g.T.Words.WORDS g.T.Words.words_of g.T.Words.value_of)) c.self.view_is) c.self.invariant c.in_ok-step.ensures.allowed c.in_ok-step.ensures.ok).call
+returns-clause-call g c =
+    (step_turn laws_of (trace_of (coding_of g.T.Words.WORDS g.T.Words.words_of g.T.Words.value_of) c.self.inside.parts)
+    (trace_in (coding_of g.T.Words.WORDS g.T.Words.words_of g.T.Words.value_of) c.args.self.now)
+    (trace_of (coding_of g.T.Words.WORDS g.T.Words.words_of g.T.Words.value_of) c.step.new.self) c.args.turn
+    (ap (trace_in (coding_of g.T.Words.WORDS g.T.Words.words_of g.T.Words.value_of)) c.self.view_is) c.self.invariant
+    c.in_ok-step.ensures.allowed c.in_ok-step.ensures.ok).call
 
 pub returns-clause-counts : goal.returns-clause-counts
-returns-clause-counts g c = (step_turn laws_of (trace_of (coding_of g.T.Words.WORDS g.T.Words.words_of g.T.Words.value_of) c.self.inside.parts) (trace_in (coding_of g.T.Words.WORDS g.T.Words.words_of g.T.Words.value_of) c.args.self.now) (trace_of (coding_of g.T.Words.WORDS g.T.Words.words_of g.T.Words.value_of) c.step.new.self) c.args.turn (ap (trace_in (coding_of g.T.Words.WORDS g.T.Words.words_of g.T.Words.value_of)) c.self.view_is) c.self.invariant c.in_ok-step.ensures.allowed c.in_ok-step.ensures.ok).counts
+returns-clause-counts g c =
+    (step_turn laws_of (trace_of (coding_of g.T.Words.WORDS g.T.Words.words_of g.T.Words.value_of) c.self.inside.parts)
+    (trace_in (coding_of g.T.Words.WORDS g.T.Words.words_of g.T.Words.value_of) c.args.self.now)
+    (trace_of (coding_of g.T.Words.WORDS g.T.Words.words_of g.T.Words.value_of) c.step.new.self) c.args.turn
+    (ap (trace_in (coding_of g.T.Words.WORDS g.T.Words.words_of g.T.Words.value_of)) c.self.view_is) c.self.invariant
+    c.in_ok-step.ensures.allowed c.in_ok-step.ensures.ok).counts
 
 pub returns-clause-others : goal.returns-clause-others
-returns-clause-others g c = (step_turn laws_of (trace_of (coding_of g.T.Words.WORDS g.T.Words.words_of g.T.Words.value_of) c.self.inside.parts) (trace_in (coding_of g.T.Words.WORDS g.T.Words.words_of g.T.Words.value_of) c.args.self.now) (trace_of (coding_of g.T.Words.WORDS g.T.Words.words_of g.T.Words.value_of) c.step.new.self) c.args.turn (ap (trace_in (coding_of g.T.Words.WORDS g.T.Words.words_of g.T.Words.value_of)) c.self.view_is) c.self.invariant c.in_ok-step.ensures.allowed c.in_ok-step.ensures.ok).others
+returns-clause-others g c =
+    (step_turn laws_of (trace_of (coding_of g.T.Words.WORDS g.T.Words.words_of g.T.Words.value_of) c.self.inside.parts)
+    (trace_in (coding_of g.T.Words.WORDS g.T.Words.words_of g.T.Words.value_of) c.args.self.now)
+    (trace_of (coding_of g.T.Words.WORDS g.T.Words.words_of g.T.Words.value_of) c.step.new.self) c.args.turn
+    (ap (trace_in (coding_of g.T.Words.WORDS g.T.Words.words_of g.T.Words.value_of)) c.self.view_is) c.self.invariant
+    c.in_ok-step.ensures.allowed c.in_ok-step.ensures.ok).others
 
 pub returns-clause-tells : goal.returns-clause-tells
-returns-clause-tells g c = (step_turn laws_of (trace_of (coding_of g.T.Words.WORDS g.T.Words.words_of g.T.Words.value_of) c.self.inside.parts) (trace_in (coding_of g.T.Words.WORDS g.T.Words.words_of g.T.Words.value_of) c.args.self.now) (trace_of (coding_of g.T.Words.WORDS g.T.Words.words_of g.T.Words.value_of) c.step.new.self) c.args.turn (ap (trace_in (coding_of g.T.Words.WORDS g.T.Words.words_of g.T.Words.value_of)) c.self.view_is) c.self.invariant c.in_ok-step.ensures.allowed c.in_ok-step.ensures.ok).tells
+returns-clause-tells g c =
+    (step_turn laws_of (trace_of (coding_of g.T.Words.WORDS g.T.Words.words_of g.T.Words.value_of) c.self.inside.parts)
+    (trace_in (coding_of g.T.Words.WORDS g.T.Words.words_of g.T.Words.value_of) c.args.self.now)
+    (trace_of (coding_of g.T.Words.WORDS g.T.Words.words_of g.T.Words.value_of) c.step.new.self) c.args.turn
+    (ap (trace_in (coding_of g.T.Words.WORDS g.T.Words.words_of g.T.Words.value_of)) c.self.view_is) c.self.invariant
+    c.in_ok-step.ensures.allowed c.in_ok-step.ensures.ok).tells
 
 pub returns-clause-events : goal.returns-clause-events
-returns-clause-events g c = (step_turn laws_of (trace_of (coding_of g.T.Words.WORDS g.T.Words.words_of g.T.Words.value_of) c.self.inside.parts) (trace_in (coding_of g.T.Words.WORDS g.T.Words.words_of g.T.Words.value_of) c.args.self.now) (trace_of (coding_of g.T.Words.WORDS g.T.Words.words_of g.T.Words.value_of) c.step.new.self) c.args.turn (ap (trace_in (coding_of g.T.Words.WORDS g.T.Words.words_of g.T.Words.value_of)) c.self.view_is) c.self.invariant c.in_ok-step.ensures.allowed c.in_ok-step.ensures.ok).events
+returns-clause-events g c =
+    (step_turn laws_of (trace_of (coding_of g.T.Words.WORDS g.T.Words.words_of g.T.Words.value_of) c.self.inside.parts)
+    (trace_in (coding_of g.T.Words.WORDS g.T.Words.words_of g.T.Words.value_of) c.args.self.now)
+    (trace_of (coding_of g.T.Words.WORDS g.T.Words.words_of g.T.Words.value_of) c.step.new.self) c.args.turn
+    (ap (trace_in (coding_of g.T.Words.WORDS g.T.Words.words_of g.T.Words.value_of)) c.self.view_is) c.self.invariant
+    c.in_ok-step.ensures.allowed c.in_ok-step.ensures.ok).events
 
 pub returns-clause-kept : goal.returns-clause-kept
 returns-clause-kept g c =

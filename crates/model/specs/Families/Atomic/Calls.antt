@@ -2,7 +2,7 @@
 use Rattle.std.specs.Prelude.{ℕ, Bool, false, replicate, []}
 use Rattle.steps.specs.declared.ask.Want.{Want}
 use Rattle.steps.specs.declared.ask.After.{After}
-use Rattle.steps.specs.declared.copied.Kept as rooms
+use Rattle.steps.specs.declared.copied.Buffer as buffers
 use Rattle.steps.specs.Atomic as steps
 use Rattle.steps.specs.Atomic.{first_store, store_want, store_after, first_load, load_want, load_after, load_kept}
 use Rattle.steps.specs.Queues.Roles.{acquire_want, acquire_after, release_want, release_after}
@@ -30,7 +30,7 @@ producer_word = 1
 -- ---- the calls that begin
 
 -- a room in which nothing was put
-abbrev pub fresh : rooms.Kept 128
+abbrev pub fresh : buffers.Buffer 128
 fresh = record { words = replicate 128 0 }
 
 module _ {T : Type 0} where

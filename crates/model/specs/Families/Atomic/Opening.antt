@@ -2,8 +2,8 @@
 use Rattle.std.specs.Prelude.{ℕ, ◌*◌, Bool, true, false, not, Option, Some, None, option_map, List, [], ◌∷◌, replicate, if◌then◌else◌}
 use Rattle.model.specs.declared.families.Flight.{Flight}
 use Rattle.model.specs.declared.families.Flight as flights
-use Rattle.model.specs.declared.families.Kept.{Kept}
-use Rattle.model.specs.declared.families.Kept as kepts
+use Rattle.model.specs.declared.families.Registry.{Registry}
+use Rattle.model.specs.declared.families.Registry as registries
 use Rattle.model.specs.declared.families.atomic.AtomicStart.{AtomicStart}
 use Rattle.model.specs.declared.families.atomic.AtomicStart.TheVariants.{AcquireProducer, ReleaseProducer, Store, Load}
 use Rattle.model.specs.declared.families.atomic.calls.AtomicFlight.{AtomicFlight}
@@ -27,7 +27,7 @@ opening =
       least = 1;
       greatest = 1;
       words = λ size capacity. opening_words size;
-      kept = λ capacity. kepts.TheVariants.Atomic None;
+      kept = λ capacity. registries.TheVariants.Atomic None;
     }
 
 -- whether a machine of a kind has the single value
@@ -51,11 +51,11 @@ module _ {T : Type 0} where
   abbrev pub call_rows : Option ℕ → ℕ → AtomicStart T → List (Bool × Refusal)
   call_rows producer p start = (lacks_role producer p start, NoRole) ∷ []
 
-  abbrev pub kept_rows : AtomicStart T → Kept T → ℕ → List (Bool × Refusal)
-  kept_rows start (kepts.TheVariants.Atomic producer) p = call_rows producer p start
+  abbrev pub kept_rows : AtomicStart T → Registry T → ℕ → List (Bool × Refusal)
+  kept_rows start (registries.TheVariants.Atomic producer) p = call_rows producer p start
   kept_rows start kept p = (true, WrongCall) ∷ []
 
-  abbrev pub begin : Kind → AtomicStart T → Beginning (Flight T) (Kept T)
+  abbrev pub begin : Kind → AtomicStart T → Beginning (Flight T) (Registry T)
   begin kind start =
       record {
         call = λ kept. option_map flights.TheVariants.Atomic (call_of kind start);

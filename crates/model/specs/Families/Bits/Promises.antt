@@ -13,7 +13,7 @@ use Rattle.model.specs.declared.event.Start.TheVariants.{Bits}
 use Rattle.model.specs.declared.families.bits.BitsStart.TheVariants.{Set, ResetNext, ResetAll}
 use Rattle.model.specs.Families.Bits.Bounds.{most_bits_steps, most_counts_steps}
 use Rattle.model.specs.Families.Bits.Reading.{sets, clears, counts, takes, standing, position_of, count_at}
-use Rattle.model.specs.Moments.{HeldOnce, SinceBegin}
+use Rattle.model.specs.Moments.{HeldSometime, SinceBegin}
 use Rattle.model.specs.Promise.{Promise}
 use Rattle.model.specs.Reading.{Each, Span, Open}
 use Rattle.model.specs.Turns.{one_if}
@@ -38,20 +38,20 @@ module _ {T : Type 0} where
     pub passed : ℕ
     pub within : passed < capacity
     pub is : place_after capacity start passed ≡ bit
-    pub begun : HeldOnce p (λ part. at_most capacity (position_of part) ≡ start) events
+    pub begun : HeldSometime p (λ part. at_most capacity (position_of part) ≡ start) events
     pub clear : (k : ℕ) → k < passed
-        → HeldOnce p (λ part. standing (place_after capacity start k) part ≡ 0) events
+        → HeldSometime p (λ part. standing (place_after capacity start k) part ≡ 0) events
 
   -- A set answers false only if the bit stood at a moment of the call. A reset of the next one
   -- begins at the reset position, and answers None only if each bit was clear at some moment of it.
   -- A reset of all clears what stood.
   abbrev pub BitsAnswerRight : ℕ → List (Event T) → Event T → Type 0
   BitsAnswerRight capacity before (Finished p (Bits (Set bit)) (Truth false)) =
-      HeldOnce p (λ part. standing bit part ≡ 1) before
+      HeldSometime p (λ part. standing bit part ≡ 1) before
   BitsAnswerRight capacity before (Finished p (Bits ResetNext) (Reset bit)) =
       CameTo p capacity bit before
   BitsAnswerRight capacity before (Finished p (Bits ResetNext) ResetNone) =
-      (b : ℕ) → b < capacity → HeldOnce p (λ part. standing b part ≡ 0) before
+      (b : ℕ) → b < capacity → HeldSometime p (λ part. standing b part ≡ 0) before
   BitsAnswerRight capacity before (Finished p (Bits ResetAll) answer) =
       SinceBegin p (HasCleared capacity) before
   BitsAnswerRight capacity before e = Unit {0}

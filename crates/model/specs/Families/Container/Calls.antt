@@ -20,8 +20,8 @@ use Rattle.model.specs.declared.event.Answer.{Answer}
 use Rattle.model.specs.declared.event.Answer as answers
 use Rattle.model.specs.declared.families.Flight.{Flight}
 use Rattle.model.specs.declared.families.Flight as flights
-use Rattle.model.specs.declared.families.Kept.{Kept}
-use Rattle.model.specs.declared.families.Kept as kepts
+use Rattle.model.specs.declared.families.Registry.{Registry}
+use Rattle.model.specs.declared.families.Registry as registries
 use Rattle.model.specs.declared.families.container.ContainerStart.{ContainerStart}
 use Rattle.model.specs.declared.families.container.ContainerStart as starts
 use Rattle.model.specs.declared.families.container.calls.ContainerFlight.{ContainerFlight}
@@ -251,8 +251,8 @@ module _ {T : Type 0} where
   abbrev pub going_rows : List ℕ → ContainerFlight T → List (Bool × Refusal)
   going_rows dead flight = (acts_for_dead dead flight, OwnerIsDead) ∷ []
 
-  abbrev pub kept_going_rows : ContainerFlight T → Kept T → Option Bool → List (Bool × Refusal)
-  kept_going_rows flight (kepts.TheVariants.Container dead states) said = going_rows dead flight
+  abbrev pub kept_going_rows : ContainerFlight T → Registry T → Option Bool → List (Bool × Refusal)
+  kept_going_rows flight (registries.TheVariants.Container dead states) said = going_rows dead flight
   kept_going_rows flight kept said = []
 
   -- the family's call under way, as one of a machine: of a party that has no state
@@ -267,8 +267,8 @@ module _ {T : Type 0} where
       }
 
   -- and of one that has what is kept
-  abbrev pub goes : Coding T → ℕ → ContainerFlight T → ℕ → Kept T → After (Flight T) (Answer T)
-  goes code p flight old (kepts.TheVariants.Container dead states) =
+  abbrev pub goes : Coding T → ℕ → ContainerFlight T → ℕ → Registry T → After (Flight T) (Answer T)
+  goes code p flight old (registries.TheVariants.Container dead states) =
       as_call flights.TheVariants.Container (λ answer. answer)
       (after code (state_of p states) flight old)
   goes code p flight old kept = (going code flight).after old

@@ -10,23 +10,23 @@ use Rattle.model.specs.declared.event.Event.TheVariants.{Died, Copied, Finished}
 use Rattle.model.specs.declared.event.Start.TheVariants.{Container}
 use Rattle.model.specs.declared.families.Flight.{Flight}
 use Rattle.model.specs.declared.families.Flight.TheVariants as flights
-use Rattle.model.specs.declared.families.Kept.{Kept}
-use Rattle.model.specs.declared.families.Kept as kepts
+use Rattle.model.specs.declared.families.Registry.{Registry}
+use Rattle.model.specs.declared.families.Registry as registries
 use Rattle.model.specs.declared.families.container.ContainerStart.{ContainerStart}
 use Rattle.model.specs.declared.families.container.ContainerStart.TheVariants.{GetState, UpdateState}
 use Rattle.model.specs.declared.families.container.calls.ContainerFlight.TheVariants as calls
 use Rattle.model.specs.Families.Container.Reading.{contents_of, announced_of}
 use Rattle.model.specs.Families.Container.States as states
-use Rattle.model.specs.Families.Indices.Robust.Promises.{HeldThrough}
-use Rattle.model.specs.Moments.{HeldOnce, SinceBegin}
+use Rattle.model.specs.Families.Indices.Robust.Promises.{HeldThroughout}
+use Rattle.model.specs.Moments.{HeldSometime, SinceBegin}
 use Rattle.model.specs.Reading.{whose, is_party, span_of}
 use Rattle.model.specs.Shape.{IsShut}
 use Rattle.model.specs.World.{World, Trace, flight_in}
 
 module _ {T : Type 0} where
   -- the party's state
-  abbrev pub state_in : Kept T → ℕ → Option (ContainerState T)
-  state_in (kepts.TheVariants.Container dead all) p = states.state_of p all
+  abbrev pub state_in : Registry T → ℕ → Option (ContainerState T)
+  state_in (registries.TheVariants.Container dead all) p = states.state_of p all
   state_in kept p = None
 
   -- what it shows at an index
@@ -63,7 +63,7 @@ module _ {T : Type 0} where
 
   -- the value stood at the index through the party's call
   abbrev pub StoodThrough : ℕ → ℕ → T → List (Event T) → Type 0
-  StoodThrough p i value events = HeldThrough p (λ part. contents_of i part ≡ Some value) events
+  StoodThrough p i value events = HeldThroughout p (λ part. contents_of i part ≡ Some value) events
 
   abbrev pub IsOwnOrDeath : ℕ → Event T → Type 0
   IsOwnOrDeath p (Died o) = Unit {0}
@@ -89,7 +89,7 @@ module _ {T : Type 0} where
   -- each index shows what stood there at a moment of the look, or that nothing did
   abbrev pub ShowsMoments : ℕ → ℕ → ContainerState T → List (Event T) → Type 0
   ShowsMoments p capacity state events =
-      (i : ℕ) → i < capacity → HeldOnce p (λ part. shows state i ≡ contents_of i part) events
+      (i : ℕ) → i < capacity → HeldSometime p (λ part. shows state i ≡ contents_of i part) events
 
   -- by the answer: a false leaves the state as it was, and a new state's number is that of its values
   abbrev pub AnswersOfState : ContainerStart T → Answer T → Option (ContainerState T)

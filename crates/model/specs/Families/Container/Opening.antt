@@ -1,10 +1,11 @@
 -- The words of the container at its opening, who may begin which call, and what its begin keeps.
-use Rattle.std.specs.Prelude.{ℕ, ◌+◌, ◌*◌, ◌-◌, ◌^◌, ◌&&◌, Bool, true, false, not, Option, Some, None, is_some, option_map, List, [], ◌∷◌, ◌++◌, replicate, if◌then◌else◌}
+use Rattle.std.specs.Prelude.{ℕ, ◌+◌, ◌*◌, ◌-◌, ◌^◌, ◌&&◌, Bool, true, false, not, Option, Some, None, is_some}
+use Rattle.std.specs.Prelude.{option_map, List, [], ◌∷◌, ◌++◌, replicate, if◌then◌else◌}
 use Rattle.steps.specs.declared.container.state.ContainerState.{ContainerState}
 use Rattle.model.specs.declared.families.Flight.{Flight}
 use Rattle.model.specs.declared.families.Flight as flights
-use Rattle.model.specs.declared.families.Kept.{Kept}
-use Rattle.model.specs.declared.families.Kept as kepts
+use Rattle.model.specs.declared.families.Registry.{Registry}
+use Rattle.model.specs.declared.families.Registry as registries
 use Rattle.model.specs.declared.families.container.ContainerStart.{ContainerStart}
 use Rattle.model.specs.declared.families.container.ContainerStart.TheVariants.{Add, Remove, Replace, Find, Recover, GetState, UpdateState}
 use Rattle.model.specs.declared.families.container.calls.ContainerFlight.{ContainerFlight}
@@ -33,7 +34,7 @@ opening =
       least = 1;
       greatest = 2 ^ 32 - 1;
       words = opening_words;
-      kept = λ capacity. kepts.TheVariants.Container [] [];
+      kept = λ capacity. registries.TheVariants.Container [] [];
     }
 
 -- ---- a call begins
@@ -67,11 +68,11 @@ module _ {T : Type 0} where
   call_rows dead (Recover owner mode) = (not (has_died owner dead), OwnerLives) ∷ []
   call_rows dead start = []
 
-  abbrev pub kept_rows : ContainerStart T → Kept T → ℕ → List (Bool × Refusal)
-  kept_rows start (kepts.TheVariants.Container dead states) p = call_rows dead start
+  abbrev pub kept_rows : ContainerStart T → Registry T → ℕ → List (Bool × Refusal)
+  kept_rows start (registries.TheVariants.Container dead states) p = call_rows dead start
   kept_rows start kept p = (true, WrongCall) ∷ []
 
-  abbrev pub begin : Kind → ℕ → ContainerStart T → Beginning (Flight T) (Kept T)
+  abbrev pub begin : Kind → ℕ → ContainerStart T → Beginning (Flight T) (Registry T)
   begin kind capacity start =
       record {
         call = λ kept. option_map flights.TheVariants.Container (call_of kind capacity start);
@@ -88,7 +89,7 @@ module _ {T : Type 0} where
       if is_some (state_of p states) then states else with_state p (fresh code capacity) states
   states_at_begin code capacity start p states = states
 
-  abbrev pub keeps : Coding T → ℕ → ContainerStart T → ℕ → Kept T → Kept T
-  keeps code capacity start p (kepts.TheVariants.Container dead states) =
-      kepts.TheVariants.Container dead (states_at_begin code capacity start p states)
+  abbrev pub keeps : Coding T → ℕ → ContainerStart T → ℕ → Registry T → Registry T
+  keeps code capacity start p (registries.TheVariants.Container dead states) =
+      registries.TheVariants.Container dead (states_at_begin code capacity start p states)
   keeps code capacity start p kept = kept

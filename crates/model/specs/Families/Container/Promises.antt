@@ -13,8 +13,8 @@ use Rattle.model.specs.declared.event.Event.{Event}
 use Rattle.model.specs.declared.event.Event.TheVariants.{FreedOf, Asked, Told, Placed, Hidden, Copied, Shown, Finished}
 use Rattle.model.specs.declared.event.Start.{Start}
 use Rattle.model.specs.declared.event.Start.TheVariants.{Container}
-use Rattle.model.specs.declared.families.Kept.{Kept}
-use Rattle.model.specs.declared.families.Kept as kepts
+use Rattle.model.specs.declared.families.Registry.{Registry}
+use Rattle.model.specs.declared.families.Registry as registries
 use Rattle.model.specs.declared.families.container.ContainerStart.{ContainerStart}
 use Rattle.model.specs.declared.families.container.ContainerStart.TheVariants.{Add, Remove, Replace, Find, Recover, Len, IsEmpty, IsLocked}
 use Rattle.model.specs.declared.party.Party.{Party}
@@ -31,16 +31,18 @@ use Rattle.model.specs.Families.Container.Removals.{HidesRight}
 use Rattle.model.specs.Families.Container.Spans.{may_stand, HasDone}
 use Rattle.model.specs.Families.Indices.Reading.{is_locked}
 use Rattle.model.specs.Families.Indices.Robust.Dead.{has_died}
-use Rattle.model.specs.Families.Indices.Robust.Promises.{cell_of, IsFilled, IsFilledWith, IsUnlocked, HeldThrough, SetDoes, FreesRight, HoldsRight, IsCount, FilledSinceFreed, StillToFree, IsIn}
+use Rattle.model.specs.Families.Indices.Robust.Promises.{cell_of, IsFilled, IsFilledWith, IsUnlocked, HeldThroughout}
+use Rattle.model.specs.Families.Indices.Robust.Promises.{SetDoes, FreesRight, HoldsRight, IsCount, FilledSinceFreed}
+use Rattle.model.specs.Families.Indices.Robust.Promises.{StillToFree, IsIn}
 use Rattle.model.specs.Families.Indices.Robust.Reading.{filled_of, is_dead, Asks, Yes, deeds, deeds_of, IsOneOf}
-use Rattle.model.specs.Moments.{HeldOnce}
+use Rattle.model.specs.Moments.{HeldSometime}
 use Rattle.model.specs.Parties.{party_of}
 use Rattle.model.specs.Promise.{Promise}
 use Rattle.model.specs.Reading.{Each, Span, Open, span_of}
 use Rattle.model.specs.World.{Trace}
 
 module _ {T : Type 0} where
-  -- ---- a proper run
+  -- ---- a well-formed run
 
   -- a replace that has replaced was begun where that might be
   abbrev pub ReplacesRight : List (Event T) → Event T → Type 0
@@ -49,21 +51,21 @@ module _ {T : Type 0} where
   ReplacesRight before e = Unit {0}
 
   -- and so was one under way that has taken a step, and at whose index its owner was meanwhile
-  abbrev pub StandsProper : ℕ → Option (Party T) → List (Event T) → Type 0
-  StandsProper p None events = Unit {0}
-  StandsProper p (Some x) events =
+  abbrev pub StandsWellFormed : ℕ → Option (Party T) → List (Event T) → Type 0
+  StandsWellFormed p None events = Unit {0}
+  StandsWellFormed p (Some x) events =
       (index owner : ℕ) (value : T) (wrote : List (Event T))
       → span_of p events ≡ Open (Container (Replace index value owner)) wrote
       → 1 ≤ x.steps
-      → HeldOnce p (IsFilledWith owner index) events
+      → HeldSometime p (IsFilledWith owner index) events
       → MayReplace p index owner events
 
   -- A remove that frees was begun where its index might be given back for its owner, and a replace that
   -- has found its owner where it might be replaced.
-  pub record IsProperRun (t : Trace T) : Type 0 where
+  pub record IsWellFormedRun (t : Trace T) : Type 0 where
     pub frees : Each FreesRight t.events
     pub replaced : Each ReplacesRight t.events
-    pub replaces : (p : ℕ) → StandsProper p (party_of p t.world.latest) t.events
+    pub replaces : (p : ℕ) → StandsWellFormed p (party_of p t.world.latest) t.events
 
   -- ---- recovery, in every run
 
@@ -71,7 +73,7 @@ module _ {T : Type 0} where
   -- call, and nothing if it began after the lock.
   abbrev pub AsksRight : List (Event T) → Event T → Type 0
   AsksRight before (Asked p index owner) =
-      HeldOnce p (IsFilledWith owner index) before × HeldOnce p IsUnlocked before
+      HeldSometime p (IsFilledWith owner index) before × HeldSometime p IsUnlocked before
       × (is_dead owner before ≡ true)
   AsksRight before (Told p index owner) = is_dead owner before ≡ true
   AsksRight before e = Unit {0}
@@ -98,7 +100,7 @@ module _ {T : Type 0} where
     pub gone : (index : ℕ)
         → IsOneOf (Yes index owner) (deeds_of p events) ⊎ WasShown p index events
         → filled_of index events ≢ Some owner
-    pub asked : (index : ℕ) → HeldThrough p (StillToFree p owner index) events
+    pub asked : (index : ℕ) → HeldThroughout p (StillToFree p owner index) events
         → IsOneOf (Asks index owner) (deeds_of p events) ⊎ WasShown p index events
 
   -- ---- answers, in every run
@@ -126,7 +128,7 @@ module _ {T : Type 0} where
       is_locked before ≡ true
   AnswersRight capacity before
       (Finished p (Container (Add value owner)) (NoPlace failures.OutOfSpace)) =
-      IsUnlocked before × ((index : ℕ) → index < capacity → HeldOnce p (IsFilled index) before)
+      IsUnlocked before × ((index : ℕ) → index < capacity → HeldSometime p (IsFilled index) before)
   AnswersRight capacity before
       (Finished p (Container (Remove index owner mode)) (NotRemoved failure)) =
       (capacity ≤ index) ⊎ (filled_of index before ≢ Some owner)
@@ -135,13 +137,13 @@ module _ {T : Type 0} where
       is_locked before ≡ true
   AnswersRight capacity before
       (Finished p (Container (Remove index owner LockIfLastIndex)) (State locks.Unlocked)) =
-      HeldOnce p IsUnlocked before × FilledSinceFreed p owner index before
+      HeldSometime p IsUnlocked before × FilledSinceFreed p owner index before
   AnswersRight capacity before
       (Finished p (Container (Replace index value owner)) (NotRemoved failure)) =
       (capacity ≤ index) ⊎ (filled_of index before ≢ Some owner)
   AnswersRight capacity before
       (Finished p (Container (Replace index value owner)) Done) =
-      (index < capacity) × HeldOnce p (IsFilledWith owner index) before
+      (index < capacity) × HeldSometime p (IsFilledWith owner index) before
   AnswersRight capacity before (Finished p (Container (Find owner)) (Number number)) =
       IsFound p owner capacity number before
   AnswersRight capacity before
@@ -158,7 +160,7 @@ module _ {T : Type 0} where
       locked ≡ is_locked before
   AnswersRight capacity before e = Unit {0}
 
-  -- ---- contents, in a proper run
+  -- ---- contents, in a well-formed run
 
   -- A value is placed where nothing stands, and hidden where something does. What is copied stands there,
   -- whole. A recovery is shown that nothing stands.
@@ -203,8 +205,8 @@ module _ {T : Type 0} where
   -- ---- what the words say, and what is kept beside them
 
   -- the machine refuses as dead whoever has died by the events
-  abbrev pub KeepsDead : Kept T → List (Event T) → Type 0
-  KeepsDead (kepts.TheVariants.Container dead states) events =
+  abbrev pub KeepsDead : Registry T → List (Event T) → Type 0
+  KeepsDead (registries.TheVariants.Container dead states) events =
       (owner : ℕ) → has_died owner dead ≡ is_dead owner events
   KeepsDead kept events = ⊥
 
@@ -219,22 +221,22 @@ module _ {T : Type 0} where
     pub dead : KeepsDead t.world.kept t.events
     pub questions : AsksCopies t
     pub states : ShowsCopies t.world t.events
-    pub proper : IsProperRun t → IsContained t
+    pub well_formed : IsWellFormedRun t → IsContained t
 
   -- ---- what a turn tells
 
-  -- The indices below the bound that a find has counted; in a proper run it has copied each counted one
+  -- The indices below the bound that a find has counted; in a well-formed run it has copied each counted one
   -- where a value stood through the call.
   pub record IsFoundWhole (p owner bound number : ℕ) (events : List (Event T)) : Type 0 where
     pub count : IsCount p (IsFilledWith owner) bound number events
     pub copied : (index : ℕ) → index < bound → count.chosen index ≡ true
-        → HeldThrough p (λ part. is_some (contents_of index part) ≡ true) events
+        → HeldThroughout p (λ part. is_some (contents_of index part) ≡ true) events
         → (value : T) × Has (Copies index value) (acts_of p events)
 
   abbrev pub CountsRight : ℕ → ℕ → ℕ → ℕ → List (Event T) → Trace T → Type 0
   CountsRight p owner bound number events new =
       IsCount p (IsFilledWith owner) bound number events
-      × (IsProperRun new → IsFoundWhole p owner bound number events)
+      × (IsWellFormedRun new → IsFoundWhole p owner bound number events)
 
   -- a find that ends in another turn than a no has come to the indices of the whole container
   abbrev pub FindsAll : Trace T → Turn T → Trace T → Type 0
@@ -259,14 +261,14 @@ module _ {T : Type 0} where
       (p owner : ℕ) → turn ≡ Decide p false → IsIn p (Container (Find owner)) old
       → IsStopped p owner old new
 
-  -- a look that ends: its state by its answer, and in a proper run by what stands
+  -- a look that ends: its state by its answer, and in a well-formed run by what stands
   abbrev pub LooksRight : Trace T → Turn T → Trace T → Type 0
   LooksRight old turn new =
       (p : ℕ) (start : ContainerStart T) (answer : Answer T) (state : ContainerState T)
       → EndsLook p start answer old new
       → state_in new.world.kept p ≡ Some state
       → AnswersOfState start answer (state_in old.world.kept p) state
-      × (IsProperRun new
+      × (IsWellFormedRun new
       → IsCurrent p old.world.capacity state new.events
       × MomentsOfState p old.world.capacity start answer state new.events)
 

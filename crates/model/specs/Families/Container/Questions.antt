@@ -18,7 +18,7 @@ use Rattle.model.specs.Coding.{Coding}
 use Rattle.model.specs.Families.Container.Reading.{Copies, acts_of, HasLatest}
 use Rattle.model.specs.Families.Indices.Robust.Promises.{IsFilledWith, IsIn}
 use Rattle.model.specs.Families.Queues.Calls.{read_in}
-use Rattle.model.specs.Moments.{HeldOnce}
+use Rattle.model.specs.Moments.{HeldSometime}
 use Rattle.model.specs.Reading.{Span, Open, span_of}
 use Rattle.model.specs.World.{Trace, flight_in}
 
@@ -56,9 +56,9 @@ module _ {T : Type 0} where
   -- a find and a recovery come to indices that were their owner's at a moment of the call
   abbrev pub WasOwners : ℕ → ℕ → List (Event T) → Span T → Type 0
   WasOwners p index before (Open (Container (Find owner)) wrote) =
-      HeldOnce p (IsFilledWith owner index) before
+      HeldSometime p (IsFilledWith owner index) before
   WasOwners p index before (Open (Container (Recover owner mode)) wrote) =
-      HeldOnce p (IsFilledWith owner index) before
+      HeldSometime p (IsFilledWith owner index) before
   WasOwners p index before span = Unit {0}
 
   -- and ask at once about what they copy there

@@ -9,7 +9,7 @@ use Rattle.model.specs.declared.event.Start.TheVariants.{Container}
 use Rattle.model.specs.declared.families.container.ContainerStart.TheVariants.{Recover}
 use Rattle.model.specs.Families.Indices.Robust.Promises.{IsUnlocked, FilledSinceFreed}
 use Rattle.model.specs.Families.Indices.Robust.Reading.{Frees, deeds_of, IsOneOf}
-use Rattle.model.specs.Moments.{HeldOnce}
+use Rattle.model.specs.Moments.{HeldSometime}
 use Rattle.model.specs.Reading.{Span, Open, span_of}
 use Rattle.model.specs.World.{Trace}
 
@@ -23,7 +23,7 @@ module _ {T : Type 0} where
 
   -- the party's recovery, if it has one under way, began before the lock
   abbrev pub BeganUnlocked : ℕ → List (Event T) → Type 0
-  BeganUnlocked p events = IsRecovery (span_of p events) → HeldOnce p IsUnlocked events
+  BeganUnlocked p events = IsRecovery (span_of p events) → HeldSometime p IsUnlocked events
 
   -- a recovery that began after the lock copies nothing, is shown nothing and frees nothing
   abbrev pub VisitsRight : List (Event T) → Event T → Type 0
@@ -43,7 +43,7 @@ module _ {T : Type 0} where
   -- the container was not locked at a moment of the call after all that the call did to the set
   abbrev pub UnlockedAtLast : ℕ → List (Event T) → Type 0
   UnlockedAtLast p events =
-      HeldOnce p (λ part. IsUnlocked part × (deeds_of p part ≡ deeds_of p events)) events
+      HeldSometime p (λ part. IsUnlocked part × (deeds_of p part ≡ deeds_of p events)) events
 
   -- in the mode that locks, some index was filled after each that it freed
   abbrev pub FilledSinceEach : ReleaseMode → ℕ → ℕ → List (Event T) → Type 0

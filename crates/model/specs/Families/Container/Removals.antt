@@ -7,13 +7,13 @@ use Rattle.model.specs.declared.event.Start.TheVariants.{Container}
 use Rattle.model.specs.declared.families.container.ContainerStart.TheVariants.{Remove, Recover}
 use Rattle.model.specs.Families.Container.Reading.{contents_of}
 use Rattle.model.specs.Families.Indices.Robust.Reading.{Frees, deeds_of, IsOneOf}
-use Rattle.model.specs.Moments.{HeldOnce}
+use Rattle.model.specs.Moments.{HeldSometime}
 
 module _ {T : Type 0} where
   -- nothing stood at the index at a moment of the party's call after it had freed it
   abbrev pub EmptySinceFreed : ℕ → ℕ → ℕ → List (Event T) → Type 0
   EmptySinceFreed p owner index events =
-      HeldOnce p
+      HeldSometime p
       (λ part. IsOneOf (Frees index owner) (deeds_of p part) × (contents_of index part ≡ None))
       events
 

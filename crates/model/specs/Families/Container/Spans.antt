@@ -10,7 +10,9 @@ use Rattle.model.specs.declared.event.Event.{Event}
 use Rattle.model.specs.declared.event.Event.TheVariants.{Filled, Granted, FreedOf, Asked, Told, Locked, Placed, Hidden, Copied, Shown}
 use Rattle.model.specs.declared.event.Start.TheVariants.{Container}
 use Rattle.model.specs.declared.families.container.ContainerStart.{ContainerStart}
-use Rattle.model.specs.declared.families.container.ContainerStart.TheVariants.{Add, Remove, Replace, Find, Recover, GetState, UpdateState, Len, IsEmpty, IsLocked}
+use Rattle.model.specs.declared.families.container.ContainerStart.TheVariants.{Add, Remove, Replace, Find, Recover}
+use Rattle.model.specs.declared.families.container.ContainerStart.TheVariants.{GetState, UpdateState, Len, IsEmpty}
+use Rattle.model.specs.declared.families.container.ContainerStart.TheVariants.{IsLocked}
 use Rattle.model.specs.Families.Container.Reading.{Act, Hides, Copies, Sees, acts, seen_in, Has, HasLatest}
 use Rattle.model.specs.Families.Indices.Robust.Reading.{Deed, Fills, Grants, Frees, Asks, Yes, Locks, deeds, IsOneOf, IsLatest, asked_in}
 use Rattle.model.specs.Families.Indices.Robust.Spans.{HasJustFreed, FilledLate}

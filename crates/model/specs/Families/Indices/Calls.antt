@@ -4,7 +4,9 @@ use Rattle.steps.specs.declared.ask.Want.{Want}
 use Rattle.steps.specs.declared.ask.After.{After}
 use Rattle.steps.specs.declared.indices.enums.ReleaseMode.{ReleaseMode}
 use Rattle.steps.specs.declared.indices.enums.ReleaseMode.TheVariants.{LockIfLastIndex, Default}
-use Rattle.steps.specs.Indices.Unique.{Acquired, first_acquire, acquire_want, acquire_after, acquire_goes_back, first_release, release_want, release_after, release_goes_back, borrowed_after, locked_after}
+use Rattle.steps.specs.Indices.Unique.{Acquired, first_acquire, acquire_want, acquire_after, acquire_goes_back}
+use Rattle.steps.specs.Indices.Unique.{first_release, release_want, release_after, release_goes_back, borrowed_after}
+use Rattle.steps.specs.Indices.Unique.{locked_after}
 use Rattle.steps.specs.Queues.Ring.{load}
 use Rattle.steps.specs.Routine.{went_on}
 use Rattle.model.specs.declared.event.Answer.{Answer}

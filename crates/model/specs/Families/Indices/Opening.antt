@@ -1,10 +1,11 @@
 -- The words of the unique index set at its opening, and who may begin which call.
-use Rattle.std.specs.Prelude.{ℕ, ◌+◌, ◌-◌, ◌/◌, ◌^◌, Bool, true, false, not, Option, Some, None, option_map, List, [], ◌∷◌, ◌++◌, replicate, nat_le, if◌then◌else◌, slice_index_or}
+use Rattle.std.specs.Prelude.{ℕ, ◌+◌, ◌-◌, ◌/◌, ◌^◌, Bool, true, false, not, Option, Some, None, option_map, List, []}
+use Rattle.std.specs.Prelude.{◌∷◌, ◌++◌, replicate, nat_le, if◌then◌else◌, slice_index_or}
 use Rattle.std.specs.List.{range_with_len}
 use Rattle.model.specs.declared.families.Flight.{Flight}
 use Rattle.model.specs.declared.families.Flight as flights
-use Rattle.model.specs.declared.families.Kept.{Kept}
-use Rattle.model.specs.declared.families.Kept as kepts
+use Rattle.model.specs.declared.families.Registry.{Registry}
+use Rattle.model.specs.declared.families.Registry as registries
 use Rattle.model.specs.declared.families.indices.IndexStart.{IndexStart}
 use Rattle.model.specs.declared.families.indices.IndexStart.TheVariants.{Acquire, Release, BorrowedIndices, IsLocked}
 use Rattle.model.specs.declared.families.indices.calls.IndexFlight.{IndexFlight}
@@ -34,7 +35,7 @@ opening =
       least = 1;
       greatest = 2 ^ 24 - 2;
       words = λ size capacity. opening_words capacity;
-      kept = λ capacity. kepts.TheVariants.Indices (replicate capacity None);
+      kept = λ capacity. registries.TheVariants.Indices (replicate capacity None);
     }
 
 -- whether a machine of a kind has the set
@@ -57,13 +58,13 @@ call_rows capacity holders p Acquire = []
 call_rows capacity holders p BorrowedIndices = []
 call_rows capacity holders p IsLocked = []
 
-abbrev pub kept_rows : {T : Type 0} → ℕ → IndexStart → Kept T → ℕ → List (Bool × Refusal)
-kept_rows capacity start (kepts.TheVariants.Indices holders) p =
+abbrev pub kept_rows : {T : Type 0} → ℕ → IndexStart → Registry T → ℕ → List (Bool × Refusal)
+kept_rows capacity start (registries.TheVariants.Indices holders) p =
     call_rows capacity holders p start
 kept_rows capacity start kept p = (true, WrongCall) ∷ []
 
 module _ {T : Type 0} where
-  abbrev pub begin : Kind → ℕ → IndexStart → Beginning (Flight T) (Kept T)
+  abbrev pub begin : Kind → ℕ → IndexStart → Beginning (Flight T) (Registry T)
   begin kind capacity start =
       record {
         call = λ kept. option_map flights.TheVariants.Indices (call_of kind capacity start);

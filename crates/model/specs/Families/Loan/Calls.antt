@@ -17,8 +17,8 @@ use Rattle.model.specs.declared.event.Answer.{Answer}
 use Rattle.model.specs.declared.event.Answer as answers
 use Rattle.model.specs.declared.families.Flight.{Flight}
 use Rattle.model.specs.declared.families.Flight as flights
-use Rattle.model.specs.declared.families.Kept.{Kept}
-use Rattle.model.specs.declared.families.Kept as kepts
+use Rattle.model.specs.declared.families.Registry.{Registry}
+use Rattle.model.specs.declared.families.Registry as registries
 use Rattle.model.specs.declared.families.loan.Book.{Book}
 use Rattle.model.specs.declared.families.loan.LoanStart.{LoanStart}
 use Rattle.model.specs.declared.families.loan.LoanStart as starts
@@ -152,8 +152,8 @@ abbrev pub book_rows : LoanFlight → Book → List (Bool × Refusal)
 book_rows flight book = (has_died (party_of flight) book.dead, OwnerIsDead) ∷ []
 
 module _ {T : Type 0} where
-  abbrev pub going_rows : LoanFlight → Kept T → Option Bool → List (Bool × Refusal)
-  going_rows flight (kepts.TheVariants.Loan book) said = book_rows flight book
+  abbrev pub going_rows : LoanFlight → Registry T → Option Bool → List (Bool × Refusal)
+  going_rows flight (registries.TheVariants.Loan book) said = book_rows flight book
   going_rows flight kept said = []
 
   -- the family's call under way, as one of a machine: where no table is kept
@@ -167,7 +167,7 @@ module _ {T : Type 0} where
       }
 
   -- and where one is kept
-  abbrev pub goes : LoanFlight → ℕ → Kept T → After (Flight T) (Answer T)
-  goes flight old (kepts.TheVariants.Loan book) =
+  abbrev pub goes : LoanFlight → ℕ → Registry T → After (Flight T) (Answer T)
+  goes flight old (registries.TheVariants.Loan book) =
       as_call flights.TheVariants.Loan (λ answer. answer) (after book.places flight old)
   goes flight old kept = (going flight).after old

@@ -1,10 +1,11 @@
 -- The words of a loan channel at its opening, who may begin which call, and what its begin keeps.
-use Rattle.std.specs.Prelude.{ℕ, ◌+◌, ◌-◌, ◌^◌, ◌==◌, Bool, true, false, not, Option, Some, None, option_map, List, [], ◌∷◌, ◌++◌, replicate, if◌then◌else◌, nat_le, slice_index_or, slice_set}
+use Rattle.std.specs.Prelude.{ℕ, ◌+◌, ◌-◌, ◌^◌, ◌==◌, Bool, true, false, not, Option, Some, None, option_map, List, []}
+use Rattle.std.specs.Prelude.{◌∷◌, ◌++◌, replicate, if◌then◌else◌, nat_le, slice_index_or, slice_set}
 use Rattle.steps.specs.declared.loan.places.Place.TheVariants.{Free}
 use Rattle.model.specs.declared.families.Flight.{Flight}
 use Rattle.model.specs.declared.families.Flight as flights
-use Rattle.model.specs.declared.families.Kept.{Kept}
-use Rattle.model.specs.declared.families.Kept as kepts
+use Rattle.model.specs.declared.families.Registry.{Registry}
+use Rattle.model.specs.declared.families.Registry as registries
 use Rattle.model.specs.declared.families.loan.Book.{Book}
 use Rattle.model.specs.declared.families.loan.LoanStart.{LoanStart}
 use Rattle.model.specs.declared.families.loan.LoanStart.TheVariants.{Send, GiveUp, Receive, GiveBack, Reclaim}
@@ -42,8 +43,8 @@ opening_book slots queue =
       dead = [];
     }
 
-abbrev pub opening_kept : {T : Type 0} → ℕ → ℕ → Kept T
-opening_kept slots queue = kepts.TheVariants.Loan (opening_book slots queue)
+abbrev pub opening_kept : {T : Type 0} → ℕ → ℕ → Registry T
+opening_kept slots queue = registries.TheVariants.Loan (opening_book slots queue)
 
 -- of one number, which is both
 abbrev pub opening : Opening
@@ -105,24 +106,24 @@ call_rows slots book p start =
     ∷ (reclaims_early book start, OwnerLives)
     ∷ []
 
-abbrev pub kept_rows : {T : Type 0} → ℕ → LoanStart → Kept T → ℕ → List (Bool × Refusal)
-kept_rows slots start (kepts.TheVariants.Loan book) p = call_rows slots book p start
+abbrev pub kept_rows : {T : Type 0} → ℕ → LoanStart → Registry T → ℕ → List (Bool × Refusal)
+kept_rows slots start (registries.TheVariants.Loan book) p = call_rows slots book p start
 kept_rows slots start kept p = (true, WrongCall) ∷ []
 
 -- the call that begins on a machine of this kind that keeps this
 abbrev pub call_in : Kind → ℕ → LoanStart → Book → Option LoanFlight
 call_in kind slots start book = if is_loan kind then Some (first slots book start) else None
 
-abbrev pub call_kept : {T : Type 0} → ℕ → LoanStart → Kept T → Option LoanFlight
-call_kept slots start (kepts.TheVariants.Loan book) = Some (first slots book start)
+abbrev pub call_kept : {T : Type 0} → ℕ → LoanStart → Registry T → Option LoanFlight
+call_kept slots start (registries.TheVariants.Loan book) = Some (first slots book start)
 call_kept slots start kept = None
 
 -- whatever is kept, no other kind has such a call
-abbrev pub call_of : {T : Type 0} → Kind → ℕ → LoanStart → Kept T → Option LoanFlight
+abbrev pub call_of : {T : Type 0} → Kind → ℕ → LoanStart → Registry T → Option LoanFlight
 call_of kind slots start kept = if is_loan kind then call_kept slots start kept else None
 
 module _ {T : Type 0} where
-  abbrev pub begin : Kind → ℕ → LoanStart → Beginning (Flight T) (Kept T)
+  abbrev pub begin : Kind → ℕ → LoanStart → Beginning (Flight T) (Registry T)
   begin kind slots start =
       record {
         call = λ kept. option_map flights.TheVariants.Loan (call_of kind slots start kept);
@@ -136,7 +137,7 @@ abbrev pub taken_from : Book → Option ℕ → Book
 taken_from book None = book
 taken_from book (Some index) = record book { holders = slice_set book.holders index None }
 
-abbrev pub keeps : {T : Type 0} → LoanStart → Kept T → Kept T
-keeps start (kepts.TheVariants.Loan book) =
-    kepts.TheVariants.Loan (taken_from book (asks_for start))
+abbrev pub keeps : {T : Type 0} → LoanStart → Registry T → Registry T
+keeps start (registries.TheVariants.Loan book) =
+    registries.TheVariants.Loan (taken_from book (asks_for start))
 keeps start kept = kept

@@ -1,5 +1,6 @@
 -- What holds of the machine of a loan channel, after any turns.
-use Rattle.std.specs.Prelude.{◌≡◌, ◌≢◌, ◌⊎◌, ◌↔◌, ℕ, ◌+◌, ◌<◌, true, false, Option, Some, None, IfSome, Contains, AllPairs, List, [], ◌++◌, map, take, drop, slice_index, slice_index_or}
+use Rattle.std.specs.Prelude.{◌≡◌, ◌≢◌, ◌⊎◌, ◌↔◌, ℕ, ◌+◌, ◌<◌, true, false, Option, Some, None, IfSome, Contains}
+use Rattle.std.specs.Prelude.{AllPairs, List, [], ◌++◌, map, take, drop, slice_index, slice_index_or}
 use Rattle.steps.specs.declared.ask.Ask.{Ask}
 use Rattle.steps.specs.declared.ask.Op.TheVariants.{Load}
 use Rattle.steps.specs.declared.indices.enums.UniqueIndexSetAcquireFailure.TheVariants as failures
@@ -16,15 +17,16 @@ use Rattle.model.specs.declared.event.Item.{Item}
 use Rattle.model.specs.declared.event.Item.TheVariants.{Index}
 use Rattle.model.specs.declared.event.Start.{Start}
 use Rattle.model.specs.declared.event.Start.TheVariants.{Loan}
-use Rattle.model.specs.declared.families.Kept.{Kept}
-use Rattle.model.specs.declared.families.Kept as kepts
+use Rattle.model.specs.declared.families.Registry.{Registry}
+use Rattle.model.specs.declared.families.Registry as registries
 use Rattle.model.specs.declared.families.loan.Book.{Book}
 use Rattle.model.specs.declared.families.loan.LoanStart.TheVariants as calls
 use Rattle.model.specs.declared.families.queues.QueueKind.TheVariants.{IndexQueue, Overflow}
 use Rattle.model.specs.Coding.{Coding}
 use Rattle.model.specs.Families.Indices.Robust.Dead.{has_died}
 use Rattle.model.specs.Families.Loan.Bounds.{most_steps}
-use Rattle.model.specs.Families.Loan.Reading.{Spot, Free, Passing, With, Waiting, Returning, Move, move_of, spot_of, place_of, receiver_of, has_died_by, given_back, taken_back, queue_moments}
+use Rattle.model.specs.Families.Loan.Reading.{Spot, Free, Passing, With, Waiting, Returning, Move, move_of, spot_of}
+use Rattle.model.specs.Families.Loan.Reading.{place_of, receiver_of, has_died_by, given_back, taken_back, queue_moments}
 use Rattle.model.specs.Families.Loan.Spans.{Wrote, may_stand}
 use Rattle.model.specs.Families.Queues.Book.{waiting_in}
 use Rattle.model.specs.Families.Queues.Objects.{overflowing_list}
@@ -183,8 +185,8 @@ module _ {T : Type 0} where
         (given_back_in t.world.coding t.world.capacity book.queue t.world.words) t.events
     pub keeps : KeepsBook book t.events
 
-  abbrev pub IsChannelBy : Kept T → Trace T → Type 0
-  IsChannelBy (kepts.TheVariants.Loan book) t = IsChannelOf book t
+  abbrev pub IsChannelBy : Registry T → Trace T → Type 0
+  IsChannelBy (registries.TheVariants.Loan book) t = IsChannelOf book t
   IsChannelBy kept t = ⊥
 
   abbrev pub IsChannel : Trace T → Type 0

@@ -3,7 +3,7 @@ use Rattle.std.specs.Prelude.{ℕ, ◌==◌, Bool, false, Option, Some, None, Li
 use Rattle.steps.specs.declared.ask.Want.{Want}
 use Rattle.steps.specs.declared.ask.After.{After}
 use Rattle.steps.specs.declared.copied.OneWord.{OneWord}
-use Rattle.steps.specs.declared.copied.Kept as rooms
+use Rattle.steps.specs.declared.copied.Buffer as buffers
 use Rattle.steps.specs.Copied.{kept_in_one, value_in}
 use Rattle.steps.specs.Routine.{went_on}
 use Rattle.steps.specs.Queues.Roles.{acquire_want, acquire_after, release_want, release_after}
@@ -58,7 +58,7 @@ release_of word = Role (Release (record { call = record { word = word }; given =
 abbrev pub fresh : OneWord
 fresh = record { 0 = 0 }
 
-abbrev pub fresh_cell : rooms.Kept 128
+abbrev pub fresh_cell : buffers.Buffer 128
 fresh_cell = record { words = replicate 128 0 }
 
 -- the queues of indices push an index, and the queue of values a value
@@ -148,11 +148,11 @@ goes_back (Overflow (overflows.TheVariants.Pop run)) old = overflow.goes_back ru
 goes_back (Length which run) old = turns_back run.call.stage old
 
 -- the value that the words in the room make
-abbrev pub read_in : {T : Type 0} → Coding T → rooms.Kept 128 → T
+abbrev pub read_in : {T : Type 0} → Coding T → buffers.Buffer 128 → T
 read_in code room = value_in code.value_of code.size room.words
 
 -- a word is put to its place in the room
-abbrev pub kept_at : rooms.Kept 128 → ℕ → ℕ → rooms.Kept 128
+abbrev pub kept_at : buffers.Buffer 128 → ℕ → ℕ → buffers.Buffer 128
 kept_at room at word = record room { words = slice_set room.words at word }
 
 -- an end that is the answer

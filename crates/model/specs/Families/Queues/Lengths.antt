@@ -6,15 +6,15 @@ use Rattle.model.specs.declared.event.Event.{Event}
 use Rattle.model.specs.declared.event.Event.TheVariants.{Finished}
 use Rattle.model.specs.declared.families.queues.QueueStart.TheVariants.{Len, IsEmpty, IsFull}
 use Rattle.model.specs.Families.Queues.Reading.{waiting}
-use Rattle.model.specs.Moments.{HeldOnce}
+use Rattle.model.specs.Moments.{HeldSometime}
 
 module _ {T : Type 0} where
   -- the answer tells how many values waited at one moment of the call
   abbrev pub TellsLength : ℕ → List (Event T) → Event T → Type 0
   TellsLength capacity before (Finished p (Queues Len) answer) =
-      HeldOnce p (λ part. answer ≡ Number (length (waiting part))) before
+      HeldSometime p (λ part. answer ≡ Number (length (waiting part))) before
   TellsLength capacity before (Finished p (Queues IsEmpty) answer) =
-      HeldOnce p (λ part. answer ≡ Truth (length (waiting part) == 0)) before
+      HeldSometime p (λ part. answer ≡ Truth (length (waiting part) == 0)) before
   TellsLength capacity before (Finished p (Queues IsFull) answer) =
-      HeldOnce p (λ part. answer ≡ Truth (length (waiting part) == capacity)) before
+      HeldSometime p (λ part. answer ≡ Truth (length (waiting part) == capacity)) before
   TellsLength capacity before e = Unit {0}

@@ -2,10 +2,12 @@
 use Rattle.std.specs.Prelude.{ℕ, ◌+◌, ◌*◌, ◌-◌, ◌^◌, ◌==◌, Bool, true, false, not, Option, Some, None, option_map, List, [], ◌∷◌, replicate}
 use Rattle.model.specs.declared.families.Flight.{Flight}
 use Rattle.model.specs.declared.families.Flight as flights
-use Rattle.model.specs.declared.families.Kept.{Kept}
-use Rattle.model.specs.declared.families.Kept as kepts
+use Rattle.model.specs.declared.families.Registry.{Registry}
+use Rattle.model.specs.declared.families.Registry as registries
 use Rattle.model.specs.declared.families.queues.QueueStart.{QueueStart}
-use Rattle.model.specs.declared.families.queues.QueueStart.TheVariants.{AcquireProducer, ReleaseProducer, AcquireConsumer, ReleaseConsumer, PushIndex, Push, Pop, Len, IsEmpty, IsFull}
+use Rattle.model.specs.declared.families.queues.QueueStart.TheVariants.{AcquireProducer, ReleaseProducer}
+use Rattle.model.specs.declared.families.queues.QueueStart.TheVariants.{AcquireConsumer, ReleaseConsumer, PushIndex}
+use Rattle.model.specs.declared.families.queues.QueueStart.TheVariants.{Push, Pop, Len, IsEmpty, IsFull}
 use Rattle.model.specs.declared.families.queues.Roles.{Roles}
 use Rattle.model.specs.declared.families.queues.calls.QueueFlight.{QueueFlight}
 use Rattle.model.specs.declared.turn.Kind.{Kind}
@@ -42,7 +44,7 @@ opening kind =
       least = 0;
       greatest = 2 ^ 32 - 1;
       words = λ size capacity. opening_words size kind capacity;
-      kept = λ capacity. kepts.TheVariants.Queues (record { producer = None; consumer = None });
+      kept = λ capacity. registries.TheVariants.Queues (record { producer = None; consumer = None });
     }
 
 abbrev pub holds : Option ℕ → ℕ → Bool
@@ -82,11 +84,11 @@ module _ {T : Type 0} where
   abbrev pub call_rows : Roles → ℕ → QueueStart T → List (Bool × Refusal)
   call_rows roles p start = (lacks_role roles p start, NoRole) ∷ []
 
-  abbrev pub kept_rows : QueueStart T → Kept T → ℕ → List (Bool × Refusal)
-  kept_rows start (kepts.TheVariants.Queues roles) p = call_rows roles p start
+  abbrev pub kept_rows : QueueStart T → Registry T → ℕ → List (Bool × Refusal)
+  kept_rows start (registries.TheVariants.Queues roles) p = call_rows roles p start
   kept_rows start kept p = (true, WrongCall) ∷ []
 
-  abbrev pub begin : Kind → ℕ → QueueStart T → Beginning (Flight T) (Kept T)
+  abbrev pub begin : Kind → ℕ → QueueStart T → Beginning (Flight T) (Registry T)
   begin kind capacity start =
       record {
         call = λ kept. option_map flights.TheVariants.Queues (call_of kind capacity start);

@@ -12,7 +12,9 @@ drive-requires g c = record {
 
 pub returns : goal.returns
 returns g c =
-    still g.T.Words.value_of g.T.Words.WORDS c.args.capacity c.args.id (number) (counted) c.args.words.now.items (filled_counted (contents_in g.T.Words.value_of g.T.Words.WORDS c.args.capacity c.args.id c.args.words.now.items) c.requires.1) _ _
+    still g.T.Words.value_of g.T.Words.WORDS c.args.capacity c.args.id (number) (counted) c.args.words.now.items
+    (filled_counted (contents_in g.T.Words.value_of g.T.Words.WORDS c.args.capacity c.args.id c.args.words.now.items) c.requires.1)
+    _ _
     (ends_so _ _ _ _ _ _ _ _
     (count_at g.T.Words.value_of g.T.Words.WORDS c.args.capacity c.args.id c.new.result c.new.ensures c.args.words.now.items c.requires.0)
     _ _ _ c.drive.ensures.alone)

@@ -6,12 +6,16 @@ use Rattle.plain.proofs.counts.empty.Goals as goal
 pub call_counted-visit-requires : goal.call_counted-visit-requires
 call_counted-visit-requires g c some =
     let test = c.loop-place-test.true in
-    callable (given.F-pre g) (given.F-step g) c.args.capacity c.args.words.now.items c.args.visit c.loop-place.place (omega arith) c.loop-place.call c.loop-place.words.items c.loop-place.visit c.loop-place.invariant c.swap_next-count.result c.swap_next-count.ensures.answer some
+    callable (given.F-pre g) (given.F-step g) c.args.capacity c.args.words.now.items c.args.visit c.loop-place.place
+    (omega arith) c.loop-place.call c.loop-place.words.items c.loop-place.visit c.loop-place.invariant
+    c.swap_next-count.result c.swap_next-count.ensures.answer some
 
 pub loop-place-preserved : goal.loop-place-preserved
 loop-place-preserved g c =
     let test = c.loop-place-test.true in
-    empties_one (given.F-pre g) (given.F-step g) c.args.capacity c.args.words.now.items c.args.visit c.loop-place.place (omega arith) c.loop-place.call c.loop-place.words.items c.loop-place.visit c.loop-place.invariant c.swap_next-count.result c.swap_next-count.ensures.answer
+    empties_one (given.F-pre g) (given.F-step g) c.args.capacity c.args.words.now.items c.args.visit
+    c.loop-place.place (omega arith) c.loop-place.call c.loop-place.words.items c.loop-place.visit
+    c.loop-place.invariant c.swap_next-count.result c.swap_next-count.ensures.answer
     c.swap_next-count.new.call c.swap_next-count.new.words.items c.swap_next-count.ensures.words c.swap_next-count.ensures.call
     c.call_counted-visit.result c.call_counted-visit.ensures.called c.call_counted-visit.ensures.passed
 
@@ -19,10 +23,14 @@ pub returns-clause-counts : goal.returns-clause-counts
 returns-clause-counts g c =
     let end : c.loop-place.place ≡ c.args.capacity = let test = c.loop-place-test.false in omega arith in
     (ends (given.F-pre g) (given.F-step g) c.args.capacity c.args.words.now.items c.args.visit c.loop-place.call c.loop-place.words.items c.loop-place.visit
-    (subst (λ n. Emptying (given.F-pre g) (given.F-step g) c.args.capacity c.args.words.now.items c.args.visit n c.loop-place.call c.loop-place.words.items c.loop-place.visit) end c.loop-place.invariant)).0
+    (subst (λ n. Emptying (given.F-pre g) (given.F-step g) c.args.capacity c.args.words.now.items c.args.visit n
+    c.loop-place.call c.loop-place.words.items c.loop-place.visit)
+    end c.loop-place.invariant)).0
 
 pub returns-clause-calls : goal.returns-clause-calls
 returns-clause-calls g c =
     let end : c.loop-place.place ≡ c.args.capacity = let test = c.loop-place-test.false in omega arith in
     (ends (given.F-pre g) (given.F-step g) c.args.capacity c.args.words.now.items c.args.visit c.loop-place.call c.loop-place.words.items c.loop-place.visit
-    (subst (λ n. Emptying (given.F-pre g) (given.F-step g) c.args.capacity c.args.words.now.items c.args.visit n c.loop-place.call c.loop-place.words.items c.loop-place.visit) end c.loop-place.invariant)).1
+    (subst (λ n. Emptying (given.F-pre g) (given.F-step g) c.args.capacity c.args.words.now.items c.args.visit n
+    c.loop-place.call c.loop-place.words.items c.loop-place.visit)
+    end c.loop-place.invariant)).1

@@ -8,14 +8,20 @@ loop-init g c = begins _ _ _ _ _ _ _ c.requires.stops
 
 pub loop-preserved : goal.loop-preserved
 loop-preserved g c =
-    subst (λ (z : g.row.C-Room.Denot × List ℕ). Going g.C.Routine.want_of g.C.Routine.after g.C.Routine.kept c.args.given.now c.args.call c.args.room.now c.args.words.now.items (c.loop.counter + 1) c.in-GoOn.next z.0 z.1)
+    subst (λ (z : g.row.C-Room.Denot × List ℕ). Going g.C.Routine.want_of g.C.Routine.after g.C.Routine.kept
+    c.args.given.now c.args.call c.args.room.now c.args.words.now.items (c.loop.counter + 1) c.in-GoOn.next z.0 z.1)
     (λ i. (sym c.step.ensures.room i, sym c.step.ensures.words i))
-    (goes_on g.C.Routine.want_of g.C.Routine.after g.C.Routine.kept c.args.given.now c.args.call c.args.room.now c.args.words.now.items c.loop.counter c.loop.call c.in-GoOn.next c.loop.room c.loop.words.items c.loop.invariant (sym c.step.ensures.goes ∙ c.in-GoOn.is))
+    (goes_on g.C.Routine.want_of g.C.Routine.after g.C.Routine.kept c.args.given.now c.args.call c.args.room.now
+    c.args.words.now.items c.loop.counter c.loop.call c.in-GoOn.next c.loop.room c.loop.words.items c.loop.invariant
+    (sym c.step.ensures.goes ∙ c.in-GoOn.is))
 
 pub returns-in-Done : goal.returns-in-Done
 returns-in-Done g c = record {
   alone =
-      subst (λ (z : g.row.C-Room.Denot × List ℕ). StopsAlike g.C.Routine.want_of g.C.Routine.after g.C.Routine.kept c.args.given.now c.args.call c.args.room.now c.args.words.now.items c.in-Done.stop z.0 z.1)
+      subst (λ (z : g.row.C-Room.Denot × List ℕ). StopsAlike g.C.Routine.want_of g.C.Routine.after g.C.Routine.kept
+      c.args.given.now c.args.call c.args.room.now c.args.words.now.items c.in-Done.stop z.0 z.1)
       (λ i. (sym c.step.ensures.room i, sym c.step.ensures.words i))
-      (stops g.C.Routine.want_of g.C.Routine.after g.C.Routine.kept c.args.given.now c.args.call c.args.room.now c.args.words.now.items c.loop.counter c.loop.call c.in-Done.stop c.loop.room c.loop.words.items c.loop.invariant (sym c.step.ensures.goes ∙ c.in-Done.is));
+      (stops g.C.Routine.want_of g.C.Routine.after g.C.Routine.kept c.args.given.now c.args.call c.args.room.now
+      c.args.words.now.items c.loop.counter c.loop.call c.in-Done.stop c.loop.room c.loop.words.items
+      c.loop.invariant (sym c.step.ensures.goes ∙ c.in-Done.is));
 }

@@ -1,5 +1,5 @@
 use Rattle.std.proofs.Common.{subst, sym, ap}
-use Rattle.plain.specs.Overflowing.{list_in, Fits}
+use Rattle.plain.specs.Overflowing.{list_in, Represents}
 use Rattle.plain.proofs.Alone.{can_end, ends_so}
 use Rattle.plain.proofs.Lists.Counts.{over_count_runs}
 use Rattle.plain.proofs.overflowing.len.Goals as goal
@@ -15,4 +15,4 @@ returns c =
     let so = ends_so _ _ _ _ _ _ _ _
     (over_count_runs c.args.capacity c.new.result c.new.ensures c.args.words.now.items c.requires)
     _ _ _ c.drive.ensures.alone in
-    (subst (Fits c.args.capacity) (sym so.1) c.requires, so.0, ap (list_in c.args.capacity) so.1)
+    (subst (Represents c.args.capacity) (sym so.1) c.requires, so.0, ap (list_in c.args.capacity) so.1)

@@ -1,5 +1,5 @@
 use Rattle.std.proofs.Common.{subst, sym, ap}
-use Rattle.plain.specs.Queues.{list_in, Fits}
+use Rattle.plain.specs.Queues.{list_in, Represents}
 use Rattle.plain.proofs.Alone.{can_end, ends_so}
 use Rattle.plain.proofs.Lists.Counts.{count_runs}
 use Rattle.plain.proofs.queues.len.Goals as goal
@@ -15,7 +15,7 @@ returns g c =
     let so = ends_so _ _ _ _ _ _ _ _
     (count_runs g.T.Words.value_of g.T.Words.WORDS c.args.capacity c.new.result c.new.ensures c.args.words.now.items c.requires)
     _ _ _ c.drive.ensures.alone in (
-      subst (Fits g.T.Words.WORDS c.args.capacity) (sym so.1) c.requires,
+      subst (Represents g.T.Words.WORDS c.args.capacity) (sym so.1) c.requires,
       so.0,
       ap (list_in g.T.Words.value_of g.T.Words.WORDS c.args.capacity) so.1,
     )

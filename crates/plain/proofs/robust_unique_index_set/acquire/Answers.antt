@@ -5,10 +5,12 @@ use Rattle.plain.proofs.robust_unique_index_set.acquire.Goals as goal
 pub drive-requires : goal.drive-requires
 drive-requires c = record {
   ends = can_end _ _ _ _ _ _ _ _
-      (take_at c.args.capacity c.args.owner c.value.result c.value.ensures.number c.value.ensures.named c.new.result c.new.ensures c.args.words.now.items c.requires);
+      (take_at c.args.capacity c.args.owner c.value.result c.value.ensures.number c.value.ensures.named c.new.result
+      c.new.ensures c.args.words.now.items c.requires);
 }
 
 pub returns : goal.returns
 returns c = ends_so _ _ _ _ _ _ _ _
-    (take_at c.args.capacity c.args.owner c.value.result c.value.ensures.number c.value.ensures.named c.new.result c.new.ensures c.args.words.now.items c.requires)
+    (take_at c.args.capacity c.args.owner c.value.result c.value.ensures.number c.value.ensures.named c.new.result
+    c.new.ensures c.args.words.now.items c.requires)
     _ _ _ c.drive.ensures.alone

@@ -4,32 +4,84 @@ use Rattle.plain.proofs.robust_unique_index_set.recover.Goals as goal
 use Rattle.plain.proofs.robust_unique_index_set.recover.Given as given
 
 pub loop-init : goal.loop-init
-loop-init g c = starts (λ p o i b q. given.F-step g p o i b q) (λ s o i t. given.S-step g s o i tt t) c.args.mode c.args.predicate c.args.recovered c.args.capacity c.args.words.now.items c.new-call.result c.new-call.ensures c.requires.fits
+loop-init g c =
+    starts (λ p o i b q. given.F-step g p o i b q) (λ s o i t. given.S-step g s o i tt t) c.args.mode c.args.predicate
+    c.args.recovered c.args.capacity c.args.words.now.items c.new-call.result c.new-call.ensures c.requires.fits
 
 pub drive_to_stop-requires : goal.drive_to_stop-requires
-drive_to_stop-requires g c = record { stops = can_go (λ p o i b q. given.F-step g p o i b q) (λ s o i t. given.S-step g s o i tt t) c.args.mode c.args.predicate c.args.recovered c.args.capacity c.args.words.now.items c.loop.counter c.loop.call c.loop.predicate c.loop.recovered c.loop.words.items c.loop.invariant }
+drive_to_stop-requires g c =
+    record {
+      stops =
+          can_go (λ p o i b q. given.F-step g p o i b q) (λ s o i t. given.S-step g s o i tt t) c.args.mode c.args.predicate
+          c.args.recovered c.args.capacity c.args.words.now.items c.loop.counter c.loop.call c.loop.predicate c.loop.recovered
+          c.loop.words.items c.loop.invariant;
+    }
 
 pub returns-in-Ended-clause-fits : goal.returns-in-Ended-clause-fits
-returns-in-Ended-clause-fits g c = (ended_so (λ p o i b q. given.F-step g p o i b q) (λ s o i t. given.S-step g s o i tt t) c.args.mode c.args.predicate c.args.recovered c.args.capacity c.args.words.now.items c.loop.counter c.loop.call c.loop.predicate c.loop.recovered c.loop.words.items c.loop.invariant c.in-Ended.state c.drive_to_stop.new.room c.drive_to_stop.new.words.items c.in-Ended.ensures.alone).fits
+returns-in-Ended-clause-fits g c =
+    (ended_so (λ p o i b q. given.F-step g p o i b q) (λ s o i t. given.S-step g s o i tt t) c.args.mode
+    c.args.predicate c.args.recovered c.args.capacity c.args.words.now.items c.loop.counter c.loop.call c.loop.predicate
+    c.loop.recovered c.loop.words.items c.loop.invariant c.in-Ended.state c.drive_to_stop.new.room
+    c.drive_to_stop.new.words.items c.in-Ended.ensures.alone).fits
 
 pub returns-in-Ended-clause-state : goal.returns-in-Ended-clause-state
-returns-in-Ended-clause-state g c = (ended_so (λ p o i b q. given.F-step g p o i b q) (λ s o i t. given.S-step g s o i tt t) c.args.mode c.args.predicate c.args.recovered c.args.capacity c.args.words.now.items c.loop.counter c.loop.call c.loop.predicate c.loop.recovered c.loop.words.items c.loop.invariant c.in-Ended.state c.drive_to_stop.new.room c.drive_to_stop.new.words.items c.in-Ended.ensures.alone).state_is
+returns-in-Ended-clause-state g c =
+    (ended_so (λ p o i b q. given.F-step g p o i b q) (λ s o i t. given.S-step g s o i tt t) c.args.mode
+    c.args.predicate c.args.recovered c.args.capacity c.args.words.now.items c.loop.counter c.loop.call c.loop.predicate
+    c.loop.recovered c.loop.words.items c.loop.invariant c.in-Ended.state c.drive_to_stop.new.room
+    c.drive_to_stop.new.words.items c.in-Ended.ensures.alone).state_is
 
 pub returns-in-Ended-clause-calls : goal.returns-in-Ended-clause-calls
-returns-in-Ended-clause-calls g c = (ended_so (λ p o i b q. given.F-step g p o i b q) (λ s o i t. given.S-step g s o i tt t) c.args.mode c.args.predicate c.args.recovered c.args.capacity c.args.words.now.items c.loop.counter c.loop.call c.loop.predicate c.loop.recovered c.loop.words.items c.loop.invariant c.in-Ended.state c.drive_to_stop.new.room c.drive_to_stop.new.words.items c.in-Ended.ensures.alone).calls
+returns-in-Ended-clause-calls g c =
+    (ended_so (λ p o i b q. given.F-step g p o i b q) (λ s o i t. given.S-step g s o i tt t) c.args.mode
+    c.args.predicate c.args.recovered c.args.capacity c.args.words.now.items c.loop.counter c.loop.call c.loop.predicate
+    c.loop.recovered c.loop.words.items c.loop.invariant c.in-Ended.state c.drive_to_stop.new.room
+    c.drive_to_stop.new.words.items c.in-Ended.ensures.alone).calls
 
 pub ask_about-yes-requires : goal.ask_about-yes-requires
-ask_about-yes-requires g c = may_ask (λ p o i b q. given.F-step g p o i b q) (λ s o i t. given.S-step g s o i tt t) c.args.mode c.args.predicate c.args.recovered c.args.capacity c.args.words.now.items c.loop.counter c.loop.call c.loop.predicate c.loop.recovered c.loop.words.items c.loop.invariant c.in-Asked.question c.in-Asked.asks c.drive_to_stop.new.words.items (asks_so (λ p o i b q. given.F-step g p o i b q) (λ s o i t. given.S-step g s o i tt t) c.args.mode c.args.predicate c.args.recovered c.args.capacity c.args.words.now.items c.loop.counter c.loop.call c.loop.predicate c.loop.recovered c.loop.words.items c.loop.invariant c.in-Asked.question c.in-Asked.asks c.drive_to_stop.new.room c.drive_to_stop.new.words.items c.in-Asked.ensures.alone) c.in-Owned.owner c.in-Owned.index c.in-Owned.is c.requires.questions
+ask_about-yes-requires g c =
+    may_ask (λ p o i b q. given.F-step g p o i b q) (λ s o i t. given.S-step g s o i tt t) c.args.mode c.args.predicate
+    c.args.recovered c.args.capacity c.args.words.now.items c.loop.counter c.loop.call c.loop.predicate c.loop.recovered
+    c.loop.words.items c.loop.invariant c.in-Asked.question c.in-Asked.asks c.drive_to_stop.new.words.items
+    (asks_so (λ p o i b q. given.F-step g p o i b q) (λ s o i t. given.S-step g s o i tt t) c.args.mode c.args.predicate
+    c.args.recovered c.args.capacity c.args.words.now.items c.loop.counter c.loop.call c.loop.predicate c.loop.recovered
+    c.loop.words.items c.loop.invariant c.in-Asked.question c.in-Asked.asks c.drive_to_stop.new.room
+    c.drive_to_stop.new.words.items c.in-Asked.ensures.alone)
+    c.in-Owned.owner c.in-Owned.index c.in-Owned.is c.requires.questions
 
 pub tell_where-recovered-requires : goal.tell_where-recovered-requires
-tell_where-recovered-requires g c agrees = may_tell (λ p o i b q. given.F-step g p o i b q) (λ s o i t. given.S-step g s o i tt t) c.args.mode c.args.predicate c.args.recovered c.args.capacity c.args.words.now.items c.loop.counter c.loop.call c.loop.predicate c.loop.recovered c.loop.words.items c.loop.invariant c.in-Asked.question c.in-Asked.asks c.drive_to_stop.new.words.items (asks_so (λ p o i b q. given.F-step g p o i b q) (λ s o i t. given.S-step g s o i tt t) c.args.mode c.args.predicate c.args.recovered c.args.capacity c.args.words.now.items c.loop.counter c.loop.call c.loop.predicate c.loop.recovered c.loop.words.items c.loop.invariant c.in-Asked.question c.in-Asked.asks c.drive_to_stop.new.room c.drive_to_stop.new.words.items c.in-Asked.ensures.alone) c.in-Owned.owner c.in-Owned.index c.in-Owned.is c.requires.freed c.ask_about-yes.result.1 c.ask_about-yes.result.0 c.ask_about-yes.ensures agrees
+tell_where-recovered-requires g c agrees =
+    may_tell (λ p o i b q. given.F-step g p o i b q) (λ s o i t. given.S-step g s o i tt t) c.args.mode c.args.predicate
+    c.args.recovered c.args.capacity c.args.words.now.items c.loop.counter c.loop.call c.loop.predicate c.loop.recovered
+    c.loop.words.items c.loop.invariant c.in-Asked.question c.in-Asked.asks c.drive_to_stop.new.words.items
+    (asks_so (λ p o i b q. given.F-step g p o i b q) (λ s o i t. given.S-step g s o i tt t) c.args.mode c.args.predicate
+    c.args.recovered c.args.capacity c.args.words.now.items c.loop.counter c.loop.call c.loop.predicate c.loop.recovered
+    c.loop.words.items c.loop.invariant c.in-Asked.question c.in-Asked.asks c.drive_to_stop.new.room
+    c.drive_to_stop.new.words.items c.in-Asked.ensures.alone)
+    c.in-Owned.owner c.in-Owned.index c.in-Owned.is c.requires.freed c.ask_about-yes.result.1 c.ask_about-yes.result.0
+    c.ask_about-yes.ensures agrees
 
 pub loop-preserved : goal.loop-preserved
-loop-preserved g c = onward_so (λ p o i b q. given.F-step g p o i b q) (λ s o i t. given.S-step g s o i tt t) c.args.mode c.args.predicate c.args.recovered c.args.capacity c.args.words.now.items c.loop.counter c.loop.call c.loop.predicate c.loop.recovered c.loop.words.items c.loop.invariant c.in-Asked.question c.in-Asked.asks c.drive_to_stop.new.words.items (asks_so (λ p o i b q. given.F-step g p o i b q) (λ s o i t. given.S-step g s o i tt t) c.args.mode c.args.predicate c.args.recovered c.args.capacity c.args.words.now.items c.loop.counter c.loop.call c.loop.predicate c.loop.recovered c.loop.words.items c.loop.invariant c.in-Asked.question c.in-Asked.asks c.drive_to_stop.new.room c.drive_to_stop.new.words.items c.in-Asked.ensures.alone) c.in-Owned.owner c.in-Owned.index c.in-Owned.is c.ask_about-yes.result.0 c.ask_about-yes.result.1 c.tell_where-recovered.result c.ask_about-yes.ensures c.tell_where-recovered.ensures.told c.tell_where-recovered.ensures.passed c.as_yes-answer.result c.as_yes-answer.ensures _ (sym c.in-GoOn.is ∙ c.take.ensures.goes)
+loop-preserved g c =
+    onward_so (λ p o i b q. given.F-step g p o i b q) (λ s o i t. given.S-step g s o i tt t) c.args.mode
+    c.args.predicate c.args.recovered c.args.capacity c.args.words.now.items c.loop.counter c.loop.call c.loop.predicate
+    c.loop.recovered c.loop.words.items c.loop.invariant c.in-Asked.question c.in-Asked.asks
+    c.drive_to_stop.new.words.items
+    (asks_so (λ p o i b q. given.F-step g p o i b q) (λ s o i t. given.S-step g s o i tt t) c.args.mode c.args.predicate
+    c.args.recovered c.args.capacity c.args.words.now.items c.loop.counter c.loop.call c.loop.predicate c.loop.recovered
+    c.loop.words.items c.loop.invariant c.in-Asked.question c.in-Asked.asks c.drive_to_stop.new.room
+    c.drive_to_stop.new.words.items c.in-Asked.ensures.alone)
+    c.in-Owned.owner c.in-Owned.index c.in-Owned.is c.ask_about-yes.result.0 c.ask_about-yes.result.1
+    c.tell_where-recovered.result c.ask_about-yes.ensures c.tell_where-recovered.ensures.told
+    c.tell_where-recovered.ensures.passed c.as_yes-answer.result c.as_yes-answer.ensures _
+    (sym c.in-GoOn.is ∙ c.take.ensures.goes)
 
 -- it asks fewer questions than the loop has rounds
 pub unreachable-requires-2 : goal.unreachable-requires-2
 unreachable-requires-2 g c =
-    let few : c.loop.counter < 2 ^ 64 - 1 = few_rounds (λ p o i b q. given.F-step g p o i b q) (λ s o i t. given.S-step g s o i tt t) c.args.mode c.args.predicate c.args.recovered c.args.capacity c.args.words.now.items c.requires.fits c.loop.counter c.loop.call c.loop.predicate c.loop.recovered c.loop.words.items c.loop.invariant in
+    let few : c.loop.counter < 2 ^ 64 - 1 =
+    few_rounds (λ p o i b q. given.F-step g p o i b q) (λ s o i t. given.S-step g s o i tt t) c.args.mode
+    c.args.predicate c.args.recovered c.args.capacity c.args.words.now.items c.requires.fits c.loop.counter
+    c.loop.call c.loop.predicate c.loop.recovered c.loop.words.items c.loop.invariant in
     let far = c.loop-test.false in
     omega (arith, few, far)

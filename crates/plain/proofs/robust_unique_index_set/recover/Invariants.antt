@@ -3,4 +3,5 @@ use Rattle.plain.proofs.robust_unique_index_set.recover.Given as goal
 
 abbrev pub invariant-loop : goal.invariant-loop
 invariant-loop g l =
-    Recovering (λ p o i b q. goal.F-step g p o i b q) (λ s o i t. goal.S-step g s o i tt t) l.fn.mode l.fn.predicate l.fn.recovered l.fn.capacity l.fn.words.items l.counter l.call l.predicate l.recovered l.words.items
+    Recovering (λ p o i b q. goal.F-step g p o i b q) (λ s o i t. goal.S-step g s o i tt t) l.fn.mode l.fn.predicate
+    l.fn.recovered l.fn.capacity l.fn.words.items l.counter l.call l.predicate l.recovered l.words.items

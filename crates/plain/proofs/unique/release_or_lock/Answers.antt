@@ -4,7 +4,15 @@ use Rattle.steps.specs.declared.indices.unique.LockMode.{LockMode}
 use Rattle.plain.proofs.unique.release_or_lock.Goals as goal
 
 pub drive-requires : goal.drive-requires
-drive-requires c = record { ends = can_end _ _ _ _ _ _ _ _ (lock_runs LockMode c.args.capacity c.args.index c.args.words.now.items c.requires.fits c.requires.out c.new.result c.new.ensures) }
+drive-requires c =
+    record {
+      ends =
+          can_end _ _ _ _ _ _ _ _
+          (lock_runs LockMode c.args.capacity c.args.index c.args.words.now.items c.requires.fits c.requires.out c.new.result c.new.ensures);
+    }
 
 pub returns : goal.returns
-returns c = ends_so _ _ _ _ _ _ _ _ (lock_runs LockMode c.args.capacity c.args.index c.args.words.now.items c.requires.fits c.requires.out c.new.result c.new.ensures) _ _ _ c.drive.ensures.alone
+returns c =
+    ends_so _ _ _ _ _ _ _ _
+    (lock_runs LockMode c.args.capacity c.args.index c.args.words.now.items c.requires.fits c.requires.out c.new.result c.new.ensures)
+    _ _ _ c.drive.ensures.alone

@@ -11,13 +11,16 @@ loop-line-init g c = record { numbered = omega arith; written = ([], [], λ more
 pub returns-in-Err : goal.returns-in-Err
 returns-in-Err g c =
     let i = c.loop-line.invariant.written in
-    lines_malformed c.args.kind _ _ _ c.in-Some.line.now c.loop-line.number (world_of c.args.machine.now) (world_of c.loop-line.machine) _ _ i.0 i.1 c.in-Err.cause i.2 i.3 c.in-Some.ensures
+    lines_malformed c.args.kind _ _ _ c.in-Some.line.now c.loop-line.number (world_of c.args.machine.now)
+    (world_of c.loop-line.machine) _ _ i.0 i.1 c.in-Err.cause i.2 i.3 c.in-Some.ensures
     (some_of _ c.if-not-is_empty.ensures) c.in-Err.ensures
 
 pub returns-in-Err-do_command : goal.returns-in-Err-do_command
 returns-in-Err-do_command g c =
     let i = c.loop-line.invariant.written in
-    lines_failed c.args.kind _ _ _ c.in-Some.line.now c.loop-line.number (world_of c.args.machine.now) (world_of c.loop-line.machine) (world_of c.do_command.new.machine) _ _ _ i.0 i.1 c.in-Ok.command c.in-Err-do_command.e i.2 i.3 c.in-Some.ensures
+    lines_failed c.args.kind _ _ _ c.in-Some.line.now c.loop-line.number (world_of c.args.machine.now)
+    (world_of c.loop-line.machine) (world_of c.do_command.new.machine) _ _ _ i.0 i.1 c.in-Ok.command
+    c.in-Err-do_command.e i.2 i.3 c.in-Some.ensures
     (some_of _ c.if-not-is_empty.ensures) c.in-Ok.ensures c.in-Err-do_command.ensures
 
 pub returns : goal.returns
@@ -34,11 +37,13 @@ loop-line-preserved g c =
           elim c.if-not-is_empty.branch [
             | then-not-is_empty+in-Ok+in-Ok-do_command w ↦
                 rw (w.machine-is, w.writer-is)
-                (done_command c.args.kind _ _ _ c.in-Some.line.now c.loop-line.number (world_of c.args.machine.now) (world_of c.loop-line.machine) (world_of w.do_command.new.machine)
+                (done_command c.args.kind _ _ _ c.in-Some.line.now c.loop-line.number (world_of c.args.machine.now)
+                (world_of c.loop-line.machine) (world_of w.do_command.new.machine)
                 _ _ _ i.0 i.1 w.in-Ok.command i.2 i.3 c.in-Some.ensures (some_of _ w.if-not-is_empty.ensures) w.in-Ok.ensures w.in-Ok-do_command.ensures)
             | else-not-is_empty w ↦
                 rw (w.machine-is, w.writer-is)
-                (done_empty c.args.kind _ _ _ c.in-Some.line.now c.loop-line.number (world_of c.args.machine.now) (world_of c.loop-line.machine) _ _ i.0 i.1 i.2 i.3
+                (done_empty c.args.kind _ _ _ c.in-Some.line.now c.loop-line.number (world_of c.args.machine.now)
+                (world_of c.loop-line.machine) _ _ i.0 i.1 i.2 i.3
                 c.in-Some.ensures (none_of _ w.if-not-is_empty.ensures))
           ];
     }

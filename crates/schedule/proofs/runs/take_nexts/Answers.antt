@@ -11,7 +11,9 @@ returns-in-Ok-false g c =
     let i = c.loop.invariant in
     let one : c.args.most - c.loop.counter ≡ suc (c.args.most - (c.loop.counter + 1)) = omega arith in
     let e = c.in-Ok-false.ensures in
-    done_ending c.args.most c.args.party _ _ (world_of c.args.machine.now) (world_of c.loop.machine) (world_of c.take_next.new.machine) _ _ _ i.0 i.1 e.0 one i.2 i.3 (sym e.1.0 ∙ c.in-Ok-false.field-0-test) e.1.1 e.1.2
+    done_ending c.args.most c.args.party _ _ (world_of c.args.machine.now) (world_of c.loop.machine)
+    (world_of c.take_next.new.machine) _ _ _ i.0 i.1 e.0 one i.2 i.3 (sym e.1.0 ∙ c.in-Ok-false.field-0-test) e.1.1
+    e.1.2
 
 pub returns-in-Err : goal.returns-in-Err
 returns-in-Err g c =
@@ -26,7 +28,9 @@ loop-preserved g c =
     let i = c.loop.invariant in
     let one : c.args.most - c.loop.counter ≡ suc (c.args.most - (c.loop.counter + 1)) = omega arith in
     let e = c.in-Ok-true.ensures in
-    done_more c.args.most c.args.party _ _ (world_of c.args.machine.now) (world_of c.loop.machine) (world_of c.take_next.new.machine) _ _ _ i.0 i.1 e.0 one i.2 i.3 (sym e.1.0 ∙ c.in-Ok-true.field-0-test) e.1.1 e.1.2
+    done_more c.args.most c.args.party _ _ (world_of c.args.machine.now) (world_of c.loop.machine)
+    (world_of c.take_next.new.machine) _ _ _ i.0 i.1 e.0 one i.2 i.3 (sym e.1.0 ∙ c.in-Ok-true.field-0-test) e.1.1
+    e.1.2
 
 pub returns : goal.returns
 returns g c =

@@ -9,18 +9,29 @@ use Rattle.schedule.proofs.runs.take_turn.Goals as goal
 
 pub returns-in-Ok-put_events : goal.returns-in-Ok-put_events
 returns-in-Ok-put_events g c =
-    let behind = events_behind c.events-before.result.now c.events.result.now (events_of (world_of c.args.machine.now) c.args.turn) (c.events.ensures ∙ ap (λ t. t.events) c.in-Ok.ensures.ok ∙ ap (λ l. l ++ events_of (world_of c.args.machine.now) c.args.turn) (sym c.events-before.ensures)) in
+    let behind =
+    events_behind c.events-before.result.now c.events.result.now
+    (events_of (world_of c.args.machine.now) c.args.turn)
+    (c.events.ensures ∙ ap (λ t. t.events) c.in-Ok.ensures.ok
+    ∙ ap (λ l. l ++ events_of (world_of c.args.machine.now) c.args.turn) (sym c.events-before.ensures)) in
     taken_written _ _ _ _ _ c.in-Ok.ensures.allowed (ap (λ t. t.world) c.in-Ok.ensures.ok)
     (subst (λ l. Appends (g.W.Write.contents c.args.writer.now) (g.W.Write.contents c.put_events.new.writer) (events_text l)) behind c.in-Ok-put_events.ensures)
 
 pub returns-in-Err-put_events : goal.returns-in-Err-put_events
 returns-in-Err-put_events g c =
-    let behind = events_behind c.events-before.result.now c.events.result.now (events_of (world_of c.args.machine.now) c.args.turn) (c.events.ensures ∙ ap (λ t. t.events) c.in-Ok.ensures.ok ∙ ap (λ l. l ++ events_of (world_of c.args.machine.now) c.args.turn) (sym c.events-before.ensures)) in
+    let behind =
+    events_behind c.events-before.result.now c.events.result.now
+    (events_of (world_of c.args.machine.now) c.args.turn)
+    (c.events.ensures ∙ ap (λ t. t.events) c.in-Ok.ensures.ok
+    ∙ ap (λ l. l ++ events_of (world_of c.args.machine.now) c.args.turn) (sym c.events-before.ensures)) in
     taken_failed _ (world_of c.step.new.self) _ _ _ _ c.in-Ok.ensures.allowed c.in-Err-put_events.ensures.0
-    (subst (λ l. AppendsPart (g.W.Write.contents c.args.writer.now) (g.W.Write.contents c.put_events.new.writer) (events_text l)) behind c.in-Err-put_events.ensures.1)
+    (subst (λ l. AppendsPart (g.W.Write.contents c.args.writer.now) (g.W.Write.contents c.put_events.new.writer) (events_text l))
+    behind c.in-Err-put_events.ensures.1)
 
 pub returns-in-Ok-put_refusal : goal.returns-in-Ok-put_refusal
 returns-in-Ok-put_refusal g c = refused_written _ _ _ _ _ _ c.in-Err.ensures.refused (ap world_of c.in-Err.ensures.err) c.in-Ok-put_refusal.ensures
 
 pub returns-in-Err-put_refusal : goal.returns-in-Err-put_refusal
-returns-in-Err-put_refusal g c = refused_failed _ (world_of c.step.new.self) _ _ _ _ _ c.in-Err.ensures.refused c.in-Err-put_refusal.ensures.0 c.in-Err-put_refusal.ensures.1
+returns-in-Err-put_refusal g c =
+    refused_failed _ (world_of c.step.new.self) _ _ _ _ _ c.in-Err.ensures.refused c.in-Err-put_refusal.ensures.0
+    c.in-Err-put_refusal.ensures.1

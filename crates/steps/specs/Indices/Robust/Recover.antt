@@ -1,7 +1,8 @@
 -- The recovery of a robust set of indices, one step after another.
 use Rattle.std.specs.Prelude.{ℕ, ◌+◌, ◌==◌, Bool, false, Option, Some, None, if◌then◌else◌, nat_lt}
 use Rattle.steps.specs.Queues.Ring.{load}
-use Rattle.steps.specs.Indices.Robust.Parts.{cell_word, empty, locked, exchange, raise_want, raise_after, raise_goes_back, first_lock, lock_want, lock_after, lock_goes_back}
+use Rattle.steps.specs.Indices.Robust.Parts.{cell_word, empty, locked, exchange, raise_want, raise_after}
+use Rattle.steps.specs.Indices.Robust.Parts.{raise_goes_back, first_lock, lock_want, lock_after, lock_goes_back}
 use Rattle.steps.specs.declared.ask.Question as questions
 use Rattle.steps.specs.declared.ask.Want.{Want}
 use Rattle.steps.specs.declared.ask.Want as wants

@@ -1,6 +1,7 @@
 -- The release of a robust set of indices, one step after another.
 use Rattle.std.specs.Prelude.{ℕ, ◌==◌, Bool, false, Result, Ok, Err, if◌then◌else◌}
-use Rattle.steps.specs.Indices.Robust.Parts.{cell_word, empty, exchange, raise_want, raise_after, raise_goes_back, first_lock, lock_want, lock_after, lock_goes_back}
+use Rattle.steps.specs.Indices.Robust.Parts.{cell_word, empty, exchange, raise_want, raise_after, raise_goes_back}
+use Rattle.steps.specs.Indices.Robust.Parts.{first_lock, lock_want, lock_after, lock_goes_back}
 use Rattle.steps.specs.declared.ask.Want.{Want}
 use Rattle.steps.specs.declared.ask.After.{After}
 use Rattle.steps.specs.declared.ask.After.TheVariants.{GoOn, Done}

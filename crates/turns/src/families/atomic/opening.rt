@@ -7,7 +7,7 @@ ghost use Rattle.model.specs.declared.turn.Refusal.TheVariants.{WrongCall, NoMem
 use super::calls::first;
 use crate::families::queues::opening::holds;
 use model::coding::Coded;
-use model::families::Kept;
+use model::families::Registry;
 use model::families::atomic::AtomicStart;
 use model::families::atomic::calls::AtomicFlight;
 use model::turn::{Kind, Refusal};
@@ -15,7 +15,7 @@ use std::alloc::{AllocError, Global};
 use steps::words::Words;
 
 /// The words of the single value at its opening. Nobody holds the producer's role.
-pub fn open<T: Words>(alloc: Global) -> Result<(Vec<u64>, Kept<T>), AllocError>
+pub fn open<T: Words>(alloc: Global) -> Result<(Vec<u64>, Registry<T>), AllocError>
     ensures words { IfOk result
         (λ opened. opened.0.items ≡ opening.words ⟦<T as Coded>⟧.coding.size 1) }
     ensures kept { IfOk result (λ opened. opened.1 ≡ opening.kept 1) }
@@ -25,7 +25,7 @@ pub fn open<T: Words>(alloc: Global) -> Result<(Vec<u64>, Kept<T>), AllocError>
     opened.push_reserved(1);
     opened.push_reserved(1);
     opened.resize(words, 0)?;
-    Ok((opened, Kept::Atomic(None)))
+    Ok((opened, Registry::Atomic(None)))
 }
 
 /// Whether the call asks for the producer's role where the party lacks it.

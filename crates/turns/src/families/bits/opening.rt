@@ -3,11 +3,11 @@ ghost use Rattle.std.specs.Prelude.{◌≡◌, ◌∷◌, None, Some, is_none, O
 ghost use Rattle.model.specs.Families.Bits.Calls.{first};
 ghost use Rattle.model.specs.Families.Bits.Opening.{bits_words, counts_words, is_past, call_rows};
 ghost use Rattle.model.specs.Rows.{first_row};
-ghost use Rattle.model.specs.declared.families.Kept.TheVariants.{Nothing};
+ghost use Rattle.model.specs.declared.families.Registry.TheVariants.{Nothing};
 ghost use Rattle.model.specs.declared.turn.Refusal.TheVariants.{WrongCall};
 
 use super::calls::first;
-use model::families::Kept;
+use model::families::Registry;
 use model::families::bits::BitsStart;
 use model::families::bits::calls::BitsFlight;
 use model::turn::{Kind, Refusal};
@@ -15,24 +15,24 @@ use std::alloc::{AllocError, Global};
 use steps::bits::flags::elements;
 
 /// The words of a bit set of this capacity at its opening. No bit stands.
-pub fn open_bits<T>(alloc: Global, capacity: u32) -> Result<(Vec<u64>, Kept<T>), AllocError>
+pub fn open_bits<T>(alloc: Global, capacity: u32) -> Result<(Vec<u64>, Registry<T>), AllocError>
     ensures words { IfOk result (λ opened. opened.0.items ≡ bits_words capacity) }
     ensures kept { IfOk result (λ opened. opened.1 ≡ Nothing) }
 {
     let words = 1 + elements(capacity) as usize;
     let mut opened = Vec::with_capacity(alloc, words)?;
     opened.resize(words, 0)?;
-    Ok((opened, Kept::Nothing))
+    Ok((opened, Registry::Nothing))
 }
 
 /// The words of a counting bit set of this capacity at its opening. Each count is 0.
-pub fn open_counts<T>(alloc: Global, capacity: u32) -> Result<(Vec<u64>, Kept<T>), AllocError>
+pub fn open_counts<T>(alloc: Global, capacity: u32) -> Result<(Vec<u64>, Registry<T>), AllocError>
     ensures words { IfOk result (λ opened. opened.0.items ≡ counts_words capacity) }
     ensures kept { IfOk result (λ opened. opened.1 ≡ Nothing) }
 {
     let mut opened = Vec::with_capacity(alloc, capacity as usize)?;
     opened.resize(capacity as usize, 0)?;
-    Ok((opened, Kept::Nothing))
+    Ok((opened, Registry::Nothing))
 }
 
 /// Whether the call is about a place past the capacity.

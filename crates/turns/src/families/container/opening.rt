@@ -7,7 +7,7 @@ ghost use Rattle.model.specs.declared.turn.Refusal.TheVariants.{WrongCall, NoMem
 
 use super::calls::{add, count, find, is_locked, look, recover, remove, replace};
 use model::coding::Coded;
-use model::families::Kept;
+use model::families::Registry;
 use model::families::container::ContainerStart;
 use model::families::container::calls::{ContainerFlight, CountOf, LookOf};
 use model::families::container::states::States;
@@ -19,7 +19,7 @@ use steps::indices::robust::parts::EMPTY;
 use steps::words::Words;
 
 /// The words of a container of this capacity at its opening. Nobody has died, and no party has a state.
-pub fn open<T: Words>(alloc: Global, capacity: u32) -> Result<(Vec<u64>, Kept<T>), AllocError>
+pub fn open<T: Words>(alloc: Global, capacity: u32) -> Result<(Vec<u64>, Registry<T>), AllocError>
     ensures words { IfOk result
         (λ opened. opened.0.items ≡ opening.words ⟦<T as Coded>⟧.coding.size capacity) }
     ensures kept { IfOk result (λ opened. opened.1 ≡ opening.kept capacity) }
@@ -29,7 +29,10 @@ pub fn open<T: Words>(alloc: Global, capacity: u32) -> Result<(Vec<u64>, Kept<T>
     words.push_reserved(0);
     words.resize(1 + capacity as usize, EMPTY)?;
     words.resize(total, 0)?;
-    Ok((words, Kept::Container(Dead::new(alloc), States::new(alloc))))
+    Ok((
+        words,
+        Registry::Container(Dead::new(alloc), States::new(alloc)),
+    ))
 }
 
 /// Whether a machine of this kind is a container.

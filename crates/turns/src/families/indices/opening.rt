@@ -6,7 +6,7 @@ ghost use Rattle.model.specs.declared.turn.Refusal.TheVariants.{WrongCall};
 
 use super::calls::{acquire, borrowed_indices, is_locked, release};
 use crate::families::queues::opening::holds;
-use model::families::Kept;
+use model::families::Registry;
 use model::families::indices::IndexStart;
 use model::families::indices::calls::IndexFlight;
 use model::families::indices::holders::Holders;
@@ -21,7 +21,7 @@ fn flag_words(capacity: u32) -> usize
 }
 
 /// The words of a set of this capacity at its opening. Nobody holds an index.
-pub fn open<T>(alloc: Global, capacity: u32) -> Result<(Vec<u64>, Kept<T>), AllocError>
+pub fn open<T>(alloc: Global, capacity: u32) -> Result<(Vec<u64>, Registry<T>), AllocError>
     ensures words { IfOk result (λ opened. opened.0.items ≡ opening.words 0 capacity) }
     ensures kept { IfOk result (λ opened. opened.1 ≡ opening.kept capacity) }
 {
@@ -32,7 +32,7 @@ pub fn open<T>(alloc: Global, capacity: u32) -> Result<(Vec<u64>, Kept<T>), Allo
         words.push_reserved(index as u64 + 1);
     }
     words.resize(1 + capacity as usize + flags, 0)?;
-    Ok((words, Kept::Indices(Holders::new(alloc, capacity)?)))
+    Ok((words, Registry::Indices(Holders::new(alloc, capacity)?)))
 }
 
 /// Whether a machine of this kind has the set.

@@ -9,7 +9,7 @@ ghost use Rattle.model.specs.declared.turn.Refusal.TheVariants.{WrongCall};
 use super::calls::{first, party_of};
 use crate::families::indices;
 use crate::families::queues::opening::holds;
-use model::families::Kept;
+use model::families::Registry;
 use model::families::indices::holders::Holders;
 use model::families::indices::robust::dead::Dead;
 use model::families::loan::calls::LoanFlight;
@@ -33,7 +33,7 @@ fn add_queue(words: &mut Vec<u64>, cells: usize) -> Result<(), AllocError>
 }
 
 /// The words of a channel of so many slots, with a submission queue of this capacity, and its book: nobody has an index.
-pub fn open<T>(alloc: Global, slots: u32, queue: u32) -> Result<(Vec<u64>, Kept<T>), AllocError>
+pub fn open<T>(alloc: Global, slots: u32, queue: u32) -> Result<(Vec<u64>, Registry<T>), AllocError>
     ensures words { IfOk result (λ opened. opened.0.items ≡ opening_words slots queue) }
     ensures kept { IfOk result (λ opened. opened.1 ≡ opening_kept slots queue) }
 {
@@ -47,7 +47,7 @@ pub fn open<T>(alloc: Global, slots: u32, queue: u32) -> Result<(Vec<u64>, Kept<
         receiver: 1,
         dead: Dead::new(alloc),
     };
-    Ok((words, Kept::Loan(book)))
+    Ok((words, Registry::Loan(book)))
 }
 
 /// The index that the call asks its party to have.

@@ -7,7 +7,7 @@ ghost use Rattle.model.specs.declared.turn.Refusal.TheVariants.{WrongCall, NoMem
 
 use super::calls::first;
 use model::coding::Coded;
-use model::families::Kept;
+use model::families::Registry;
 use model::families::queues::calls::QueueFlight;
 use model::families::queues::{QueueKind, QueueStart, Roles};
 use model::turn::{Kind, Refusal};
@@ -41,7 +41,7 @@ pub fn open<T: Words>(
     alloc: Global,
     kind: QueueKind,
     capacity: u32,
-) -> Result<(Vec<u64>, Kept<T>), AllocError>
+) -> Result<(Vec<u64>, Registry<T>), AllocError>
     ensures words { IfOk result
         (λ opened. opened.0.items ≡ (opening kind).words ⟦<T as Coded>⟧.coding.size capacity) }
     ensures kept { IfOk result (λ opened. opened.1 ≡ (opening kind).kept capacity) }
@@ -57,7 +57,7 @@ pub fn open<T: Words>(
         producer: None,
         consumer: None,
     };
-    Ok((words, Kept::Queues(roles)))
+    Ok((words, Registry::Queues(roles)))
 }
 
 /// Whether this party holds the role.

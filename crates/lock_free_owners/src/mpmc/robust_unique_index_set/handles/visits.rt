@@ -7,7 +7,7 @@ ghost use Rattle.model.specs.declared.turn.Kind.TheVariants as kinds;
 ghost use Rattle.model.specs.Coding.{one_word};
 ghost use Rattle.model.specs.Families.Indices.Reading.{is_locked};
 ghost use Rattle.history.specs.Views.{Looks};
-ghost use Rattle.lock_free_sp.specs.Callable.{TakesPlaces};
+ghost use Rattle.threaded.specs.Callable.{TakesPlaces};
 ghost use Rattle.lock_free_owners.specs.Robust.Callable.{HasFound, TakesQuestions, TakesFreed};
 ghost use Rattle.lock_free_owners.specs.Robust.Told.{HasRecovered, Answered, FoundState};
 ghost use Rattle.lock_free_owners.specs.RobustUniqueIndexSet.{capacity_of, history, GoesOn};

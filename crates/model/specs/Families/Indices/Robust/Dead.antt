@@ -6,8 +6,8 @@ use Rattle.std.specs.List.{list_any}
 use Rattle.std.specs.Ordering.{nat_cmp}
 use Rattle.steps.specs.declared.indices.robust.recover.RecoverStage.{RecoverStage}
 use Rattle.steps.specs.declared.indices.robust.recover.RecoverStage.TheVariants.{Asks}
-use Rattle.model.specs.declared.families.Kept.{Kept}
-use Rattle.model.specs.declared.families.Kept as kepts
+use Rattle.model.specs.declared.families.Registry.{Registry}
+use Rattle.model.specs.declared.families.Registry as registries
 use Rattle.model.specs.declared.families.indices.robust.calls.RobustFlight.{RobustFlight}
 use Rattle.model.specs.declared.families.indices.robust.calls.RobustFlight as robust_flights
 use Rattle.model.specs.declared.turn.Refusal.{Refusal}
@@ -43,6 +43,6 @@ abbrev pub going_rows : List ℕ → RobustFlight → Option Bool → List (Bool
 going_rows dead flight said =
     (acts_for_dead dead flight, OwnerIsDead) ∷ (frees_living dead flight said, OwnerLives) ∷ []
 
-abbrev pub kept_going_rows : {T : Type 0} → RobustFlight → Kept T → Option Bool → List (Bool × Refusal)
-kept_going_rows flight (kepts.TheVariants.Owners dead) said = going_rows dead flight said
+abbrev pub kept_going_rows : {T : Type 0} → RobustFlight → Registry T → Option Bool → List (Bool × Refusal)
+kept_going_rows flight (registries.TheVariants.Owners dead) said = going_rows dead flight said
 kept_going_rows flight kept said = []

@@ -3,8 +3,8 @@ use Rattle.std.specs.Prelude.{ℕ, ◌-◌, ◌^◌, ◌&&◌, Bool, true, false
 use Rattle.steps.specs.Indices.Robust.Parts.{empty}
 use Rattle.model.specs.declared.families.Flight.{Flight}
 use Rattle.model.specs.declared.families.Flight as flights
-use Rattle.model.specs.declared.families.Kept.{Kept}
-use Rattle.model.specs.declared.families.Kept as kepts
+use Rattle.model.specs.declared.families.Registry.{Registry}
+use Rattle.model.specs.declared.families.Registry as registries
 use Rattle.model.specs.declared.families.indices.robust.RobustStart.{RobustStart}
 use Rattle.model.specs.declared.families.indices.robust.RobustStart.TheVariants.{Acquire, Release, Find, Recover, BorrowedIndices, IsLocked}
 use Rattle.model.specs.declared.families.indices.robust.calls.RobustFlight.{RobustFlight}
@@ -28,7 +28,7 @@ opening =
       least = 1;
       greatest = 2 ^ 32 - 1;
       words = λ size capacity. opening_words capacity;
-      kept = λ capacity. kepts.TheVariants.Owners [];
+      kept = λ capacity. registries.TheVariants.Owners [];
     }
 
 -- ---- a call begins
@@ -66,12 +66,12 @@ call_rows capacity dead (Recover mode) = []
 call_rows capacity dead BorrowedIndices = []
 call_rows capacity dead IsLocked = []
 
-abbrev pub kept_rows : {T : Type 0} → ℕ → RobustStart → Kept T → ℕ → List (Bool × Refusal)
-kept_rows capacity start (kepts.TheVariants.Owners dead) p = call_rows capacity dead start
+abbrev pub kept_rows : {T : Type 0} → ℕ → RobustStart → Registry T → ℕ → List (Bool × Refusal)
+kept_rows capacity start (registries.TheVariants.Owners dead) p = call_rows capacity dead start
 kept_rows capacity start kept p = (true, WrongCall) ∷ []
 
 module _ {T : Type 0} where
-  abbrev pub begin : Kind → ℕ → RobustStart → Beginning (Flight T) (Kept T)
+  abbrev pub begin : Kind → ℕ → RobustStart → Beginning (Flight T) (Registry T)
   begin kind capacity start =
       record {
         call = λ kept. option_map flights.TheVariants.Robust (call_of kind capacity start);

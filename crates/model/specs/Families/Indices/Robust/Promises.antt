@@ -1,5 +1,6 @@
 -- What holds of the machine of the robust index set, after any turns.
-use Rattle.std.specs.Prelude.{◌≡◌, ◌≢◌, ◌⊎◌, ℕ, zero, suc, ◌+◌, ◌<◌, ◌≤◌, ◌==◌, Bool, true, false, Option, Some, None, is_some, List, [], ◌∷◌, ◌++◌, if◌then◌else◌, slice_index}
+use Rattle.std.specs.Prelude.{◌≡◌, ◌≢◌, ◌⊎◌, ℕ, zero, suc, ◌+◌, ◌<◌, ◌≤◌, ◌==◌, Bool, true, false, Option, Some, None}
+use Rattle.std.specs.Prelude.{is_some, List, [], ◌∷◌, ◌++◌, if◌then◌else◌, slice_index}
 use Rattle.std.specs.List.{AllByRecursion}
 use Rattle.steps.specs.declared.ask.Ask.{Ask}
 use Rattle.steps.specs.declared.ask.Question as questions
@@ -17,8 +18,8 @@ use Rattle.model.specs.declared.event.Event.TheVariants.{Filled, Granted, FreedO
 use Rattle.model.specs.declared.event.Start.{Start}
 use Rattle.model.specs.declared.event.Start.TheVariants.{Robust, Container}
 use Rattle.model.specs.declared.families.Flight.{Flight}
-use Rattle.model.specs.declared.families.Kept.{Kept}
-use Rattle.model.specs.declared.families.Kept as kepts
+use Rattle.model.specs.declared.families.Registry.{Registry}
+use Rattle.model.specs.declared.families.Registry as registries
 use Rattle.model.specs.declared.families.container.ContainerStart.TheVariants.{Remove}
 use Rattle.model.specs.declared.families.indices.robust.RobustStart.TheVariants.{Acquire, Release, Find, Recover, BorrowedIndices, IsLocked}
 use Rattle.model.specs.declared.turn.Turn.{Turn}
@@ -30,7 +31,7 @@ use Rattle.model.specs.Families.Indices.Robust.Bounds.{most_steps}
 use Rattle.model.specs.Families.Indices.Robust.Dead.{has_died}
 use Rattle.model.specs.Families.Indices.Robust.Reading.{filled_of, holder_of, settled_of, is_dead, Frees, Asks, Yes, deeds, deeds_of, IsOneOf}
 use Rattle.model.specs.Families.Indices.Robust.Spans.{may_stand, HasDone}
-use Rattle.model.specs.Moments.{BeginsNone, HeldOnce, SinceBegin}
+use Rattle.model.specs.Moments.{BeginsNone, HeldSometime, SinceBegin}
 use Rattle.model.specs.Promise.{Promise}
 use Rattle.model.specs.Reading.{Each, Span, Open, span_of}
 use Rattle.model.specs.Shape.{IsOpenFor}
@@ -70,8 +71,8 @@ module _ {T : Type 0} where
   IsUnlocked events = is_locked events ≡ false
 
   -- P holds at each moment of the party's latest call
-  abbrev pub HeldThrough : ℕ → (List (Event T) → Type 0) → List (Event T) → Type 0
-  HeldThrough p P events =
+  abbrev pub HeldThroughout : ℕ → (List (Event T) → Type 0) → List (Event T) → Type 0
+  HeldThroughout p P events =
       (part rest : List (Event T)) → events ≡ part ++ rest → BeginsNone p rest → P part
 
   -- ---- what a call does to the set, in every run
@@ -90,7 +91,7 @@ module _ {T : Type 0} where
   abbrev pub SetDoes : ℕ → List (Event T) → Event T → Type 0
   SetDoes capacity before (Filled p index owner) =
       (index < capacity) × (filled_of index before ≡ None) × (is_dead owner before ≡ false)
-      × HeldOnce p IsUnlocked before
+      × HeldSometime p IsUnlocked before
   SetDoes capacity before (Granted p index owner) =
       IsUnlocked before × (is_dead owner before ≡ false)
   SetDoes capacity before (FreedOf p index owner) =
@@ -103,11 +104,11 @@ module _ {T : Type 0} where
   -- after the lock. It is told to free one of a dead owner.
   abbrev pub AsksRight : List (Event T) → Event T → Type 0
   AsksRight before (Asked p index owner) =
-      (filled_of index before ≡ Some owner) × HeldOnce p IsUnlocked before
+      (filled_of index before ≡ Some owner) × HeldSometime p IsUnlocked before
   AsksRight before (Told p index owner) = is_dead owner before ≡ true
   AsksRight before e = Unit {0}
 
-  -- ---- holders, in a proper run
+  -- ---- holders, in a well-formed run
 
   -- A release or a remove that frees was begun where its index might be given back for its owner: the
   -- acquire or the add that was granted it had finished, and no other release or remove of it for that
@@ -123,8 +124,8 @@ module _ {T : Type 0} where
   FreesRight before (FreedOf p index owner) = MayGiveBack p index before (span_of p before)
   FreesRight before e = Unit {0}
 
-  abbrev pub IsProper : List (Event T) → Type 0
-  IsProper events = Each FreesRight events
+  abbrev pub IsWellFormed : List (Event T) → Type 0
+  IsWellFormed events = Each FreesRight events
 
   -- no index is granted that is held, and none is held where the set is locked
   abbrev pub HoldsRight : List (Event T) → Event T → Type 0
@@ -140,8 +141,8 @@ module _ {T : Type 0} where
       (events : List (Event T)) : Type 0 where
     pub chosen : ℕ → Bool
     pub is : count_below chosen bound ≡ number
-    pub once : (index : ℕ) → index < bound → chosen index ≡ true → HeldOnce p (P index) events
-    pub through : (index : ℕ) → index < bound → HeldThrough p (P index) events
+    pub once : (index : ℕ) → index < bound → chosen index ≡ true → HeldSometime p (P index) events
+    pub through : (index : ℕ) → index < bound → HeldThroughout p (P index) events
         → chosen index ≡ true
 
   -- the indices below the bound, which is that of the set unless a no ended the call
@@ -153,7 +154,7 @@ module _ {T : Type 0} where
   -- some index was filled at a moment of the call after it had freed its own
   pub record FilledSinceFreed (p owner index : ℕ) (events : List (Event T)) : Type 0 where
     pub other : ℕ
-    pub once : HeldOnce p
+    pub once : HeldSometime p
         (λ part. IsOneOf (Frees index owner) (deeds_of p part) × IsFilled other part) events
 
   -- the index was filled with this owner, or the recovery has freed it
@@ -166,7 +167,7 @@ module _ {T : Type 0} where
   pub record HasRecovered (p : ℕ) (events : List (Event T)) : Type 0 where
     pub gone : (index owner : ℕ) → IsOneOf (Yes index owner) (deeds_of p events)
         → filled_of index events ≢ Some owner
-    pub asked : (index owner : ℕ) → HeldThrough p (StillToFree p owner index) events
+    pub asked : (index owner : ℕ) → HeldThroughout p (StillToFree p owner index) events
         → IsOneOf (Asks index owner) (deeds_of p events)
 
   -- What an answer says of the set as it was at the last step of the call, and at moments of it.
@@ -175,7 +176,7 @@ module _ {T : Type 0} where
       is_locked before ≡ true
   AnswersRight capacity before
       (Finished p (Robust (Acquire owner)) (NoIndex failures.OutOfIndices)) =
-      IsUnlocked before × ((index : ℕ) → index < capacity → HeldOnce p (IsFilled index) before)
+      IsUnlocked before × ((index : ℕ) → index < capacity → HeldSometime p (IsFilled index) before)
   AnswersRight capacity before (Finished p (Robust (Release index owner mode)) (NotOwned failure)) =
       filled_of index before ≢ Some owner
   AnswersRight capacity before
@@ -200,15 +201,15 @@ module _ {T : Type 0} where
   -- ---- what the words say, and what is kept beside them
 
   -- the machine refuses as dead whoever has died by the events
-  abbrev pub KeepsDead : Kept T → List (Event T) → Type 0
-  KeepsDead (kepts.TheVariants.Owners dead) events =
+  abbrev pub KeepsDead : Registry T → List (Event T) → Type 0
+  KeepsDead (registries.TheVariants.Owners dead) events =
       (owner : ℕ) → has_died owner dead ≡ is_dead owner events
   KeepsDead kept events = ⊥
 
   pub record IsRobustSet (t : Trace T) : Type 0 where
     pub does : Each (SetDoes t.world.capacity) t.events
     pub asks : Each AsksRight t.events
-    pub holds : IsProper t.events → Each HoldsRight t.events
+    pub holds : IsWellFormed t.events → Each HoldsRight t.events
     pub answers : Each (AnswersRight t.world.capacity) t.events
     pub cells : (index : ℕ) → index < t.world.capacity
         → slice_index t.world.words (cell_word index) ≡ cell_of (filled_of index t.events)

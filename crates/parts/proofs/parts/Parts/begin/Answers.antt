@@ -13,14 +13,16 @@ pub returns-clause-allowed : goal.returns-clause-allowed
 returns-clause-allowed g c =
     let w = (trace_of (coding_of g.T.Words.WORDS g.T.Words.words_of g.T.Words.value_of) c.args.self.now).world in
     let within : c.args.number < c.args.self.now.parties = omega arith in
-    let free : is_some (flight_in w c.args.number) ≡ false = none_found c.flight_of.result (flight_in w c.args.number) c.flight_of.ensures c.if-is_some.ensures in
+    let free : is_some (flight_in w c.args.number) ≡ false =
+    none_found c.flight_of.result (flight_in w c.args.number) c.flight_of.ensures c.if-is_some.ensures in
     begin_passes w c.args.number c.args.start c.requires within free c.in_ok-flight.ensures.allowed
 
 pub returns-in_err-flight-clause-refused : goal.returns-in_err-flight-clause-refused
 returns-in_err-flight-clause-refused g c =
     let w = (trace_of (coding_of g.T.Words.WORDS g.T.Words.words_of g.T.Words.value_of) c.args.self.now).world in
     let within : c.args.number < c.args.self.now.parties = omega arith in
-    let free : is_some (flight_in w c.args.number) ≡ false = none_found c.flight_of.result (flight_in w c.args.number) c.flight_of.ensures c.if-is_some.ensures in
+    let free : is_some (flight_in w c.args.number) ≡ false =
+    none_found c.flight_of.result (flight_in w c.args.number) c.flight_of.ensures c.if-is_some.ensures in
     let turn = Begin c.args.number c.args.start in
     let refused : IsRefusal w turn c.in_err-flight.field-0.0 = ⊎_elim
     (λ row. inl (begin_refuses w c.args.number c.args.start c.in_err-flight.field-0.0 c.requires within free row))
@@ -35,14 +37,16 @@ pub returns-in_default-clause-refused : goal.returns-in_default-clause-refused
 returns-in_default-clause-refused g c =
     let w = (trace_of (coding_of g.T.Words.WORDS g.T.Words.words_of g.T.Words.value_of) c.args.self.now).world in
     let within : c.args.number < c.args.self.now.parties = omega arith in
-    let free : is_some (flight_in w c.args.number) ≡ false = none_found c.flight_of.result (flight_in w c.args.number) c.flight_of.ensures c.if-is_some.ensures in
+    let free : is_some (flight_in w c.args.number) ≡ false =
+    none_found c.flight_of.result (flight_in w c.args.number) c.flight_of.ensures c.if-is_some.ensures in
     inr (begin_passes w c.args.number c.args.start c.requires within free c.in_ok-flight.ensures.allowed, refl)
 
 pub returns-then-not-enter-clause-refused : goal.returns-then-not-enter-clause-refused
 returns-then-not-enter-clause-refused g c =
     let w = (trace_of (coding_of g.T.Words.WORDS g.T.Words.words_of g.T.Words.value_of) c.args.self.now).world in
     let within : c.args.number < c.args.self.now.parties = omega arith in
-    let free : is_some (flight_in w c.args.number) ≡ false = none_found c.flight_of.result (flight_in w c.args.number) c.flight_of.ensures c.if-is_some.ensures in
+    let free : is_some (flight_in w c.args.number) ≡ false =
+    none_found c.flight_of.result (flight_in w c.args.number) c.flight_of.ensures c.if-is_some.ensures in
     inr (begin_passes w c.args.number c.args.start c.requires within free c.in_ok-flight.ensures.allowed, refl)
 
 pub returns-then-number-self-clause-refused : goal.returns-then-number-self-clause-refused
@@ -55,5 +59,6 @@ pub returns-then-is_some-clause-refused : goal.returns-then-is_some-clause-refus
 returns-then-is_some-clause-refused g c =
     let w = (trace_of (coding_of g.T.Words.WORDS g.T.Words.words_of g.T.Words.value_of) c.args.self.now).world in
     let within : c.args.number < c.args.self.now.parties = omega arith in
-    let taken : is_some (flight_in w c.args.number) ≡ true = some_found c.flight_of.result (flight_in w c.args.number) c.flight_of.ensures c.if-is_some.ensures in
+    let taken : is_some (flight_in w c.args.number) ≡ true =
+    some_found c.flight_of.result (flight_in w c.args.number) c.flight_of.ensures c.if-is_some.ensures in
     inl (is_busy w c.args.number c.requires c.args.start within taken)

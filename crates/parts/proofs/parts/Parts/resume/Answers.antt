@@ -18,7 +18,9 @@ returns-in-Ok-clause-allowed g c =
     let within : c.args.number < c.args.self.now.parties = omega arith in
     let x = c.deref_mut.result.now in
     let found = sym c.in-Some.ensures.value ∙ ap Some (sym (c.deref_mut.ensures.value ∙ c.seat.view_is)) in
-    refusal_is (trace_of (coding_of g.T.Words.WORDS g.T.Words.words_of g.T.Words.value_of) c.args.self.now).world c.args.number c.args.said x c.requires.turns within found ∙ c.in-Ok.ensures.allowed
+    refusal_is (trace_of (coding_of g.T.Words.WORDS g.T.Words.words_of g.T.Words.value_of) c.args.self.now).world
+    c.args.number c.args.said x c.requires.turns within found
+    ∙ c.in-Ok.ensures.allowed
 
 pub returns-in-Ok-clause-ok : goal.returns-in-Ok-clause-ok
 returns-in-Ok-clause-ok g c =
@@ -37,7 +39,8 @@ returns-in-Err-clause-refused g c =
     let within : c.args.number < c.args.self.now.parties = omega arith in
     let x = c.deref_mut.result.now in
     let found = sym c.in-Some.ensures.value ∙ ap Some (sym (c.deref_mut.ensures.value ∙ c.seat.view_is)) in
-    is_refusal (trace_of (coding_of g.T.Words.WORDS g.T.Words.words_of g.T.Words.value_of) c.args.self.now).world c.args.number c.args.said x c.in-Err.refusal c.requires.turns within found c.in-Err.ensures.refused
+    is_refusal (trace_of (coding_of g.T.Words.WORDS g.T.Words.words_of g.T.Words.value_of) c.args.self.now).world
+    c.args.number c.args.said x c.in-Err.refusal c.requires.turns within found c.in-Err.ensures.refused
 
 pub returns-in-Err-clause-err : goal.returns-in-Err-clause-err
 returns-in-Err-clause-err g c =
@@ -45,7 +48,9 @@ returns-in-Err-clause-err g c =
     let x = c.deref_mut.result.now in
     let same : (c.get_mut.follows.lender c.go_on-gone.new.party).entries ≡ w.latest =
     ap (λ y. (c.get_mut.follows.lender y).entries) c.in-Err.ensures.party
-    ∙ ((c.get_mut.follows.holds x).0 ∙ set_value_same (is_at (nat_cmp c.args.number)) w.latest x (sym c.in-Some.ensures.value ∙ ap Some (sym (c.deref_mut.ensures.value ∙ c.seat.view_is))))
+    ∙ ((c.get_mut.follows.holds x).0
+    ∙ set_value_same (is_at (nat_cmp c.args.number)) w.latest x
+    (sym c.in-Some.ensures.value ∙ ap Some (sym (c.deref_mut.ensures.value ∙ c.seat.view_is))))
     in
     rw (same, c.in-Err.ensures.words, c.in-Err.ensures.kept, c.in-Err.ensures.changes, c.in-Err.ensures.events) refl
 

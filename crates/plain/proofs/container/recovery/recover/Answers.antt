@@ -1,6 +1,6 @@
 use Rattle.std.specs.Prelude.{slice_set}
 use Rattle.std.proofs.Common.{refl, sym, ◌∙◌, arith}
-use Rattle.steps.specs.declared.copied.Kept.{Kept}
+use Rattle.steps.specs.declared.copied.Buffer.{Buffer}
 use Rattle.plain.proofs.Elements.Recovering.{starts, can_go, ended_so, may_so, further_so}
 use Rattle.plain.proofs.container.recovery.recover.Goals as goal
 use Rattle.plain.proofs.container.recovery.recover.Given as given
@@ -9,23 +9,66 @@ pub loop-init : goal.loop-init
 loop-init g c =
     let long = c.new-room.ensures in
     let wide = g.met.T.Words.few in
-    starts g.T.Words.value_of (λ (x : Kept 128). x.words) (λ x at word. record x { words = slice_set x.words at word }) (λ x at word. refl) (λ p x b q. given.F-step g p x b q) c.args.predicate g.T.Words.WORDS c.args.capacity c.args.id c.args.owner c.args.mode c.args.words.now.items c.new-call.result c.new-call.ensures c.new-room.result (omega arith)
+    starts g.T.Words.value_of (λ (x : Buffer 128). x.words)
+    (λ x at word. record x { words = slice_set x.words at word }) (λ x at word. refl)
+    (λ p x b q. given.F-step g p x b q) c.args.predicate g.T.Words.WORDS c.args.capacity c.args.id c.args.owner
+    c.args.mode c.args.words.now.items c.new-call.result c.new-call.ensures c.new-room.result (omega arith)
     (record { some = g.met.T.Words.some; wide = wide; lives = c.requires.owner; holds = c.requires.holds })
 
 pub drive_to_stop-requires : goal.drive_to_stop-requires
-drive_to_stop-requires g c = record { stops = can_go g.T.Words.value_of (λ (x : Kept 128). x.words) (λ x at word. record x { words = slice_set x.words at word }) (λ x at word. refl) (λ p x b q. given.F-step g p x b q) c.args.predicate g.T.Words.WORDS c.args.capacity c.args.id c.args.owner c.args.mode c.args.words.now.items c.loop.counter c.loop.call c.loop.room c.loop.predicate c.loop.words.items c.loop.invariant }
+drive_to_stop-requires g c =
+    record {
+      stops =
+          can_go g.T.Words.value_of (λ (x : Buffer 128). x.words)
+          (λ x at word. record x { words = slice_set x.words at word }) (λ x at word. refl)
+          (λ p x b q. given.F-step g p x b q) c.args.predicate g.T.Words.WORDS c.args.capacity c.args.id c.args.owner
+          c.args.mode c.args.words.now.items c.loop.counter c.loop.call c.loop.room c.loop.predicate c.loop.words.items
+          c.loop.invariant;
+    }
 
 pub returns-in-Ended-clause-holds : goal.returns-in-Ended-clause-holds
-returns-in-Ended-clause-holds g c = (ended_so g.T.Words.value_of (λ (x : Kept 128). x.words) (λ x at word. record x { words = slice_set x.words at word }) (λ x at word. refl) (λ p x b q. given.F-step g p x b q) c.args.predicate g.T.Words.WORDS c.args.capacity c.args.id c.args.owner c.args.mode c.args.words.now.items c.loop.counter c.loop.call c.loop.room c.loop.predicate c.loop.words.items c.loop.invariant c.in-Ended.state c.drive_to_stop.new.room c.drive_to_stop.new.words.items c.in-Ended.ensures.alone).fit
+returns-in-Ended-clause-holds g c =
+    (ended_so g.T.Words.value_of (λ (x : Buffer 128). x.words)
+    (λ x at word. record x { words = slice_set x.words at word }) (λ x at word. refl)
+    (λ p x b q. given.F-step g p x b q) c.args.predicate g.T.Words.WORDS c.args.capacity c.args.id c.args.owner
+    c.args.mode c.args.words.now.items c.loop.counter c.loop.call c.loop.room c.loop.predicate c.loop.words.items
+    c.loop.invariant c.in-Ended.state c.drive_to_stop.new.room c.drive_to_stop.new.words.items
+    c.in-Ended.ensures.alone).fit
 
 pub returns-in-Ended-clause-state : goal.returns-in-Ended-clause-state
-returns-in-Ended-clause-state g c = (ended_so g.T.Words.value_of (λ (x : Kept 128). x.words) (λ x at word. record x { words = slice_set x.words at word }) (λ x at word. refl) (λ p x b q. given.F-step g p x b q) c.args.predicate g.T.Words.WORDS c.args.capacity c.args.id c.args.owner c.args.mode c.args.words.now.items c.loop.counter c.loop.call c.loop.room c.loop.predicate c.loop.words.items c.loop.invariant c.in-Ended.state c.drive_to_stop.new.room c.drive_to_stop.new.words.items c.in-Ended.ensures.alone).state_is
+returns-in-Ended-clause-state g c =
+    (ended_so g.T.Words.value_of (λ (x : Buffer 128). x.words)
+    (λ x at word. record x { words = slice_set x.words at word }) (λ x at word. refl)
+    (λ p x b q. given.F-step g p x b q) c.args.predicate g.T.Words.WORDS c.args.capacity c.args.id c.args.owner
+    c.args.mode c.args.words.now.items c.loop.counter c.loop.call c.loop.room c.loop.predicate c.loop.words.items
+    c.loop.invariant c.in-Ended.state c.drive_to_stop.new.room c.drive_to_stop.new.words.items
+    c.in-Ended.ensures.alone).state_is
 
 pub returns-in-Ended-clause-calls : goal.returns-in-Ended-clause-calls
-returns-in-Ended-clause-calls g c = (ended_so g.T.Words.value_of (λ (x : Kept 128). x.words) (λ x at word. record x { words = slice_set x.words at word }) (λ x at word. refl) (λ p x b q. given.F-step g p x b q) c.args.predicate g.T.Words.WORDS c.args.capacity c.args.id c.args.owner c.args.mode c.args.words.now.items c.loop.counter c.loop.call c.loop.room c.loop.predicate c.loop.words.items c.loop.invariant c.in-Ended.state c.drive_to_stop.new.room c.drive_to_stop.new.words.items c.in-Ended.ensures.alone).calls
+returns-in-Ended-clause-calls g c =
+    (ended_so g.T.Words.value_of (λ (x : Buffer 128). x.words)
+    (λ x at word. record x { words = slice_set x.words at word }) (λ x at word. refl)
+    (λ p x b q. given.F-step g p x b q) c.args.predicate g.T.Words.WORDS c.args.capacity c.args.id c.args.owner
+    c.args.mode c.args.words.now.items c.loop.counter c.loop.call c.loop.room c.loop.predicate c.loop.words.items
+    c.loop.invariant c.in-Ended.state c.drive_to_stop.new.room c.drive_to_stop.new.words.items
+    c.in-Ended.ensures.alone).calls
 
 pub ask_about-yes-requires : goal.ask_about-yes-requires
-ask_about-yes-requires g c = may_so g.T.Words.value_of (λ (x : Kept 128). x.words) (λ x at word. record x { words = slice_set x.words at word }) (λ x at word. refl) (λ p x b q. given.F-step g p x b q) c.args.predicate g.T.Words.WORDS c.args.capacity c.args.id c.args.owner c.args.mode c.args.words.now.items c.loop.counter c.loop.call c.loop.room c.loop.predicate c.loop.words.items c.loop.invariant _ c.in-Asked.asks c.drive_to_stop.new.room c.drive_to_stop.new.words.items c.in-Asked.ensures.alone c.value-value.result c.value-value.ensures (given.F-pre g) c.requires.questions
+ask_about-yes-requires g c =
+    may_so g.T.Words.value_of (λ (x : Buffer 128). x.words)
+    (λ x at word. record x { words = slice_set x.words at word }) (λ x at word. refl)
+    (λ p x b q. given.F-step g p x b q) c.args.predicate g.T.Words.WORDS c.args.capacity c.args.id c.args.owner
+    c.args.mode c.args.words.now.items c.loop.counter c.loop.call c.loop.room c.loop.predicate c.loop.words.items
+    c.loop.invariant _ c.in-Asked.asks c.drive_to_stop.new.room c.drive_to_stop.new.words.items c.in-Asked.ensures.alone
+    c.value-value.result c.value-value.ensures (given.F-pre g) c.requires.questions
 
 pub loop-preserved : goal.loop-preserved
-loop-preserved g c = further_so g.T.Words.value_of (λ (x : Kept 128). x.words) (λ x at word. record x { words = slice_set x.words at word }) (λ x at word. refl) (λ p x b q. given.F-step g p x b q) c.args.predicate g.T.Words.WORDS c.args.capacity c.args.id c.args.owner c.args.mode c.args.words.now.items c.loop.counter c.loop.call c.loop.room c.loop.predicate c.loop.words.items c.loop.invariant _ c.in-Asked.asks c.drive_to_stop.new.room c.drive_to_stop.new.words.items c.in-Asked.ensures.alone c.value-value.result c.value-value.ensures c.ask_about-yes.result.0 c.ask_about-yes.result.1 c.ask_about-yes.ensures c.as_yes-answer.result c.as_yes-answer.ensures _ (sym c.in-GoOn.is ∙ c.take.ensures.goes) c.take.new.room c.take.ensures.keeps
+loop-preserved g c =
+    further_so g.T.Words.value_of (λ (x : Buffer 128). x.words)
+    (λ x at word. record x { words = slice_set x.words at word }) (λ x at word. refl)
+    (λ p x b q. given.F-step g p x b q) c.args.predicate g.T.Words.WORDS c.args.capacity c.args.id c.args.owner
+    c.args.mode c.args.words.now.items c.loop.counter c.loop.call c.loop.room c.loop.predicate c.loop.words.items
+    c.loop.invariant _ c.in-Asked.asks c.drive_to_stop.new.room c.drive_to_stop.new.words.items c.in-Asked.ensures.alone
+    c.value-value.result c.value-value.ensures c.ask_about-yes.result.0 c.ask_about-yes.result.1 c.ask_about-yes.ensures
+    c.as_yes-answer.result c.as_yes-answer.ensures _ (sym c.in-GoOn.is ∙ c.take.ensures.goes) c.take.new.room
+    c.take.ensures.keeps

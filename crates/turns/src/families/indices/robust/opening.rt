@@ -6,7 +6,7 @@ ghost use Rattle.model.specs.Rows.{first_row};
 ghost use Rattle.model.specs.declared.turn.Refusal.TheVariants.{WrongCall};
 
 use super::calls::{acquire, borrowed_indices, find, is_locked, recover, release};
-use model::families::Kept;
+use model::families::Registry;
 use model::families::indices::robust::RobustStart;
 use model::families::indices::robust::calls::RobustFlight;
 use model::families::indices::robust::dead::Dead;
@@ -16,14 +16,14 @@ use steps::indices::robust::parts::EMPTY;
 use steps::indices::robust::recover::RecoverStage;
 
 /// The words of a set of this capacity at its opening. Nobody has died.
-pub fn open<T>(alloc: Global, capacity: u32) -> Result<(Vec<u64>, Kept<T>), AllocError>
+pub fn open<T>(alloc: Global, capacity: u32) -> Result<(Vec<u64>, Registry<T>), AllocError>
     ensures words { IfOk result (λ opened. opened.0.items ≡ opening.words 0 capacity) }
     ensures kept { IfOk result (λ opened. opened.1 ≡ opening.kept capacity) }
 {
     let mut words = Vec::with_capacity(alloc, 1 + capacity as usize)?;
     words.push_reserved(0);
     words.resize(1 + capacity as usize, EMPTY)?;
-    Ok((words, Kept::Owners(Dead::new(alloc))))
+    Ok((words, Registry::Owners(Dead::new(alloc))))
 }
 
 /// Whether a machine of this kind has the set.

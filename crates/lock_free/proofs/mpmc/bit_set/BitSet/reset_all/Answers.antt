@@ -1,6 +1,6 @@
 use Rattle.std.proofs.Common.{sym, ap, subst}
-use Rattle.lock_free_sp.specs.Seats.{seen}
-use Rattle.lock_free_sp.proofs.Callable.{takes_places_at}
+use Rattle.threaded.specs.Seats.{seen}
+use Rattle.threaded.proofs.Callable.{takes_places_at}
 use Rattle.lock_free.specs.Bits.Calls.{SetId}
 use Rattle.lock_free.specs.Bits.Told.{MissedNoPlace}
 use Rattle.lock_free.proofs.Bits.Cleared.{missed_none}

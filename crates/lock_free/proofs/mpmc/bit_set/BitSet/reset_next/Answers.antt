@@ -2,7 +2,7 @@ use Rattle.std.proofs.Common.{refl, sym, subst, ap, ◌∙◌}
 use Rattle.steps.specs.Bits.BitSet.{first_reset}
 use Rattle.model.specs.Coding.{one_word}
 use Rattle.model.specs.declared.turn.Kind.TheVariants as kinds
-use Rattle.lock_free_sp.specs.Seats.{seen}
+use Rattle.threaded.specs.Seats.{seen}
 use Rattle.history.specs.Stages.{At}
 use Rattle.lock_free.specs.Bits.Stages.{resets_next}
 use Rattle.lock_free.specs.Bits.Calls.{SetId}

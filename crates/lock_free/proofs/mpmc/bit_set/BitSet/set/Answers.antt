@@ -1,7 +1,7 @@
 use Rattle.std.proofs.Common.{rules, ◌<◌, refl, sym, ap, subst, ◌∙◌}
 use Rattle.model.specs.Coding.{one_word}
 use Rattle.model.specs.declared.turn.Kind.TheVariants as kinds
-use Rattle.lock_free_sp.specs.Seats.{seen}
+use Rattle.threaded.specs.Seats.{seen}
 use Rattle.history.specs.History.{IsHistory}
 use Rattle.history.specs.Stages.{At}
 use Rattle.lock_free.specs.Bits.Stages.{sets_place}

@@ -1,6 +1,6 @@
 use Rattle.std.proofs.Common.{refl, sym, subst, ◌∙◌}
 use Rattle.model.specs.Families.Queues.Calls.{fresh}
-use Rattle.lock_free_sp.specs.Seats.{seen}
+use Rattle.threaded.specs.Seats.{seen}
 use Rattle.lock_free.proofs.Bits.Emptying.{clear_keeps}
 use Rattle.lock_free.proofs.Bits.Cleared.{SoFar, first_so_far, may_visit, so_far_on, cleared_all}
 use Rattle.lock_free.proofs.mpmc.bit_set.calls.clear_all.Goals as goal

@@ -1,5 +1,5 @@
 use Rattle.std.proofs.Common.{sym, ap, subst}
-use Rattle.lock_free_sp.specs.Seats.{seen}
+use Rattle.threaded.specs.Seats.{seen}
 use Rattle.lock_free.specs.Counts.Calls.{SetId}
 use Rattle.lock_free.specs.Counts.Told.{MissedNoCount}
 use Rattle.lock_free.proofs.Counts.Handed.{takes_counts_at}

@@ -3,8 +3,8 @@ use Rattle.steps.specs.declared.bits.reset_all.ResetAll.{ResetAll}
 use Rattle.model.specs.Coding.{one_word}
 use Rattle.model.specs.declared.turn.Kind.TheVariants as kinds
 use Rattle.model.specs.Families.Queues.Calls.{fresh}
-use Rattle.lock_free_sp.specs.Driver.{Next}
-use Rattle.lock_free_sp.specs.Seats.{seen}
+use Rattle.threaded.specs.Driver.{Next}
+use Rattle.threaded.specs.Seats.{seen}
 use Rattle.history.specs.declared.view.View.{View}
 use Rattle.history.specs.Stages.{At, Ends}
 use Rattle.lock_free.specs.Counts.Stages.{takes_all}

@@ -1,7 +1,7 @@
 use Rattle.std.proofs.Common.{rules, subst}
 use Rattle.model.specs.Coding.{one_word}
 use Rattle.model.specs.declared.turn.Kind.TheVariants as kinds
-use Rattle.lock_free_sp.specs.Seats.{seen}
+use Rattle.threaded.specs.Seats.{seen}
 use Rattle.history.specs.History.{IsHistory}
 use Rattle.history.proofs.IndexCalls.{look_keeps, look_first}
 use Rattle.lock_free.proofs.Unique.Facts.{looked, sound, looked_answered}

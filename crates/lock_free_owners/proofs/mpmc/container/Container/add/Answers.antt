@@ -4,8 +4,8 @@ use Rattle.steps.specs.declared.container.enums.ContainerAddFailure.TheVariants 
 use Rattle.steps.specs.declared.container.add.Owned.{Owned}
 use Rattle.model.specs.Coding.{Coding, IsCoding, coding_of}
 use Rattle.model.specs.declared.turn.Kind.TheVariants as kinds
-use Rattle.lock_free_sp.specs.Seats.{seen}
-use Rattle.lock_free_sp.specs.Sets.{SetId}
+use Rattle.threaded.specs.Seats.{seen}
+use Rattle.threaded.specs.Sets.{SetId}
 use Rattle.history.specs.Container.{adds_value}
 use Rattle.history.specs.Passes.{Goes}
 use Rattle.lock_free_owners.specs.Container.Turns.{BeginsAdd, AddAt, AddEnds}

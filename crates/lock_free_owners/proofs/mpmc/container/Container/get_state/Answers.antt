@@ -6,8 +6,8 @@ use Rattle.model.specs.declared.event.Answer.TheVariants.{Number}
 use Rattle.model.specs.declared.families.container.ContainerStart.TheVariants as starts
 use Rattle.model.specs.declared.families.container.calls.LookOf.TheVariants.{GetState}
 use Rattle.model.specs.declared.turn.Kind.TheVariants as kinds
-use Rattle.lock_free_sp.specs.Seats.{seen}
-use Rattle.lock_free_sp.specs.Sets.{SetId}
+use Rattle.threaded.specs.Seats.{seen}
+use Rattle.threaded.specs.Sets.{SetId}
 use Rattle.history.specs.ContainerFind.{HasCopied}
 use Rattle.history.specs.ContainerLooks.{HasLookedAll}
 use Rattle.history.specs.Passes.{Goes}

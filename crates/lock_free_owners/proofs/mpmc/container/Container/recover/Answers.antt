@@ -4,8 +4,8 @@ use Rattle.steps.specs.declared.container.recover.DeadOwner.{DeadOwner}
 use Rattle.model.specs.Coding.{Coding, IsCoding, coding_of}
 use Rattle.model.specs.Families.Queues.Calls.{fresh_cell}
 use Rattle.model.specs.declared.turn.Kind.TheVariants as kinds
-use Rattle.lock_free_sp.specs.Seats.{seen}
-use Rattle.lock_free_sp.specs.Sets.{SetId}
+use Rattle.threaded.specs.Seats.{seen}
+use Rattle.threaded.specs.Sets.{SetId}
 use Rattle.history.specs.Passes.{Goes}
 use Rattle.lock_free_owners.specs.Container.Questions.{TakesValues}
 use Rattle.lock_free_owners.specs.Container.RecoverTold.{HasRecovered}

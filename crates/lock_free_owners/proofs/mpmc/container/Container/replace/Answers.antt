@@ -3,8 +3,8 @@ use Rattle.steps.specs.Container.Replace.{first_replace}
 use Rattle.steps.specs.declared.container.replace.Replacement.{Replacement}
 use Rattle.model.specs.Coding.{Coding, IsCoding, coding_of}
 use Rattle.model.specs.declared.turn.Kind.TheVariants as kinds
-use Rattle.lock_free_sp.specs.Seats.{seen}
-use Rattle.lock_free_sp.specs.Sets.{SetId}
+use Rattle.threaded.specs.Seats.{seen}
+use Rattle.threaded.specs.Sets.{SetId}
 use Rattle.history.specs.Container.{replaces_value}
 use Rattle.history.specs.Passes.{Goes}
 use Rattle.lock_free_owners.specs.Container.Turns.{BeginsReplace, ReplaceAt}

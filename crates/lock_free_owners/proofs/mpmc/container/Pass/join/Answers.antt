@@ -4,11 +4,11 @@ use Rattle.atomic_table.specs.Table.{Me, Allows}
 use Rattle.model.specs.Coding.{Coding, coding_of}
 use Rattle.model.specs.declared.turn.Kind.TheVariants as kinds
 use Rattle.history.specs.declared.view.View.{View}
-use Rattle.lock_free_sp.specs.Shares.{IsAll}
+use Rattle.threaded.specs.Shares.{IsAll}
 use Rattle.history.specs.History.{IsMachine, IsHistory}
 use Rattle.history.specs.Settled.{SettledFrom}
 use Rattle.history.specs.Views.{joined_view, Looks}
-use Rattle.lock_free_sp.proofs.Shares.{positive}
+use Rattle.threaded.proofs.Shares.{positive}
 use Rattle.history.proofs.Passes.{joins}
 use Rattle.history.proofs.PassLooks.{looks}
 use Rattle.lock_free_owners.proofs.ContainerSet.Begins.{settles_or_stays}

@@ -3,9 +3,9 @@ use Rattle.steps.specs.Container.Layout.{total_words}
 use Rattle.steps.specs.Container.Recover.{recover_want}
 use Rattle.model.specs.Coding.{Coding, IsCoding, coding_of}
 use Rattle.model.specs.declared.turn.Kind.TheVariants as kinds
-use Rattle.lock_free_sp.specs.Driver.{Owes, Told}
-use Rattle.lock_free_sp.specs.Seats.{seen, table_of, key_of}
-use Rattle.lock_free_sp.proofs.Driving.{weaker_owes}
+use Rattle.threaded.specs.Driver.{Owes, Told}
+use Rattle.threaded.specs.Seats.{seen, table_of, key_of}
+use Rattle.threaded.proofs.Driving.{weaker_owes}
 use Rattle.history.specs.declared.view.View.{View}
 use Rattle.history.specs.History.{IsMachine}
 use Rattle.lock_free_owners.specs.Container.RecoverTurns.{RecoverAt, RecoverEnds, recover_goes, recover_visiting, RecoverTells}

@@ -1,7 +1,7 @@
 use Rattle.std.proofs.Common.{◌<◌, ◌^◌, rules, refl, subst, ◌∙◌}
 use Rattle.model.specs.Coding.{Coding, IsCoding, coding_of}
 use Rattle.model.specs.Families.Queues.Calls.{fresh_cell}
-use Rattle.lock_free_sp.specs.Seats.{seen}
+use Rattle.threaded.specs.Seats.{seen}
 use Rattle.lock_free_owners.proofs.ContainerSet.Finds.{Over, Further, starts, further, may_go}
 use Rattle.lock_free_owners.proofs.mpmc.container.visits.find_all.Goals as goal
 use Rattle.lock_free_owners.proofs.mpmc.container.visits.find_all.Given as given

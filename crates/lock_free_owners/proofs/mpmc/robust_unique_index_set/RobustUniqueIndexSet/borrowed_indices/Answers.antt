@@ -2,8 +2,8 @@ use Rattle.std.proofs.Common.{◌≤◌, rules, ap, subst, ◌∙◌}
 use Rattle.steps.specs.Indices.Robust.Looks.{first_borrowed}
 use Rattle.model.specs.Coding.{one_word}
 use Rattle.model.specs.declared.turn.Kind.TheVariants as kinds
-use Rattle.lock_free_sp.specs.Seats.{seen}
-use Rattle.lock_free_sp.specs.Sets.{SetId}
+use Rattle.threaded.specs.Seats.{seen}
+use Rattle.threaded.specs.Sets.{SetId}
 use Rattle.history.specs.Passes.{Goes}
 use Rattle.history.specs.Robust.{counts_owned}
 use Rattle.history.proofs.RobustCalls.{count_first}

@@ -1,9 +1,9 @@
 use Rattle.std.proofs.Common.{rules, sym, ap, subst}
 use Rattle.model.specs.Coding.{one_word}
 use Rattle.model.specs.declared.turn.Kind.TheVariants as kinds
-use Rattle.lock_free_sp.specs.Seats.{seen}
-use Rattle.lock_free_sp.specs.Sets.{SetId}
-use Rattle.lock_free_sp.proofs.Callable.{takes_places_at}
+use Rattle.threaded.specs.Seats.{seen}
+use Rattle.threaded.specs.Sets.{SetId}
+use Rattle.threaded.proofs.Callable.{takes_places_at}
 use Rattle.history.specs.Views.{Looks}
 use Rattle.lock_free_owners.specs.Robust.Callable.{HasFound}
 use Rattle.lock_free_owners.proofs.RobustSet.Facts.{looks_goes}

@@ -1,7 +1,7 @@
 use Rattle.std.proofs.Common.{rules, subst}
 use Rattle.model.specs.Coding.{one_word}
 use Rattle.model.specs.declared.turn.Kind.TheVariants as kinds
-use Rattle.lock_free_sp.specs.Seats.{seen}
+use Rattle.threaded.specs.Seats.{seen}
 use Rattle.history.specs.Passes.{Goes}
 use Rattle.history.specs.Robust.{looks_owned}
 use Rattle.history.proofs.RobustCalls.{look_keeps, look_first}

@@ -3,8 +3,8 @@ use Rattle.steps.specs.Indices.Robust.Release.{first_release}
 use Rattle.steps.specs.declared.indices.robust.release.GiveBack.{GiveBack}
 use Rattle.model.specs.Coding.{one_word}
 use Rattle.model.specs.declared.turn.Kind.TheVariants as kinds
-use Rattle.lock_free_sp.specs.Seats.{seen}
-use Rattle.lock_free_sp.specs.Sets.{SetId}
+use Rattle.threaded.specs.Seats.{seen}
+use Rattle.threaded.specs.Sets.{SetId}
 use Rattle.history.specs.Passes.{Goes}
 use Rattle.history.specs.Robust.{gives_owned}
 use Rattle.history.specs.Stages.{At}

@@ -1,6 +1,6 @@
 use Rattle.std.proofs.Common.{◌∙◌, sym, subst}
 use Rattle.steps.specs.declared.indices.robust.acquire.Acquire.{Acquire}
-use Rattle.lock_free_sp.specs.Seats.{seen}
+use Rattle.threaded.specs.Seats.{seen}
 use Rattle.lock_free_owners.specs.Robust.Turns.{AcquireAt, AcquireEnds}
 use Rattle.lock_free_owners.proofs.RobustSet.Turns.{gone_on, has_ended, fills_next, fills}
 use Rattle.lock_free_owners.proofs.mpmc.robust_unique_index_set.acquires.fill_cells.Goals as goal

@@ -2,8 +2,8 @@ use Rattle.std.proofs.Common.{◌+◌, ℕ, List, sym, ap, subst, ◌∙◌}
 use Rattle.steps.specs.declared.ask.Op.TheVariants.{Load}
 use Rattle.model.specs.declared.turn.Kind.TheVariants as kinds
 use Rattle.model.specs.Coding.{one_word}
-use Rattle.lock_free_sp.specs.Driver.{OwesAsk}
-use Rattle.lock_free_sp.specs.Seats.{seen, table_of, key_of}
+use Rattle.threaded.specs.Driver.{OwesAsk}
+use Rattle.threaded.specs.Seats.{seen, table_of, key_of}
 use Rattle.history.specs.History.{IsMachine}
 use Rattle.history.proofs.RobustRecoveries.{recover_tells}
 use Rattle.lock_free_owners.specs.Robust.Turns.{size, RecoverTells}

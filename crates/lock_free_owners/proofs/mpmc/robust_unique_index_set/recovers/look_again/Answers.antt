@@ -1,7 +1,7 @@
 use Rattle.std.proofs.Common.{ℕ, subst}
 use Rattle.steps.specs.declared.indices.robust.recover.RecoverStage.{RecoverStage}
-use Rattle.lock_free_sp.specs.Driver.{Next}
-use Rattle.lock_free_sp.specs.Seats.{seen}
+use Rattle.threaded.specs.Driver.{Next}
+use Rattle.threaded.specs.Seats.{seen}
 use Rattle.history.specs.declared.view.View.{View}
 use Rattle.history.specs.Robust.{visits_taken}
 use Rattle.lock_free_owners.specs.Robust.Turns.{RecoverAt, RecoverEnds}

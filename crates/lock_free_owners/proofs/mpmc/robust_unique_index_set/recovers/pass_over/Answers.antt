@@ -4,8 +4,8 @@ use Rattle.steps.specs.declared.ask.After.{After}
 use Rattle.steps.specs.declared.indices.enums.ReleaseState.{ReleaseState}
 use Rattle.steps.specs.declared.indices.robust.recover.Recover.{Recover}
 use Rattle.history.specs.declared.view.View.{View}
-use Rattle.lock_free_sp.specs.Driver.{Next}
-use Rattle.lock_free_sp.specs.Seats.{seen}
+use Rattle.threaded.specs.Driver.{Next}
+use Rattle.threaded.specs.Seats.{seen}
 use Rattle.lock_free_owners.specs.Robust.Turns.{RecoverAt, RecoverEnds}
 use Rattle.lock_free_owners.proofs.RobustSet.Turns.{passes}
 use Rattle.lock_free_owners.proofs.mpmc.robust_unique_index_set.recovers.pass_over.Goals as goal

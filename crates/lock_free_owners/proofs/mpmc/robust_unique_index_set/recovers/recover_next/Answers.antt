@@ -6,8 +6,8 @@ use Rattle.steps.specs.declared.indices.enums.ReleaseState.{ReleaseState}
 use Rattle.steps.specs.declared.indices.robust.recover.Recover.{Recover}
 use Rattle.steps.specs.declared.indices.robust.recover.RecoverStage.{RecoverStage}
 use Rattle.model.specs.Turns.{number_of}
-use Rattle.lock_free_sp.specs.Driver.{Next}
-use Rattle.lock_free_sp.specs.Seats.{seen}
+use Rattle.threaded.specs.Driver.{Next}
+use Rattle.threaded.specs.Seats.{seen}
 use Rattle.history.specs.declared.view.View.{View}
 use Rattle.history.specs.Robust.{visits_taken, visits_after}
 use Rattle.lock_free_owners.specs.Robust.Stages.{RecoverMoves}

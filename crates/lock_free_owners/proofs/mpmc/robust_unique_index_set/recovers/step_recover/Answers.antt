@@ -5,8 +5,8 @@ use Rattle.steps.specs.declared.indices.enums.ReleaseState.{ReleaseState}
 use Rattle.steps.specs.declared.indices.robust.recover.Recover.{Recover}
 use Rattle.model.specs.declared.turn.Kind.TheVariants as kinds
 use Rattle.model.specs.Coding.{one_word}
-use Rattle.lock_free_sp.specs.Driver.{Owes}
-use Rattle.lock_free_sp.specs.Seats.{seen, table_of, key_of}
+use Rattle.threaded.specs.Driver.{Owes}
+use Rattle.threaded.specs.Seats.{seen, table_of, key_of}
 use Rattle.history.specs.History.{IsMachine}
 use Rattle.history.proofs.RobustRecoveries.{recover_tells}
 use Rattle.lock_free_owners.specs.Robust.Turns.{size, RecoverSteps, RecoverTells}

@@ -1,6 +1,6 @@
 use Rattle.std.proofs.Common.{rules, ◌≡◌, ◌<◌, ◌+◌, ◌*◌, length, replicate, slice_set, refl, sym, ap, subst, ◌∙◌, arith}
 use Rattle.model.specs.Coding.{Coding, IsCoding, coding_of}
-use Rattle.atomic_laws.specs.Stored.{stored}
+use Rattle.laws_value.specs.Stored.{stored}
 use Rattle.history.specs.declared.view.View.{View}
 use Rattle.history.specs.ValueOpened.{first_stores, opened_view}
 use Rattle.history.proofs.ValueOpened.{value_opens}

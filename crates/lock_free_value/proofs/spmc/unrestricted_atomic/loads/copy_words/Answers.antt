@@ -4,7 +4,7 @@ use Rattle.steps.specs.declared.ask.After.{After}
 use Rattle.steps.specs.declared.atomic.Load.{Load}
 use Rattle.steps.specs.declared.atomic.LoadStage.{LoadStage}
 use Rattle.model.specs.Coding.{Coding, coding_of}
-use Rattle.lock_free_sp.specs.Seats.{seen}
+use Rattle.threaded.specs.Seats.{seen}
 use Rattle.lock_free_value.specs.Loads.{LoadAt, LoadNext}
 use Rattle.lock_free_value.proofs.spmc.unrestricted_atomic.loads.copy_words.Goals as goal
 

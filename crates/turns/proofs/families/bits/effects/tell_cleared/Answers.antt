@@ -16,7 +16,12 @@ bits-preserved g c =
     elim c.if-has_flag.branch [
       | then-has_flag w ↦
           let stood = sym c.has_flag.ensures ∙ w.if-has_flag.true in
-          let now = ap (λ v. v.items) w.events-is ∙ (w.push_reserved.ensures.items ∙ (ap (λ xs. xs ++ Cleared number (first + bit) ∷ []) c.bits.invariant.0 ∙ (append_assoc c.args.events.now.items (clears_so_far number found first bit) (Cleared number (first + bit) ∷ []) ∙ ap (λ xs. c.args.events.now.items ++ xs) (sym (stood_more number found first bit stood))))) in
+          let now =
+          ap (λ v. v.items) w.events-is
+          ∙ (w.push_reserved.ensures.items
+          ∙ (ap (λ xs. xs ++ Cleared number (first + bit) ∷ []) c.bits.invariant.0
+          ∙ (append_assoc c.args.events.now.items (clears_so_far number found first bit) (Cleared number (first + bit) ∷ [])
+          ∙ ap (λ xs. c.args.events.now.items ++ xs) (sym (stood_more number found first bit stood))))) in
           let long = ap (λ v. vec_len v) w.events-is in
           let room = ap (λ v. vec_capacity v) w.events-is in
           let longer = w.push_reserved.ensures.len in
@@ -24,7 +29,9 @@ bits-preserved g c =
           (now, omega arith, omega arith)
       | else-has_flag w ↦
           let clear = sym c.has_flag.ensures ∙ w.if-has_flag.false in
-          let now = ap (λ v. v.items) w.events-is ∙ (c.bits.invariant.0 ∙ ap (λ xs. c.args.events.now.items ++ xs) (sym (clear_more number found first bit clear))) in
+          let now =
+          ap (λ v. v.items) w.events-is
+          ∙ (c.bits.invariant.0 ∙ ap (λ xs. c.args.events.now.items ++ xs) (sym (clear_more number found first bit clear))) in
           let long = ap (λ v. vec_len v) w.events-is in
           let room = ap (λ v. vec_capacity v) w.events-is in
           (now, omega arith, omega arith)

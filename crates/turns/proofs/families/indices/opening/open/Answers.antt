@@ -25,10 +25,13 @@ loop-index-preserved g c =
     let room = c.loop-index.invariant.2 in
     let next : c.loop-index.index + 1 ≡ 1 + c.loop-index.index = omega arith in
     let here : c.push_reserved-in-loop-index.new.self.items ≡ (0 ∷ range_with_len 1 c.loop-index.index) ++ (1 + c.loop-index.index) ∷ [] =
-    c.push_reserved-in-loop-index.ensures.items ∙ (ap (λ ws. ws ++ (c.loop-index.index + 1) ∷ []) c.loop-index.invariant.0 ∙ ap (λ n. (0 ∷ range_with_len 1 c.loop-index.index) ++ n ∷ []) next)
+    c.push_reserved-in-loop-index.ensures.items
+    ∙ (ap (λ ws. ws ++ (c.loop-index.index + 1) ∷ []) c.loop-index.invariant.0
+    ∙ ap (λ n. (0 ∷ range_with_len 1 c.loop-index.index) ++ n ∷ []) next)
     in
     let suc_is : suc c.loop-index.index ≡ c.loop-index.index + 1 = omega arith in
-    let grown : range_with_len 1 (c.loop-index.index + 1) ≡ range_with_len 1 c.loop-index.index ++ (1 + c.loop-index.index) ∷ [] = ap (range_with_len 1) (sym suc_is) ∙ one_more c.loop-index.index 1 in
+    let grown : range_with_len 1 (c.loop-index.index + 1) ≡ range_with_len 1 c.loop-index.index ++ (1 + c.loop-index.index) ∷ [] =
+    ap (range_with_len 1) (sym suc_is) ∙ one_more c.loop-index.index 1 in
     (here ∙ ap (λ ws. 0 ∷ ws) (sym grown), omega arith, omega arith)
 
 pub returns-clause-words : goal.returns-clause-words

@@ -5,8 +5,8 @@ use Rattle.model.specs.Coding.{one_word}
 use Rattle.model.specs.declared.turn.Kind.TheVariants as kinds
 use Rattle.model.specs.declared.event.Item.TheVariants.{Index}
 use Rattle.model.specs.declared.families.queues.QueueKind.TheVariants.{IndexQueue}
-use Rattle.lock_free_sp.specs.Seats.{seen}
-use Rattle.queue_laws.proofs.Ring.Kinds.{of_indices}
+use Rattle.threaded.specs.Seats.{seen}
+use Rattle.laws_queues.proofs.Ring.Kinds.{of_indices}
 use Rattle.history.specs.Stages.{At}
 use Rattle.history.specs.Queues.{pops_index}
 use Rattle.history.proofs.QueueCalls.{pop_keep_all, pop_first}

@@ -3,8 +3,8 @@ use Rattle.steps.specs.Queues.Ring.{first_push}
 use Rattle.model.specs.Coding.{one_word}
 use Rattle.model.specs.declared.turn.Kind.TheVariants as kinds
 use Rattle.model.specs.declared.event.Item.TheVariants.{Index}
-use Rattle.lock_free_sp.specs.Seats.{seen}
-use Rattle.queue_laws.proofs.Ring.Kinds.{of_indices}
+use Rattle.threaded.specs.Seats.{seen}
+use Rattle.laws_queues.proofs.Ring.Kinds.{of_indices}
 use Rattle.history.specs.Stages.{At}
 use Rattle.history.specs.Queues.{pushes_index}
 use Rattle.history.proofs.QueueCalls.{push_keeps, push_first}

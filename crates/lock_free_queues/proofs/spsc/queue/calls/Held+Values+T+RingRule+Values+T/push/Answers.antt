@@ -3,7 +3,7 @@ use Rattle.steps.specs.Queues.Ring.{first_push}
 use Rattle.model.specs.Coding.{Coding, IsCoding, coding_of}
 use Rattle.model.specs.declared.turn.Kind.TheVariants as kinds
 use Rattle.model.specs.declared.event.Item.TheVariants.{Value}
-use Rattle.queue_laws.proofs.Ring.Kinds.{of_values}
+use Rattle.laws_queues.proofs.Ring.Kinds.{of_values}
 use Rattle.history.specs.Stages.{At}
 use Rattle.history.specs.ValueQueue.{pushes_value}
 use Rattle.history.proofs.ValueQueueCalls.{value_push_keeps, value_push_first}

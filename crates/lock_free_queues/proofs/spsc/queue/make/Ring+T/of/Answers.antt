@@ -1,7 +1,7 @@
 use Rattle.std.proofs.Common.{rules, ◌≡◌, ◌≤◌, ◌+◌, ◌*◌, ◌%◌, min, slice_index, [], ◌∷◌, ◌++◌, set, replicate, refl, ap, ◌∙◌, arith}
 use Rattle.std.proofs.Math.Nat.{mul-le-mul_left}
 use Rattle.model.specs.Coding.{Coding, IsCoding, coding_of}
-use Rattle.queue_laws.proofs.Ring.Kinds.{of_values}
+use Rattle.laws_queues.proofs.Ring.Kinds.{of_values}
 use Rattle.lock_free_queues.specs.Queues.Opened.{position_at}
 use Rattle.lock_free_queues.proofs.Queues.Filled.{filled, fills_more}
 use Rattle.lock_free_queues.proofs.Queues.Opened.{queue_opens}

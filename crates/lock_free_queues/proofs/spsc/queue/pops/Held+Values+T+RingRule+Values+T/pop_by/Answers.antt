@@ -5,7 +5,7 @@ use Rattle.model.specs.Coding.{Coding, IsCoding, coding_of}
 use Rattle.model.specs.declared.turn.Kind.TheVariants as kinds
 use Rattle.model.specs.declared.event.Item.TheVariants.{Value}
 use Rattle.model.specs.declared.families.queues.QueueKind.TheVariants.{Queue}
-use Rattle.queue_laws.proofs.Ring.Kinds.{of_values}
+use Rattle.laws_queues.proofs.Ring.Kinds.{of_values}
 use Rattle.history.specs.Rooms.{room_of}
 use Rattle.history.specs.Stages.{At}
 use Rattle.history.specs.ValueQueue.{value_there, pops_value}

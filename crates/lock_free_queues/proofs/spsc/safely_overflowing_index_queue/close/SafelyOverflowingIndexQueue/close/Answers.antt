@@ -1,5 +1,5 @@
 use Rattle.std.proofs.Common.{rules, ◌≡◌, ◌-◌, max, set, slice_index, sym, ap, subst, ◌∙◌}
-use Rattle.plain.specs.Overflowing.{Fits, list_in}
+use Rattle.plain.specs.Overflowing.{Represents, list_in}
 use Rattle.model.specs.declared.event.Item.TheVariants.{Index}
 use Rattle.lock_free_queues.specs.Queues.Closes.{Closes}
 use Rattle.lock_free_queues.specs.Queues.Overflowing.{view}
@@ -12,7 +12,7 @@ of_words-requires c =
     let words = c.in_ok-words.words.items in
     let oldest : c.saturating_sub-oldest.result ≡ slice_index words 0 - size = search rules in
     let later : c.max.result ≡ max (slice_index words 1) c.saturating_sub-oldest.result = search rules in
-    subst (λ n. Fits size (set words 1 n)) (sym (later ∙ ap (λ n. max (slice_index words 1) n) oldest))
+    subst (λ n. Represents size (set words 1 n)) (sym (later ∙ ap (λ n. max (slice_index words 1) n) oldest))
     (over_fits size (view c.args.pass) words c.in_ok-words.ensures.words c.args.pass.none.0)
 
 pub returns-clause-list : goal.returns-clause-list

@@ -6,7 +6,7 @@ use Rattle.model.specs.Coding.{Coding, coding_of}
 use Rattle.history.specs.declared.view.View.{View}
 use Rattle.history.specs.History.{IsMachine}
 use Rattle.history.specs.Views.{joined_view, Looks}
-use Rattle.lock_free_sp.proofs.Shares.{positive}
+use Rattle.threaded.proofs.Shares.{positive}
 use Rattle.history.proofs.Passes.{joins}
 use Rattle.history.proofs.PassLooks.{looks}
 use Rattle.lock_free_value.proofs.spmc.unrestricted_atomic.passes.Held+T+ValueRule+T.join.Goals as goal

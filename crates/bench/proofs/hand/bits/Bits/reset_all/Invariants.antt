@@ -1,5 +1,0 @@
-use Rattle.std.proofs.Common.{◌≡◌}
-use Rattle.bench.proofs.hand.bits.Bits.reset_all.Given as goal
-
-abbrev pub invariant-loop-element : goal.invariant-loop-element
-invariant-loop-element l = l.self.elements ≡ l.fn.self.elements

@@ -1,5 +1,0 @@
-use Rattle.std.proofs.Common.{◌≡◌}
-use Rattle.bench.proofs.hand.robust.Owners.raise.Given as goal
-
-abbrev pub invariant-loop : goal.invariant-loop
-invariant-loop g l = (l.self.capacity ≡ l.fn.self.capacity) × (l.self.words.size ≡ l.fn.self.words.size)

@@ -1,6 +1,0 @@
-use Rattle.std.proofs.Common.{◌≡◌}
-use Rattle.lock_free.specs.Loan.Sender.{set_of_sender}
-use Rattle.clients.proofs.loans.channel.loan_one.Given as goal
-
-abbrev pub invariant-loop : goal.invariant-loop
-invariant-loop g l = set_of_sender l.sender ≡ set_of_sender l.fn.sender

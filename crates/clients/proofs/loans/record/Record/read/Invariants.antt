@@ -1,5 +1,0 @@
-use Rattle.std.proofs.Common.{◌≡◌, ◌≤◌, ◌*◌, ◌^◌}
-use Rattle.clients.proofs.loans.record.Record.read.Given as goal
-
-abbrev pub invariant-loop-at : goal.invariant-loop-at
-invariant-loop-at l = (l.total ≡ l.at * l.self.number) × (l.total ≤ l.at * 2 ^ 32)

@@ -1,5 +1,0 @@
-use Rattle.std.proofs.Common.{◌∙◌}
-use Rattle.clients.proofs.registry.outlive.Goals as goal
-
-pub leave-requires : goal.leave-requires
-leave-requires g c = c.update_state.ensures.container ∙ (c.recover.ensures.goes_on.container ∙ c.requires.pass)

@@ -1,0 +1,340 @@
+-- The calls of a bit set act place by place.
+use Rattle.std.proofs.Common.{◌≡◌, ◌≢◌, ⊎_elim, ℕ, zero, suc, ◌-◌, ◌^◌, ◌<◌, ◌≤◌, ◌==◌, ◌&&◌, true, false, cond, Some}
+use Rattle.std.proofs.Common.{None, List, [], ◌∷◌, ◌++◌, refl, sym, ap, subst, ◌∙◌, append_assoc, append-nil, arith}
+use Rattle.std.proofs.lemmas.Bool.{cases_eq, cases_lt}
+use Rattle.model.specs.declared.event.Answer.{Answer}
+use Rattle.model.specs.declared.event.Answer.TheVariants.{Done, Truth, ResetNone, Reset}
+use Rattle.model.specs.declared.event.Event.{Event}
+use Rattle.model.specs.declared.event.Event as event
+use Rattle.model.specs.declared.event.Event.TheVariants.{Begun, Cleared, Counted, TakenOut, Acted, Finished}
+use Rattle.model.specs.declared.event.Start.{Start}
+use Rattle.model.specs.declared.event.Start.TheVariants.{Bits}
+use Rattle.model.specs.declared.families.bits.BitsStart.TheVariants.{Set, ResetNext, ResetAll}
+use Rattle.model.specs.declared.turn.Kind as kinds
+use Rattle.model.specs.Families.Bits.Promises.{HasCleared, BitsAnswerRight, BitsWrote, MayClear, bits_promise}
+use Rattle.model.specs.Families.Bits.Reading.{sets, clears, counts, standing}
+use Rattle.model.specs.Moments.{BeginsNone, HeldSometime, SinceBegin}
+use Rattle.model.specs.Promises.Spans.{Stands, StandsRight}
+use Rattle.model.specs.Reading.{Each, Span, Never, Open, Ended, span_of}
+use Rattle.laws_bits.proofs.Bits.Core.{sets_more}
+use Rattle.history.specs.Acts.{Way, MayAct, Acts, Found, Tells, Ends, number_after, left_by, ActsByPlace}
+use Rattle.history.proofs.Acts.BitWays.{only_clears, cleared_in, Numbers, numbers_more, Fit, clears_none, one_fits, at_place}
+use Rattle.history.proofs.Acts.Filling.{Marked, nothing_marked, goes_on, Fact, Stays, Silent, finishes}
+use Rattle.history.proofs.Acts.Finds.{BitFinds}
+use Rattle.history.proofs.Acts.Marks.{same_number, is_number, both_true, number_in, way_in, number_more}
+use Rattle.history.proofs.Acts.Ways.{along, begins_none_later, OpenFor, open_for, Fits, WayFits, shut_way, fits_open, Ways, ways_more}
+
+-- ---- the calls
+
+module _ {T : Type 0} where
+  abbrev set_call : ℕ → Start T
+  set_call k = Bits (Set k)
+
+  abbrev next_call : Start T
+  next_call = Bits ResetNext
+
+  abbrev all_call : Start T
+  all_call = Bits ResetAll
+
+-- ---- the whole history
+
+module _ {T : Type 0} (c : ℕ) (events : List (Event T)) (spans : Each (StandsRight bits_promise c) events)
+    (finds : Each BitFinds events) (answers : Each (BitsAnswerRight c) events)
+    (within : (b : ℕ) → c ≤ b → sets b events ≡ 0) where
+  abbrev Sure : ℕ → Type 0
+  Sure b = counts b events < 2 ^ 64
+
+  abbrev Way' : Type 0
+  Way' = Way T
+
+  numbers : (h rest : List (Event T)) → events ≡ h ++ rest → Numbers h
+  numbers h rest is = along events Numbers (λ h after e is. numbers_more c h e (spans h after e is) (finds h after e is)) (λ b. (refl, omega arith)) h rest is
+
+  ways : (h rest : List (Event T)) → events ≡ h ++ rest → Ways Fit h
+  ways h rest is = along events (Ways Fit) more (λ p b. refl) h rest is
+    where
+      more : (h after : List (Event T)) (e : Event T) → events ≡ h ++ e ∷ after → Ways Fit h → Ways Fit (h ++ e ∷ [])
+      more h after e is was p b =
+          ways_more Fit h e p b
+          (one_fits c p b (number_in b 0 h) (λ q. span_of q h) (way_in p b 0 None h) e (spans h after e is)
+          (at_place h e (finds h after e is) (numbers h (e ∷ after) is) b) (was p b))
+
+  abbrev M : List (Event T) → Type 0
+  M h = Marked kinds.TheVariants.Bits c Sure h
+
+  module _ (h after : List (Event T)) where
+    abbrev way : ℕ → ℕ → Way'
+    way q b = way_in q b 0 None h
+
+    abbrev number : ℕ → ℕ
+    number b = number_in b 0 h
+
+    -- an act by this party on this place, where it is right
+    abbrev RightAct : Event T → ℕ → ℕ → Type 0
+    RightAct e p b = Tells (number b) e × Acts kinds.TheVariants.Bits b (number b) (number_after b (number b) e) (way p b)
+
+    spread : (e : Event T) (q k p b : ℕ) → RightAct e q k → (q == p && k == b) ≡ true → RightAct e p b
+    spread e q k p b right t =
+        let both = both_true (q == p) (k == b) t in
+        subst (λ z. RightAct e z b) (is_number q p both.0) (subst (λ z. RightAct e q z) (is_number k b both.1) right)
+
+    set_acts : (k : ℕ) (q : ℕ) (span : Span T) (w : Way') → Stands bits_promise c (event.TheVariants.Set q k) span
+        → WayFits Fit k span w → Acts kinds.TheVariants.Bits k (number k) 1 w
+    set_acts k q (Open (Bits (Set place)) wrote) w stands fits =
+        let none : fits.found ≡ None = fits.fit.0 (rw stands.1 refl) in
+        subst (λ z. Acts kinds.TheVariants.Bits k (number k) 1 z) (sym (fits.is ∙ ap (λ d. Some (Bits (Set place), d)) none)) (stands.0, refl)
+    set_acts k q (Open start wrote) w stands fits = absurd stands
+    set_acts k q span w stands fits = absurd stands
+
+    may_clear : (start : Start T) (k : ℕ) (wrote : List (Event T)) → MayClear k start wrote
+        → MayAct k start × (0 ≡ left_by kinds.TheVariants.Bits start (number k))
+    may_clear (Bits ResetNext) k wrote may = (tt, refl)
+    may_clear (Bits ResetAll) k wrote may = (tt, refl)
+    may_clear start k wrote may = absurd may
+
+    clear_acts : (k : ℕ) (q : ℕ) (span : Span T) (w : Way') → Stands bits_promise c (Cleared q k) span
+        → WayFits Fit k span w → Acts kinds.TheVariants.Bits k (number k) 0 w
+    clear_acts k q Never w stands fits = absurd stands
+    clear_acts k q (Ended start a wrote) w stands fits = absurd stands
+    clear_acts k q (Open start wrote) w stands fits =
+        let none : fits.found ≡ None = clears_none start k wrote fits.found stands fits.fit in
+        subst (λ z. Acts kinds.TheVariants.Bits k (number k) 0 z) (sym (fits.is ∙ ap (λ d. Some (start, d)) none)) (may_clear start k wrote stands)
+
+    module _ (m : M h) (numbered : Numbers h) (on : Ways Fit h) where
+      set_goes : (q k : ℕ) → events ≡ h ++ event.TheVariants.Set q k ∷ after → M (h ++ event.TheVariants.Set q k ∷ [])
+      set_goes q k is =
+          goes_on kinds.TheVariants.Bits c Sure h (event.TheVariants.Set q k) m (λ p b t. spread (event.TheVariants.Set q k) q k p b (tells, acts) t)
+        where
+          tells : number k ≡ 0
+          tells = at_place h (event.TheVariants.Set q k) (finds h after (event.TheVariants.Set q k) is) numbered k refl
+
+          acts : Acts kinds.TheVariants.Bits k (number k) (cond (k == k) 1 (number k)) (way q k)
+          acts = rw (same_number k) (set_acts k q (span_of q h) (way q k) (spans h after (event.TheVariants.Set q k) is) (on q k))
+
+      clear_goes : (q k : ℕ) → events ≡ h ++ Cleared q k ∷ after → M (h ++ Cleared q k ∷ [])
+      clear_goes q k is =
+          goes_on kinds.TheVariants.Bits c Sure h (Cleared q k) m (λ p b t. spread (Cleared q k) q k p b (tells, acts) t)
+        where
+          tells : number k ≡ 1
+          tells = at_place h (Cleared q k) (finds h after (Cleared q k) is) numbered k refl
+
+          acts : Acts kinds.TheVariants.Bits k (number k) (cond (k == k) 0 (number k)) (way q k)
+          acts = rw (same_number k) (clear_acts k q (span_of q h) (way q k) (spans h after (Cleared q k) is) (on q k))
+
+      -- ---- a call ends
+
+      module _ (q : ℕ) (s : Start T) (a : Answer T) (is : events ≡ h ++ Finished q s a ∷ after) where
+        abbrev Known : ℕ → Type 0
+        Known b = Fact kinds.TheVariants.Bits c Sure h q s a b
+
+        abbrev Done' : ℕ → Way' → Type 0
+        Done' b w = Ends c (Sure b) b s a w
+
+        -- what was so of a beginning
+        numbers_in : (part rest : List (Event T)) → h ≡ part ++ rest → Numbers part
+        numbers_in part rest cut =
+            numbers part (rest ++ Finished q s a ∷ after)
+            (is ∙ (ap (λ xs. xs ++ Finished q s a ∷ after) cut ∙ append_assoc part rest (Finished q s a ∷ after)))
+
+        sets_within : (part rest : List (Event T)) → h ≡ part ++ rest → (b : ℕ) → sets b part ≤ sets b events
+        sets_within part rest cut b =
+            let first : sets b events ≡ sets b (h ++ Finished q s a ∷ after) = ap (sets b) is in
+            let second : sets b h ≡ sets b (part ++ rest) = ap (sets b) cut in
+            let one = sets_more b h (Finished q s a ∷ after) in
+            let two = sets_more b part rest in
+            omega arith
+
+        -- a place that the call left silently, where it was clear
+        clear_there : (b : ℕ) (part rest : List (Event T)) → h ≡ part ++ rest → BeginsNone q rest
+            → way q b ≡ Some (s, None) → MayAct b s → 0 ≡ left_by kinds.TheVariants.Bits s (number_in b 0 part)
+            → number_in b 0 part ≡ 0 → Done' b (Some (s, Some 0)) → Known b
+        clear_there b part rest cut none under may left nought ends =
+            Silent part rest cut none under may (nought ∙ left) (subst (λ n. Done' b (Some (s, Some n))) (sym nought) ends)
+
+        here : (b : ℕ) (wrote : List (Event T)) → span_of q h ≡ Open s wrote → Fits Fit s b wrote (way q b)
+        here b wrote opened = fits_open Fit b (span_of q h) (way q b) s wrote opened (on q b)
+
+      end_set_true : (q k : ℕ) → events ≡ h ++ Finished q (Bits (Set k)) (Truth true) ∷ after → M (h ++ Finished q (Bits (Set k)) (Truth true) ∷ [])
+      end_set_true q k is =
+          finishes kinds.TheVariants.Bits c Sure h q (Bits (Set k)) (Truth true) m (λ b lt. Stays (done b)) (λ b le. done b)
+        where
+          opened : OpenFor (Bits (Set k)) (BitsWrote c (Bits (Set k)) (Truth true)) (span_of q h)
+          opened = open_for (Bits (Set k)) (BitsWrote c (Bits (Set k)) (Truth true)) (span_of q h) (spans h after (Finished q (Bits (Set k)) (Truth true)) is)
+
+          done : (b : ℕ) → Ends c (Sure b) b (Bits (Set k)) (Truth true) (way q b)
+          done b =
+              let fits = here q (Bits (Set k)) (Truth true) is b opened.wrote opened.is in
+              subst (λ w. Ends c (Sure b) b (Bits (Set k)) (Truth true) w) (sym fits.is) (refl, λ same. found fits same)
+            where
+              found : (fits : Fits Fit (Bits (Set k)) b opened.wrote (way q b)) → k ≡ b → Found (λ n. true ≡ (n == 0)) fits.found
+              found fits same =
+                  let some : sets b opened.wrote ≡ 1 = subst (λ z. sets z opened.wrote ≡ 1) same opened.holds.1 in
+                  let nought : fits.found ≡ Some 0 = fits.fit.1 (omega arith) in
+                  subst (λ d. Found (λ n. true ≡ (n == 0)) d) (sym nought) refl
+
+      end_set_false : (q k : ℕ) → events ≡ h ++ Finished q (Bits (Set k)) (Truth false) ∷ after → M (h ++ Finished q (Bits (Set k)) (Truth false) ∷ [])
+      end_set_false q k is =
+          finishes kinds.TheVariants.Bits c Sure h q (Bits (Set k)) (Truth false) m facts far
+        where
+          opened : OpenFor (set_call k) (BitsWrote c (set_call k) (Truth false)) (span_of q h)
+          opened = open_for (set_call k) (BitsWrote c (set_call k) (Truth false)) (span_of q h) (spans h after (Finished q (set_call k) (Truth false)) is)
+
+          once : HeldSometime q (λ part. standing k part ≡ 1) h
+          once = answers h after (Finished q (set_call k) (Truth false)) is
+
+          under : (b : ℕ) → way q b ≡ Some ((set_call k), None)
+          under b =
+              let fits = here q (set_call k) (Truth false) is b opened.wrote opened.is in
+              let none : fits.found ≡ None = fits.fit.0 (rw opened.holds refl) in
+              fits.is ∙ ap (λ d. Some ((set_call k), d)) none
+
+          one : number_in k 0 once.part ≡ 1
+          one =
+              let n = numbers_in q (set_call k) (Truth false) is once.part once.rest once.is k in
+              let both = n.0 in
+              let stood : sets k once.part - clears k once.part ≡ 1 = once.held in
+              omega arith
+
+          elsewhere : (b : ℕ) → k ≢ b → Ends c (Sure b) b (set_call k) (Truth false) (way q b)
+          elsewhere b ne = subst (λ w. Ends c (Sure b) b (set_call k) (Truth false) w) (sym (under b)) (refl, λ same. absurd (ne same))
+
+          facts : (b : ℕ) → b < c → Fact kinds.TheVariants.Bits c Sure h q (set_call k) (Truth false) b
+          facts b lt =
+              ⊎_elim (λ same. subst (Fact kinds.TheVariants.Bits c Sure h q (set_call k) (Truth false)) same mine)
+              (λ ne. Stays (elsewhere b ne)) (cases_eq k b)
+            where
+              mine : Fact kinds.TheVariants.Bits c Sure h q (set_call k) (Truth false) k
+              mine = Silent once.part once.rest once.is once.within (under k) refl one (refl, λ same. rw one refl)
+
+          far : (b : ℕ) → c ≤ b → Ends c (Sure b) b (set_call k) (Truth false) (way q b)
+          far b le = ⊎_elim (λ same. absurd (past (subst (λ z. c ≤ z) (sym same) le))) (λ ne. elsewhere b ne) (cases_eq k b)
+            where
+              past : c ≤ k → ⊥
+              past le =
+                  let none = within k le in
+                  let up = sets_within q (set_call k) (Truth false) is once.part once.rest once.is k in
+                  let stood : sets k once.part - clears k once.part ≡ 1 = once.held in
+                  omega arith
+
+      end_next : (q k : ℕ) → events ≡ h ++ Finished q (Bits ResetNext) (Reset k) ∷ after → M (h ++ Finished q (Bits ResetNext) (Reset k) ∷ [])
+      end_next q k is =
+          finishes kinds.TheVariants.Bits c Sure h q (Bits ResetNext) (Reset k) m (λ b lt. Stays (done b)) (λ b le. done b)
+        where
+          opened : OpenFor (Bits ResetNext) (BitsWrote c (Bits ResetNext) (Reset k)) (span_of q h)
+          opened = open_for (Bits ResetNext) (BitsWrote c (Bits ResetNext) (Reset k)) (span_of q h) (spans h after (Finished q (Bits ResetNext) (Reset k)) is)
+
+          done : (b : ℕ) → Ends c (Sure b) b (Bits ResetNext) (Reset k) (way q b)
+          done b =
+              let fits = here q (Bits ResetNext) (Reset k) is b opened.wrote opened.is in
+              subst (λ w. Ends c (Sure b) b (Bits ResetNext) (Reset k) w) (sym fits.is) (refl, ((λ same. found fits same), (λ ne. none fits ne)))
+            where
+              found : (fits : Fits Fit (Bits ResetNext) b opened.wrote (way q b)) → k ≡ b → fits.found ≡ Some 1
+              found fits same =
+                  let some : clears b opened.wrote ≡ 1 = subst (λ z. clears z opened.wrote ≡ 1) same opened.holds.1 in
+                  fits.fit.1 (omega arith)
+
+              none : (fits : Fits Fit (Bits ResetNext) b opened.wrote (way q b)) → k ≢ b → fits.found ≡ None
+              none fits ne = fits.fit.0 (only_clears k b opened.wrote opened.holds.0 opened.holds.1 (λ e. ne (sym e)))
+
+      end_none : (q : ℕ) → events ≡ h ++ Finished q (Bits ResetNext) ResetNone ∷ after → M (h ++ Finished q (Bits ResetNext) ResetNone ∷ [])
+      end_none q is =
+          finishes kinds.TheVariants.Bits c Sure h q next_call ResetNone m facts
+          (λ b le. subst (λ w. Ends c (Sure b) b next_call ResetNone w) (sym (under b)) (refl, λ lt. absurd (omega arith)))
+        where
+          opened : OpenFor next_call (BitsWrote c next_call ResetNone) (span_of q h)
+          opened = open_for next_call (BitsWrote c next_call ResetNone) (span_of q h) (spans h after (Finished q next_call ResetNone) is)
+
+          all : (b : ℕ) → b < c → HeldSometime q (λ part. standing b part ≡ 0) h
+          all = answers h after (Finished q next_call ResetNone) is
+
+          under : (b : ℕ) → way q b ≡ Some (next_call, None)
+          under b =
+              let fits = here q next_call ResetNone is b opened.wrote opened.is in
+              let none : fits.found ≡ None = fits.fit.0 (rw opened.holds refl) in
+              fits.is ∙ ap (λ d. Some (next_call, d)) none
+
+          facts : (b : ℕ) → b < c → Fact kinds.TheVariants.Bits c Sure h q next_call ResetNone b
+          facts b lt =
+              let once = all b lt in
+              let both = (numbers_in q next_call ResetNone is once.part once.rest once.is b).0 in
+              let clear : sets b once.part - clears b once.part ≡ 0 = once.held in
+              clear_there q next_call ResetNone is b once.part once.rest once.is once.within (under b) tt refl (omega arith) (refl, λ lt. refl)
+
+      end_all : (q : ℕ) → events ≡ h ++ Finished q (Bits ResetAll) Done ∷ after → M (h ++ Finished q (Bits ResetAll) Done ∷ [])
+      end_all q is =
+          finishes kinds.TheVariants.Bits c Sure h q all_call Done m facts
+          (λ b le. let fits = here q all_call Done is b opened.wrote opened.is in
+          subst (λ w. Ends c (Sure b) b all_call Done w) (sym fits.is) (refl, λ sure lt. absurd (omega arith)))
+        where
+          opened : OpenFor all_call (BitsWrote c all_call Done) (span_of q h)
+          opened = open_for all_call (BitsWrote c all_call Done) (span_of q h) (spans h after (Finished q all_call Done) is)
+
+          since : SinceBegin q (HasCleared c) h
+          since = answers h after (Finished q all_call Done) is
+
+          facts : (b : ℕ) → b < c → Fact kinds.TheVariants.Bits c Sure h q all_call Done b
+          facts b lt = ⊎_elim acted silent (cases_lt 0 (clears b opened.wrote))
+            where
+              fits : Fits Fit all_call b opened.wrote (way q b)
+              fits = here q all_call Done is b opened.wrote opened.is
+
+              acted : 0 < clears b opened.wrote → Fact kinds.TheVariants.Bits c Sure h q all_call Done b
+              acted some =
+                  let one : fits.found ≡ Some 1 = fits.fit.1 (omega arith) in
+                  Stays (subst (λ w. Ends c (Sure b) b all_call Done w) (sym (fits.is ∙ ap (λ d. Some (all_call, d)) one)) (refl, λ sure lt. tt))
+
+              silent : clears b opened.wrote ≤ 0 → Fact kinds.TheVariants.Bits c Sure h q all_call Done b
+              silent few = go (number_in b 0 since.before) refl
+                where
+                  under : way q b ≡ Some (all_call, None)
+                  under = fits.is ∙ ap (λ d. Some (all_call, d)) (fits.fit.0 (omega arith))
+
+                  was : Numbers since.before
+                  was = numbers_in q all_call Done is since.before (Begun q since.start ∷ since.since) since.is
+
+                  go : (n : ℕ) → number_in b 0 since.before ≡ n → Fact kinds.TheVariants.Bits c Sure h q all_call Done b
+                  go zero e =
+                      clear_there q all_call Done is b (since.before ++ Begun q since.start ∷ []) since.since
+                      (since.is ∙ sym (append_assoc since.before (Begun q since.start ∷ []) since.since)) since.within under tt refl
+                      (number_more b 0 since.before (Begun q since.start ∷ []) ∙ e) (refl, λ sure lt. tt)
+                  go (suc n) e =
+                      let both = (was b).0 in
+                      let low = (was b).1 in
+                      let out = cleared_in b since.since (since.holds b lt (omega arith)) in
+                      let to : List (Event T) = since.before ++ Begun q since.start ∷ out.first in
+                      clear_there q all_call Done is b (to ++ Cleared out.by b ∷ []) out.second
+                      (since.is
+                      ∙ (ap (λ xs. since.before ++ Begun q since.start ∷ xs) out.is
+                      ∙ (sym (append_assoc since.before (Begun q since.start ∷ out.first) (Cleared out.by b ∷ out.second))
+                      ∙ sym (append_assoc to (Cleared out.by b ∷ []) out.second))))
+                      (begins_none_later q (Cleared out.by b ∷ []) out.second
+                      (begins_none_later q out.first (Cleared out.by b ∷ out.second) (subst (BeginsNone q) out.is since.within)))
+                      under tt refl
+                      (number_more b 0 to (Cleared out.by b ∷ []) ∙ ap (λ z. cond z 0 (number_in b 0 to)) (same_number b)) (refl, λ sure lt. tt)
+
+      ends : (q : ℕ) (s : Start T) (a : Answer T) → events ≡ h ++ Finished q s a ∷ after → M (h ++ Finished q s a ∷ [])
+      ends q (Bits (Set k)) (Truth true) is = end_set_true q k is
+      ends q (Bits (Set k)) (Truth false) is = end_set_false q k is
+      ends q (Bits ResetNext) (Reset k) is = end_next q k is
+      ends q (Bits ResetNext) ResetNone is = end_none q is
+      ends q (Bits ResetAll) Done is = end_all q is
+      ends q s a is = absurd (open_for s (BitsWrote c s a) (span_of q h) (spans h after (Finished q s a) is)).holds
+
+      more_marks : (e : Event T) → events ≡ h ++ e ∷ after → M (h ++ e ∷ [])
+      more_marks (Begun q s) is =
+          goes_on kinds.TheVariants.Bits c Sure h (Begun q s) m
+          (λ p b same. subst (λ z. way z b ≡ None) same (shut_way Fit b (span_of q h) (way q b) (spans h after (Begun q s) is) (on q b)))
+      more_marks (Finished q s a) is = ends q s a is
+      more_marks (event.TheVariants.Set q k) is = set_goes q k is
+      more_marks (Cleared q k) is = clear_goes q k is
+      more_marks (Counted q k) is = absurd (spans h after (Counted q k) is)
+      more_marks (TakenOut q k n) is = absurd (spans h after (TakenOut q k n) is)
+      more_marks e is = goes_on kinds.TheVariants.Bits c Sure h e m (λ p b t. absurd (cc))
+
+  pub bits_act : ActsByPlace kinds.TheVariants.Bits c events
+  bits_act = record { marks = all.marks; is = all.is; right = all.right }
+    where
+      all : M events
+      all =
+          along events M (λ h after e is m. more_marks h after m (numbers h (e ∷ after) is) (ways h (e ∷ after) is) e is)
+          (nothing_marked kinds.TheVariants.Bits c Sure) events [] (sym (append-nil events))

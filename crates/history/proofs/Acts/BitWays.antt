@@ -1,0 +1,253 @@
+-- What stands at the places of a bit set, and where its calls stand, after the events of a history.
+use Rattle.std.proofs.Common.{◌≡◌, ◌≢◌, ℕ, ◌+◌, ◌≤◌, ◌==◌, Bool, true, false, cond, Option, Some, None, IfSome, List}
+use Rattle.std.proofs.Common.{[], ◌∷◌, ◌++◌, length, refl, sym, ap, subst, ◌∙◌, arith}
+use Rattle.model.specs.declared.event.Event.{Event}
+use Rattle.model.specs.declared.event.Event as event
+use Rattle.model.specs.declared.event.Event.TheVariants.{Begun, Cleared, Counted, TakenOut, Acted, Finished}
+use Rattle.model.specs.declared.event.Start.{Start}
+use Rattle.model.specs.declared.event.Start.TheVariants.{Bits}
+use Rattle.model.specs.declared.families.bits.BitsStart.TheVariants.{Set, ResetNext, ResetAll}
+use Rattle.model.specs.Families.Bits.Promises.{MayClear, bits_promise}
+use Rattle.model.specs.Families.Bits.Reading.{sets, clears}
+use Rattle.model.specs.Promises.Spans.{Stands, StandsRight}
+use Rattle.model.specs.Reading.{whose, Span, Never, Open, Ended, own_after, span_after}
+use Rattle.laws_bits.proofs.Bits.Core.{sets_more, clears_more}
+use Rattle.history.specs.Acts.{Way, number_after, way_after, found_now}
+use Rattle.history.proofs.Acts.Finds.{BitFinds}
+use Rattle.history.proofs.Acts.Marks.{is_number, number_in, number_more}
+use Rattle.history.proofs.Acts.Ways.{WayFits, begun_fits, finished_fits, quiet_fits}
+
+module _ {T : Type 0} where
+  -- ---- lists of events
+
+  -- one event that clears this place clears no other
+  pub only_clears : (k b : ℕ) (wrote : List (Event T)) → length wrote ≡ 1 → clears k wrote ≡ 1 → b ≢ k → clears b wrote ≡ 0
+  only_clears k b [] one is ne = absurd (cc)
+  only_clears k b (Cleared p x ∷ []) one is ne = go (x == k) refl
+    where
+      go : (t : Bool) → (x == k) ≡ t → clears {T = T} b (Cleared p x ∷ []) ≡ 0
+      go true t =
+          let other : (x == b) ≡ false = not_there (x == b) refl in
+          rw other refl
+        where
+          not_there : (z : Bool) → (x == b) ≡ z → (x == b) ≡ false
+          not_there true e = absurd (ne (sym (is_number x b e) ∙ is_number x k t))
+          not_there false e = e
+      go false t =
+          let none : clears {T = T} k (Cleared p x ∷ []) ≡ 0 = rw t refl in
+          absurd (omega arith)
+  only_clears k b (e ∷ []) one is ne = absurd (cc)
+  only_clears k b (e ∷ f ∷ es) one is ne = absurd (omega arith)
+
+  pub record ClearedIn (b : ℕ) (es : List (Event T)) : Type 0 where
+    pub by : ℕ
+    pub first : List (Event T)
+    pub second : List (Event T)
+    pub is : es ≡ first ++ Cleared by b ∷ second
+
+  cleared_later : (b : ℕ) (e : Event T) (es : List (Event T)) → ClearedIn b es → ClearedIn b (e ∷ es)
+  cleared_later b e es h = record { by = h.by; first = e ∷ h.first; second = h.second; is = ap (λ xs. e ∷ xs) h.is }
+
+  -- a place that was cleared was cleared somewhere
+  pub cleared_in : (b : ℕ) (es : List (Event T)) → 1 ≤ clears b es → ClearedIn b es
+  cleared_in b [] some = absurd (omega arith)
+  cleared_in b (Cleared p x ∷ es) some = go (x == b) refl (λ more. cleared_in b es more)
+    where
+      go : (t : Bool) → (x == b) ≡ t → (1 ≤ clears b es → ClearedIn b es) → ClearedIn b (Cleared p x ∷ es)
+      go true t rest = record { by = p; first = []; second = es; is = ap (λ z. Cleared p z ∷ es) (is_number x b t) }
+      go false t rest =
+          let more = clears_more b (Cleared p x ∷ []) es in
+          let none : clears {T = T} b (Cleared p x ∷ []) ≡ 0 = rw t refl in
+          cleared_later b (Cleared p x) es (rest (omega arith))
+  cleared_in b (e ∷ es) some =
+      let more = clears_more b (e ∷ []) es in
+      let none : clears {T = T} b (e ∷ []) ≡ 0 = refl in
+      cleared_later b e es (cleared_in b es (omega arith))
+
+  -- ---- numbers
+
+  -- the number of a place is 1 where it stands, else 0
+  abbrev pub Numbers : List (Event T) → Type 0
+  Numbers h = (b : ℕ) → (sets b h ≡ clears b h + number_in b 0 h) × (number_in b 0 h ≤ 1)
+
+  numbers_stay : (h : List (Event T)) (e : Event T) (b : ℕ) → sets {T = T} b (e ∷ []) ≡ 0
+      → clears {T = T} b (e ∷ []) ≡ 0 → number_after b (number_in b 0 h) e ≡ number_in b 0 h
+      → (sets b h ≡ clears b h + number_in b 0 h) × (number_in b 0 h ≤ 1)
+      → (sets b (h ++ e ∷ []) ≡ clears b (h ++ e ∷ []) + number_in b 0 (h ++ e ∷ [])) × (number_in b 0 (h ++ e ∷ []) ≤ 1)
+  numbers_stay h e b none nor still was =
+      let s = sets_more b h (e ∷ []) in
+      let c = clears_more b h (e ∷ []) in
+      let n : number_in b 0 (h ++ e ∷ []) ≡ number_in b 0 h = number_more b 0 h (e ∷ []) ∙ still in
+      let first = was.0 in
+      let low = was.1 in
+      (omega arith, omega arith)
+
+  pub numbers_more : (c : ℕ) (h : List (Event T)) (e : Event T) → StandsRight bits_promise c h e → BitFinds h e → Numbers h → Numbers (h ++ e ∷ [])
+  numbers_more c h (event.TheVariants.Set p k) stands finds was b = go (k == b) refl
+    where
+      go : (t : Bool) → (k == b) ≡ t
+          → (sets b (h ++ event.TheVariants.Set p k ∷ [])
+          ≡ clears b (h ++ event.TheVariants.Set p k ∷ []) + number_in b 0 (h ++ event.TheVariants.Set p k ∷ []))
+          × (number_in b 0 (h ++ event.TheVariants.Set p k ∷ []) ≤ 1)
+      go true t =
+          let one : sets {T = T} b (event.TheVariants.Set p k ∷ []) ≡ 1 = rw t refl in
+          let none : clears {T = T} b (event.TheVariants.Set p k ∷ []) ≡ 0 = refl in
+          let s = sets_more b h (event.TheVariants.Set p k ∷ []) in
+          let c = clears_more b h (event.TheVariants.Set p k ∷ []) in
+          let n : number_in b 0 (h ++ event.TheVariants.Set p k ∷ []) ≡ 1 =
+          number_more b 0 h (event.TheVariants.Set p k ∷ []) ∙ ap (λ z. cond z 1 (number_in b 0 h)) t in
+          let found : sets b h ≡ clears b h = subst (λ z. sets z h ≡ clears z h) (is_number k b t) finds in
+          (omega arith, omega arith)
+      go false t = numbers_stay h (event.TheVariants.Set p k) b (rw t refl) refl (ap (λ z. cond z 1 (number_in b 0 h)) t) (was b)
+  numbers_more c h (Cleared p k) stands finds was b = go (k == b) refl
+    where
+      go : (t : Bool) → (k == b) ≡ t
+          → (sets b (h ++ Cleared p k ∷ []) ≡ clears b (h ++ Cleared p k ∷ []) + number_in b 0 (h ++ Cleared p k ∷ []))
+          × (number_in b 0 (h ++ Cleared p k ∷ []) ≤ 1)
+      go true t =
+          let one : clears {T = T} b (Cleared p k ∷ []) ≡ 1 = rw t refl in
+          let none : sets {T = T} b (Cleared p k ∷ []) ≡ 0 = refl in
+          let s = sets_more b h (Cleared p k ∷ []) in
+          let c = clears_more b h (Cleared p k ∷ []) in
+          let n : number_in b 0 (h ++ Cleared p k ∷ []) ≡ 0 = number_more b 0 h (Cleared p k ∷ []) ∙ ap (λ z. cond z 0 (number_in b 0 h)) t in
+          let found : sets b h ≡ clears b h + 1 = subst (λ z. sets z h ≡ clears z h + 1) (is_number k b t) finds in
+          (omega arith, omega arith)
+      go false t = numbers_stay h (Cleared p k) b refl (rw t refl) (ap (λ z. cond z 0 (number_in b 0 h)) t) (was b)
+  numbers_more c h (Counted p k) stands finds was b = absurd stands
+  numbers_more c h (TakenOut p k m) stands finds was b = absurd stands
+  numbers_more c h e stands finds was b = numbers_stay h e b refl refl refl (was b)
+
+  -- ---- ways
+
+  abbrev pub Fit : Start T → ℕ → List (Event T) → Option ℕ → Type 0
+  Fit (Bits (Set place)) b wrote d = (sets b wrote ≡ 0 → d ≡ None) × (1 ≤ sets b wrote → d ≡ Some 0)
+  Fit start b wrote d = (clears b wrote ≡ 0 → d ≡ None) × (1 ≤ clears b wrote → d ≡ Some 1)
+
+  fit_nil : (start : Start T) (b : ℕ) → Fit start b [] None
+  fit_nil (Bits (Set place)) b = ((λ e. refl), (λ some. absurd (omega arith)))
+  fit_nil start b = ((λ e. refl), (λ some. absurd (omega arith)))
+
+  fit_more : (start : Start T) (b : ℕ) (wrote : List (Event T)) (d : Option ℕ) (e : Event T)
+      → sets {T = T} b (e ∷ []) ≡ 0 → clears {T = T} b (e ∷ []) ≡ 0 → Fit start b wrote d
+      → Fit start b (wrote ++ e ∷ []) d
+  fit_more (Bits (Set place)) b wrote d e none nor fit =
+      let s = sets_more b wrote (e ∷ []) in
+      ((λ z. fit.0 (omega arith)), (λ some. fit.1 (omega arith)))
+  fit_more start b wrote d e none nor fit =
+      let c = clears_more b wrote (e ∷ []) in
+      ((λ z. fit.0 (omega arith)), (λ some. fit.1 (omega arith)))
+
+  -- what an act finds there
+  abbrev AtPlace : ℕ → ℕ → Event T → Type 0
+  AtPlace b n (event.TheVariants.Set q k) = k ≡ b → n ≡ 0
+  AtPlace b n (Cleared q k) = k ≡ b → n ≡ 1
+  AtPlace b n e = Unit {0}
+
+  -- an own act
+  set_fits : (q k b n : ℕ) (span : Span T) (way : Way T) → Stands bits_promise 0 (event.TheVariants.Set q k) span
+      → (k ≡ b → n ≡ 0) → WayFits Fit b span way
+      → WayFits Fit b (own_after span (event.TheVariants.Set q k)) (cond (k == b) (found_now n way) way)
+  set_fits q k b n (Open (Bits (Set place)) wrote) way stands at fits = go (k == b) refl
+    where
+      empty : wrote ≡ []
+      empty = stands.1
+
+      was : fits.found ≡ None
+      was = fits.fit.0 (rw empty refl)
+
+      here : way ≡ Some (Bits (Set place), None)
+      here = fits.is ∙ ap (λ d. Some (Bits (Set place), d)) was
+
+      go : (t : Bool) → (k == b) ≡ t → WayFits Fit b (Open (Bits (Set place)) (wrote ++ event.TheVariants.Set q k ∷ [])) (cond (k == b) (found_now n way) way)
+      go true t =
+          let one : sets {T = T} b (event.TheVariants.Set q k ∷ []) ≡ 1 = rw t refl in
+          let more = sets_more b wrote (event.TheVariants.Set q k ∷ []) in
+          record {
+            found = Some n;
+            is = ap (λ z. cond z (found_now n way) way) t ∙ ap (λ w. found_now n w) here;
+            fit = ((λ none. absurd (omega arith)), (λ some. ap Some (at (is_number k b t))));
+          }
+      go false t =
+          record {
+            found = None;
+            is = ap (λ z. cond z (found_now n way) way) t ∙ here;
+            fit =
+                fit_more (Bits (Set place)) b wrote None (event.TheVariants.Set q k) (rw t refl) refl
+                (subst (λ d. Fit (Bits (Set place)) b wrote d) was fits.fit);
+          }
+  set_fits q k b n (Open start wrote) way stands at fits = absurd stands
+  set_fits q k b n span way stands at fits = absurd stands
+
+  -- a call that may clear the place has not yet
+  not_yet : (start : Start T) (k : ℕ) (wrote : List (Event T)) → MayClear k start wrote → clears k wrote ≡ 0
+  not_yet (Bits ResetNext) k wrote may = rw may refl
+  not_yet (Bits ResetAll) k wrote may = may k (omega arith)
+  not_yet start k wrote may = absurd may
+
+  pub clears_none : (start : Start T) (k : ℕ) (wrote : List (Event T)) (d : Option ℕ) → MayClear k start wrote → Fit start k wrote d → d ≡ None
+  clears_none (Bits ResetNext) k wrote d may fit = fit.0 (not_yet (Bits ResetNext) k wrote may)
+  clears_none (Bits ResetAll) k wrote d may fit = fit.0 (not_yet (Bits ResetAll) k wrote may)
+  clears_none start k wrote d may fit = absurd may
+
+  fit_cleared : (start : Start T) (q k b : ℕ) (wrote : List (Event T)) → MayClear k start wrote → (k == b) ≡ true
+      → Fit start b (wrote ++ Cleared q k ∷ []) (Some 1)
+  fit_cleared (Bits ResetNext) q k b wrote may t =
+      let one : clears {T = T} b (Cleared q k ∷ []) ≡ 1 = rw t refl in
+      let more = clears_more b wrote (Cleared q k ∷ []) in
+      ((λ none. absurd (omega arith)), (λ some. refl))
+  fit_cleared (Bits ResetAll) q k b wrote may t =
+      let one : clears {T = T} b (Cleared q k ∷ []) ≡ 1 = rw t refl in
+      let more = clears_more b wrote (Cleared q k ∷ []) in
+      ((λ none. absurd (omega arith)), (λ some. refl))
+  fit_cleared start q k b wrote may t = absurd may
+
+  cleared_fits : (q k b n : ℕ) (span : Span T) (way : Way T) → Stands bits_promise 0 (Cleared q k) span
+      → (k ≡ b → n ≡ 1) → WayFits Fit b span way
+      → WayFits Fit b (own_after span (Cleared q k)) (cond (k == b) (found_now n way) way)
+  cleared_fits q k b n Never way stands at fits = absurd stands
+  cleared_fits q k b n (Ended start a wrote) way stands at fits = absurd stands
+  cleared_fits q k b n (Open start wrote) way stands at fits = go (k == b) refl
+    where
+      go : (t : Bool) → (k == b) ≡ t → WayFits Fit b (Open start (wrote ++ Cleared q k ∷ [])) (cond (k == b) (found_now n way) way)
+      go true t =
+          record {
+            found = Some 1;
+            is = ap (λ z. cond z (found_now n way) way) t ∙ (ap (λ w. found_now n w) fits.is ∙ ap (λ z. Some (start, Some z)) (at (is_number k b t)));
+            fit = fit_cleared start q k b wrote stands t;
+          }
+      go false t =
+          record {
+            found = fits.found;
+            is = ap (λ z. cond z (found_now n way) way) t ∙ fits.is;
+            fit = fit_more start b wrote fits.found (Cleared q k) refl (rw t refl) fits.fit;
+          }
+
+  pub one_fits : (c p b n : ℕ) (spans : ℕ → Span T) (way : Way T) (e : Event T)
+      → IfSome (whose e) (λ q. Stands bits_promise c e (spans q)) → AtPlace b n e → WayFits Fit b (spans p) way
+      → WayFits Fit b (span_after p (spans p) e) (way_after p b n way e)
+  one_fits c p b n spans way (Begun q s) stands at fits = begun_fits Fit p q b n (spans p) way s (fit_nil s b) fits
+  one_fits c p b n spans way (Finished q s a) stands at fits = finished_fits Fit p q b n (spans p) way s a fits
+  one_fits c p b n spans way (event.TheVariants.Set q k) stands at fits = go (q == p) refl
+    where
+      go : (t : Bool) → (q == p) ≡ t → WayFits Fit b (span_after p (spans p) (event.TheVariants.Set q k)) (way_after p b n way (event.TheVariants.Set q k))
+      go true t =
+          rw t (set_fits q k b n (spans p) way
+          (subst (λ z. Stands bits_promise 0 (event.TheVariants.Set q k) (spans z)) (is_number q p t) stands) at fits)
+      go false t = rw t fits
+  one_fits c p b n spans way (Cleared q k) stands at fits = go (q == p) refl
+    where
+      go : (t : Bool) → (q == p) ≡ t → WayFits Fit b (span_after p (spans p) (Cleared q k)) (way_after p b n way (Cleared q k))
+      go true t = rw t (cleared_fits q k b n (spans p) way (subst (λ z. Stands bits_promise 0 (Cleared q k) (spans z)) (is_number q p t) stands) at fits)
+      go false t = rw t fits
+  one_fits c p b n spans way (Counted q k) stands at fits = absurd stands
+  one_fits c p b n spans way (TakenOut q k m) stands at fits = absurd stands
+  one_fits c p b n spans way e stands at fits =
+      quiet_fits Fit p b (spans p) way e (λ span. refl) (λ start wrote d fit. fit_more start b wrote d e refl refl fit) fits
+
+  pub at_place : (h : List (Event T)) (e : Event T) → BitFinds h e → Numbers h → (b : ℕ) → AtPlace b (number_in b 0 h) e
+  at_place h (event.TheVariants.Set q k) finds numbers b =
+      λ same. (let is = (numbers b).0 in let found : sets b h ≡ clears b h = subst (λ z. sets z h ≡ clears z h) same finds in omega arith)
+  at_place h (Cleared q k) finds numbers b =
+      λ same.
+      (let is = (numbers b).0 in let found : sets b h ≡ clears b h + 1 = subst (λ z. sets z h ≡ clears z h + 1) same finds in omega arith)
+  at_place h e finds numbers b = tt

@@ -1,0 +1,474 @@
+-- The calls of a counting bit set act place by place.
+use Rattle.std.proofs.Common.{◌≡◌, ◌⊎◌, ⊎_elim, inl, inr, ℕ, zero, suc, ◌+◌, ◌-◌, ◌*◌, ◌^◌, ◌%◌, ◌<◌, ◌≤◌, ◌==◌, ◌&&◌}
+use Rattle.std.proofs.Common.{Bool, true, false, cond, Option, Some, None, IfSome, List, [], ◌∷◌, ◌++◌, refl, sym, ap}
+use Rattle.std.proofs.Common.{subst, ◌∙◌, append_assoc, append-nil, arith}
+use Rattle.std.proofs.lemmas.Bool.{cases_eq, cases_lt}
+use Rattle.model.specs.declared.event.Answer.{Answer}
+use Rattle.model.specs.declared.event.Answer.TheVariants.{Done, Number}
+use Rattle.model.specs.declared.event.Event.{Event}
+use Rattle.model.specs.declared.event.Event as event
+use Rattle.model.specs.declared.event.Event.TheVariants.{Begun, Cleared, Counted, TakenOut, Finished}
+use Rattle.model.specs.declared.event.Start.{Start}
+use Rattle.model.specs.declared.event.Start.TheVariants.{Bits}
+use Rattle.model.specs.declared.families.bits.BitsStart.TheVariants.{Set, ResetAll}
+use Rattle.model.specs.declared.turn.Kind as kinds
+use Rattle.model.specs.Families.Bits.Promises.{HasTakenOn, CountsAnswerOn, AnswersCountOn, CountsWrote, counts_promise}
+use Rattle.model.specs.Families.Bits.Reading.{counts, takes}
+use Rattle.model.specs.Moments.{BeginsNone, SinceBegin}
+use Rattle.model.specs.Promises.Spans.{Stands, StandsRight}
+use Rattle.model.specs.Reading.{Each, whose, Span, Open, own_after, span_after, span_of}
+use Rattle.laws_bits.proofs.Counts.Core.{counts_more, takes_more}
+use Rattle.history.specs.Acts.{Way, Acts, Found, Tells, Ends, number_after, way_after, found_now, ActsByPlace}
+use Rattle.history.proofs.Acts.Filling.{Marked, nothing_marked, goes_on, Fact, Stays, Silent, finishes}
+use Rattle.history.proofs.Acts.Finds.{CountFinds}
+use Rattle.history.proofs.Acts.Marks.{same_number, is_number, both_true, number_in, way_in, number_more, way_more}
+use Rattle.history.proofs.Acts.Ways.{along, begins_none_later, OpenFor, open_for, Fits, WayFits, shut_way, fits_open}
+use Rattle.history.proofs.Acts.Ways.{begun_fits, finished_fits, quiet_fits, Ways, ways_more}
+
+next_number : (n : ℕ) → n < 2 ^ 64 → (((n + 1) % 2 ^ 64 ≡ n + 1) × (n + 1 < 2 ^ 64)) ⊎ (((n + 1) % 2 ^ 64 ≡ 0) × (n + 1 ≡ 2 ^ 64))
+next_number n low =
+    ⊎_elim (λ (lt : n + 1 < 2 ^ 64). inl (omega arith, lt)) (λ (le : 2 ^ 64 ≤ n + 1). inr (omega arith, omega arith))
+    (cases_lt (n + 1) (2 ^ 64))
+
+-- what is taken out is what stands
+same_rest : (m n v w t c : ℕ) → m < 2 ^ 64 → n < 2 ^ 64 → c ≡ t + m + 2 ^ 64 * v → c ≡ t + n + 2 ^ 64 * w → m ≡ n
+same_rest m n v w t c lm ln e f =
+    ⊎_elim (λ (lt : v < w). absurd (omega arith))
+    (λ (le : w ≤ v). ⊎_elim (λ (lt : w < v). absurd (omega arith))
+    (λ (ge : v ≤ w). (let same : w ≡ v = omega arith in
+    let more : t + m + 2 ^ 64 * v ≡ t + n + 2 ^ 64 * v = sym e ∙ (f ∙ ap (λ z. t + n + 2 ^ 64 * z) same) in
+    omega arith))
+    (cases_lt w v))
+    (cases_lt v w)
+
+one_taken : (U : Type 0) (p k m b : ℕ) → (k == b) ≡ true → takes {T = U} b (TakenOut p k m ∷ []) ≡ m
+one_taken U p k m b t = rw t (omega arith)
+
+module _ {T : Type 0} where
+  pub record TakenIn (b : ℕ) (es : List (Event T)) : Type 0 where
+    pub by : ℕ
+    pub number : ℕ
+    pub first : List (Event T)
+    pub second : List (Event T)
+    pub is : es ≡ first ++ TakenOut by b number ∷ second
+
+  taken_later : (b : ℕ) (e : Event T) (es : List (Event T)) → TakenIn b es → TakenIn b (e ∷ es)
+  taken_later b e es h = record { by = h.by; number = h.number; first = e ∷ h.first; second = h.second; is = ap (λ xs. e ∷ xs) h.is }
+
+  -- a place out of which something was taken lost it somewhere
+  taken_in : (b : ℕ) (es : List (Event T)) → 1 ≤ takes b es → TakenIn b es
+  taken_in b [] some = absurd (omega arith)
+  taken_in b (TakenOut p x m ∷ es) some = go (x == b) refl (λ more. taken_in b es more)
+    where
+      go : (t : Bool) → (x == b) ≡ t → (1 ≤ takes b es → TakenIn b es) → TakenIn b (TakenOut p x m ∷ es)
+      go true t rest = record { by = p; number = m; first = []; second = es; is = ap (λ z. TakenOut p z m ∷ es) (is_number x b t) }
+      go false t rest =
+          let more = takes_more b (TakenOut p x m ∷ []) es in
+          let none : takes {T = T} b (TakenOut p x m ∷ []) ≡ 0 = rw t refl in
+          taken_later b (TakenOut p x m) es (rest (omega arith))
+  taken_in b (e ∷ es) some =
+      let more = takes_more b (e ∷ []) es in
+      let none : takes {T = T} b (e ∷ []) ≡ 0 = refl in
+      taken_later b e es (taken_in b es (omega arith))
+
+  -- ---- numbers
+
+  -- the number of a place is what was counted and not taken out, modulo 2^64
+  pub record NumberIs (h : List (Event T)) (b : ℕ) : Type 0 where
+    pub wraps : ℕ
+    pub whole : counts b h ≡ takes b h + number_in b 0 h + 2 ^ 64 * wraps
+    pub low : number_in b 0 h < 2 ^ 64
+
+  abbrev Numbers : List (Event T) → Type 0
+  Numbers h = (b : ℕ) → NumberIs h b
+
+  numbers_stay : (h : List (Event T)) (e : Event T) (b : ℕ) → counts {T = T} b (e ∷ []) ≡ 0
+      → takes {T = T} b (e ∷ []) ≡ 0 → number_after b (number_in b 0 h) e ≡ number_in b 0 h → NumberIs h b
+      → NumberIs (h ++ e ∷ []) b
+  numbers_stay h e b none nor still was =
+      let c = counts_more b h (e ∷ []) in
+      let t = takes_more b h (e ∷ []) in
+      let n : number_in b 0 (h ++ e ∷ []) ≡ number_in b 0 h = number_more b 0 h (e ∷ []) ∙ still in
+      let whole = was.whole in
+      let low = was.low in
+      record { wraps = was.wraps; whole = omega arith; low = omega arith }
+
+  numbers_more : (c : ℕ) (h : List (Event T)) (e : Event T) → StandsRight counts_promise c h e → CountFinds h e → Numbers h → Numbers (h ++ e ∷ [])
+  numbers_more c h (Counted p k) stands finds was b = go (k == b) refl
+    where
+      go : (t : Bool) → (k == b) ≡ t → NumberIs (h ++ Counted p k ∷ []) b
+      go true t =
+          let one : counts {T = T} b (Counted p k ∷ []) ≡ 1 = rw t refl in
+          let none : takes {T = T} b (Counted p k ∷ []) ≡ 0 = refl in
+          let c = counts_more b h (Counted p k ∷ []) in
+          let k' = takes_more b h (Counted p k ∷ []) in
+          let n : number_in b 0 (h ++ Counted p k ∷ []) ≡ (number_in b 0 h + 1) % 2 ^ 64 =
+          number_more b 0 h (Counted p k ∷ []) ∙ ap (λ z. cond z ((number_in b 0 h + 1) % 2 ^ 64) (number_in b 0 h)) t in
+          let whole = (was b).whole in
+          let low = (was b).low in
+          ⊎_elim
+          (λ (up : ((number_in b 0 h + 1) % 2 ^ 64 ≡ number_in b 0 h + 1) × (number_in b 0 h + 1 < 2 ^ 64)).
+          (let is = up.0 in let lt = up.1 in record { wraps = (was b).wraps; whole = omega arith; low = omega arith }))
+          (λ (round : ((number_in b 0 h + 1) % 2 ^ 64 ≡ 0) × (number_in b 0 h + 1 ≡ 2 ^ 64)).
+          (let is = round.0 in let at = round.1 in record { wraps = (was b).wraps + 1; whole = omega arith; low = omega arith }))
+          (next_number (number_in b 0 h) low)
+      go false t = numbers_stay h (Counted p k) b (rw t refl) refl (ap (λ z. cond z ((number_in b 0 h + 1) % 2 ^ 64) (number_in b 0 h)) t) (was b)
+  numbers_more c h (TakenOut p k m) stands finds was b = go (k == b) refl
+    where
+      go : (t : Bool) → (k == b) ≡ t → NumberIs (h ++ TakenOut p k m ∷ []) b
+      go true t =
+          let one = one_taken T p k m b t in
+          let none : counts {T = T} b (TakenOut p k m ∷ []) ≡ 0 = refl in
+          let c = counts_more b h (TakenOut p k m ∷ []) in
+          let k' = takes_more b h (TakenOut p k m ∷ []) in
+          let n : number_in b 0 (h ++ TakenOut p k m ∷ []) ≡ 0 = number_more b 0 h (TakenOut p k m ∷ []) ∙ ap (λ z. cond z 0 (number_in b 0 h)) t in
+          let all : counts b h ≡ takes b h + m + 2 ^ 64 * finds.0 = subst (λ z. counts z h ≡ takes z h + m + 2 ^ 64 * finds.0) (is_number k b t) finds.1 in
+          record { wraps = finds.0; whole = omega arith; low = omega arith }
+      go false t = numbers_stay h (TakenOut p k m) b refl (rw t refl) (ap (λ z. cond z 0 (number_in b 0 h)) t) (was b)
+  numbers_more c h (event.TheVariants.Set p k) stands finds was b = absurd stands
+  numbers_more c h (Cleared p k) stands finds was b = absurd stands
+  numbers_more c h e stands finds was b = numbers_stay h e b refl refl refl (was b)
+
+  takes_all : (h : List (Event T)) (p k m : ℕ) → CountFinds h (TakenOut p k m) → Numbers h → m ≡ number_in k 0 h
+  takes_all h p k m finds numbers =
+      same_rest m (number_in k 0 h) finds.0 (numbers k).wraps (takes k h) (counts k h) finds.3 (numbers k).low finds.1 (numbers k).whole
+
+  -- ---- ways
+
+  abbrev Fit : Start T → ℕ → List (Event T) → Option ℕ → Type 0
+  Fit (Bits (Set place)) b wrote d = counts b wrote ≡ 0 → d ≡ None
+  Fit start b wrote d = (takes b wrote ≡ 0 → d ≡ None) × (1 ≤ takes b wrote → Found (λ n. Unit {0}) d)
+
+  fit_nil : (start : Start T) (b : ℕ) → Fit start b [] None
+  fit_nil (Bits (Set place)) b = λ e. refl
+  fit_nil start b = ((λ e. refl), (λ some. absurd (omega arith)))
+
+  fit_more : (start : Start T) (b : ℕ) (wrote : List (Event T)) (d : Option ℕ) (e : Event T)
+      → counts {T = T} b (e ∷ []) ≡ 0 → takes {T = T} b (e ∷ []) ≡ 0 → Fit start b wrote d
+      → Fit start b (wrote ++ e ∷ []) d
+  fit_more (Bits (Set place)) b wrote d e none nor fit = λ z. (let c = counts_more b wrote (e ∷ []) in fit (omega arith))
+  fit_more start b wrote d e none nor fit =
+      let t = takes_more b wrote (e ∷ []) in
+      ((λ z. fit.0 (omega arith)), (λ some. fit.1 (omega arith)))
+
+  -- an own act
+  count_fits : (q k b n : ℕ) (span : Span T) (way : Way T) → Stands counts_promise 0 (Counted q k) span
+      → WayFits Fit b span way → WayFits Fit b (own_after span (Counted q k)) (cond (k == b) (found_now n way) way)
+  count_fits q k b n (Open (Bits (Set place)) wrote) way stands fits = go (k == b) refl
+    where
+      was : fits.found ≡ None
+      was = fits.fit (rw stands.1 refl)
+
+      here : way ≡ Some (Bits (Set place), None)
+      here = fits.is ∙ ap (λ d. Some (Bits (Set place), d)) was
+
+      go : (t : Bool) → (k == b) ≡ t → WayFits Fit b (Open (Bits (Set place)) (wrote ++ Counted q k ∷ [])) (cond (k == b) (found_now n way) way)
+      go true t =
+          let one : counts {T = T} b (Counted q k ∷ []) ≡ 1 = rw t refl in
+          let more = counts_more b wrote (Counted q k ∷ []) in
+          record {
+            found = Some n;
+            is = ap (λ z. cond z (found_now n way) way) t ∙ ap (λ w. found_now n w) here;
+            fit = λ none. absurd (omega arith);
+          }
+      go false t =
+          record {
+            found = None;
+            is = ap (λ z. cond z (found_now n way) way) t ∙ here;
+            fit = λ none. refl;
+          }
+  count_fits q k b n (Open start wrote) way stands fits = absurd stands
+  count_fits q k b n span way stands fits = absurd stands
+
+  take_fits : (q k m b n : ℕ) (span : Span T) (way : Way T) → Stands counts_promise 0 (TakenOut q k m) span
+      → WayFits Fit b span way → WayFits Fit b (own_after span (TakenOut q k m)) (cond (k == b) (found_now n way) way)
+  take_fits q k m b n (Open (Bits ResetAll) wrote) way stands fits = go (k == b) refl
+    where
+      go : (t : Bool) → (k == b) ≡ t → WayFits Fit b (Open (Bits ResetAll) (wrote ++ TakenOut q k m ∷ [])) (cond (k == b) (found_now n way) way)
+      go true t =
+          let one = one_taken T q k m b t in
+          let some = stands.0 in
+          let more = takes_more b wrote (TakenOut q k m ∷ []) in
+          record {
+            found = Some n;
+            is = ap (λ z. cond z (found_now n way) way) t ∙ ap (λ w. found_now n w) fits.is;
+            fit = ((λ none. absurd (omega arith)), (λ some. tt));
+          }
+      go false t =
+          record {
+            found = fits.found;
+            is = ap (λ z. cond z (found_now n way) way) t ∙ fits.is;
+            fit = fit_more (Bits ResetAll) b wrote fits.found (TakenOut q k m) refl (rw t refl) fits.fit;
+          }
+  take_fits q k m b n (Open start wrote) way stands fits = absurd stands
+  take_fits q k m b n span way stands fits = absurd stands
+
+  one_fits : (c p b n : ℕ) (spans : ℕ → Span T) (way : Way T) (e : Event T)
+      → IfSome (whose e) (λ q. Stands counts_promise c e (spans q)) → WayFits Fit b (spans p) way
+      → WayFits Fit b (span_after p (spans p) e) (way_after p b n way e)
+  one_fits c p b n spans way (Begun q s) stands fits = begun_fits Fit p q b n (spans p) way s (fit_nil s b) fits
+  one_fits c p b n spans way (Finished q s a) stands fits = finished_fits Fit p q b n (spans p) way s a fits
+  one_fits c p b n spans way (Counted q k) stands fits = go (q == p) refl
+    where
+      go : (t : Bool) → (q == p) ≡ t → WayFits Fit b (span_after p (spans p) (Counted q k)) (way_after p b n way (Counted q k))
+      go true t = rw t (count_fits q k b n (spans p) way (subst (λ z. Stands counts_promise 0 (Counted q k) (spans z)) (is_number q p t) stands) fits)
+      go false t = rw t fits
+  one_fits c p b n spans way (TakenOut q k m) stands fits = go (q == p) refl
+    where
+      go : (t : Bool) → (q == p) ≡ t → WayFits Fit b (span_after p (spans p) (TakenOut q k m)) (way_after p b n way (TakenOut q k m))
+      go true t = rw t (take_fits q k m b n (spans p) way (subst (λ z. Stands counts_promise 0 (TakenOut q k m) (spans z)) (is_number q p t) stands) fits)
+      go false t = rw t fits
+  one_fits c p b n spans way (event.TheVariants.Set q k) stands fits = absurd stands
+  one_fits c p b n spans way (Cleared q k) stands fits = absurd stands
+  one_fits c p b n spans way e stands fits =
+      quiet_fits Fit p b (spans p) way e (λ span. refl) (λ start wrote d fit. fit_more start b wrote d e refl refl fit) fits
+
+-- ---- the calls
+
+module _ {T : Type 0} where
+  abbrev set_call : ℕ → Start T
+  set_call k = Bits (Set k)
+
+  abbrev all_call : Start T
+  all_call = Bits ResetAll
+
+-- ---- the whole history
+
+module _ {T : Type 0} (c : ℕ) (events : List (Event T)) (spans : Each (StandsRight counts_promise c) events)
+    (finds : Each CountFinds events) (answers : Each (CountsAnswerOn c) events) where
+  abbrev Sure : ℕ → Type 0
+  Sure b = counts b events < 2 ^ 64
+
+  abbrev Way' : Type 0
+  Way' = Way T
+
+  numbers : (h rest : List (Event T)) → events ≡ h ++ rest → Numbers h
+  numbers h rest is =
+      along events Numbers (λ h after e is. numbers_more c h e (spans h after e is) (finds h after e is))
+      (λ b. record { wraps = 0; whole = refl; low = omega arith }) h rest is
+
+  ways : (h rest : List (Event T)) → events ≡ h ++ rest → Ways Fit h
+  ways h rest is = along events (Ways Fit) more (λ p b. refl) h rest is
+    where
+      more : (h after : List (Event T)) (e : Event T) → events ≡ h ++ e ∷ after → Ways Fit h → Ways Fit (h ++ e ∷ [])
+      more h after e is was p b =
+          ways_more Fit h e p b
+          (one_fits c p b (number_in b 0 h) (λ q. span_of q h) (way_in p b 0 None h) e (spans h after e is) (was p b))
+
+  abbrev M : List (Event T) → Type 0
+  M h = Marked kinds.TheVariants.Counts c Sure h
+
+  module _ (h after : List (Event T)) where
+    abbrev way : ℕ → ℕ → Way'
+    way q b = way_in q b 0 None h
+
+    abbrev number : ℕ → ℕ
+    number b = number_in b 0 h
+
+    abbrev RightAct : Event T → ℕ → ℕ → Type 0
+    RightAct e p b = Tells (number b) e × Acts kinds.TheVariants.Counts b (number b) (number_after b (number b) e) (way p b)
+
+    spread : (e : Event T) (q k p b : ℕ) → RightAct e q k → (q == p && k == b) ≡ true → RightAct e p b
+    spread e q k p b right t =
+        let both = both_true (q == p) (k == b) t in
+        subst (λ z. RightAct e z b) (is_number q p both.0) (subst (λ z. RightAct e q z) (is_number k b both.1) right)
+
+    count_acts : (k : ℕ) (q : ℕ) (span : Span T) (w : Way') → Stands counts_promise c (Counted q k) span
+        → WayFits Fit k span w → Acts kinds.TheVariants.Counts k (number k) ((number k + 1) % 2 ^ 64) w
+    count_acts k q (Open (Bits (Set place)) wrote) w stands fits =
+        let none : fits.found ≡ None = fits.fit (rw stands.1 refl) in
+        subst (λ z. Acts kinds.TheVariants.Counts k (number k) ((number k + 1) % 2 ^ 64) z)
+        (sym (fits.is ∙ ap (λ d. Some (Bits (Set place), d)) none)) (stands.0, refl)
+    count_acts k q (Open start wrote) w stands fits = absurd stands
+    count_acts k q span w stands fits = absurd stands
+
+    take_acts : (k m : ℕ) (q : ℕ) (span : Span T) (w : Way') → Stands counts_promise c (TakenOut q k m) span
+        → WayFits Fit k span w → (1 ≤ m) × Acts kinds.TheVariants.Counts k (number k) 0 w
+    take_acts k m q (Open (Bits ResetAll) wrote) w stands fits =
+        let none : fits.found ≡ None = fits.fit.0 (stands.1 k (omega arith)) in
+        (stands.0, subst (λ z. Acts kinds.TheVariants.Counts k (number k) 0 z) (sym (fits.is ∙ ap (λ d. Some (Bits ResetAll, d)) none)) (tt, refl))
+    take_acts k m q (Open start wrote) w stands fits = absurd stands
+    take_acts k m q span w stands fits = absurd stands
+
+    module _ (m : M h) (numbered : Numbers h) (on : Ways Fit h) where
+      count_goes : (q k : ℕ) → events ≡ h ++ Counted q k ∷ after → M (h ++ Counted q k ∷ [])
+      count_goes q k is =
+          goes_on kinds.TheVariants.Counts c Sure h (Counted q k) m (λ p b t. spread (Counted q k) q k p b (tt, acts) t)
+        where
+          acts : Acts kinds.TheVariants.Counts k (number k) (cond (k == k) ((number k + 1) % 2 ^ 64) (number k)) (way q k)
+          acts = rw (same_number k) (count_acts k q (span_of q h) (way q k) (spans h after (Counted q k) is) (on q k))
+
+      take_goes : (q k n : ℕ) → events ≡ h ++ TakenOut q k n ∷ after → M (h ++ TakenOut q k n ∷ [])
+      take_goes q k n is =
+          goes_on kinds.TheVariants.Counts c Sure h (TakenOut q k n) m (λ p b t. spread (TakenOut q k n) q k p b ((whole, here.0), acts) t)
+        where
+          here : (1 ≤ n) × Acts kinds.TheVariants.Counts k (number k) 0 (way q k)
+          here = take_acts k n q (span_of q h) (way q k) (spans h after (TakenOut q k n) is) (on q k)
+
+          whole : n ≡ number k
+          whole = takes_all h q k n (finds h after (TakenOut q k n) is) numbered
+
+          acts : Acts kinds.TheVariants.Counts k (number k) (cond (k == k) 0 (number k)) (way q k)
+          acts = rw (same_number k) here.1
+
+      -- ---- a call ends
+
+      here : (q b : ℕ) (s : Start T) (wrote : List (Event T)) → span_of q h ≡ Open s wrote → Fits Fit s b wrote (way q b)
+      here q b s wrote opened = fits_open Fit b (span_of q h) (way q b) s wrote opened (on q b)
+
+      found_some : (n : ℕ) (w : Way') (s : Start T) (d : Option ℕ) → found_now n w ≡ Some (s, d) → d ≡ Some n
+      found_some n None s d e = absurd (cc)
+      found_some n (Some call) s d e = sym (ap seen e)
+        where
+          seen : Way' → Option ℕ
+          seen None = Some n
+          seen (Some call) = call.1
+
+      rest_is : (n t c w : ℕ) → n < 2 ^ 64 → c ≡ t + n + 2 ^ 64 * w → (c - t) % 2 ^ 64 ≡ n
+      rest_is n t c w low e = omega arith
+
+      end_set : (q k n : ℕ) → events ≡ h ++ Finished q (Bits (Set k)) (Number n) ∷ after → M (h ++ Finished q (Bits (Set k)) (Number n) ∷ [])
+      end_set q k n is =
+          finishes kinds.TheVariants.Counts c Sure h q (set_call k) (Number n) m (λ b lt. Stays (done b)) (λ b le. done b)
+        where
+          opened : OpenFor (set_call k) (CountsWrote c (set_call k) (Number n)) (span_of q h)
+          opened = open_for (set_call k) (CountsWrote c (set_call k) (Number n)) (span_of q h) (spans h after (Finished q (set_call k) (Number n)) is)
+
+          answer : AnswersCountOn q k n h
+          answer = answers h after (Finished q (set_call k) (Number n)) is
+
+          was : NumberIs answer.before k
+          was =
+              numbers answer.before (Counted q k ∷ (Finished q (set_call k) (Number n) ∷ after))
+              (is ∙ (ap (λ xs. xs ++ Finished q (set_call k) (Number n) ∷ after) answer.is
+              ∙ append_assoc answer.before (Counted q k ∷ []) (Finished q (set_call k) (Number n) ∷ after)))
+              k
+
+          told : n ≡ number_in k 0 answer.before
+          told = answer.count ∙ rest_is (number_in k 0 answer.before) (takes k answer.before) (counts k answer.before) was.wraps was.low was.whole
+
+          both : (q == q && k == k) ≡ true
+          both = rw (same_number q, same_number k) refl
+
+          counted : way q k ≡ found_now (number_in k 0 answer.before) (way_in q k 0 None answer.before)
+          counted =
+              ap (way_in q k 0 None) answer.is
+              ∙ (way_more q k 0 None answer.before (Counted q k ∷ [])
+              ∙ ap (λ z. cond z (found_now (number_in k 0 answer.before) (way_in q k 0 None answer.before)) (way_in q k 0 None answer.before)) both)
+
+          done : (b : ℕ) → Ends c (Sure b) b (set_call k) (Number n) (way q b)
+          done b =
+              let fits = here q b (set_call k) opened.wrote opened.is in
+              ⊎_elim (λ same. subst (λ z. Ends c (Sure z) z (set_call k) (Number n) (way q z)) same mine)
+              (λ ne. subst (λ w. Ends c (Sure b) b (set_call k) (Number n) w) (sym fits.is) (refl, λ same. absurd (ne same))) (cases_eq k b)
+            where
+              mine : Ends c (Sure k) k (set_call k) (Number n) (way q k)
+              mine =
+                  let fits = here q k (set_call k) opened.wrote opened.is in
+                  let found : fits.found ≡ Some (number_in k 0 answer.before) =
+                  found_some (number_in k 0 answer.before) (way_in q k 0 None answer.before) (set_call k) fits.found
+                  (sym counted ∙ fits.is) in
+                  subst (λ w. Ends c (Sure k) k (set_call k) (Number n) w) (sym (fits.is ∙ ap (λ d. Some ((set_call k), d)) found)) (refl, λ same. told)
+
+      -- a place that the call left silently, where its count was 0
+      clear_there : (q b : ℕ) (part rest : List (Event T)) → h ≡ part ++ rest → BeginsNone q rest
+          → way q b ≡ Some (Bits ResetAll, None) → number_in b 0 part ≡ 0
+          → Fact kinds.TheVariants.Counts c Sure h q (Bits ResetAll) Done b
+      clear_there q b part rest cut none under nought =
+          Silent part rest cut none under tt nought (refl, λ sure lt. tt)
+
+      end_all : (q : ℕ) → events ≡ h ++ Finished q (Bits ResetAll) Done ∷ after → M (h ++ Finished q (Bits ResetAll) Done ∷ [])
+      end_all q is =
+          finishes kinds.TheVariants.Counts c Sure h q all_call Done m facts
+          (λ b le. let fits = here q b all_call opened.wrote opened.is in
+          subst (λ w. Ends c (Sure b) b all_call Done w) (sym fits.is) (refl, λ sure lt. absurd (omega arith)))
+        where
+          opened : OpenFor all_call (CountsWrote c all_call Done) (span_of q h)
+          opened = open_for all_call (CountsWrote c all_call Done) (span_of q h) (spans h after (Finished q all_call Done) is)
+
+          since : SinceBegin q (HasTakenOn c) h
+          since = answers h after (Finished q all_call Done) is
+
+          facts : (b : ℕ) → b < c → Fact kinds.TheVariants.Counts c Sure h q all_call Done b
+          facts b lt = ⊎_elim acted silent (cases_lt 0 (takes b opened.wrote))
+            where
+              fits : Fits Fit all_call b opened.wrote (way q b)
+              fits = here q b all_call opened.wrote opened.is
+
+              ends_so : (d : Option ℕ) → Found (λ n. Unit {0}) d → way q b ≡ Some (all_call, d) → Ends c (Sure b) b all_call Done (way q b)
+              ends_so d some is = subst (λ w. Ends c (Sure b) b all_call Done w) (sym is) (refl, λ sure lt. some)
+
+              acted : 0 < takes b opened.wrote → Fact kinds.TheVariants.Counts c Sure h q all_call Done b
+              acted some = Stays (ends_so fits.found (fits.fit.1 (omega arith)) fits.is)
+
+              silent : takes b opened.wrote ≤ 0 → Fact kinds.TheVariants.Counts c Sure h q all_call Done b
+              silent few = go (number_in b 0 since.before) refl
+                where
+                  under : way q b ≡ Some (all_call, None)
+                  under = fits.is ∙ ap (λ d. Some (all_call, d)) (fits.fit.0 (omega arith))
+
+                  whole_is : events ≡ since.before ++ (Begun q since.start ∷ (since.since ++ Finished q all_call Done ∷ after))
+                  whole_is =
+                      is ∙ (ap (λ xs. xs ++ Finished q all_call Done ∷ after) since.is
+                      ∙ append_assoc since.before (Begun q since.start ∷ since.since) (Finished q all_call Done ∷ after))
+
+                  was : NumberIs since.before b
+                  was = numbers since.before (Begun q since.start ∷ (since.since ++ Finished q all_call Done ∷ after)) whole_is b
+
+                  go : (n : ℕ) → number_in b 0 since.before ≡ n → Fact kinds.TheVariants.Counts c Sure h q all_call Done b
+                  go zero e =
+                      clear_there q b (since.before ++ Begun q since.start ∷ []) since.since
+                      (since.is ∙ sym (append_assoc since.before (Begun q since.start ∷ []) since.since)) since.within under
+                      (number_more b 0 since.before (Begun q since.start ∷ []) ∙ e)
+                  go (suc n) e =
+                      let all = was.whole in
+                      ⊎_elim lost far (since.holds b lt (omega arith))
+                    where
+                      lost : 1 ≤ takes b since.since → Fact kinds.TheVariants.Counts c Sure h q all_call Done b
+                      lost some =
+                          let out = taken_in b since.since some in
+                          let to : List (Event T) = since.before ++ Begun q since.start ∷ out.first in
+                          clear_there q b (to ++ TakenOut out.by b out.number ∷ []) out.second
+                          (since.is
+                          ∙ (ap (λ xs. since.before ++ Begun q since.start ∷ xs) out.is
+                          ∙ (sym (append_assoc since.before (Begun q since.start ∷ out.first) (TakenOut out.by b out.number ∷ out.second))
+                          ∙ sym (append_assoc to (TakenOut out.by b out.number ∷ []) out.second))))
+                          (begins_none_later q (TakenOut out.by b out.number ∷ []) out.second
+                          (begins_none_later q out.first (TakenOut out.by b out.number ∷ out.second) (subst (BeginsNone q) out.is since.within)))
+                          under
+                          (number_more b 0 to (TakenOut out.by b out.number ∷ []) ∙ ap (λ z. cond z 0 (number_in b 0 to)) (same_number b))
+
+                      far : 2 ^ 64 ≤ counts b since.before + counts b since.since → Fact kinds.TheVariants.Counts c Sure h q all_call Done b
+                      far many =
+                          let one = counts_more b since.before (Begun q since.start ∷ (since.since ++ Finished q all_call Done ∷ after)) in
+                          let two = counts_more b (Begun q since.start ∷ []) (since.since ++ Finished q all_call Done ∷ after) in
+                          let three = counts_more b since.since (Finished q all_call Done ∷ after) in
+                          let first : counts b events
+                          ≡ counts b (since.before ++ (Begun q since.start ∷ (since.since ++ Finished q all_call Done ∷ after))) =
+                          ap (counts b) whole_is in
+                          Stays (subst (λ w. Ends c (Sure b) b all_call Done w) (sym fits.is)
+                          (refl, λ (sure : counts b events < 2 ^ 64). λ lt. absurd (omega arith)))
+
+      ends : (q : ℕ) (s : Start T) (a : Answer T) → events ≡ h ++ Finished q s a ∷ after → M (h ++ Finished q s a ∷ [])
+      ends q (Bits (Set k)) (Number n) is = end_set q k n is
+      ends q (Bits ResetAll) Done is = end_all q is
+      ends q s a is = absurd (open_for s (CountsWrote c s a) (span_of q h) (spans h after (Finished q s a) is)).holds
+
+      more_marks : (e : Event T) → events ≡ h ++ e ∷ after → M (h ++ e ∷ [])
+      more_marks (Begun q s) is =
+          goes_on kinds.TheVariants.Counts c Sure h (Begun q s) m
+          (λ p b same. subst (λ z. way z b ≡ None) same (shut_way Fit b (span_of q h) (way q b) (spans h after (Begun q s) is) (on q b)))
+      more_marks (Finished q s a) is = ends q s a is
+      more_marks (Counted q k) is = count_goes q k is
+      more_marks (TakenOut q k n) is = take_goes q k n is
+      more_marks (event.TheVariants.Set q k) is = absurd (spans h after (event.TheVariants.Set q k) is)
+      more_marks (Cleared q k) is = absurd (spans h after (Cleared q k) is)
+      more_marks e is = goes_on kinds.TheVariants.Counts c Sure h e m (λ p b t. absurd (cc))
+
+  pub counts_act : ActsByPlace kinds.TheVariants.Counts c events
+  counts_act = record { marks = all.marks; is = all.is; right = all.right }
+    where
+      all : M events
+      all =
+          along events M (λ h after e is m. more_marks h after m (numbers h (e ∷ after) is) (ways h (e ∷ after) is) e is)
+          (nothing_marked kinds.TheVariants.Counts c Sure) events [] (sym (append-nil events))

@@ -1,0 +1,221 @@
+-- A history with its silent acts, as it goes on by one event; before the end of a call they are put in where the call has
+-- acted silently.
+use Rattle.std.proofs.Common.{◌≡◌, ◌≢◌, ⊎_elim, ℕ, zero, suc, ◌<◌, ◌≤◌, ◌==◌, ◌&&◌, Bool, true, false, cond, Some}
+use Rattle.std.proofs.Common.{None, List, [], ◌∷◌, ◌++◌, refl, sym, ap, subst, ◌∙◌, arith}
+use Rattle.std.proofs.lemmas.Bool.{cases_eq, cases_lt}
+use Rattle.model.specs.declared.event.Answer.{Answer}
+use Rattle.model.specs.declared.event.Event.{Event}
+use Rattle.model.specs.declared.event.Event.TheVariants.{Finished}
+use Rattle.model.specs.declared.event.Start.{Start}
+use Rattle.model.specs.declared.turn.Kind.{Kind}
+use Rattle.model.specs.Moments.{BeginsNone}
+use Rattle.history.specs.Acts.{Mark, Happens, Leaves, left_by, told, MayAct, Way, way_after, Ends, IsRightEvent}
+use Rattle.history.proofs.Acts.Marks.{same_number, other_number, is_number, both_true, number_at, way_at, number_in}
+use Rattle.history.proofs.Acts.Marks.{way_in, number_told, way_at_more, way_more, told_more, Cut, cut, Right}
+use Rattle.history.proofs.Acts.Marks.{right_more, put_else, way_else, put_here, way_here}
+
+module _ {T : Type 0} (kind : Kind) (capacity : ℕ) (Sure : ℕ → Type 0) where
+  abbrev IsGood : ℕ → ℕ → List (Mark T) → Type 0
+  IsGood p b ms = Right kind capacity Sure p b 0 None ms
+
+  pub record Marked (h : List (Event T)) : Type 0 where
+    pub marks : List (Mark T)
+    pub is : told marks ≡ h
+    pub right : (p b : ℕ) → IsGood p b marks
+    pub ways : (p b : ℕ) → way_at p b 0 None marks ≡ way_in p b 0 None h
+
+  pub nothing_marked : Marked []
+  nothing_marked = record { marks = []; is = refl; right = λ p b. tt; ways = λ p b. refl }
+
+  numbers : (ms : List (Mark T)) (h : List (Event T)) → told ms ≡ h → (b : ℕ) → number_at b 0 ms ≡ number_in b 0 h
+  numbers ms h is b = number_told b 0 ms ∙ ap (number_in b 0) is
+
+  told_one : (ms : List (Mark T)) (h : List (Event T)) (e : Event T) → told ms ≡ h → told (ms ++ Happens e ∷ []) ≡ h ++ e ∷ []
+  told_one ms h e is = told_more ms (Happens e ∷ []) ∙ ap (λ es. es ++ e ∷ []) is
+
+  right_one : (ms : List (Mark T)) (h : List (Event T)) (e : Event T) → told ms ≡ h → (p b : ℕ) (way : Way T)
+      → IsGood p b ms → way_at p b 0 None ms ≡ way → IsRightEvent kind capacity (Sure b) p b (number_in b 0 h) way e
+      → IsGood p b (ms ++ Happens e ∷ [])
+  right_one ms h e is p b way good here now =
+      right_more kind capacity Sure p b 0 None ms (Happens e ∷ []) good (
+        subst (λ n. IsRightEvent kind capacity (Sure b) p b n (way_at p b 0 None ms) e) (sym (numbers ms h is b))
+            (subst (λ w. IsRightEvent kind capacity (Sure b) p b (number_in b 0 h) w e) (sym here) now),
+        tt,
+      )
+
+  way_one : (ms : List (Mark T)) (h : List (Event T)) (e : Event T) → told ms ≡ h → (p b : ℕ)
+      → way_at p b 0 None ms ≡ way_in p b 0 None h
+      → way_at p b 0 None (ms ++ Happens e ∷ []) ≡ way_in p b 0 None (h ++ e ∷ [])
+  way_one ms h e is p b here =
+      way_at_more p b 0 None ms (Happens e ∷ [])
+      ∙ (ap (λ n. way_after p b n (way_at p b 0 None ms) e) (numbers ms h is b)
+      ∙ (ap (λ w. way_after p b (number_in b 0 h) w e) here ∙ sym (way_more p b 0 None h (e ∷ []))))
+
+  -- an event before which nothing has to be put in
+  pub goes_on : (h : List (Event T)) (e : Event T) → Marked h
+      → ((p b : ℕ) → IsRightEvent kind capacity (Sure b) p b (number_in b 0 h) (way_in p b 0 None h) e)
+      → Marked (h ++ e ∷ [])
+  goes_on h e m now =
+      record {
+        marks = m.marks ++ Happens e ∷ [];
+        is = told_one m.marks h e m.is;
+        right = λ p b. right_one m.marks h e m.is p b (way_in p b 0 None h) (m.right p b) (m.ways p b) (now p b);
+        ways = λ p b. way_one m.marks h e m.is p b (m.ways p b);
+      }
+
+  -- ---- the end of a call
+
+  module _ (h : List (Event T)) (p : ℕ) (start : Start T) (answer : Answer T) where
+    abbrev IsDone : ℕ → Way T → Type 0
+    IsDone b way = Ends capacity (Sure b) b start answer way
+
+    abbrev end : Event T
+    end = Finished p start answer
+
+    -- what the call has found at the place: by its events, or silently, at a moment of it
+    pub data Fact (b : ℕ) : Type 0 where
+      Stays : IsDone b (way_in p b 0 None h) → Fact b
+      Silent : (part rest : List (Event T)) → h ≡ part ++ rest → BeginsNone p rest
+          → way_in p b 0 None h ≡ Some (start, None) → MayAct b start
+          → number_in b 0 part ≡ left_by kind start (number_in b 0 part)
+          → IsDone b (Some (start, Some (number_in b 0 part))) → Fact b
+
+    -- all that it has done silently at places below this one is put in
+    record Filled (k : ℕ) : Type 0 where
+      marks : List (Mark T)
+      is : told marks ≡ h
+      right : (q b : ℕ) → IsGood q b marks
+      others : (q b : ℕ) → q ≢ p → way_at q b 0 None marks ≡ way_in q b 0 None h
+      done : (b : ℕ) → b < k → IsDone b (way_at p b 0 None marks)
+      later : (b : ℕ) → k ≤ b → way_at p b 0 None marks ≡ way_in p b 0 None h
+
+    stay : (k : ℕ) → Filled k → IsDone k (way_in p k 0 None h) → Filled (suc k)
+    stay k f e = record { marks = f.marks; is = f.is; right = f.right; others = f.others; done = done; later = λ b le. f.later b (omega arith) }
+      where
+        done : (b : ℕ) → b < suc k → IsDone b (way_at p b 0 None f.marks)
+        done b lt =
+            ⊎_elim
+            (λ (same : b ≡ k). subst (λ z. IsDone z (way_at p z 0 None f.marks)) (sym same) (subst (IsDone k) (sym (f.later k (omega arith))) e))
+            (λ (ne : b ≢ k). f.done b (omega arith))
+            (cases_eq b k)
+
+    module _ (k : ℕ) (f : Filled k) (part rest : List (Event T)) (is : h ≡ part ++ rest) (none : BeginsNone p rest)
+        (under : way_in p k 0 None h ≡ Some (start, None)) (may : MayAct k start)
+        (left : number_in k 0 part ≡ left_by kind start (number_in k 0 part))
+        (ends : IsDone k (Some (start, Some (number_in k 0 part)))) where
+      c : Cut f.marks part rest
+      c = cut f.marks part rest (f.is ∙ is)
+
+      abbrev first : List (Mark T)
+      first = c.first
+
+      abbrev second : List (Mark T)
+      second = c.second
+
+      abbrev new : List (Mark T)
+      new = first ++ Leaves p k ∷ second
+
+      there : number_at k 0 first ≡ number_in k 0 part
+      there = numbers first part c.first_told k
+
+      was : (q b : ℕ) → IsGood q b (first ++ second)
+      was q b = subst (IsGood q b) c.is (f.right q b)
+
+      late : way_at p k 0 None (first ++ second) ≡ Some (start, None)
+      late = ap (way_at p k 0 None) (sym c.is) ∙ (f.later k (omega arith) ∙ under)
+
+      calm : BeginsNone p (told second)
+      calm = subst (BeginsNone p) (sym c.second_told) none
+
+      left_there : number_at k 0 first ≡ left_by kind start (number_at k 0 first)
+      left_there = subst (λ n. n ≡ left_by kind start n) (sym there) left
+
+      right_here : IsGood p k new
+      right_here = put_here kind capacity Sure p k start first second (was p k) late calm may left_there
+
+      right_new : (q b : ℕ) → IsGood q b new
+      right_new q b = go (p == q && k == b) refl
+        where
+          go : (t : Bool) → (p == q && k == b) ≡ t → IsGood q b new
+          go true t =
+              let both = both_true (p == q) (k == b) t in
+              subst (λ z. IsGood z b new) (is_number p q both.0) (subst (λ z. IsGood p z new) (is_number k b both.1) right_here)
+          go false t = put_else kind capacity Sure p k q b t 0 None first second (was q b)
+
+      elsewhere : (q b : ℕ) → (p == q && k == b) ≡ false → way_at q b 0 None new ≡ way_at q b 0 None f.marks
+      elsewhere q b t = way_else kind capacity Sure p k q b t 0 None first second ∙ ap (way_at q b 0 None) (sym c.is)
+
+      other_party : (q b : ℕ) → q ≢ p → (p == q && k == b) ≡ false
+      other_party q b ne = let t : (p == q) ≡ false = other_number p q (λ e. ne (sym e)) in rw t refl
+
+      other_place : (b : ℕ) → b ≢ k → (p == p && k == b) ≡ false
+      other_place b ne = let t : (k == b) ≡ false = other_number k b (λ e. ne (sym e)) in rw (same_number p, t) refl
+
+      put_in : Filled (suc k)
+      put_in =
+          record {
+            marks = new;
+            is = told_more first (Leaves p k ∷ second) ∙ (ap (λ es. es ++ told second) c.first_told ∙ (ap (λ es. part ++ es) c.second_told ∙ sym is));
+            right = right_new;
+            others = λ q b ne. elsewhere q b (other_party q b ne) ∙ f.others q b ne;
+            done = done;
+            later = λ b le. elsewhere p b (other_place b (λ e. absurd (omega arith))) ∙ f.later b (omega arith);
+          }
+        where
+          done : (b : ℕ) → b < suc k → IsDone b (way_at p b 0 None new)
+          done b lt =
+              ⊎_elim
+              (λ (same : b ≡ k).
+              subst (λ z. IsDone z (way_at p z 0 None new)) (sym same)
+              (subst (IsDone k) (sym (way_here kind capacity Sure p k start first second (was p k) late calm may left_there
+              ∙ ap (λ (n : ℕ). Some (start, Some n)) there))
+              ends))
+              (λ (ne : b ≢ k). subst (IsDone b) (sym (elsewhere p b (other_place b ne))) (f.done b (omega arith)))
+              (cases_eq b k)
+
+    one_more : (k : ℕ) → Filled k → Fact k → Filled (suc k)
+    one_more k f (Stays e) = stay k f e
+    one_more k f (Silent part rest is none under may left ends) = put_in k f part rest is none under may left ends
+
+    fill : (k : ℕ) → Marked h → ((b : ℕ) → b < k → Fact b) → Filled k
+    fill zero m facts =
+        record {
+          marks = m.marks;
+          is = m.is;
+          right = m.right;
+          others = λ q b ne. m.ways q b;
+          done = λ b lt. absurd (omega arith);
+          later = λ b le. m.ways p b;
+        }
+    fill (suc k) m facts = one_more k (fill k m (λ b lt. facts b (omega arith))) (facts k (omega arith))
+
+    -- the call ends, of which this is known at each place
+    pub finishes : Marked h → ((b : ℕ) → b < capacity → Fact b)
+        → ((b : ℕ) → capacity ≤ b → IsDone b (way_in p b 0 None h)) → Marked (h ++ Finished p start answer ∷ [])
+    finishes m facts far =
+        record {
+          marks = f.marks ++ Happens end ∷ [];
+          is = told_one f.marks h end f.is;
+          right =
+              λ q b. right_one f.marks h end f.is q b (way_at q b 0 None f.marks) (f.right q b) refl
+              (λ same. subst (λ z. IsDone b (way_at z b 0 None f.marks)) same (done b));
+          ways = ways;
+        }
+      where
+        f : Filled capacity
+        f = fill capacity m facts
+
+        done : (b : ℕ) → IsDone b (way_at p b 0 None f.marks)
+        done b =
+            ⊎_elim (λ (lt : b < capacity). f.done b lt) (λ (le : capacity ≤ b). subst (IsDone b) (sym (f.later b le)) (far b le))
+            (cases_lt b capacity)
+
+        ways : (q b : ℕ) → way_at q b 0 None (f.marks ++ Happens end ∷ []) ≡ way_in q b 0 None (h ++ end ∷ [])
+        ways q b = go (p == q) refl
+          where
+            go : (t : Bool) → (p == q) ≡ t → way_at q b 0 None (f.marks ++ Happens end ∷ []) ≡ way_in q b 0 None (h ++ end ∷ [])
+            go true t =
+                way_at_more q b 0 None f.marks (Happens end ∷ [])
+                ∙ (ap (λ z. cond z None (way_at q b 0 None f.marks)) t
+                ∙ (sym (ap (λ z. cond z None (way_in q b 0 None h)) t) ∙ sym (way_more q b 0 None h (end ∷ []))))
+            go false t = way_one f.marks h end f.is q b (f.others q b (λ e. (let yes : (p == q) ≡ true = ap (λ z. p == z) e ∙ same_number p in absurd (cc))))

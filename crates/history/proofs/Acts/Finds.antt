@@ -1,0 +1,361 @@
+-- What each act of a history found: a flag is set where it was clear and cleared where it stood, and what is taken out of a
+-- count is all of it.
+use Rattle.std.proofs.Common.{◌≡◌, ◌⊎◌, inl, inr, ⊎_elim, ℕ, ◌+◌, ◌*◌, ◌^◌, ◌<◌, ◌≤◌, ◌==◌, nat_lt, Bool, true, false}
+use Rattle.std.proofs.Common.{Option, Some, None, List, [], ◌∷◌, ◌++◌, get_or, refl, sym, ap, subst, ◌∙◌, append_assoc}
+use Rattle.std.proofs.Common.{append-nil, arith}
+use Rattle.std.proofs.lemmas.Bool.Decides.{nat_tests}
+use Rattle.steps.specs.declared.bits.bit_set.SetStage.{SetStage}
+use Rattle.steps.specs.declared.bits.bit_set.SetStage as setting
+use Rattle.steps.specs.declared.bits.bit_set.ResetNextStage.{ResetNextStage}
+use Rattle.steps.specs.declared.bits.bit_set.ResetNextStage as resetting
+use Rattle.steps.specs.Bits.Places.{places_in}
+use Rattle.steps.specs.Bits.Words.{stands}
+use Rattle.model.specs.declared.event.Answer.{Answer}
+use Rattle.model.specs.declared.event.Event.{Event}
+use Rattle.model.specs.declared.event.Event as events
+use Rattle.model.specs.declared.event.Event.TheVariants.{Begun, Cleared, Counted, TakenOut, Finished}
+use Rattle.model.specs.declared.event.Start.{Start}
+use Rattle.model.specs.declared.event.Start.TheVariants.{Bits}
+use Rattle.model.specs.declared.families.Flight.{Flight}
+use Rattle.model.specs.declared.families.Flight as flights
+use Rattle.model.specs.declared.families.Registry.{Registry}
+use Rattle.model.specs.declared.families.Registry as registries
+use Rattle.model.specs.declared.families.bits.BitsStart.{BitsStart}
+use Rattle.model.specs.declared.families.bits.BitsStart.TheVariants as starts
+use Rattle.model.specs.declared.families.bits.calls.BitsFlight.{BitsFlight}
+use Rattle.model.specs.declared.families.bits.calls.BitsFlight.TheVariants as calls
+use Rattle.model.specs.declared.party.Doing.{Doing}
+use Rattle.model.specs.declared.party.Doing.TheVariants.{Going, Over}
+use Rattle.model.specs.declared.party.Party.{Party}
+use Rattle.model.specs.declared.turn.Kind as kinds
+use Rattle.model.specs.declared.turn.Turn.{Turn}
+use Rattle.model.specs.declared.turn.Turn.TheVariants.{Begin, Next, Decide, Die}
+use Rattle.model.specs.Families.{step_of, want_of, is_question, ask_of, beside_of}
+use Rattle.model.specs.Families.Bits.Reading.{sets, clears, counts, takes}
+use Rattle.model.specs.Families.Bits.Steps.{set_events, reset_events, take_events, effects_of}
+use Rattle.model.specs.Parties.{party_of}
+use Rattle.model.specs.Reading.{Each, span_of}
+use Rattle.model.specs.Refusals.{call_refusal, is_due}
+use Rattle.model.specs.Step.{answer_in}
+use Rattle.model.specs.Turns.{one_if, old_of, ask_of_doing, number_of, step_in, events_of, events_of_answer}
+use Rattle.model.specs.Turns.{events_of_next, events_of_decision, ending_of, after_turn, IsReachedOn}
+use Rattle.model.specs.World.{Trace, flight_in}
+use Rattle.model.proofs.Frame as frame
+use Rattle.model.proofs.Frame.{is_true}
+use Rattle.model.proofs.Reached.{turn_making, reached_on_more, reached_on_opening, kept_by_runs_on}
+use Rattle.model.proofs.Readings.{AreRight, Each-append, Each-nil}
+use Rattle.model.proofs.Rows.{must_be_due}
+use Rattle.model.proofs.Scenes.{stands_there}
+use Rattle.laws_bits.proofs.Family.{FlightAt, family}
+use Rattle.laws_bits.proofs.Laws.{sound_on}
+use Rattle.laws_bits.proofs.Spans.{wrote_in}
+use Rattle.laws_bits.proofs.Bits.Core.{sets_more, clears_more}
+use Rattle.laws_bits.proofs.Bits.Invariant as bits
+use Rattle.laws_bits.proofs.Bits.Justified.{laws as bits_laws, bits_go_on}
+use Rattle.laws_bits.proofs.Bits.Knows as bit_calls
+use Rattle.laws_bits.proofs.Bits.Lists.{sets_none}
+use Rattle.laws_bits.proofs.Counts.Invariant as counting
+use Rattle.laws_bits.proofs.Counts.Justified.{laws as counts_laws}
+use Rattle.history.proofs.Acts.Marks.{same_number}
+
+one_low : (b : Bool) → one_if b ≤ 1
+one_low true = omega arith
+one_low false = omega arith
+
+set_sided : (T : Type 0) → (p bit : ℕ) (stage : SetStage) (old b : ℕ) → clears {T = T} b (set_events p bit stage old) ≡ 0
+set_sided T p bit setting.TheVariants.LoadsElement old b = refl
+set_sided T p bit (setting.TheVariants.ExchangesElement found) old b = go (old == found) refl
+  where
+    go : (t : Bool) → (old == found) ≡ t → clears {T = T} b (set_events p bit (setting.TheVariants.ExchangesElement found) old) ≡ 0
+    go true t = rw t refl
+    go false t = rw t refl
+
+next_sided : (T : Type 0) → (p c : ℕ) (stage : ResetNextStage) (old b : ℕ) → sets {T = T} b (reset_events p c stage old) ≡ 0
+next_sided T p c resetting.TheVariants.LoadsPosition old b = refl
+next_sided T p c (resetting.TheVariants.LoadsElement start passed) old b = refl
+next_sided T p c (resetting.TheVariants.ExchangesElement start passed found) old b = go (old == found) refl
+  where
+    go : (t : Bool) → (old == found) ≡ t → sets {T = T} b (reset_events p c (resetting.TheVariants.ExchangesElement start passed found) old) ≡ 0
+    go true t = rw t refl
+    go false t = rw t refl
+next_sided T p c (resetting.TheVariants.StoresPosition place) old b = refl
+
+module _ {T : Type 0} where
+  pub right_from : (P : List (Event T) → Event T → Type 0) (before es : List (Event T))
+      → ((xs ys : List (Event T)) (e : Event T) → es ≡ xs ++ e ∷ ys → P (before ++ xs) e) → AreRight P before es
+  right_from P before [] f = tt
+  right_from P before (e ∷ es) f = (
+    subst (λ h. P h e) (append-nil before) (f [] es e refl),
+    right_from P (before ++ e ∷ []) es (λ xs ys x is. subst (λ h. P h x) (sym (append_assoc before (e ∷ []) xs)) (f (e ∷ xs) ys x (ap (λ zs. e ∷ zs) is))),
+  )
+
+  -- ---- flags
+
+  abbrev pub BitFinds : List (Event T) → Event T → Type 0
+  BitFinds before (events.TheVariants.Set p b) = sets b before ≡ clears b before
+  BitFinds before (Cleared p b) = sets b before ≡ clears b before + 1
+  BitFinds before e = Unit {0}
+
+  -- the events of one turn set no flag, or clear none
+  abbrev OneSided : List (Event T) → Type 0
+  OneSided es = ((b : ℕ) → sets b es ≡ 0) ⊎ ((b : ℕ) → clears b es ≡ 0)
+
+  module _ (before es : List (Event T)) (s s' : ℕ → ℕ) (few : (b : ℕ) → s b ≤ 1) (low : (b : ℕ) → s' b ≤ 1)
+      (h : (b : ℕ) → sets b before ≡ clears b before + s b)
+      (h' : (b : ℕ) → sets b (before ++ es) ≡ clears b (before ++ es) + s' b) where
+    set_here : (p b : ℕ) (xs ys : List (Event T)) → es ≡ xs ++ events.TheVariants.Set p b ∷ ys → OneSided es → sets b (before ++ xs) ≡ clears b (before ++ xs)
+    set_here p b xs ys is sided =
+        let one : sets {T = T} b (events.TheVariants.Set p b ∷ []) ≡ 1 = rw (same_number b) refl in
+        let s1 = sets_more b before es in
+        let s2 = sets_more b xs (events.TheVariants.Set p b ∷ ys) in
+        let s3 = sets_more b (events.TheVariants.Set p b ∷ []) ys in
+        let s4 = sets_more b before xs in
+        let c1 = clears_more b before es in
+        let c2 = clears_more b xs (events.TheVariants.Set p b ∷ ys) in
+        let c4 = clears_more b before xs in
+        let se : sets b es ≡ sets b (xs ++ events.TheVariants.Set p b ∷ ys) = ap (sets b) is in
+        let ce : clears b es ≡ clears b (xs ++ events.TheVariants.Set p b ∷ ys) = ap (clears b) is in
+        let was = h b in
+        let now = h' b in
+        let top = low b in
+        let most = few b in
+        ⊎_elim
+        (λ (none : (b : ℕ) → sets b es ≡ 0). (let zero = none b in absurd (omega arith)))
+        (λ (none : (b : ℕ) → clears b es ≡ 0). (let zero = none b in omega arith))
+        sided
+
+    clear_here : (p b : ℕ) (xs ys : List (Event T)) → es ≡ xs ++ Cleared p b ∷ ys → OneSided es → sets b (before ++ xs) ≡ clears b (before ++ xs) + 1
+    clear_here p b xs ys is sided =
+        let one : clears {T = T} b (Cleared p b ∷ []) ≡ 1 = rw (same_number b) refl in
+        let s1 = sets_more b before es in
+        let s2 = sets_more b xs (Cleared p b ∷ ys) in
+        let s4 = sets_more b before xs in
+        let c1 = clears_more b before es in
+        let c2 = clears_more b xs (Cleared p b ∷ ys) in
+        let c3 = clears_more b (Cleared p b ∷ []) ys in
+        let c4 = clears_more b before xs in
+        let se : sets b es ≡ sets b (xs ++ Cleared p b ∷ ys) = ap (sets b) is in
+        let ce : clears b es ≡ clears b (xs ++ Cleared p b ∷ ys) = ap (clears b) is in
+        let was = h b in
+        let now = h' b in
+        let top = low b in
+        let most = few b in
+        ⊎_elim
+        (λ (none : (b : ℕ) → sets b es ≡ 0). (let zero = none b in omega arith))
+        (λ (none : (b : ℕ) → clears b es ≡ 0). (let zero = none b in absurd (omega arith)))
+        sided
+
+    finds_there : OneSided es → (xs ys : List (Event T)) (e : Event T) → es ≡ xs ++ e ∷ ys → BitFinds (before ++ xs) e
+    finds_there sided xs ys (events.TheVariants.Set p b) is = set_here p b xs ys is sided
+    finds_there sided xs ys (Cleared p b) is = clear_here p b xs ys is sided
+    finds_there sided xs ys e is = tt
+
+    turn_finds : OneSided es → AreRight BitFinds before es
+    turn_finds sided = right_from BitFinds before es (finds_there sided)
+
+  sided : (c p old : ℕ) (wrote : List (Event T)) (start : BitsStart) (flight : BitsFlight)
+      → bit_calls.CallAt c wrote start flight → OneSided (effects_of p flight old)
+  sided c p old wrote (starts.Set bit) (calls.Set run) at = inr (set_sided T p run.given run.call.stage old)
+  sided c p old wrote starts.ResetNext (calls.ResetNext run) at = inl (next_sided T p run.call.capacity run.call.stage old)
+  sided c p old wrote starts.ResetAll (calls.ResetAll run) at = inl (λ b. sets_none T p b (places_in run.call.word old))
+  sided c p old wrote start flight at = absurd at
+
+  sided_more : (p : ℕ) (start : Start T) (o : Option (Answer T)) (es : List (Event T)) → OneSided es → OneSided (es ++ ending_of p start o)
+  sided_more p start None es h = subst OneSided (sym (append-nil es)) h
+  sided_more p start (Some answer) es h =
+      ⊎_elim
+      (λ (none : (b : ℕ) → sets b es ≡ 0). inl (λ b. (let zero = none b in let more = sets_more b es (Finished p start answer ∷ []) in more ∙ omega arith)))
+      (λ (none : (b : ℕ) → clears b es ≡ 0). inr (λ b. (let zero = none b in let more = clears_more b es (Finished p start answer ∷ []) in more ∙ omega arith)))
+      h
+
+  abbrev wrote_there : Trace T → ℕ → ℕ → Start T → Flight T → Registry T → List (Event T)
+  wrote_there t p old start flight kept =
+      (step_of t.world.coding t.world.words (beside_of t.world.words t.world.kept t.world.latest p) p start flight old kept).wrote
+
+  step_sided : (t : Trace T) (c p old : ℕ) (wrote : List (Event T)) (kept : Registry T) (start : Start T) (flight : Flight T)
+      → kept ≡ registries.TheVariants.Nothing → FlightAt (bit_calls.CallAt c wrote) start flight
+      → OneSided (wrote_there t p old start flight kept)
+  step_sided t c p old wrote registries.TheVariants.Nothing (Bits start) (flights.TheVariants.Bits flight) none at = sided c p old wrote start flight at
+  step_sided t c p old wrote kept (Bits start) (flights.TheVariants.Bits flight) none at = absurd (cc)
+  step_sided t c p old wrote kept start flight none at = absurd at
+
+  pub record BitsSo (t : Trace T) : Type 0 where
+    pub reached : IsReachedOn t
+    pub kind : t.world.kind ≡ kinds.TheVariants.Bits
+    pub finds : Each BitFinds t.events
+
+  module _ (t : Trace T) (so : BitsSo t) where
+    bits_sound : frame.Sound (family bits.bit_set t.world.coding t.world.capacity) t
+    bits_sound = sound_on bits.bit_set bits_laws t so.kind so.reached
+
+    bits_go : (p old : ℕ) (o : Option (Party T)) → party_of p t.world.latest ≡ o → (x : Party T) → o ≡ Some x
+        → (doing : Doing T) → x.doing ≡ doing → OneSided (events_of_answer t.world p x old doing)
+    bits_go p old o is x found (Over others) d = inl (λ b. refl)
+    bits_go p old o is x found (Going flight since) d =
+        let s = bits_sound in
+        let there = stands_there (family bits.bit_set t.world.coding t.world.capacity) t s p x since flight (is ∙ found) d in
+        sided_more p x.start (answer_in (step_in t.world p x flight old).after) (step_in t.world p x flight old).wrote
+        (step_sided t t.world.capacity p old (wrote_in (span_of p s.state.events)) t.world.kept x.start flight s.fit.0 there.at)
+
+    next_one : (p : ℕ) (o : Option (Party T)) → party_of p t.world.latest ≡ o → OneSided (events_of_next t.world p o)
+    next_one p None e = inl (λ b. refl)
+    next_one p (Some x) e = bits_go p (old_of t.world.words (ask_of_doing t.world.coding x.doing)) (Some x) e x refl x.doing refl
+
+    decide_one : (p : ℕ) (said : Bool) (o : Option (Party T)) → party_of p t.world.latest ≡ o → OneSided (events_of_decision t.world p said o)
+    decide_one p said None e = inl (λ b. refl)
+    decide_one p said (Some x) e = bits_go p (number_of said) (Some x) e x refl x.doing refl
+
+    turn_sided : (turn : Turn T) → OneSided (events_of t.world turn)
+    turn_sided (Begin p start) = inl (λ b. refl)
+    turn_sided (Next p) = next_one p (party_of p t.world.latest) refl
+    turn_sided (Decide p said) = decide_one p said (party_of p t.world.latest) refl
+    turn_sided (Die owner) = inl (λ b. refl)
+
+    bits_turn : (turn : Turn T) → call_refusal t.world turn ≡ None → BitsSo (after_turn t turn)
+    bits_turn turn e =
+        let r = reached_on_more t turn e so.reached in
+        let kind : (after_turn t turn).world.kind ≡ kinds.TheVariants.Bits = (turn_making t.world turn).kind ∙ so.kind in
+        let was = bits_go_on t so.kind so.reached in
+        let now = bits_go_on (after_turn t turn) kind r in
+        record {
+          reached = r;
+          kind = kind;
+          finds =
+              Each-append BitFinds t.events (events_of t.world turn) so.finds
+              (turn_finds t.events (events_of t.world turn) (λ b. one_if (stands t.world.words b))
+              (λ b. one_if (stands (after_turn t turn).world.words b)) (λ b. one_low (stands t.world.words b))
+              (λ b. one_low (stands (after_turn t turn).world.words b)) was.conserved now.conserved
+              (turn_sided turn));
+        }
+
+  pub bits_find : (t : Trace T) → t.world.kind ≡ kinds.TheVariants.Bits → IsReachedOn t → Each BitFinds t.events
+  bits_find t is r =
+      (kept_by_runs_on BitsSo (λ t turn e so. bits_turn t so turn e) t
+      (record {
+        reached = reached_on_opening t.world.coding t.world.kind t.world.capacity t.world.parties r.coded r.admitted;
+        kind = is;
+        finds = Each-nil BitFinds;
+      }) r).finds
+
+  -- ---- counts
+
+  abbrev pub CountFinds : List (Event T) → Event T → Type 0
+  CountFinds before (TakenOut p b m) = (wraps : ℕ) × (counts b before ≡ takes b before + m + 2 ^ 64 * wraps) × (1 ≤ m) × (m < 2 ^ 64)
+  CountFinds before e = Unit {0}
+
+  pub record CountsSo (t : Trace T) : Type 0 where
+    pub reached : IsReachedOn t
+    pub kind : t.world.kind ≡ kinds.TheVariants.Counts
+    pub finds : Each CountFinds t.events
+
+  module _ (t : Trace T) (so : CountsSo t) where
+    counts_sound : frame.Sound (family counting.counting_set t.world.coding t.world.capacity) t
+    counts_sound = sound_on counting.counting_set counts_laws t so.kind so.reached
+
+    ends_right : (before : List (Event T)) (p : ℕ) (start : Start T) (o : Option (Answer T)) → AreRight CountFinds before (ending_of p start o)
+    ends_right before p start None = tt
+    ends_right before p start (Some answer) = (tt, tt)
+
+    take_right : (p word old : ℕ) (start : Start T) (o : Option (Answer T))
+        → (1 ≤ old → old ≡ get_or t.world.words word 0)
+        → AreRight CountFinds t.events (take_events p word old ++ ending_of p start o)
+    take_right p word old start o is = go (old == 0) refl
+      where
+        go : (z : Bool) → (old == 0) ≡ z → AreRight CountFinds t.events (take_events p word old ++ ending_of p start o)
+        go true z = rw z (ends_right t.events p start o)
+        go false z =
+            let s = counts_sound in
+            let some : 1 ≤ old = grind (arith, nat_tests) in
+            let same : old ≡ get_or s.state.words word 0 = is some ∙ ap (λ ws. get_or ws word 0) s.fit.1 in
+            let low : get_or s.state.words word 0 < 2 ^ 64 = s.holds.0.low word in
+            let whole = s.holds.0.conserved word in
+            let all : counts word t.events ≡ takes word t.events + old + 2 ^ 64 * whole.0 = rw same whole.1 in
+            let less : old < 2 ^ 64 = rw same low in
+            rw z ((whole.0, all, some, less), ends_right (t.events ++ TakenOut p word old ∷ []) p start o)
+
+    -- what a call that takes out is handed is what stands there
+    abbrev Hears : Flight T → ℕ → Type 0
+    Hears (flights.TheVariants.Bits (calls.TakeAll run)) old = 1 ≤ old → old ≡ get_or t.world.words run.call.word 0
+    Hears flight old = Unit {0}
+
+    hears_next : (flight : Flight T) → Hears flight (old_of t.world.words (ask_of (want_of t.world.coding flight)))
+    hears_next (flights.TheVariants.Bits (calls.TakeAll run)) = go (nat_lt run.call.word run.call.end) refl
+      where
+        go : (z : Bool) → nat_lt run.call.word run.call.end ≡ z
+            → Hears (flights.TheVariants.Bits (calls.TakeAll run))
+            (old_of t.world.words (ask_of (want_of t.world.coding (flights.TheVariants.Bits (calls.TakeAll run)))))
+        go true z = rw z (λ some. refl)
+        go false z = rw z (λ some. absurd (omega arith))
+    hears_next (flights.TheVariants.Bits flight) = tt
+    hears_next flight = tt
+
+    count_step : (c p old : ℕ) (wrote : List (Event T)) (kept : Registry T) (start : Start T) (flight : Flight T) (o : Option (Answer T))
+        → kept ≡ registries.TheVariants.Nothing → FlightAt (counting.CallAt c wrote) start flight → Hears flight old
+        → AreRight CountFinds t.events (wrote_there t p old start flight kept ++ ending_of p start o)
+    count_step c p old wrote registries.TheVariants.Nothing (Bits (starts.Set place)) (flights.TheVariants.Bits (calls.Count run)) o none at hears =
+        (tt, ends_right (t.events ++ Counted p run.given ∷ []) p (Bits (starts.Set place)) o)
+    count_step c p old wrote registries.TheVariants.Nothing (Bits starts.ResetAll) (flights.TheVariants.Bits (calls.TakeAll run)) o none at hears =
+        take_right p run.call.word old (Bits starts.ResetAll) o hears
+    count_step c p old wrote registries.TheVariants.Nothing (Bits start) (flights.TheVariants.Bits flight) o none at hears = absurd at
+    count_step c p old wrote kept (Bits start) (flights.TheVariants.Bits flight) o none at hears = absurd (cc)
+    count_step c p old wrote kept start flight o none at hears = absurd at
+
+    never_due : (c : ℕ) (wrote : List (Event T)) (start : Start T) (flight : Flight T)
+        → FlightAt (counting.CallAt c wrote) start flight → is_question (want_of t.world.coding flight) ≡ false
+    never_due c wrote (Bits start) (flights.TheVariants.Bits flight) at = (counts_laws t.world.coding c).asks wrote start flight at
+    never_due c wrote start flight at = absurd at
+
+    counts_go : (p old : ℕ) (x : Party T) → party_of p t.world.latest ≡ Some x → (doing : Doing T) → x.doing ≡ doing
+        → ((flight : Flight T) (since : ℕ) → doing ≡ Going flight since → Hears flight old)
+        → AreRight CountFinds t.events (events_of_answer t.world p x old doing)
+    counts_go p old x found (Over others) d hears = tt
+    counts_go p old x found (Going flight since) d hears =
+        let s = counts_sound in
+        let there = stands_there (family counting.counting_set t.world.coding t.world.capacity) t s p x since flight found d in
+        count_step t.world.capacity p old (wrote_in (span_of p s.state.events)) t.world.kept x.start flight
+        (answer_in (step_in t.world p x flight old).after) s.fit.0 there.at (hears flight since refl)
+
+    next_counts : (p : ℕ) (o : Option (Party T)) → party_of p t.world.latest ≡ o → AreRight CountFinds t.events (events_of_next t.world p o)
+    next_counts p None e = tt
+    next_counts p (Some x) e =
+        counts_go p (old_of t.world.words (ask_of_doing t.world.coding x.doing)) x e x.doing refl
+        (λ flight since d. subst (λ z. Hears flight (old_of t.world.words (ask_of_doing t.world.coding z))) (sym d) (hears_next flight))
+
+    decide_counts : (p : ℕ) (said : Bool) → is_due t.world.coding (flight_in t.world p) ≡ true
+        → (o : Option (Party T)) → party_of p t.world.latest ≡ o
+        → AreRight CountFinds t.events (events_of_decision t.world p said o)
+    decide_counts p said due None e = tt
+    decide_counts p said due (Some x) e = counts_go p (number_of said) x e x.doing refl never
+      where
+        never : (flight : Flight T) (since : ℕ) → x.doing ≡ Going flight since → Hears flight (number_of said)
+        never flight since d =
+            let s = counts_sound in
+            let there = stands_there (family counting.counting_set t.world.coding t.world.capacity) t s p x since flight e d in
+            let no = never_due t.world.capacity (wrote_in (span_of p s.state.events)) x.start flight there.at in
+            let yes : is_question (want_of t.world.coding flight) ≡ true = subst (λ o. is_due t.world.coding o ≡ true) there.found due in
+            absurd (cc)
+
+    counts_events : (turn : Turn T) → call_refusal t.world turn ≡ None → AreRight CountFinds t.events (events_of t.world turn)
+    counts_events (Begin p start) e = (tt, tt)
+    counts_events (Next p) e = next_counts p (party_of p t.world.latest) refl
+    counts_events (Decide p said) e =
+        decide_counts p said (is_true (is_due t.world.coding (flight_in t.world p)) (must_be_due t.world p said e))
+        (party_of p t.world.latest) refl
+    counts_events (Die owner) e = (tt, tt)
+
+    counts_turn : (turn : Turn T) → call_refusal t.world turn ≡ None → CountsSo (after_turn t turn)
+    counts_turn turn e =
+        record {
+          reached = reached_on_more t turn e so.reached;
+          kind = (turn_making t.world turn).kind ∙ so.kind;
+          finds = Each-append CountFinds t.events (events_of t.world turn) so.finds (counts_events turn e);
+        }
+
+  pub counts_find : (t : Trace T) → t.world.kind ≡ kinds.TheVariants.Counts → IsReachedOn t → Each CountFinds t.events
+  counts_find t is r =
+      (kept_by_runs_on CountsSo (λ t turn e so. counts_turn t so turn e) t
+      (record {
+        reached = reached_on_opening t.world.coding t.world.kind t.world.capacity t.world.parties r.coded r.admitted;
+        kind = is;
+        finds = Each-nil CountFinds;
+      }) r).finds

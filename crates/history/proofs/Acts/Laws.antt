@@ -1,0 +1,51 @@
+-- The laws of a reached machine's history, and of one that a pass has seen.
+use Rattle.std.proofs.Common.{◌≡◌, ℕ, List, refl, sym, subst}
+use Rattle.model.specs.declared.event.Event.{Event}
+use Rattle.model.specs.declared.turn.Kind.{Kind}
+use Rattle.model.specs.declared.turn.Kind as kinds
+use Rattle.model.specs.Coding.{Coding}
+use Rattle.model.specs.Turns.{IsReachedOn}
+use Rattle.model.specs.World.{Trace}
+use Rattle.laws_bits.proofs.Laws.{sound_on}
+use Rattle.laws_bits.proofs.Bits.Invariant.{bit_set}
+use Rattle.laws_bits.proofs.Bits.Justified.{laws as bits_laws, bits_go_on}
+use Rattle.laws_bits.proofs.Counts.Invariant.{counting_set}
+use Rattle.laws_bits.proofs.Counts.Justified.{laws as counts_laws, counts_go_on}
+use Rattle.history.specs.History.{IsHistory, IsReachedAs}
+use Rattle.history.specs.Acts.{ActsByPlace, IsSet}
+use Rattle.history.proofs.Acts.BitActs.{bits_act}
+use Rattle.history.proofs.Acts.CountActs.{counts_act}
+use Rattle.history.proofs.Acts.Finds.{bits_find, counts_find}
+
+module _ {T : Type 0} (t : Trace T) (r : IsReachedOn t) where
+  bits_so : t.world.kind ≡ kinds.TheVariants.Bits → ActsByPlace kinds.TheVariants.Bits t.world.capacity t.events
+  bits_so is =
+      let kept = bits_go_on t is r in
+      bits_act t.world.capacity t.events (sound_on bit_set bits_laws t is r).inv.spans (bits_find t is r) kept.answers kept.within
+
+  counts_so : t.world.kind ≡ kinds.TheVariants.Counts → ActsByPlace kinds.TheVariants.Counts t.world.capacity t.events
+  counts_so is =
+      let kept = counts_go_on t is r in
+      counts_act t.world.capacity t.events (sound_on counting_set counts_laws t is r).inv.spans (counts_find t is r) kept.answers
+
+  of_kind : (kind : Kind) → t.world.kind ≡ kind → IsSet kind → ActsByPlace kind t.world.capacity t.events
+  of_kind kinds.TheVariants.Bits is set = bits_so is
+  of_kind kinds.TheVariants.Counts is set = counts_so is
+  of_kind kind is set = absurd set
+
+  pub runs_act : IsSet t.world.kind → ActsByPlace t.world.kind t.world.capacity t.events
+  runs_act set = of_kind t.world.kind refl set
+
+-- a set of places is reached as its own laws have it
+reached_as_set : {T : Type 0} (kind : Kind) → IsSet kind → (t : Trace T) → IsReachedAs kind t → IsReachedOn t
+reached_as_set kinds.TheVariants.Bits set t r = r
+reached_as_set kinds.TheVariants.Counts set t r = r
+reached_as_set kind set t r = absurd set
+
+pub histories_act : {T : Type 0} (code : Coding T) (kind : Kind) (capacity : ℕ) (events : List (Event T))
+    → IsSet kind → IsHistory code kind capacity events → ActsByPlace kind capacity events
+histories_act code kind capacity events set h =
+    subst (λ es. ActsByPlace kind capacity es) (sym h.is)
+    (subst (λ c. ActsByPlace kind c h.trace.events) h.run.sized
+    (subst (λ k. ActsByPlace k h.trace.world.capacity h.trace.events) h.run.of_kind
+    (runs_act h.trace (reached_as_set kind set h.trace h.run.reached) (subst IsSet (sym h.run.of_kind) set))))

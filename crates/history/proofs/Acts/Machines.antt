@@ -1,0 +1,33 @@
+-- What is a law of every run is one of every machine, whose runs leave out the turns that it refuses.
+use Rattle.std.proofs.Common.{◌≡◌, ℕ, None, subst}
+use Rattle.model.specs.declared.turn.Kind.{Kind}
+use Rattle.model.specs.declared.turn.Kind as kinds
+use Rattle.model.specs.declared.turn.Turn.{Turn}
+use Rattle.model.specs.Coding.{Coding, IsCoding}
+use Rattle.model.specs.Refusals.{refusal_of}
+use Rattle.model.specs.Turns.{after_turn, IsReached, IsReachedOn}
+use Rattle.model.specs.World.{Trace, opened, capacity_error}
+use Rattle.model.proofs.Reached.{turn_making, kept_by_runs, reached_on_more, reached_on_opening}
+use Rattle.model.proofs.Rows.{passes}
+use Rattle.history.specs.Acts.{ActsByPlace, IsSet}
+use Rattle.history.proofs.Acts.Laws.{runs_act}
+
+module _ {T : Type 0} where
+  at_opening : (code : Coding T) (kind : Kind) (capacity queue parties : ℕ) → IsCoding code
+      → capacity_error kind capacity ≡ None → IsSet kind → IsReachedOn (opened code kind capacity queue parties)
+  at_opening code kinds.TheVariants.Bits capacity queue parties coded e set = reached_on_opening code kinds.TheVariants.Bits capacity parties coded e
+  at_opening code kinds.TheVariants.Counts capacity queue parties coded e set = reached_on_opening code kinds.TheVariants.Counts capacity parties coded e
+  at_opening code kind capacity queue parties coded e set = absurd set
+
+  abbrev IsRun : Trace T → Type 0
+  IsRun u = IsSet u.world.kind → IsReachedOn u
+
+  goes_on : (u : Trace T) (turn : Turn T) → refusal_of u.world turn ≡ None → IsRun u → IsRun (after_turn u turn)
+  goes_on u turn e is set = reached_on_more u turn (passes u.world turn e).on (is (subst IsSet (turn_making u.world turn).kind set))
+
+  pub reached_is_on : (t : Trace T) → IsReached t → IsSet t.world.kind → IsReachedOn t
+  reached_is_on t r set =
+      kept_by_runs IsRun goes_on t (λ queue queued. at_opening t.world.coding t.world.kind t.world.capacity queue t.world.parties r.coded r.admitted) r set
+
+  pub machines_act : (t : Trace T) → IsReached t → IsSet t.world.kind → ActsByPlace t.world.kind t.world.capacity t.events
+  machines_act t r set = runs_act t (reached_is_on t r set) set

@@ -1,0 +1,239 @@
+-- How marks go on: one more at the end, and a silent act put between two of them.
+use Rattle.std.proofs.Common.{◌≡◌, ◌≢◌, ℕ, ◌==◌, ◌&&◌, Bool, true, false, cond, Option, Some, None, List, [], ◌∷◌, ◌++◌, refl, sym, ap, subst, ◌∙◌, arith}
+use Rattle.std.proofs.lemmas.Bool.Decides.{nat_tests}
+use Rattle.model.specs.declared.event.Event.{Event}
+use Rattle.model.specs.declared.event.Event.TheVariants.{Begun, Finished}
+use Rattle.model.specs.declared.event.Start.{Start}
+use Rattle.model.specs.declared.turn.Kind.{Kind}
+use Rattle.model.specs.Moments.{BeginsNone}
+use Rattle.history.specs.Acts.{Mark, Happens, Leaves, left_by, told, does, number_after, Way, MayAct, Acts, found_now, way_after, IsRight}
+
+-- ---- tests
+
+pub same_number : (p : ℕ) → (p == p) ≡ true
+same_number p = grind (arith, nat_tests)
+
+pub other_number : (p q : ℕ) → p ≢ q → (p == q) ≡ false
+other_number p q ne = grind (arith, nat_tests)
+
+pub is_number : (p q : ℕ) → (p == q) ≡ true → p ≡ q
+is_number p q t = grind (arith, nat_tests)
+
+pub no_number : (p q : ℕ) → (p == q) ≡ false → p ≢ q
+no_number p q t e = let s = same_number p in let u : (p == p) ≡ false = ap (λ n. p == n) e ∙ t in cc
+
+pub both_true : (x y : Bool) → (x && y) ≡ true → (x ≡ true) × (y ≡ true)
+both_true true true e = (refl, refl)
+both_true true false e = absurd (cc)
+both_true false y e = absurd (cc)
+
+module _ {T : Type 0} where
+  -- ---- what marks come to
+
+  abbrev pub number_at : ℕ → ℕ → List (Mark T) → ℕ
+  number_at b n [] = n
+  number_at b n (Happens e ∷ ms) = number_at b (number_after b n e) ms
+  number_at b n (Leaves q c ∷ ms) = number_at b n ms
+
+  abbrev pub way_at : ℕ → ℕ → ℕ → Way T → List (Mark T) → Way T
+  way_at p b n way [] = way
+  way_at p b n way (Happens e ∷ ms) = way_at p b (number_after b n e) (way_after p b n way e) ms
+  way_at p b n way (Leaves q c ∷ ms) = way_at p b n (cond (q == p && c == b) (found_now n way) way) ms
+
+  -- the same of the events alone
+  abbrev pub number_in : ℕ → ℕ → List (Event T) → ℕ
+  number_in b n [] = n
+  number_in b n (e ∷ es) = number_in b (number_after b n e) es
+
+  abbrev pub way_in : ℕ → ℕ → ℕ → Way T → List (Event T) → Way T
+  way_in p b n way [] = way
+  way_in p b n way (e ∷ es) = way_in p b (number_after b n e) (way_after p b n way e) es
+
+  pub number_told : (b n : ℕ) (ms : List (Mark T)) → number_at b n ms ≡ number_in b n (told ms)
+  number_told b n [] = refl
+  number_told b n (Happens e ∷ ms) = number_told b (number_after b n e) ms
+  number_told b n (Leaves q c ∷ ms) = number_told b n ms
+
+  pub number_at_more : (b n : ℕ) (ms ns : List (Mark T)) → number_at b n (ms ++ ns) ≡ number_at b (number_at b n ms) ns
+  number_at_more b n [] ns = refl
+  number_at_more b n (Happens e ∷ ms) ns = number_at_more b (number_after b n e) ms ns
+  number_at_more b n (Leaves q c ∷ ms) ns = number_at_more b n ms ns
+
+  pub way_at_more : (p b n : ℕ) (way : Way T) (ms ns : List (Mark T)) → way_at p b n way (ms ++ ns) ≡ way_at p b (number_at b n ms) (way_at p b n way ms) ns
+  way_at_more p b n way [] ns = refl
+  way_at_more p b n way (Happens e ∷ ms) ns = way_at_more p b (number_after b n e) (way_after p b n way e) ms ns
+  way_at_more p b n way (Leaves q c ∷ ms) ns = way_at_more p b n (cond (q == p && c == b) (found_now n way) way) ms ns
+
+  pub number_more : (b n : ℕ) (xs ys : List (Event T)) → number_in b n (xs ++ ys) ≡ number_in b (number_in b n xs) ys
+  number_more b n [] ys = refl
+  number_more b n (x ∷ xs) ys = number_more b (number_after b n x) xs ys
+
+  pub way_more : (p b n : ℕ) (way : Way T) (xs ys : List (Event T)) → way_in p b n way (xs ++ ys) ≡ way_in p b (number_in b n xs) (way_in p b n way xs) ys
+  way_more p b n way [] ys = refl
+  way_more p b n way (x ∷ xs) ys = way_more p b (number_after b n x) (way_after p b n way x) xs ys
+
+  pub told_more : (ms ns : List (Mark T)) → told (ms ++ ns) ≡ told ms ++ told ns
+  told_more [] ns = refl
+  told_more (Happens e ∷ ms) ns = ap (λ es. e ∷ es) (told_more ms ns)
+  told_more (Leaves q c ∷ ms) ns = told_more ms ns
+
+  -- where the history is cut in two, so are the marks
+  pub record Cut (ms : List (Mark T)) (xs ys : List (Event T)) : Type 0 where
+    pub first : List (Mark T)
+    pub second : List (Mark T)
+    pub is : ms ≡ first ++ second
+    pub first_told : told first ≡ xs
+    pub second_told : told second ≡ ys
+
+  pub cut : (ms : List (Mark T)) (xs ys : List (Event T)) → told ms ≡ xs ++ ys → Cut ms xs ys
+  cut ms [] ys e = record { first = []; second = ms; is = refl; first_told = refl; second_told = e }
+  cut [] (x ∷ xs) ys e = absurd (cc)
+  cut (Happens f ∷ ms) (x ∷ xs) ys e =
+      let head : f ≡ x = cc in
+      let tail : told ms ≡ xs ++ ys = cc in
+      let more = cut ms xs ys tail in
+      record {
+        first = Happens f ∷ more.first;
+        second = more.second;
+        is = ap (λ ns. Happens f ∷ ns) more.is;
+        first_told = rw (head, more.first_told) refl;
+        second_told = more.second_told;
+      }
+  cut (Leaves q c ∷ ms) (x ∷ xs) ys e =
+      let more = cut ms (x ∷ xs) ys e in
+      record {
+        first = Leaves q c ∷ more.first;
+        second = more.second;
+        is = ap (λ ns. Leaves q c ∷ ns) more.is;
+        first_told = more.first_told;
+        second_told = more.second_told;
+      }
+
+module _ {T : Type 0} (kind : Kind) (capacity : ℕ) (Sure : ℕ → Type 0) where
+  abbrev pub Right : ℕ → ℕ → ℕ → Way T → List (Mark T) → Type 0
+  Right p b n way ms = IsRight kind capacity (Sure b) p b n way ms
+
+  pub right_more : (p b n : ℕ) (way : Way T) (ms ns : List (Mark T)) → Right p b n way ms
+      → Right p b (number_at b n ms) (way_at p b n way ms) ns → Right p b n way (ms ++ ns)
+  right_more p b n way [] ns h k = k
+  right_more p b n way (Happens e ∷ ms) ns h k = (h.0, right_more p b (number_after b n e) (way_after p b n way e) ms ns h.1 k)
+  right_more p b n way (Leaves q c ∷ ms) ns h k = (h.0, right_more p b n (cond (q == p && c == b) (found_now n way) way) ms ns h.1 k)
+
+  right_first : (p b n : ℕ) (way : Way T) (ms ns : List (Mark T)) → Right p b n way (ms ++ ns) → Right p b n way ms
+  right_first p b n way [] ns h = tt
+  right_first p b n way (Happens e ∷ ms) ns h = (h.0, right_first p b (number_after b n e) (way_after p b n way e) ms ns h.1)
+  right_first p b n way (Leaves q c ∷ ms) ns h = (h.0, right_first p b n (cond (q == p && c == b) (found_now n way) way) ms ns h.1)
+
+  right_second : (p b n : ℕ) (way : Way T) (ms ns : List (Mark T)) → Right p b n way (ms ++ ns) → Right p b (number_at b n ms) (way_at p b n way ms) ns
+  right_second p b n way [] ns h = h
+  right_second p b n way (Happens e ∷ ms) ns h = right_second p b (number_after b n e) (way_after p b n way e) ms ns h.1
+  right_second p b n way (Leaves q c ∷ ms) ns h = right_second p b n (cond (q == p && c == b) (found_now n way) way) ms ns h.1
+
+  -- ---- a silent act of another party or on another place
+
+  module _ (p b q c : ℕ) (t : (p == q && b == c) ≡ false) where
+    leaf_right : (n : ℕ) (way : Way T) (ms : List (Mark T)) → Right q c n way ms → Right q c n way (Leaves p b ∷ ms)
+    leaf_right n way ms h = ((λ e. absurd (cc)), rw t h)
+
+    leaf_way : (n : ℕ) (way : Way T) (ms : List (Mark T)) → way_at q c n way (Leaves p b ∷ ms) ≡ way_at q c n way ms
+    leaf_way n way ms = rw t refl
+
+    pub put_else : (n : ℕ) (way : Way T) (ms ns : List (Mark T)) → Right q c n way (ms ++ ns) → Right q c n way (ms ++ Leaves p b ∷ ns)
+    put_else n way ms ns h =
+        right_more q c n way ms (Leaves p b ∷ ns) (right_first q c n way ms ns h)
+        (leaf_right (number_at c n ms) (way_at q c n way ms) ns (right_second q c n way ms ns h))
+
+    pub way_else : (n : ℕ) (way : Way T) (ms ns : List (Mark T)) → way_at q c n way (ms ++ Leaves p b ∷ ns) ≡ way_at q c n way (ms ++ ns)
+    way_else n way ms ns =
+        way_at_more q c n way ms (Leaves p b ∷ ns)
+        ∙ (leaf_way (number_at c n ms) (way_at q c n way ms) ns ∙ sym (way_at_more q c n way ms ns))
+
+  -- ---- a silent act of this party on this place: where its call has not acted there later, neither had it before
+
+  module _ (p b : ℕ) (start : Start T) where
+    -- whatever way the party was on, it is right and stays
+    pub record Quiet (n : ℕ) (way : Way T) (ms : List (Mark T)) : Type 0 where
+      pub was : way ≡ Some (start, None)
+      pub right : (other : Way T) → Right p b n other ms
+      pub stays : (other : Way T) → way_at p b n other ms ≡ other
+
+    some_not : (n : ℕ) (way : Way T) → found_now n way ≡ Some (start, None) → ⊥
+    some_not n None e = absurd (cc)
+    some_not n (Some call) e =
+        let second : Some n ≡ None = ap (λ (w : Way T). seen w) e in
+        absurd (cc)
+      where
+        seen : Way T → Option ℕ
+        seen None = None
+        seen (Some call) = call.1
+
+    by_test : (t : Bool) (n : ℕ) (way : Way T) → cond t (found_now n way) way ≡ Some (start, None) → (t ≡ false) × (way ≡ Some (start, None))
+    by_test true n way e = absurd (some_not n way e)
+    by_test false n way e = (refl, e)
+
+    pub quiet : (n : ℕ) (way : Way T) (ms : List (Mark T)) → way_at p b n way ms ≡ Some (start, None) → BeginsNone p (told ms) → Quiet n way ms
+    quiet n way [] e none = record { was = e; right = λ other. tt; stays = λ other. refl }
+    quiet n way (Leaves q c ∷ ms) e none =
+        let more = quiet n (cond (q == p && c == b) (found_now n way) way) ms e none in
+        let test = by_test (q == p && c == b) n way more.was in
+        let t : (q == p && c == b) ≡ false = test.0 in
+        record {
+          was = test.1;
+          right = λ other. ((λ yes. absurd (cc)), more.right (cond (q == p && c == b) (found_now n other) other));
+          stays = λ other. more.stays (cond (q == p && c == b) (found_now n other) other) ∙ ap (λ z. cond z (found_now n other) other) t;
+        }
+    quiet n way (Happens (Begun q s) ∷ ms) e none =
+        let t : (q == p) ≡ false = other_number q p none.0 in
+        let more = quiet n (cond (q == p) (Some (s, None)) way) ms e none.1 in
+        record {
+          was = sym (ap (λ z. cond z (Some (s, None)) way) t) ∙ more.was;
+          right = λ other. ((λ same. absurd (none.0 same)), more.right (cond (q == p) (Some (s, None)) other));
+          stays = λ other. more.stays (cond (q == p) (Some (s, None)) other) ∙ ap (λ z. cond z (Some (s, None)) other) t;
+        }
+    quiet n way (Happens (Finished q s a) ∷ ms) e none = go (q == p) refl (quiet n (cond (q == p) None way) ms e none)
+      where
+        go : (z : Bool) → (q == p) ≡ z → Quiet n (cond (q == p) None way) ms → Quiet n way (Happens (Finished q s a) ∷ ms)
+        go true t more =
+            let clash : None ≡ Some (start, None) = sym (ap (λ z. cond z None way) t) ∙ more.was in
+            absurd (cc)
+        go false t more =
+            record {
+              was = sym (ap (λ z. cond z None way) t) ∙ more.was;
+              right = λ other. ((λ same. absurd (no_number q p t same)), more.right (cond (q == p) None other));
+              stays = λ other. more.stays (cond (q == p) None other) ∙ ap (λ z. cond z None other) t;
+            }
+    quiet n way (Happens f ∷ ms) e none =
+        let more = quiet (number_after b n f) (cond (does p b f) (found_now n way) way) ms e none in
+        let test = by_test (does p b f) n way more.was in
+        let t : does p b f ≡ false = test.0 in
+        record {
+          was = test.1;
+          right = λ other. ((λ yes. absurd (cc)), more.right (cond (does p b f) (found_now n other) other));
+          stays = λ other. more.stays (cond (does p b f) (found_now n other) other) ∙ ap (λ z. cond z (found_now n other) other) t;
+        }
+
+    module _ (ms ns : List (Mark T)) (right : Right p b 0 None (ms ++ ns))
+        (late : way_at p b 0 None (ms ++ ns) ≡ Some (start, None)) (none : BeginsNone p (told ns))
+        (may : MayAct b start) (left : number_at b 0 ms ≡ left_by kind start (number_at b 0 ms)) where
+      abbrev n : ℕ
+      n = number_at b 0 ms
+
+      calm : Quiet n (way_at p b 0 None ms) ns
+      calm = quiet n (way_at p b 0 None ms) ns (sym (way_at_more p b 0 None ms ns) ∙ late) none
+
+      here : (p == p && b == b) ≡ true
+      here = rw (same_number p, same_number b) refl
+
+      pub put_here : Right p b 0 None (ms ++ Leaves p b ∷ ns)
+      put_here =
+          right_more p b 0 None ms (Leaves p b ∷ ns) (right_first p b 0 None ms ns right) (
+            (λ yes. subst (Acts kind b n n) (sym calm.was) (may, left)),
+            calm.right (cond (p == p && b == b) (found_now n (way_at p b 0 None ms)) (way_at p b 0 None ms)),
+          )
+
+      pub way_here : way_at p b 0 None (ms ++ Leaves p b ∷ ns) ≡ Some (start, Some n)
+      way_here =
+          way_at_more p b 0 None ms (Leaves p b ∷ ns)
+          ∙ (calm.stays (cond (p == p && b == b) (found_now n (way_at p b 0 None ms)) (way_at p b 0 None ms))
+          ∙ (ap (λ z. cond z (found_now n (way_at p b 0 None ms)) (way_at p b 0 None ms)) here
+          ∙ ap (λ w. found_now n w) calm.was))

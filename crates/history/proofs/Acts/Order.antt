@@ -1,0 +1,143 @@
+-- The calls that passes made stand in one history, in the order in which each pass, and those that it took in, made them.
+use Rattle.std.proofs.Common.{◌≡◌, ℕ, ◌+◌, ◌<◌, ◌==◌, Bool, true, false, cond, Some, List, [], ◌∷◌, ◌++◌, length, map}
+use Rattle.std.proofs.Common.{refl, sym, ap, subst, ◌∙◌, append_assoc, arith}
+use Rattle.std.proofs.lemmas.List.{length-append}
+use Rattle.std.specs.List.{Contains}
+use Rattle.model.specs.declared.event.Answer.{Answer}
+use Rattle.model.specs.declared.event.Event.{Event}
+use Rattle.model.specs.declared.event.Event.TheVariants.{Begun, Cleared, TakenOut, Finished}
+use Rattle.model.specs.declared.event.Start.{Start}
+use Rattle.model.specs.Linearizable.{Call, response_in, calls_from, calls_of, StandsBefore, Precedes}
+use Rattle.model.specs.Reading.{whose, is_party}
+use Rattle.model.proofs.Linearizable.Acting.{call_at, response_at, responded, passed}
+use Rattle.model.proofs.Linearizable.Members.{here, there}
+use Rattle.history.specs.declared.view.View.{View}
+use Rattle.history.specs.History.{IsBeginning, Called}
+use Rattle.history.specs.Known.{own_of, events_by}
+use Rattle.history.specs.Order.{StandsIn, EndsNone}
+use Rattle.history.proofs.Acts.Marks.{is_number, no_number}
+
+-- what a reset of all writes
+pub cleared_ends_none : (T : Type 0) (p q : ℕ) (places : List ℕ) → EndsNone {T = T} p (map (λ b. Cleared q b) places)
+cleared_ends_none T p q [] = tt
+cleared_ends_none T p q (b ∷ bs) = cleared_ends_none T p q bs
+
+pub taken_ends_none : (T A : Type 0) (p q : ℕ) (place number : A → ℕ) (states : List A) → EndsNone {T = T} p (map (λ s. TakenOut q (place s) (number s)) states)
+taken_ends_none T A p q place number [] = tt
+taken_ends_none T A p q place number (s ∷ states) = taken_ends_none T A p q place number states
+
+module _ {T : Type 0} where
+  -- ---- no ends
+
+  -- without an event that is no end
+  without : (p : ℕ) (e : Event T) (es : List (Event T)) → (EndsNone p (e ∷ es) → EndsNone p es) → EndsNone p (own_of p e ++ es) → EndsNone p es
+  without p e es rest h = go (is_party p (whose e)) refl
+    where
+      mine : (t : Bool) → is_party p (whose e) ≡ t → EndsNone p (cond t (e ∷ []) [] ++ es)
+      mine t is = subst (λ z. EndsNone p (cond z (e ∷ []) [] ++ es)) is h
+
+      go : (t : Bool) → is_party p (whose e) ≡ t → EndsNone p es
+      go true t = rest (mine true t)
+      go false t = mine false t
+
+  ends_none : (p : ℕ) (es : List (Event T)) → EndsNone p (events_by p es) → EndsNone p es
+  ends_none p [] h = tt
+  ends_none p (Finished q s a ∷ es) h = go (q == p) refl (λ more. ends_none p es more)
+    where
+      mine : (t : Bool) → (q == p) ≡ t → EndsNone p (cond t (Finished q s a ∷ []) [] ++ events_by p es)
+      mine t is = subst (λ z. EndsNone p (cond z (Finished q s a ∷ []) [] ++ events_by p es)) is h
+
+      go : (t : Bool) → (q == p) ≡ t → (EndsNone p (events_by p es) → EndsNone p es) → EndsNone p (Finished q s a ∷ es)
+      go true t rest = absurd ((mine true t).0 (is_number q p t))
+      go false t rest = (no_number q p t, rest (mine false t))
+  ends_none p (e ∷ es) h = ends_none p es (without p e (events_by p es) (λ x. x) h)
+
+  -- ---- where a call stands
+
+  same_place : (p : ℕ) (start : Start T) (ys : List (Event T)) (m n : ℕ) → m ≡ n
+      → call_at m p start (response_in p ys (m + 1)) ≡ call_at n p start (response_in p ys (n + 1))
+  same_place p start ys m n e = ap (λ z. call_at z p start (response_in p ys (z + 1))) e
+
+  call_there : (p : ℕ) (start : Start T) (xs ys : List (Event T)) (k n : ℕ) → n ≡ k + length xs
+      → Contains (calls_from (xs ++ Begun p start ∷ ys) k) (call_at n p start (response_in p ys (n + 1)))
+  call_there p start [] ys k n e =
+      here (call_at k p start (response_in p ys (k + 1))) (call_at n p start (response_in p ys (n + 1)))
+      (calls_from ys (k + 1)) (same_place p start ys k n (omega arith))
+  call_there p start (Begun q s ∷ xs) ys k n e =
+      there (call_at k q s (response_in q (xs ++ Begun p start ∷ ys) (k + 1)))
+      (call_at n p start (response_in p ys (n + 1))) (calls_from (xs ++ Begun p start ∷ ys) (k + 1))
+      (call_there p start xs ys (k + 1) n (omega arith))
+  call_there p start (x ∷ xs) ys k n e = call_there p start xs ys (k + 1) n (omega arith)
+
+  response_there : (p : ℕ) (start : Start T) (answer : Answer T) (during rest : List (Event T)) (k n : ℕ)
+      → EndsNone p during → n ≡ k + length during
+      → response_in p (during ++ Finished p start answer ∷ rest) k ≡ Some (response_at n answer)
+  response_there p start answer [] rest k n none e =
+      let same : k ≡ n = omega arith in
+      responded p p start answer rest k refl ∙ ap (λ z. Some (response_at z answer)) same
+  response_there p start answer (Finished q s a ∷ es) rest k n none e =
+      passed p q s a (es ++ Finished p start answer ∷ rest) k none.0 ∙ response_there p start answer es rest (k + 1) n none.1 (omega arith)
+  response_there p start answer (x ∷ es) rest k n none e = response_there p start answer es rest (k + 1) n none (omega arith)
+
+  module _ (p : ℕ) (start : Start T) (answer : Answer T) (wrote : List (Event T)) (old new : View T)
+      (called : Called p start answer wrote old new) (none : EndsNone p wrote) (history : List (Event T))
+      (beginning : IsBeginning new.seen history) where
+    abbrev rest : List (Event T)
+    rest = beginning.rest
+
+    abbrev before : List (Event T)
+    before = old.seen ++ called.others
+
+    abbrev end : Event T
+    end = Finished p start answer
+
+    abbrev behind : List (Event T)
+    behind = called.during ++ end ∷ rest
+
+    whole : history ≡ before ++ Begun p start ∷ behind
+    whole =
+        beginning.is
+        ∙ (ap (λ xs. xs ++ rest) called.is
+        ∙ (append_assoc before (Begun p start ∷ (called.during ++ end ∷ [])) rest
+        ∙ ap (λ xs. before ++ Begun p start ∷ xs) (append_assoc called.during (end ∷ []) rest)))
+
+    no_ends : EndsNone p called.during
+    no_ends = ends_none p called.during (subst (EndsNone p) (sym called.during_own) none)
+
+    abbrev at : ℕ
+    at = length before
+
+    abbrev its : Call T
+    its = call_at at p start (response_in p behind (at + 1))
+
+    pub stands_in : StandsIn p start answer old new history
+    stands_in =
+        record {
+          call = its;
+          there = subst (λ h. Contains (calls_of h) its) (sym whole) (call_there p start before behind 0 at (omega arith));
+          party = refl;
+          named = refl;
+          ends = at + 1 + length called.during;
+          answered = response_there p start answer called.during rest (at + 1) (at + 1 + length called.during) no_ends refl;
+          after = (let l = length-append old.seen called.others in omega arith);
+          before = seen_by;
+        }
+      where
+        seen_by : at + 1 + length called.during < length new.seen
+        seen_by =
+            let all : length new.seen ≡ length (before ++ Begun p start ∷ (called.during ++ end ∷ [])) = ap length called.is in
+            let one = length-append before (Begun p start ∷ (called.during ++ end ∷ [])) in
+            let two = length-append called.during (end ∷ []) in
+            omega arith
+
+  -- a call that ended in what a pass had seen as it made the next one stands before that
+  pub in_order : (p q : ℕ) (s t : Start T) (a b : Answer T) (old new later last : View T) (history : List (Event T))
+      (x : StandsIn p s a old new history) (y : StandsIn q t b later last history)
+      → IsBeginning new.seen later.seen → Precedes x.call y.call
+  in_order p q s t a b old new later last history x y seen =
+      subst (λ r. StandsBefore r y.call.place) (sym x.answered)
+      (let less = x.before in
+      let more = y.after in
+      let both : length later.seen ≡ length (new.seen ++ seen.rest) = ap length seen.is in
+      let one = length-append new.seen seen.rest in
+      omega arith)

@@ -1,0 +1,117 @@
+-- Where a party's call stands, from its span; and what is so of every beginning of a history.
+use Rattle.std.proofs.Common.{◌≡◌, ℕ, ◌==◌, Bool, true, false, Option, Some, None, List, [], ◌∷◌, ◌++◌, refl, sym, ap, subst, ◌∙◌, append_assoc, append-nil}
+use Rattle.std.proofs.lemmas.List.Sums.{fold-append}
+use Rattle.model.specs.declared.event.Answer.{Answer}
+use Rattle.model.specs.declared.event.Event.{Event}
+use Rattle.model.specs.declared.event.Event.TheVariants.{Begun, Finished}
+use Rattle.model.specs.declared.event.Start.{Start}
+use Rattle.model.specs.Moments.{BeginsNone}
+use Rattle.model.specs.Reading.{whose, is_party, Span, Never, Open, Ended, longer, ended, own_after, span_after, span_of}
+use Rattle.model.specs.Shape.{IsOpenFor, IsShut}
+use Rattle.history.specs.Acts.{Way, way_after}
+use Rattle.history.proofs.Acts.Marks.{way_in, number_in, way_more}
+
+module _ {T : Type 0} where
+  -- ---- beginnings
+
+  module _ (events : List (Event T)) (P : List (Event T) → Type 0)
+      (goes : (h after : List (Event T)) (e : Event T) → events ≡ h ++ e ∷ after → P h → P (h ++ e ∷ [])) where
+    from_there : (h es rest : List (Event T)) → events ≡ h ++ (es ++ rest) → P h → P (h ++ es)
+    from_there h [] rest is p = subst P (sym (append-nil h)) p
+    from_there h (e ∷ es) rest is p =
+        subst P (append_assoc h (e ∷ []) es)
+        (from_there (h ++ e ∷ []) es rest (is ∙ sym (append_assoc h (e ∷ []) (es ++ rest))) (goes h (es ++ rest) e is p))
+
+    -- what is so of nothing, and goes on, is so of each beginning
+    pub along : P [] → (h rest : List (Event T)) → events ≡ h ++ rest → P h
+    along first h rest is = from_there [] h rest is first
+
+  pub begins_none_later : (p : ℕ) (xs ys : List (Event T)) → BeginsNone p (xs ++ ys) → BeginsNone p ys
+  begins_none_later p [] ys h = h
+  begins_none_later p (Begun q start ∷ xs) ys h = begins_none_later p xs ys h.1
+  begins_none_later p (x ∷ xs) ys h = begins_none_later p xs ys h
+
+  -- a span that is open for a call
+  pub record OpenFor (start : Start T) (P : List (Event T) → Type 0) (span : Span T) : Type 0 where
+    pub wrote : List (Event T)
+    pub is : span ≡ Open start wrote
+    pub holds : P wrote
+
+  pub open_for : (start : Start T) (P : List (Event T) → Type 0) (span : Span T) → IsOpenFor start P span → OpenFor start P span
+  open_for start P Never h = absurd h
+  open_for start P (Open call wrote) h = record { wrote = wrote; is = ap (λ s. Open s wrote) h.0; holds = h.1 }
+  open_for start P (Ended call answer wrote) h = absurd h
+
+  -- ---- ways
+
+  module _ (Fit : Start T → ℕ → List (Event T) → Option ℕ → Type 0) where
+    pub record Fits (start : Start T) (b : ℕ) (wrote : List (Event T)) (way : Way T) : Type 0 where
+      pub found : Option ℕ
+      pub is : way ≡ Some (start, found)
+      pub fit : Fit start b wrote found
+
+    -- none, or the call's, which has found at the place what fits what it has written
+    abbrev pub WayFits : ℕ → Span T → Way T → Type 0
+    WayFits b Never way = way ≡ None
+    WayFits b (Open start wrote) way = Fits start b wrote way
+    WayFits b (Ended start answer wrote) way = way ≡ None
+
+    pub shut_way : (b : ℕ) (span : Span T) (way : Way T) → IsShut span → WayFits b span way → way ≡ None
+    shut_way b Never way h fits = fits
+    shut_way b (Open start wrote) way h fits = absurd h
+    shut_way b (Ended start answer wrote) way h fits = fits
+
+    pub fits_open : (b : ℕ) (span : Span T) (way : Way T) (start : Start T) (wrote : List (Event T))
+        → span ≡ Open start wrote → WayFits b span way → Fits start b wrote way
+    fits_open b span way start wrote is fits = subst (λ s. WayFits b s way) is fits
+
+    pub begun_fits : (p q b n : ℕ) (span : Span T) (way : Way T) (s : Start T) → Fit s b [] None
+        → WayFits b span way → WayFits b (span_after p span (Begun q s)) (way_after p b n way (Begun q s))
+    begun_fits p q b n span way s nil fits = go (q == p) refl
+      where
+        go : (t : Bool) → (q == p) ≡ t → WayFits b (span_after p span (Begun q s)) (way_after p b n way (Begun q s))
+        go true t = rw t (record { found = None; is = refl; fit = nil })
+        go false t = rw t fits
+
+    over : (b : ℕ) (span : Span T) (a : Answer T) → WayFits b (ended span a) None
+    over b Never a = refl
+    over b (Open start wrote) a = refl
+    over b (Ended start was wrote) a = refl
+
+    pub finished_fits : (p q b n : ℕ) (span : Span T) (way : Way T) (s : Start T) (a : Answer T)
+        → WayFits b span way → WayFits b (span_after p span (Finished q s a)) (way_after p b n way (Finished q s a))
+    finished_fits p q b n span way s a fits = go (q == p) refl
+      where
+        go : (t : Bool) → (q == p) ≡ t → WayFits b (span_after p span (Finished q s a)) (way_after p b n way (Finished q s a))
+        go true t = rw t (over b span a)
+        go false t = rw t fits
+
+    -- an event that is no act leaves what fits
+    pub longer_fits : (b : ℕ) (span : Span T) (way : Way T) (e : Event T)
+        → ((start : Start T) (wrote : List (Event T)) (d : Option ℕ) → Fit start b wrote d → Fit start b (wrote ++ e ∷ []) d)
+        → WayFits b span way → WayFits b (longer span e) way
+    longer_fits b Never way e more fits = fits
+    longer_fits b (Open start wrote) way e more fits = record { found = fits.found; is = fits.is; fit = more start wrote fits.found fits.fit }
+    longer_fits b (Ended start a wrote) way e more fits = fits
+
+    pub quiet_fits : (p b : ℕ) (span : Span T) (way : Way T) (e : Event T)
+        → ((span : Span T) → own_after span e ≡ longer span e)
+        → ((start : Start T) (wrote : List (Event T)) (d : Option ℕ) → Fit start b wrote d → Fit start b (wrote ++ e ∷ []) d)
+        → WayFits b span way
+        → WayFits b (span_after p span e) way
+    quiet_fits p b span way e own more fits = go (is_party p (whose e)) refl
+      where
+        go : (t : Bool) → is_party p (whose e) ≡ t → WayFits b (span_after p span e) way
+        go true t = rw (t, own span) (longer_fits b span way e more fits)
+        go false t = rw t fits
+
+    -- all ways of a history
+    abbrev pub Ways : List (Event T) → Type 0
+    Ways h = (p b : ℕ) → WayFits b (span_of p h) (way_in p b 0 None h)
+
+    pub ways_more : (h : List (Event T)) (e : Event T) (p b : ℕ)
+        → WayFits b (span_after p (span_of p h) e) (way_after p b (number_in b 0 h) (way_in p b 0 None h) e)
+        → WayFits b (span_of p (h ++ e ∷ [])) (way_in p b 0 None (h ++ e ∷ []))
+    ways_more h e p b fits =
+        subst (λ s. WayFits b s (way_in p b 0 None (h ++ e ∷ []))) (sym (fold-append (span_after p) Never h (e ∷ [])))
+        (subst (λ w. WayFits b (span_after p (span_of p h) e) w) (sym (way_more p b 0 None h (e ∷ []))) fits)

@@ -1,0 +1,52 @@
+//! What one history of a bit set or of a counting bit set says in the field's words: the laws of every history that
+//! threads have seen, and of every run of a machine. These functions do nothing: the contract of each is a law, whose
+//! proof is a lemma that a client's proof can cite.
+ghost use Rattle.std.specs.Prelude.{◌≡◌, ℕ, List};
+ghost use Rattle.model.specs.declared.event.Answer.{Answer};
+ghost use Rattle.model.specs.declared.event.Event.{Event};
+ghost use Rattle.model.specs.declared.event.Start.{Start};
+ghost use Rattle.model.specs.declared.turn.Kind.{Kind};
+ghost use Rattle.model.specs.Coding.{Coding};
+ghost use Rattle.model.specs.Linearizable.{Precedes};
+ghost use Rattle.model.specs.Turns.{IsReached, IsReachedOn};
+ghost use Rattle.model.specs.World.{Trace};
+ghost use Rattle.history.specs.declared.view.View.{View};
+ghost use Rattle.history.specs.History.{IsBeginning, IsHistory, Called};
+ghost use Rattle.history.specs.Acts.{ActsByPlace, IsSet};
+ghost use Rattle.history.specs.Order.{StandsIn, EndsNone};
+
+/// In a history of a bit set or of a counting bit set the calls act place by place: a set, and a reset of the next place
+/// that answers one, at one moment; a reset of all, and one that answers none, once at each place (but for a count that
+/// was raised 2^64 times in all). In the order of these acts they answer as the set does. The lemma is `histories_act`
+/// of `proofs/Acts/Laws.antt`.
+pub fn histories_act<T>()
+    ensures { (code : Coding T) (kind : Kind) (capacity : ℕ) (events : List (Event T)) → IsSet kind
+        → IsHistory code kind capacity events → ActsByPlace kind capacity events }
+{}
+
+/// The same of every run of a machine, with no bound of turns or parties. The lemma is `runs_act` there.
+pub fn runs_act<T>()
+    ensures { (t : Trace T) → IsReachedOn t → IsSet t.world.kind → ActsByPlace t.world.kind t.world.capacity t.events }
+{}
+
+/// The same of every machine, whatever turns it was given. The lemma is `machines_act` of `proofs/Acts/Machines.antt`.
+pub fn machines_act<T>()
+    ensures { (t : Trace T) → IsReached t → IsSet t.world.kind → ActsByPlace t.world.kind t.world.capacity t.events }
+{}
+
+/// A call that a pass made stands, with its answer, in every history that goes on from what the pass has seen then. The
+/// lemma is `stands_in` of `proofs/Acts/Order.antt`.
+pub fn calls_stand<T>()
+    ensures { (p : ℕ) (start : Start T) (answer : Answer T) (wrote : List (Event T)) (old new : View T)
+        → Called p start answer wrote old new → EndsNone p wrote
+        → (history : List (Event T)) → IsBeginning new.seen history → StandsIn p start answer old new history }
+{}
+
+/// Of two such calls the one ended before the other began, where what the pass of the other had seen by then goes on from
+/// what the pass of the one had seen as it ended: of one pass, or of one that took the other in. The lemma is `in_order`
+/// there.
+pub fn calls_are_in_order<T>()
+    ensures { (p q : ℕ) (s t : Start T) (a b : Answer T) (old new later last : View T) (history : List (Event T))
+        → (x : StandsIn p s a old new history) → (y : StandsIn q t b later last history)
+        → IsBeginning new.seen later.seen → Precedes x.call y.call }
+{}

@@ -1,6 +1,0 @@
-use Rattle.history_laws.proofs.Order as order
-use Rattle.history_laws.proofs.calls_are_in_order.Goals as goal
-
-pub returns : goal.returns
-returns g c p q s t a b old new later last history x y seen =
-    order.in_order p q s t a b old new later last history x y seen

@@ -1,5 +1,0 @@
-use Rattle.history_laws.proofs.Laws as laws
-use Rattle.history_laws.proofs.histories_act.Goals as goal
-
-pub returns : goal.returns
-returns g c code kind capacity events set h = laws.histories_act code kind capacity events set h

@@ -1,0 +1,267 @@
+-- The steps of a reset of all bits: it swaps the next element with 0.
+use Rattle.std.proofs.Common.{◌≡◌, ◌≢◌, ℕ, ◌+◌, ◌-◌, ◌<◌, ◌≤◌, nat_lt, Bool, true, false, cond, ⊎_elim, Option, Some}
+use Rattle.std.proofs.Common.{None, List, [], ◌∷◌, ◌++◌, fold, length, get_or, set, refl, sym, ap, subst, ◌∙◌}
+use Rattle.std.proofs.Common.{append-nil, arith, length-set, get_or-set_other}
+use Rattle.std.proofs.lemmas.Bool.{cases_eq, cases_lt}
+use Rattle.std.proofs.lemmas.Bool.Decides.{nat_tests}
+use Rattle.std.proofs.lemmas.List.Sums.{fold-append}
+use Rattle.steps.specs.declared.ask.Ask.{Ask}
+use Rattle.steps.specs.declared.ask.Op.TheVariants.{Swap}
+use Rattle.steps.specs.declared.ask.After.{After}
+use Rattle.steps.specs.declared.ask.After.TheVariants.{GoOn, Done}
+use Rattle.steps.specs.declared.copied.OneWord.{OneWord}
+use Rattle.steps.specs.Bits.Places.{first_place, places_in}
+use Rattle.steps.specs.Bits.Words.{element_of, elements, has_flag, stands}
+use Rattle.steps.proofs.Flags.Places.{place_named, place_not_named}
+use Rattle.steps.proofs.Flags.Words.{stands_elsewhere, swapped_clear}
+use Rattle.model.specs.declared.event.Answer.{Answer}
+use Rattle.model.specs.declared.event.Answer as answers
+use Rattle.model.specs.declared.event.Event.{Event}
+use Rattle.model.specs.declared.event.Event.TheVariants.{Finished}
+use Rattle.model.specs.declared.event.Start.TheVariants.{Bits}
+use Rattle.model.specs.declared.families.bits.BitsStart.TheVariants.{ResetAll}
+use Rattle.model.specs.declared.families.bits.calls.BitsFlight.{BitsFlight}
+use Rattle.model.specs.declared.families.bits.calls.BitsFlight as calls
+use Rattle.model.specs.Coding.{Coding}
+use Rattle.model.specs.Families.Bits.Promises.{BitsAnswerRight, HasCleared, bits_promise}
+use Rattle.model.specs.Families.Bits.Reading.{sets, clears, position_after}
+use Rattle.model.specs.Moments.{SinceBegin}
+use Rattle.model.specs.Promises.Spans.{Stands}
+use Rattle.model.specs.Reading.{Open, own_after, span_of}
+use Rattle.model.specs.Turns.{one_if, change_of}
+use Rattle.model.proofs.Moments.{since_more}
+use Rattle.model.proofs.Readings.{AllFollow, span_of-own}
+use Rattle.laws_bits.proofs.Bits.Core.{ClearedBelow, cleared_still, cleared_by, sets_more, clears_more}
+use Rattle.laws_bits.proofs.Bits.Invariant.{Holds, bit_set}
+use Rattle.laws_bits.proofs.Bits.Lists.{own_more, right_more, follow_more, places_rise, all_cleared, all_own}
+use Rattle.laws_bits.proofs.Bits.Lists.{begin_none, all_right, sets_none, position_same, clears_named, all_stand}
+use Rattle.laws_bits.proofs.Bits.Lists.{all_written, no_places}
+use Rattle.laws_bits.proofs.Bits.Steps.{no_change, pays_by}
+use Rattle.laws_bits.proofs.Family.{SetState, Shows, party_then, StepShows, ShowsStep}
+use Rattle.laws_bits.proofs.Spans.{wrote_in}
+
+-- the call at this word, where it ends there and this was found last
+abbrev pub all_at : OneWord → ℕ → ℕ → BitsFlight
+all_at room word end =
+    calls.TheVariants.ResetAll (record { call = record { word = word; end = end }; given = tt; room = room })
+
+one_is : (t : Bool) → one_if t ≡ cond t 1 0
+one_is x0 = grind arith
+
+module _ {T : Type 0} (code : Coding T) (c : ℕ) (s : SetState T) (events : List (Event T))
+    (turns p changes since steps backs : ℕ) (holds : Holds c s.words events) (wrote : List (Event T))
+    (is : span_of p events ≡ Open (Bits ResetAll) wrote) (word : ℕ) (some : 1 ≤ word)
+    (none : (b : ℕ) → word ≤ element_of b → clears b wrote ≡ 0) (cleared : SinceBegin p (ClearedBelow word) events)
+    (still : backs ≡ 0) (few : steps ≤ word - 1) where
+  abbrev found : ℕ
+  found = get_or s.words word 0
+
+  abbrev places : List ℕ
+  places = places_in word found
+
+  abbrev fx : List (Event T)
+  fx = all_cleared p places
+
+  abbrev swaps : Option Ask
+  swaps = Some (record { word = word; op = Swap 0 })
+
+  abbrev then : List ℕ
+  then = set s.words word 0
+
+  abbrev Does : Option Ask → After BitsFlight (Answer T) → List (Event T) → Type 0
+  Does ask after es = StepShows bit_set code c s events turns p changes since steps backs wrote ResetAll ask false after es
+
+  -- ---- the bits
+
+  clears_here : (b : ℕ) → element_of b ≡ word → clears b fx ≡ one_if (stands s.words b)
+  clears_here b at =
+      clears_named T p b places
+      ∙ (place_named word found b at
+      ∙ (sym (one_is (has_flag found b)) ∙ ap (λ w. one_if (has_flag (get_or s.words w 0) b)) (sym at)))
+
+  clears_there : (b : ℕ) → element_of b ≢ word → clears b fx ≡ 0
+  clears_there b other = clears_named T p b places ∙ place_not_named word found some b other
+
+  module _ (near : word < length s.words) where
+    clear_here : (b : ℕ) → element_of b ≡ word → stands then b ≡ false
+    clear_here b at = swapped_clear s.words word b (sym at) near
+
+    moved_by : (b : ℕ) → 0 + one_if (stands s.words b) ≡ clears b fx + one_if (stands then b)
+    moved_by b = ⊎_elim here there (cases_eq (element_of b) word)
+      where
+        here : element_of b ≡ word → 0 + one_if (stands s.words b) ≡ clears b fx + one_if (stands then b)
+        here at =
+            let zero : one_if (stands then b) ≡ 0 = ap one_if (clear_here b at) in
+            let all = clears_here b at in
+            omega arith
+
+        there : element_of b ≢ word → 0 + one_if (stands s.words b) ≡ clears b fx + one_if (stands then b)
+        there other =
+            let same : one_if (stands then b) ≡ one_if (stands s.words b) = ap one_if (stands_elsewhere s.words word 0 b (λ e. other (sym e))) in
+            let none = clears_there b other in
+            omega arith
+
+    -- with the end of the call or without
+    moved : (ends : List (Event T)) → ((b : ℕ) → sets b ends ≡ 0) → ((b : ℕ) → clears b ends ≡ 0) → (b : ℕ)
+        → sets b (fx ++ ends) + one_if (stands s.words b) ≡ clears b (fx ++ ends) + one_if (stands then b)
+    moved ends no_sets no_clears b =
+        let by = moved_by b in
+        let s_more = sets_more b fx ends in
+        let c_more = clears_more b fx ends in
+        let s_none = sets_none T p b places in
+        let s_ends = no_sets b in
+        let c_ends = no_clears b in
+        omega arith
+
+    -- ---- what has been cleared since the call began
+
+    even : (b : ℕ) → element_of b ≡ word → sets b (events ++ fx) ≡ clears b (events ++ fx)
+    even b at =
+        let was = holds.conserved b in
+        let all = clears_here b at in
+        let s_more = sets_more b events fx in
+        let c_more = clears_more b events fx in
+        let s_none = sets_none T p b places in
+        omega arith
+
+    cleared_next : ClearedBelow (word + 1) cleared.before (cleared.since ++ fx)
+    cleared_next b below stood = ⊎_elim
+        (λ less. cleared_still word cleared.before cleared.since fx cleared.holds b less stood)
+        (λ more. cleared_by b p cleared.start events cleared.before cleared.since fx cleared.is (even b (omega arith)) stood)
+        (cases_lt (element_of b) word)
+
+    cleared_more : SinceBegin p (ClearedBelow (word + 1)) (events ++ fx)
+    cleared_more = since_more p (ClearedBelow word) (ClearedBelow (word + 1)) events fx (begin_none T p places) cleared cleared_next
+
+  -- at the end all are behind
+  all_behind : (events' : List (Event T)) (end : ℕ) → 1 + elements c ≤ end → SinceBegin p (ClearedBelow end) events' → SinceBegin p (HasCleared c) events'
+  all_behind events' end last h =
+      record {
+        before = h.before;
+        start = h.start;
+        since = h.since;
+        is = h.is;
+        within = h.within;
+        holds = λ b below stood. h.holds b (omega arith) stood;
+      }
+
+  -- ---- the span
+
+  stand : AllFollow (Stands bits_promise c) (Open (Bits ResetAll) wrote) fx
+  stand = all_stand T p c (first_place word) wrote places (places_rise word found) (λ b above. none b (omega arith))
+
+  written : fold own_after (Open (Bits ResetAll) wrote) fx ≡ Open (Bits ResetAll) (wrote ++ fx)
+  written = all_written T p wrote places
+
+  span_then : span_of p (events ++ fx) ≡ Open (Bits ResetAll) (wrote ++ fx)
+  span_then = span_of-own p events fx (all_own T p places) ∙ (ap (λ s. fold own_after s fx) is ∙ written)
+
+  none_then : (b : ℕ) → word + 1 ≤ element_of b → clears b (wrote ++ fx) ≡ 0
+  none_then b past =
+      let before = none b (omega arith) in
+      let there = clears_there b (λ at. absurd (omega arith)) in
+      let more = clears_more b wrote fx in
+      omega arith
+
+  -- ---- a swap
+
+  module _ (room : OneWord) (end : ℕ) (last : end ≡ 1 + elements c) where
+    abbrev next : After BitsFlight (Answer T)
+    next = GoOn (all_at (record { 0 = found }) (word + 1) end)
+
+    abbrev done : After BitsFlight (Answer T)
+    done = Done answers.TheVariants.Done
+
+    abbrev finish : List (Event T)
+    finish = Finished p (Bits ResetAll) answers.TheVariants.Done ∷ []
+
+    -- the reset position is no element
+    start_stays : get_or then 0 0 ≡ get_or s.words 0 0
+    start_stays = get_or-set_other s.words word 0 0 0 (λ e. absurd (omega arith))
+
+    swaps_on : word < length s.words → word + 1 < end → Does swaps next fx
+    swaps_on near more =
+        subst (λ es. Shows bit_set code c s events turns p changes then (Open (Bits ResetAll) wrote)
+        (party_then bit_set code c s events turns p changes since steps backs ResetAll swaps false next) es
+        (changes + change_of s.words swaps))
+        (sym (append-nil fx))
+        (record {
+          conserves = record {
+            sized = length-set s.words word 0;
+            moved =
+                λ b. subst (λ es. sets b es + one_if (stands s.words b) ≡ clears b es + one_if (stands then b))
+                (append-nil fx) (moved near [] (λ b. refl) (λ b. refl) b);
+            within = λ b past. sets_none T p b places;
+            position = start_stays ∙ sym (position_same T p (get_or s.words 0 0) places);
+            pays = pays_by s.words swaps changes;
+            right = all_right T p c events places;
+          };
+          own = all_own T p places;
+          stands = stand;
+          here =
+              record {
+                span = written ∙ ap (λ span. Open (Bits ResetAll) (wrote_in span)) (sym span_then);
+                steps = omega arith;
+                at = (last, omega arith, omega arith, λ b past. subst (λ span. clears b (wrote_in span) ≡ 0) (sym span_then) (none_then b past));
+              };
+          knows = (omega arith, cleared_more near);
+        })
+
+    swaps_last : word < length s.words → word + 1 ≡ end → Does swaps done fx
+    swaps_last near at =
+        record {
+          conserves = record {
+            sized = length-set s.words word 0;
+            moved = moved near finish (λ b. refl) (λ b. refl);
+            within = λ b past. (let more = sets_more b fx finish in let none = sets_none T p b places in omega arith);
+            position = start_stays ∙ (sym (position_same T p (get_or s.words 0 0) places) ∙ sym (fold-append position_after (get_or s.words 0 0) fx finish));
+            pays = pays_by s.words swaps changes;
+            right =
+                right_more (BitsAnswerRight c) events fx finish (all_right T p c events places)
+                (all_behind (events ++ fx) (word + 1) (omega arith) (cleared_more near), tt);
+          };
+          own = own_more p fx finish (all_own T p places) (refl, tt);
+          stands =
+              follow_more (Stands bits_promise c) (Open (Bits ResetAll) wrote) fx finish stand
+              (subst (λ span. AllFollow (Stands bits_promise c) span finish) (sym written) ((refl, tt), tt));
+          here =
+              record {
+                answer = answers.TheVariants.Done;
+                wrote = wrote ++ fx;
+                span = fold-append own_after (Open (Bits ResetAll) wrote) fx finish ∙ ap (λ span. fold own_after span finish) written;
+                steps = omega arith;
+              };
+          knows = omega arith;
+        }
+
+    -- without a further word
+    asks_nothing : word ≡ end → Does None done []
+    asks_nothing at =
+        record {
+          conserves =
+              no_change code c s events turns p changes since steps backs None finish (λ b. refl) (λ b. refl)
+              (λ b. refl) refl (all_behind events word (omega arith) cleared, tt);
+          own = (refl, tt);
+          stands = ((refl, tt), tt);
+          here = record { answer = answers.TheVariants.Done; wrote = wrote; span = refl; steps = omega arith };
+          knows = omega arith;
+        }
+
+    pub reset_all_step : word ≤ end → ShowsStep bit_set code c s events turns p changes since steps backs wrote ResetAll (all_at room word end)
+    reset_all_step below = go (nat_lt word end) refl (nat_lt (word + 1) end) refl
+      where
+        go : (t : Bool) → nat_lt word end ≡ t → (u : Bool) → nat_lt (word + 1) end ≡ u
+            → ShowsStep bit_set code c s events turns p changes since steps backs wrote ResetAll (all_at room word end)
+        go true t true u =
+            let more : word + 1 < end = grind (arith, nat_tests) in
+            let sized = holds.sized in
+            rw t (rw u (swaps_on (omega arith) more))
+        go true t false u =
+            let one : word < end = grind (arith, nat_tests) in
+            let at : end ≤ word + 1 = grind (arith, nat_tests) in
+            let sized = holds.sized in
+            rw t (rw u (swaps_last (omega arith) (omega arith)))
+        go false t u e =
+            let past : end ≤ word = grind (arith, nat_tests) in
+            let not_more : nat_lt (word + 1) end ≡ false = grind (arith, nat_tests) in
+            rw t (rw not_more (subst (λ bs. Does None done (all_cleared p bs)) (sym (no_places word)) (asks_nothing (omega arith))))

@@ -1,0 +1,41 @@
+-- What the events say of each bit, and what came since a party's latest call began.
+use Rattle.std.proofs.Common.{◌≡◌, ℕ, ◌+◌, ◌<◌, ◌≤◌, cond, List, [], ◌∷◌, ◌++◌, ap, sym, ◌∙◌, append_assoc, arith}
+use Rattle.std.proofs.lemmas.List.Sums.{sum_by-append}
+use Rattle.steps.specs.Bits.Words.{element_of}
+use Rattle.model.specs.declared.event.Event.{Event}
+use Rattle.model.specs.declared.event.Event.TheVariants.{Begun}
+use Rattle.model.specs.declared.event.Start.{Start}
+use Rattle.model.specs.Families.Bits.Reading.{is_set_of, is_clear_of, sets, clears, standing}
+
+module _ {T : Type 0} where
+  pub sets_more : (b : ℕ) (xs ys : List (Event T)) → sets b (xs ++ ys) ≡ sets b xs + sets b ys
+  sets_more b xs ys = sum_by-append (λ e. cond (is_set_of b e) 1 0) xs ys
+
+  pub clears_more : (b : ℕ) (xs ys : List (Event T)) → clears b (xs ++ ys) ≡ clears b xs + clears b ys
+  clears_more b xs ys = sum_by-append (λ e. cond (is_clear_of b e) 1 0) xs ys
+
+  -- ---- what has been cleared since
+
+  -- each bit of an element before this one that stood as the call began has been cleared
+  abbrev pub ClearedBelow : ℕ → List (Event T) → List (Event T) → Type 0
+  ClearedBelow end before since =
+      (b : ℕ) → element_of b < end → standing b before ≡ 1 → 1 ≤ clears b since
+
+  pub cleared_still : (end : ℕ) (before since es : List (Event T)) → ClearedBelow end before since → ClearedBelow end before (since ++ es)
+  cleared_still end before since es cleared b below stood =
+      let more = clears_more b since es in
+      let had = cleared b below stood in
+      omega arith
+
+  -- a bit that does not stand any more has been cleared
+  pub cleared_by : (b p : ℕ) (start : Start T) (events before since es : List (Event T))
+      → events ≡ before ++ Begun p start ∷ since → sets b (events ++ es) ≡ clears b (events ++ es)
+      → standing b before ≡ 1 → 1 ≤ clears b (since ++ es)
+  cleared_by b p start events before since es is none stood =
+      let whole : events ++ es ≡ before ++ Begun p start ∷ (since ++ es) = ap (λ xs. xs ++ es) is ∙ append_assoc before (Begun p start ∷ since) es in
+      let both : sets b (before ++ Begun p start ∷ (since ++ es)) ≡ clears b (before ++ Begun p start ∷ (since ++ es)) = rw (sym whole) none in
+      let s = sets_more b before (Begun p start ∷ (since ++ es)) in
+      let c = clears_more b before (Begun p start ∷ (since ++ es)) in
+      let own_s = sets_more b (Begun p start ∷ []) (since ++ es) in
+      let own_c = clears_more b (Begun p start ∷ []) (since ++ es) in
+      omega arith

@@ -1,0 +1,157 @@
+-- What holds of a bit set's machine between any two turns beside what the frame says of every machine, and what a turn does
+-- to its words that keeps it.
+use Rattle.std.proofs.Common.{◌≡◌, ◌≢◌, ℕ, ◌+◌, ◌≤◌, List, ◌++◌, fold, length, get_or, refl, sym, ap, ◌∙◌, arith}
+use Rattle.std.proofs.lemmas.List.Sums.{fold-append}
+use Rattle.steps.specs.declared.bits.bit_set.SetStage.{SetStage}
+use Rattle.steps.specs.declared.bits.bit_set.ResetNextStage.{ResetNextStage}
+use Rattle.steps.specs.declared.bits.bit_set.ResetNextStage as resetting
+use Rattle.steps.specs.Bits.BitSet.{place_after, at_most}
+use Rattle.steps.specs.Bits.Words.{element_of, elements, stands}
+use Rattle.model.specs.declared.event.Event.{Event}
+use Rattle.model.specs.declared.families.bits.calls.BitsFlight.{BitsFlight}
+use Rattle.model.specs.declared.families.bits.calls.BitsFlight.TheVariants.{Set, ResetNext, ResetAll}
+use Rattle.model.specs.declared.turn.Kind as kinds
+use Rattle.model.specs.Families.Bits.Promises.{BitsAnswerRight, CameTo, bits_promise}
+use Rattle.model.specs.Families.Bits.Reading.{sets, clears, standing, position_after, position_of}
+use Rattle.model.specs.Moments.{BeginsNone}
+use Rattle.model.specs.Reading.{Each}
+use Rattle.model.specs.Turns.{one_if}
+use Rattle.model.proofs.Moments.{held_later, since_more}
+use Rattle.model.proofs.Readings.{AreRight, Each-append}
+use Rattle.laws_bits.proofs.Bits.Core.{ClearedBelow, cleared_still, sets_more, clears_more}
+use Rattle.laws_bits.proofs.Bits.Knows.{CallAt, KnowsCall, KnowsSet, KnowsNext, Paid, Passed, Began, call_wrote, number_of}
+use Rattle.laws_bits.proofs.Family.{SetKind}
+
+-- ---- what the machine holds
+
+-- every word that has another value is paid by a change
+pub record Pays (words words' : List ℕ) (changes changes' : ℕ) : Type 0 where
+  pub up : changes ≤ changes'
+  pub changed : (i : ℕ) → get_or words' i 0 ≢ get_or words i 0 → changes + 1 ≤ changes'
+
+module _ (words words' : List ℕ) (changes changes' : ℕ) (pays : Pays words words' changes changes') where
+  paid_still : (since backs element found : ℕ) → Paid words since changes backs element found → Paid words' since changes' backs element found
+  paid_still x0 x1 x2 x3 x4 = grind arith
+
+  set_still : (since backs bit : ℕ) (stage : SetStage) → KnowsSet words since changes backs bit stage → KnowsSet words' since changes' backs bit stage
+  set_still x0 x1 x2 x3 x4 = grind arith
+
+module _ {T : Type 0} where
+  pub record Holds (c : ℕ) (words : List ℕ) (events : List (Event T)) : Type 0 where
+    pub sized : length words ≡ 1 + elements c
+    pub conserved : (b : ℕ) → sets b events ≡ clears b events + one_if (stands words b)
+    pub within : (b : ℕ) → c ≤ b → sets b events ≡ 0
+    pub position : get_or words 0 0 ≡ position_of events
+    pub answers : Each (BitsAnswerRight c) events
+
+  -- ---- what a turn conserves
+
+  -- the words of a turn beside the bits of which its events tell
+  pub record Conserves (c : ℕ) (words : List ℕ) (events : List (Event T)) (changes : ℕ) (words' : List ℕ) (es : List (Event T)) (changes' : ℕ) : Type 0 where
+    pub sized : length words' ≡ length words
+    pub moved : (b : ℕ) → sets b es + one_if (stands words b) ≡ clears b es + one_if (stands words' b)
+    pub within : (b : ℕ) → c ≤ b → sets b es ≡ 0
+    pub position : get_or words' 0 0 ≡ fold position_after (get_or words 0 0) es
+    pub pays : Pays words words' changes changes'
+    pub right : AreRight (BitsAnswerRight c) events es
+
+  -- so does a turn after which the same bits stand, and whose events tell of none
+  pub rest_conserves : (c : ℕ) (words : List ℕ) (events : List (Event T)) (changes : ℕ) (words' : List ℕ)
+      (es : List (Event T)) (changes' : ℕ)
+      → length words' ≡ length words → ((b : ℕ) → stands words' b ≡ stands words b) → ((b : ℕ) → sets b es ≡ 0)
+      → ((b : ℕ) → clears b es ≡ 0)
+      → get_or words' 0 0 ≡ fold position_after (get_or words 0 0) es → Pays words words' changes changes'
+      → AreRight (BitsAnswerRight c) events es → Conserves c words events changes words' es changes'
+  rest_conserves c words events changes words' es changes' sized same no_sets no_clears position pays right =
+      record {
+        sized = sized;
+        moved = λ b. rw (no_sets b, no_clears b, same b) refl;
+        within = λ b past. no_sets b;
+        position = position;
+        pays = pays;
+        right = right;
+      }
+
+  -- ---- the kind of the bit sets
+
+  abbrev pub bit_set : SetKind T
+  bit_set =
+      record {
+        kind = kinds.TheVariants.Bits;
+        own = refl;
+        promise = bits_promise;
+        Holds = λ c words events turns. Holds c words events;
+        Conserves = λ c words events turns changes words' es changes'. Conserves c words events changes words' es changes';
+        wrote = call_wrote;
+        number = number_of;
+        At = CallAt;
+        Knows = KnowsCall;
+      }
+
+  module _ (c : ℕ) (words : List ℕ) (events : List (Event T)) (changes : ℕ) (words' : List ℕ) (es : List (Event T))
+      (changes' : ℕ) (conserves : Conserves c words events changes words' es changes') where
+    pub holds_more : Holds c words events → Holds c words' (events ++ es)
+    holds_more h =
+        record {
+          sized = conserves.sized ∙ h.sized;
+          conserved = conserved;
+          within = λ b past. (let a = h.within b past in let e = conserves.within b past in let m = sets_more b events es in omega arith);
+          position = conserves.position ∙ (ap (λ n. fold position_after n es) h.position ∙ sym (fold-append position_after 0 events es));
+          answers = Each-append (BitsAnswerRight c) events es h.answers conserves.right;
+        }
+      where
+        conserved : (b : ℕ) → sets b (events ++ es) ≡ clears b (events ++ es) + one_if (stands words' b)
+        conserved b =
+            let was = h.conserved b in
+            let moved = conserves.moved b in
+            let s = sets_more b events es in
+            let c = clears_more b events es in
+            omega arith
+
+  -- ---- what a step of another party leaves
+
+  module _ (words words' : List ℕ) (changes changes' : ℕ) (pays : Pays words words' changes changes') where
+    module _ (p : ℕ) (events es : List (Event T)) (none : BeginsNone p es) where
+      passed_still : (c start passed : ℕ) → Passed c p start passed events → Passed c p start passed (events ++ es)
+      passed_still c start passed h k below = held_later p (λ part. standing (place_after c start k) part ≡ 0) events es none (h k below)
+
+      began_still : (c start : ℕ) → Began c p start events → Began c p start (events ++ es)
+      began_still c start h = held_later p (λ part. at_most c (position_of part) ≡ start) events es none h
+
+      came_still : (c bit : ℕ) → CameTo p c bit events → CameTo p c bit (events ++ es)
+      came_still c bit h =
+          record {
+            start = h.start;
+            passed = h.passed;
+            within = h.within;
+            is = h.is;
+            begun = began_still c h.start h.begun;
+            clear = passed_still c h.start h.passed h.clear;
+          }
+
+      next_still : (c since backs : ℕ) (stage : ResetNextStage)
+          → KnowsNext c p events words since changes backs stage
+          → KnowsNext c p (events ++ es) words' since changes' backs stage
+      next_still c since backs resetting.TheVariants.LoadsPosition h = let up = pays.up in omega arith
+      next_still c since backs (resetting.TheVariants.LoadsElement start passed) h =
+          let up = pays.up in
+          let low = h.0 in
+          (omega arith, passed_still c start passed h.1, began_still c start h.2)
+      next_still c since backs (resetting.TheVariants.ExchangesElement start passed found) h =
+          let paid = paid_still words words' changes changes' pays since backs (element_of (place_after c start passed)) found h.0 in
+          (paid, passed_still c start passed h.1, began_still c start h.2)
+      next_still c since backs (resetting.TheVariants.StoresPosition place) h =
+          let up = pays.up in
+          let low = h.0 in
+          (omega arith, came_still c place h.1)
+
+      pub call_still : (since backs : ℕ) (flight : BitsFlight) → KnowsCall p events words since changes backs flight
+          → KnowsCall p (events ++ es) words' since changes' backs flight
+      call_still since backs (Set run) h = set_still words words' changes changes' pays since backs run.given run.call.stage h
+      call_still since backs (ResetNext run) h = next_still run.call.capacity since backs run.call.stage h
+      call_still since backs (ResetAll run) h = (
+        h.0,
+        since_more p (ClearedBelow run.call.word) (ClearedBelow run.call.word) events es none h.1
+            (cleared_still run.call.word h.1.before h.1.since es h.1.holds),
+      )
+      call_still since backs flight h = absurd h

@@ -1,0 +1,76 @@
+-- What a step writes down, and with it all that a bit set owes of its machine.
+use native.Mathlib.Omega.{arith}
+use Rattle.std.proofs.Common.{◌≡◌, ℕ, List, [], ◌∷◌, refl, sym, subst}
+use Rattle.std.specs.List.{AllByRecursion}
+use Rattle.steps.specs.declared.bits.bit_set.SetStage.{SetStage}
+use Rattle.steps.specs.declared.bits.bit_set.ResetNextStage.{ResetNextStage}
+use Rattle.steps.specs.Bits.Places.{places_in}
+use Rattle.model.specs.declared.event.Event.{Event}
+use Rattle.model.specs.declared.families.bits.BitsStart.{BitsStart}
+use Rattle.model.specs.declared.families.bits.BitsStart as starts
+use Rattle.model.specs.declared.families.bits.calls.BitsFlight.{BitsFlight}
+use Rattle.model.specs.declared.families.bits.calls.BitsFlight as calls
+use Rattle.model.specs.declared.turn.Kind as kinds
+use Rattle.model.specs.declared.turn.Turn.TheVariants.{Next}
+use Rattle.model.specs.Coding.{Coding}
+use Rattle.model.specs.Families.Bits.Steps.{set_events, reset_events, effects_of}
+use Rattle.model.specs.Promises.Turns.{IsEffectOf}
+use Rattle.model.proofs.Orders.{Keeps}
+use Rattle.laws_bits.proofs.Bits.Invariant.{bit_set, holds_more, call_still, Holds}
+use Rattle.laws_bits.proofs.Bits.Kept.{bits_kept, steps_most, backs_paid}
+use Rattle.laws_bits.proofs.Bits.Knows.{CallAt}
+use Rattle.laws_bits.proofs.Bits.Lists.{all_cleared}
+use Rattle.laws_bits.proofs.Bits.Sound.{opens, never_asks, step_shows, first_is, begins_own, begins_none}
+use Rattle.laws_bits.proofs.Laws.{SetLaws, sets_keep, sound_on}
+use Rattle.model.specs.Families.Bits.Promises.{IsBitSet}
+use Rattle.model.specs.Turns.{IsReachedOn}
+use Rattle.model.specs.World.{Trace}
+
+module _ (T : Type 0) where
+  set_effects : (p bit old : ℕ) (stage : SetStage) → AllByRecursion (IsEffectOf {T = T} (Next p)) (set_events p bit stage old)
+  set_effects x0 x1 x2 x3 = grind arith
+
+  next_effects : (p c old : ℕ) (stage : ResetNextStage) → AllByRecursion (IsEffectOf {T = T} (Next p)) (reset_events p c stage old)
+  next_effects x0 x1 x2 x3 = grind arith
+
+  all_effects : (p : ℕ) (bs : List ℕ) → AllByRecursion (IsEffectOf {T = T} (Next p)) (all_cleared p bs)
+  all_effects p [] = tt
+  all_effects p (b ∷ bs) = (refl, all_effects p bs)
+
+module _ {T : Type 0} where
+  are_effects : (c p old : ℕ) (wrote : List (Event T)) (start : BitsStart) (flight : BitsFlight)
+      → CallAt c wrote start flight → AllByRecursion (IsEffectOf {T = T} (Next p)) (effects_of p flight old)
+  are_effects c p old wrote (starts.TheVariants.Set bit) (calls.TheVariants.Set run) at = set_effects T p run.given old run.call.stage
+  are_effects c p old wrote starts.TheVariants.ResetNext (calls.TheVariants.ResetNext run) at = next_effects T p run.call.capacity old run.call.stage
+  are_effects c p old wrote starts.TheVariants.ResetAll (calls.TheVariants.ResetAll run) at = all_effects T p (places_in run.call.word old)
+  are_effects c p old wrote start flight at = absurd at
+
+  pub laws : (code : Coding T) (c : ℕ) → SetLaws bit_set code c
+  laws code c =
+      record {
+        bare = refl;
+        opens = opens c;
+        promise = refl;
+        tells = λ old turn new. tt;
+        keeps_promise = λ t same small. bits_kept c t same;
+        holds = λ words events turns. holds_more c words events;
+        still = λ q words events turns changes words' es changes' conserves none. call_still words words' changes changes' conserves.pays q events es none;
+        begins_own = begins_own c;
+        begins = λ p start words events turns changes h. begins_none c p start words events changes;
+        first = first_is c;
+        asks = never_asks c;
+        effects = are_effects c;
+        most = steps_most c;
+        paid = backs_paid;
+        step = λ s events turns p changes since steps backs holds. step_shows code c s events turns p changes since steps backs holds;
+      }
+
+  -- what is proved of every run of a bit set
+  pub bits_keep : Keeps T kinds.TheVariants.Bits
+  bits_keep = sets_keep bit_set laws
+
+  -- all that is promised of a bit set holds without a bound of turns or parties
+  pub bits_go_on : (t : Trace T) → t.world.kind ≡ kinds.TheVariants.Bits → IsReachedOn t → IsBitSet t
+  bits_go_on t is r =
+      let s = sound_on bit_set laws t is r in
+      bits_kept t.world.capacity t refl (subst (λ ws. Holds t.world.capacity ws t.events) (sym s.fit.1) s.holds.0)

@@ -1,0 +1,27 @@
+-- What the invariant says of the events, in the promises' words.
+use Rattle.std.proofs.Common.{◌≡◌, ℕ, ◌-◌, ◌≤◌, List, subst, arith}
+use Rattle.model.specs.declared.event.Event.{Event}
+use Rattle.model.specs.declared.families.bits.BitsStart.{BitsStart}
+use Rattle.model.specs.declared.families.bits.calls.BitsFlight.{BitsFlight}
+use Rattle.model.specs.Families.Bits.Bounds.{most_bits_steps}
+use Rattle.model.specs.Families.Bits.Promises.{IsBitSet}
+use Rattle.model.specs.World.{Trace}
+use Rattle.laws_bits.proofs.Bits.Invariant.{Holds}
+use Rattle.laws_bits.proofs.Bits.Knows.{CallAt, KnowsCall, number_of}
+
+module _ {T : Type 0} where
+  pub steps_most : (c : ℕ) (wrote : List (Event T)) (backs : ℕ) (start : BitsStart) (flight : BitsFlight)
+      → CallAt c wrote start flight → number_of flight backs ≤ most_bits_steps c start backs
+  steps_most x0 x1 x2 x3 x4 x5 = grind arith
+
+  pub backs_paid : (p : ℕ) (events : List (Event T)) (words : List ℕ) (since changes backs : ℕ) (flight : BitsFlight)
+      → KnowsCall p events words since changes backs flight → backs ≤ changes - since
+  backs_paid x0 x1 x2 x3 x4 x5 x6 x7 = grind arith
+
+  pub bits_kept : (c : ℕ) (t : Trace T) → t.world.capacity ≡ c → Holds c t.world.words t.events → IsBitSet t
+  bits_kept c t same h =
+      record {
+        conserved = h.conserved;
+        within = λ b past. h.within b (subst (λ n. n ≤ b) same past);
+        answers = rw same h.answers;
+      }

@@ -1,0 +1,132 @@
+-- What a call of the bit set knows where it stands.
+use Rattle.std.proofs.Common.{◌≡◌, ◌≢◌, ℕ, ◌+◌, ◌-◌, ◌<◌, ◌≤◌, true, false, List, [], ◌∷◌, get_or}
+use Rattle.steps.specs.declared.bits.bit_set.SetStage.{SetStage}
+use Rattle.steps.specs.declared.bits.bit_set.SetStage as setting
+use Rattle.steps.specs.declared.bits.bit_set.ResetNextStage.{ResetNextStage}
+use Rattle.steps.specs.declared.bits.bit_set.ResetNextStage as resetting
+use Rattle.steps.specs.Bits.BitSet.{place_after, at_most}
+use Rattle.steps.specs.Bits.Words.{element_of, elements, has_flag}
+use Rattle.model.specs.declared.event.Event.{Event}
+use Rattle.model.specs.declared.event.Event.TheVariants.{Cleared}
+use Rattle.model.specs.declared.families.bits.BitsStart.{BitsStart}
+use Rattle.model.specs.declared.families.bits.BitsStart as starts
+use Rattle.model.specs.declared.families.bits.calls.BitsFlight.{BitsFlight}
+use Rattle.model.specs.declared.families.bits.calls.BitsFlight.TheVariants.{Set, ResetNext, ResetAll}
+use Rattle.model.specs.Families.Bits.Promises.{CameTo}
+use Rattle.model.specs.Families.Bits.Reading.{clears, standing, position_of}
+use Rattle.model.specs.Moments.{HeldSometime, SinceBegin}
+use Rattle.model.specs.Reading.{Span}
+use Rattle.laws_bits.proofs.Bits.Core.{ClearedBelow}
+use Rattle.laws_bits.proofs.Spans.{wrote_in}
+
+-- ---- the calls by their stages
+
+abbrev pub set_at : ℕ → SetStage → BitsFlight
+set_at bit stage = Set (record { call = record { stage = stage }; given = bit; room = tt })
+
+abbrev pub next_at : ℕ → ResetNextStage → BitsFlight
+next_at c stage =
+    ResetNext (record { call = record { capacity = c; stage = stage }; given = tt; room = tt })
+
+-- ---- how many steps they have taken at most
+
+abbrev pub set_number : SetStage → ℕ → ℕ
+set_number setting.TheVariants.LoadsElement backs = backs
+set_number (setting.TheVariants.ExchangesElement found) backs = 1 + backs
+
+abbrev pub next_number : ℕ → ResetNextStage → ℕ → ℕ
+next_number c resetting.TheVariants.LoadsPosition backs = backs
+next_number c (resetting.TheVariants.LoadsElement start passed) backs = 1 + passed + backs
+next_number c (resetting.TheVariants.ExchangesElement start passed found) backs =
+    2 + passed + backs
+next_number c (resetting.TheVariants.StoresPosition place) backs = 2 + c + backs
+
+abbrev pub number_of : BitsFlight → ℕ → ℕ
+number_of (Set run) backs = set_number run.call.stage backs
+number_of (ResetNext run) backs = next_number run.call.capacity run.call.stage backs
+number_of (ResetAll run) backs = run.call.word - 1
+number_of flight backs = 0
+
+-- ---- where a call under way stands
+
+abbrev pub SetStands : ℕ → SetStage → Type 0
+SetStands bit setting.TheVariants.LoadsElement = Unit {0}
+SetStands bit (setting.TheVariants.ExchangesElement found) = has_flag found bit ≡ false
+
+abbrev pub NextStands : ℕ → ResetNextStage → Type 0
+NextStands c resetting.TheVariants.LoadsPosition = Unit {0}
+NextStands c (resetting.TheVariants.LoadsElement start passed) = (start ≤ c) × (passed < c)
+NextStands c (resetting.TheVariants.ExchangesElement start passed found) =
+    (start ≤ c) × (passed < c) × (has_flag found (place_after c start passed) ≡ true)
+NextStands c (resetting.TheVariants.StoresPosition place) = place < c
+
+-- ---- what it knows of the counts
+
+-- each turn back is paid by a change since the call began; where the element is
+-- not any more as it was found, so is the next one
+abbrev pub Paid : List ℕ → ℕ → ℕ → ℕ → ℕ → ℕ → Type 0
+Paid words since changes backs element found =
+    (backs + since ≤ changes)
+    × (get_or words element 0 ≢ found → backs + since + 1 ≤ changes)
+
+abbrev pub KnowsSet : List ℕ → ℕ → ℕ → ℕ → ℕ → SetStage → Type 0
+KnowsSet words since changes backs bit setting.TheVariants.LoadsElement =
+    backs + since ≤ changes
+KnowsSet words since changes backs bit (setting.TheVariants.ExchangesElement found) =
+    Paid words since changes backs (element_of bit) found
+
+module _ {T : Type 0} where
+  -- a set is done with what it writes, and a reset of the next bit has the position to store
+  abbrev pub next_wrote : ℕ → ResetNextStage → List (Event T)
+  next_wrote p resetting.TheVariants.LoadsPosition = []
+  next_wrote p (resetting.TheVariants.LoadsElement start passed) = []
+  next_wrote p (resetting.TheVariants.ExchangesElement start passed found) = []
+  next_wrote p (resetting.TheVariants.StoresPosition place) = Cleared p place ∷ []
+
+  abbrev pub call_wrote : ℕ → BitsFlight → Span T → List (Event T)
+  call_wrote p (ResetAll run) span = wrote_in span
+  call_wrote p (ResetNext run) span = next_wrote p run.call.stage
+  call_wrote p flight span = []
+
+  -- a reset of all has cleared no bit of the elements to which it is still to come
+  abbrev pub CallAt : ℕ → List (Event T) → BitsStart → BitsFlight → Type 0
+  CallAt c wrote (starts.TheVariants.Set bit) (Set run) =
+      (run.given ≡ bit) × (bit < c) × SetStands bit run.call.stage
+  CallAt c wrote starts.TheVariants.ResetNext (ResetNext run) =
+      (run.call.capacity ≡ c) × NextStands c run.call.stage
+  CallAt c wrote starts.TheVariants.ResetAll (ResetAll run) =
+      (run.call.end ≡ 1 + elements c) × (1 ≤ run.call.word) × (run.call.word ≤ 1 + elements c)
+      × ((b : ℕ) → run.call.word ≤ element_of b → clears b wrote ≡ 0)
+  CallAt c wrote start flight = ⊥
+
+  -- ---- what it knows of the events
+
+  -- each place that it has passed was clear at some moment of the call
+  abbrev pub Passed : ℕ → ℕ → ℕ → ℕ → List (Event T) → Type 0
+  Passed c p start passed events =
+      (k : ℕ) → k < passed → HeldSometime p (λ part. standing (place_after c start k) part ≡ 0) events
+
+  -- the reset position was this at a moment of it
+  abbrev pub Began : ℕ → ℕ → ℕ → List (Event T) → Type 0
+  Began c p start events = HeldSometime p (λ part. at_most c (position_of part) ≡ start) events
+
+  abbrev pub KnowsNext : ℕ → ℕ → List (Event T) → List ℕ → ℕ → ℕ → ℕ → ResetNextStage → Type 0
+  KnowsNext c p events words since changes backs resetting.TheVariants.LoadsPosition =
+      backs + since ≤ changes
+  KnowsNext c p events words since changes backs (resetting.TheVariants.LoadsElement start passed) =
+      (backs + since ≤ changes) × Passed c p start passed events × Began c p start events
+  KnowsNext c p events words since changes backs
+      (resetting.TheVariants.ExchangesElement start passed found) =
+      Paid words since changes backs (element_of (place_after c start passed)) found
+      × Passed c p start passed events × Began c p start events
+  KnowsNext c p events words since changes backs (resetting.TheVariants.StoresPosition place) =
+      (backs + since ≤ changes) × CameTo p c place events
+
+  abbrev pub KnowsCall : ℕ → List (Event T) → List ℕ → ℕ → ℕ → ℕ → BitsFlight → Type 0
+  KnowsCall p events words since changes backs (Set run) =
+      KnowsSet words since changes backs run.given run.call.stage
+  KnowsCall p events words since changes backs (ResetNext run) =
+      KnowsNext run.call.capacity p events words since changes backs run.call.stage
+  KnowsCall p events words since changes backs (ResetAll run) =
+      (backs ≡ 0) × SinceBegin p (ClearedBelow run.call.word) events
+  KnowsCall p events words since changes backs flight = ⊥

@@ -1,0 +1,135 @@
+-- The events of the places of one element that were cleared, as one list.
+use Rattle.std.proofs.Common.{◌≡◌, ℕ, zero, suc, ◌+◌, ◌≤◌, ◌==◌, Bool, true, false, cond, List, [], ◌∷◌, ◌++◌, fold}
+use Rattle.std.proofs.Common.{map, refl, sym, ap, subst, ◌∙◌, append_assoc, append-nil, arith}
+use Rattle.std.specs.List.{count_by, filter, range_with_len}
+use Rattle.std.proofs.lemmas.Bool.Decides.{nat_tests}
+use Rattle.std.proofs.lemmas.List.Sums.{sum_by-cons}
+use Rattle.steps.specs.Bits.Places.{first_place, places_in}
+use Rattle.steps.specs.Bits.Words.{has_flag}
+use Rattle.steps.proofs.Flags.Words.{none_stands}
+use Rattle.model.specs.declared.event.Event.{Event}
+use Rattle.model.specs.declared.event.Event.TheVariants.{Cleared}
+use Rattle.model.specs.declared.event.Start.TheVariants.{Bits}
+use Rattle.model.specs.declared.families.bits.BitsStart.TheVariants.{ResetAll}
+use Rattle.model.specs.Families.Bits.Promises.{BitsAnswerRight, bits_promise}
+use Rattle.model.specs.Families.Bits.Reading.{is_clear_of, is_set_of, sets, clears, position_after}
+use Rattle.model.specs.Moments.{BeginsNone}
+use Rattle.model.specs.Promises.Spans.{Stands}
+use Rattle.model.specs.Reading.{Span, Open, own_after}
+use Rattle.model.proofs.Readings.{AreRight, AreOwn, AllFollow}
+use Rattle.laws_bits.proofs.Bits.Core.{clears_more}
+
+-- ---- lists that stand one after another
+
+module _ {T : Type 0} where
+  pub own_more : (p : ℕ) (es more : List (Event T)) → AreOwn p es → AreOwn p more → AreOwn p (es ++ more)
+  own_more p [] more h m = m
+  own_more p (e ∷ es) more h m = (h.0, own_more p es more h.1 m)
+
+  pub right_more : (P : List (Event T) → Event T → Type 0) (before es more : List (Event T)) → AreRight P before es
+      → AreRight P (before ++ es) more → AreRight P before (es ++ more)
+  right_more P before [] more h m = subst (λ xs. AreRight P xs more) (append-nil before) m
+  right_more P before (e ∷ es) more h m =
+      (h.0, right_more P (before ++ e ∷ []) es more h.1 (subst (λ xs. AreRight P xs more) (sym (append_assoc before (e ∷ []) es)) m))
+
+  pub follow_more : (R : Event T → Span T → Type 0) (span : Span T) (es more : List (Event T)) → AllFollow R span es
+      → AllFollow R (fold own_after span es) more → AllFollow R span (es ++ more)
+  follow_more R span [] more h m = m
+  follow_more R span (e ∷ es) more h m = (h.0, follow_more R (own_after span e) es more h.1 m)
+
+-- ---- places that rise
+
+-- each is above those before it, and none is below this one
+abbrev pub Rise : ℕ → List ℕ → Type 0
+Rise low [] = Unit {0}
+Rise low (b ∷ bs) = (low ≤ b) × Rise (b + 1) bs
+
+rise_from : (low high : ℕ) (bs : List ℕ) → low ≤ high → Rise high bs → Rise low bs
+rise_from low high [] le h = tt
+rise_from low high (b ∷ bs) le h = let at = h.0 in (omega arith, h.1)
+
+rise_some : (test : ℕ → Bool) (first n : ℕ) → Rise first (filter test (range_with_len first n))
+rise_some test first zero = tt
+rise_some test first (suc n) = go (test first) (rise_some test (first + 1) n)
+  where
+    go : (t : Bool) → Rise (first + 1) (filter test (range_with_len (first + 1) n))
+        → Rise first (cond t (first ∷ filter test (range_with_len (first + 1) n)) (filter test (range_with_len (first + 1) n)))
+    go true h = (omega arith, h)
+    go false h = rise_from first (first + 1) (filter test (range_with_len (first + 1) n)) (omega arith) h
+
+pub places_rise : (w found : ℕ) → Rise (first_place w) (places_in w found)
+places_rise w found = rise_some (λ b. has_flag found b) (first_place w) 64
+
+-- ---- the events
+
+abbrev pub all_cleared : {T : Type 0} → ℕ → List ℕ → List (Event T)
+all_cleared p bs = map (λ b. Cleared p b) bs
+
+module _ (T : Type 0) (p : ℕ) where
+  abbrev cleared_all : List ℕ → List (Event T)
+  cleared_all bs = all_cleared p bs
+
+  pub all_own : (bs : List ℕ) → AreOwn p (cleared_all bs)
+  all_own [] = tt
+  all_own (b ∷ bs) = (refl, all_own bs)
+
+  pub begin_none : (bs : List ℕ) → BeginsNone p (cleared_all bs)
+  begin_none [] = tt
+  begin_none (b ∷ bs) = begin_none bs
+
+  pub all_right : (c : ℕ) (before : List (Event T)) (bs : List ℕ) → AreRight (BitsAnswerRight c) before (cleared_all bs)
+  all_right c before [] = tt
+  all_right c before (b ∷ bs) = (tt, all_right c (before ++ Cleared p b ∷ []) bs)
+
+  pub sets_none : (b : ℕ) (bs : List ℕ) → sets b (cleared_all bs) ≡ 0
+  sets_none b [] = refl
+  sets_none b (x ∷ bs) =
+      let more = sum_by-cons (λ (e : Event T). cond (is_set_of b e) 1 0) (Cleared p x) (cleared_all bs) in
+      let rest = sets_none b bs in
+      omega arith
+
+  -- none moves the reset position
+  pub position_same : (n : ℕ) (bs : List ℕ) → fold position_after n (cleared_all bs) ≡ n
+  position_same n [] = refl
+  position_same n (b ∷ bs) = position_same n bs
+
+  -- each is cleared as often as it is named
+  pub clears_named : (b : ℕ) (bs : List ℕ) → clears b (cleared_all bs) ≡ count_by (λ q. q == b) bs
+  clears_named b [] = refl
+  clears_named b (x ∷ bs) =
+      let more = sum_by-cons (λ (e : Event T). cond (is_clear_of b e) 1 0) (Cleared p x) (cleared_all bs) in
+      let named = sum_by-cons (λ q. cond (q == b) 1 0) x bs in
+      let rest = clears_named b bs in
+      omega arith
+
+  -- a reset of all that has cleared none of these or above may clear them in this order
+  pub all_stand : (c low : ℕ) (wrote : List (Event T)) (bs : List ℕ) → Rise low bs
+      → ((b : ℕ) → low ≤ b → clears b wrote ≡ 0)
+      → AllFollow (Stands bits_promise c) (Open (Bits ResetAll) wrote) (cleared_all bs)
+  all_stand c low wrote [] rise none = tt
+  all_stand c low wrote (b ∷ bs) rise none =
+      let at = rise.0 in (
+        λ x above. none x (omega arith),
+        all_stand c (b + 1) (wrote ++ Cleared p b ∷ []) bs rise.1
+            (λ x above.
+            let other : (b == x) ≡ false = grind (arith, nat_tests) in
+            let before : clears x wrote ≡ 0 = none x (omega arith) in
+            let this : clears {T = T} x (Cleared p b ∷ []) ≡ 0 = rw other refl in
+            let more = clears_more x wrote (Cleared p b ∷ []) in
+            omega arith),
+      )
+
+  pub all_written : (wrote : List (Event T)) (bs : List ℕ)
+      → fold own_after (Open (Bits ResetAll) wrote) (cleared_all bs) ≡ Open (Bits ResetAll) (wrote ++ cleared_all bs)
+  all_written wrote [] = ap (λ es. Open (Bits ResetAll) es) (sym (append-nil wrote))
+  all_written wrote (b ∷ bs) =
+      all_written (wrote ++ Cleared p b ∷ []) bs ∙ ap (λ es. Open (Bits ResetAll) es) (append_assoc wrote (Cleared p b ∷ []) (cleared_all bs))
+
+-- ---- an element without a bit
+
+none_passes : (test : ℕ → Bool) → ((b : ℕ) → test b ≡ false) → (bs : List ℕ) → filter test bs ≡ []
+none_passes test none [] = refl
+none_passes test none (b ∷ bs) = ap (λ t. cond t (b ∷ filter test bs) (filter test bs)) (none b) ∙ none_passes test none bs
+
+pub no_places : (w : ℕ) → places_in w 0 ≡ []
+no_places w = none_passes (λ b. has_flag 0 b) (λ b. none_stands b) (range_with_len (first_place w) 64)

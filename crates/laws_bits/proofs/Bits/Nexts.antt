@@ -1,0 +1,336 @@
+-- The steps of a reset of the next bit.
+use Rattle.std.proofs.Common.{◌≡◌, ◌≢◌, ℕ, ◌+◌, ◌-◌, ◌<◌, ◌≤◌, ◌==◌, nat_lt, Bool, true, false, ⊎_elim, Option, Some}
+use Rattle.std.proofs.Common.{List, [], ◌∷◌, ◌++◌, length, get_or, set, refl, sym, ap, subst, ◌∙◌, arith}
+use Rattle.std.proofs.Common.{get_or-set_same, get_or-set_other}
+use Rattle.std.proofs.lemmas.Bool.{cases_lt}
+use Rattle.std.proofs.lemmas.Bool.Decides.{nat_tests}
+use Rattle.steps.specs.declared.ask.Ask.{Ask}
+use Rattle.steps.specs.declared.ask.Op.TheVariants.{Load, Store, Exchange}
+use Rattle.steps.specs.declared.ask.After.{After}
+use Rattle.steps.specs.declared.ask.After.TheVariants.{GoOn, Done}
+use Rattle.steps.specs.declared.bits.bit_set.ResetNextStage.{ResetNextStage}
+use Rattle.steps.specs.declared.bits.bit_set.ResetNextStage as resetting
+use Rattle.steps.specs.Bits.BitSet.{place_after, at_most}
+use Rattle.steps.specs.Bits.Words.{element_of, has_flag, without_flag, stands}
+use Rattle.steps.specs.Queues.Ring.{after_position}
+use Rattle.steps.proofs.Flags.Words.{cleared_clear, cleared_leaves, stands_elsewhere, elements_after}
+use Rattle.model.specs.declared.event.Answer.{Answer}
+use Rattle.model.specs.declared.event.Answer as answers
+use Rattle.model.specs.declared.event.Event.{Event}
+use Rattle.model.specs.declared.event.Event.TheVariants.{Cleared}
+use Rattle.model.specs.declared.families.bits.BitsStart.{BitsStart}
+use Rattle.model.specs.declared.families.bits.BitsStart as starts
+use Rattle.model.specs.declared.families.bits.calls.BitsFlight.{BitsFlight}
+use Rattle.model.specs.Coding.{Coding}
+use Rattle.model.specs.Families.Bits.Calls.{after, goes_back}
+use Rattle.model.specs.Families.Bits.Promises.{CameTo}
+use Rattle.model.specs.Families.Bits.Reading.{clears, standing, position_of}
+use Rattle.model.specs.Families.Bits.Steps.{effects_of}
+use Rattle.model.specs.Moments.{HeldSometime}
+use Rattle.model.specs.Turns.{one_if, words_after}
+use Rattle.model.proofs.Moments.{held_now, held_later}
+use Rattle.laws_bits.proofs.Bits.Invariant.{Holds, bit_set}
+use Rattle.laws_bits.proofs.Bits.Knows.{NextStands, KnowsNext, Passed, Began, next_at, next_number, next_wrote}
+use Rattle.laws_bits.proofs.Bits.Sets.{element_near}
+use Rattle.laws_bits.proofs.Bits.Steps.{same_bits, goes_on, ends, pays_by, as_long, by_parts}
+use Rattle.laws_bits.proofs.Family.{SetState, StepShows, ShowsStep}
+use Rattle.laws_bits.proofs.Words.{load_leaves, failed_leaves, done_writes}
+
+-- ---- places one after another
+
+pub place_near : (c start passed : ℕ) → start ≤ c → passed < c → place_after c start passed < c
+place_near x0 x1 x2 x3 x4 = grind arith
+
+-- each place comes
+pub place_comes : (c start b : ℕ) → start ≤ c → b < c → (k : ℕ) × (k < c) × (place_after c start k ≡ b)
+place_comes c start b low below = ⊎_elim behind ahead (cases_lt b start)
+  where
+    behind : b < start → (k : ℕ) × (k < c) × (place_after c start k ≡ b)
+    behind less =
+        let t : nat_lt (start + (b + c - start)) c ≡ false = grind (arith, nat_tests) in
+        let is : start + (b + c - start) - c ≡ b = omega arith in
+        (b + c - start, omega arith, rw t is)
+
+    ahead : start ≤ b → (k : ℕ) × (k < c) × (place_after c start k ≡ b)
+    ahead more =
+        let t : nat_lt (start + (b - start)) c ≡ true = grind (arith, nat_tests) in
+        let is : start + (b - start) ≡ b = omega arith in
+        (b - start, omega arith, rw t is)
+
+start_near : (c position : ℕ) → at_most c position ≤ c
+start_near x0 x1 = grind arith
+
+module _ {T : Type 0} (code : Coding T) (c : ℕ) (s : SetState T) (events : List (Event T))
+    (turns p changes since steps backs : ℕ) (holds : Holds c s.words events) where
+  abbrev next : BitsStart
+  next = starts.TheVariants.ResetNext
+
+  abbrev Does : List (Event T) → Option Ask → Bool → After BitsFlight (Answer T) → List (Event T) → Type 0
+  Does before ask back after fx = StepShows bit_set code c s events turns p changes since steps backs before next ask back after fx
+
+  abbrev DoesOf : List (Event T) → ResetNextStage → Type 0
+  DoesOf before stage = ShowsStep bit_set code c s events turns p changes since steps backs before next (next_at c stage)
+
+  -- with nothing written
+  began_more : (start : ℕ) → Began c p start events → Began c p start (events ++ [])
+  began_more start h = held_later p (λ part. at_most c (position_of part) ≡ start) events [] tt h
+
+  passed_more : (start passed : ℕ) → Passed c p start passed events → Passed c p start passed (events ++ [])
+  passed_more start passed h k below =
+      held_later p (λ part. standing (place_after c start k) part ≡ 0) events [] tt (h k below)
+
+  -- ---- a call comes to its next place, by a step that leaves the words
+
+  module _ (a : Ask) (back : Bool) (same : words_after s.words (Some a) ≡ s.words)
+      (paid : backs + one_if back + since ≤ changes) (start : ℕ) (low : start ≤ c)
+      (began : Began c p start events) where
+    comes_on : (passed : ℕ) → Passed c p start passed events → steps + 1 ≤ 1 + passed + (backs + one_if back)
+        → passed < c → Does [] (Some a) back (GoOn (next_at c (resetting.TheVariants.LoadsElement start passed))) []
+    comes_on passed held few below =
+        goes_on code c s events turns p changes since steps backs next (Some a) back
+        (next_at c (resetting.TheVariants.LoadsElement start passed))
+        (same_bits code c s events turns p changes since steps backs (Some a) same) (ap (λ ws. get_or ws 0 0) same)
+        few refl (refl, (low, below))
+        (omega arith, passed_more start passed held, began_more start began)
+
+    comes_none : Passed c p start c events → steps + 1 ≤ 3 + c + (backs + one_if back) → Does [] (Some a) back (Done answers.TheVariants.ResetNone) []
+    comes_none held few =
+        ends code c s events turns p changes since steps backs [] next (Some a) back answers.TheVariants.ResetNone
+        (same_bits code c s events turns p changes since steps backs (Some a) same) (ap (λ ws. get_or ws 0 0) same)
+        all refl few paid
+      where
+        all : (b : ℕ) → b < c → HeldSometime p (λ part. standing b part ≡ 0) events
+        all b below =
+            let k = place_comes c start b low below in
+            subst (λ n. HeldSometime p (λ part. standing n part ≡ 0) events) k.2 (held k.0 k.1)
+
+    -- the element is to be exchanged
+    exchanges : (passed found : ℕ) → Passed c p start passed events → steps + 1 ≤ 2 + passed + (backs + one_if back)
+        → passed < c → get_or s.words (element_of (place_after c start passed)) 0 ≡ found
+        → has_flag found (place_after c start passed) ≡ true
+        → Does [] (Some a) back (GoOn (next_at c (resetting.TheVariants.ExchangesElement start passed found))) []
+    exchanges passed found held few below is t =
+        goes_on code c s events turns p changes since steps backs next (Some a) back
+        (next_at c (resetting.TheVariants.ExchangesElement start passed found))
+        (same_bits code c s events turns p changes since steps backs (Some a) same) (ap (λ ws. get_or ws 0 0) same)
+        few refl (refl, (low, below, t)) (
+          (omega arith, λ ne. absurd (ne (ap (λ ws. get_or ws (element_of (place_after c start passed)) 0) same ∙ is))),
+          passed_more start passed held,
+          began_more start began,
+        )
+
+  -- ---- the reset position
+
+  abbrev loading : Ask
+  loading = record { word = 0; op = Load }
+
+  loads_position : backs + since ≤ changes → steps ≤ backs → DoesOf [] resetting.TheVariants.LoadsPosition
+  loads_position paid few = go (nat_lt 0 c) refl
+    where
+      start : ℕ
+      start = at_most c (get_or s.words 0 0)
+
+      low : start ≤ c
+      low = start_near c (get_or s.words 0 0)
+
+      began : Began c p start events
+      began = held_now p (λ part. at_most c (position_of part) ≡ start) events (ap (at_most c) (sym holds.position))
+
+      go : (t : Bool) → nat_lt 0 c ≡ t → DoesOf [] resetting.TheVariants.LoadsPosition
+      go true t =
+          by_parts code c s events turns p changes since steps backs [] next
+          (next_at c resetting.TheVariants.LoadsPosition) false
+          (GoOn (next_at c (resetting.TheVariants.LoadsElement start 0))) [] refl (rw t refl) refl
+          (comes_on loading false (load_leaves s.words 0) (omega arith) start low began 0
+          (λ k below. absurd (omega arith)) (omega arith) (grind (arith, nat_tests)))
+      go false t =
+          let none : c ≡ 0 = grind (arith, nat_tests) in
+          by_parts code c s events turns p changes since steps backs [] next
+          (next_at c resetting.TheVariants.LoadsPosition) false (Done answers.TheVariants.ResetNone) [] refl
+          (rw t refl) refl
+          (comes_none loading false (load_leaves s.words 0) (omega arith) start low began (λ k below. absurd (omega arith)) (omega arith))
+
+  -- ---- an element
+
+  module _ (start passed : ℕ) (low : start ≤ c) (below : passed < c) (held : Passed c p start passed events) (began : Began c p start events) where
+    abbrev place : ℕ
+    place = place_after c start passed
+
+    abbrev element : ℕ
+    element = element_of place
+
+    abbrev word : ℕ
+    word = get_or s.words element 0
+
+    near : element < length s.words
+    near = element_near c place s.words holds.sized (place_near c start passed low below)
+
+    -- this place was clear as well
+    one_passed : has_flag word place ≡ false → Passed c p start (passed + 1) events
+    one_passed t k less = ⊎_elim (λ l. held k l) here (cases_lt k passed)
+      where
+        here : passed ≤ k → HeldSometime p (λ part. standing (place_after c start k) part ≡ 0) events
+        here more =
+            let same : passed ≡ k = omega arith in
+            let is = holds.conserved place in
+            let zero : one_if (stands s.words place) ≡ 0 = ap one_if t in
+            subst (λ n. HeldSometime p (λ part. standing (place_after c start n) part ≡ 0) events) same
+            (held_now p (λ part. standing place part ≡ 0) events (omega arith))
+
+    -- what the test comes to
+    module _ (back : Bool) (a : Ask) (same : words_after s.words (Some a) ≡ s.words)
+        (paid : backs + one_if back + since ≤ changes) (few : steps + 1 ≤ 2 + passed + (backs + one_if back)) where
+      stood : has_flag word place ≡ true → Does [] (Some a) back (GoOn (next_at c (resetting.TheVariants.ExchangesElement start passed word))) []
+      stood t = exchanges a back same paid start low began passed word held few below refl t
+
+      goes_further : has_flag word place ≡ false → passed + 1 < c
+          → Does [] (Some a) back (GoOn (next_at c (resetting.TheVariants.LoadsElement start (passed + 1)))) []
+      goes_further t more = comes_on a back same paid start low began (passed + 1) (one_passed t) (omega arith) more
+
+      finds_none : has_flag word place ≡ false → passed + 1 ≡ c → Does [] (Some a) back (Done answers.TheVariants.ResetNone) []
+      finds_none t last = comes_none a back same paid start low began (subst (λ n. Passed c p start n events) last (one_passed t)) (omega arith)
+
+    abbrev loads_it : Ask
+    loads_it = record { word = element; op = Load }
+
+    loads : backs + since ≤ changes → steps ≤ 1 + passed + backs → DoesOf [] (resetting.TheVariants.LoadsElement start passed)
+    loads paid few = go (has_flag word place) refl (nat_lt (passed + 1) c) refl
+      where
+        stage : ResetNextStage
+        stage = resetting.TheVariants.LoadsElement start passed
+
+        parts : (then : After BitsFlight (Answer T)) → after (next_at c stage) word ≡ then → Does [] (Some loads_it) false then [] → DoesOf [] stage
+        parts then goes shows = by_parts code c s events turns p changes since steps backs [] next (next_at c stage) false then [] refl goes refl shows
+
+        same : words_after s.words (Some loads_it) ≡ s.words
+        same = load_leaves s.words element
+
+        go : (t : Bool) → has_flag word place ≡ t → (u : Bool) → nat_lt (passed + 1) c ≡ u → DoesOf [] stage
+        go true t u e =
+            parts (GoOn (next_at c (resetting.TheVariants.ExchangesElement start passed word))) (rw t refl)
+            (stood false loads_it same (omega arith) (omega arith) t)
+        go false t true u =
+            parts (GoOn (next_at c (resetting.TheVariants.LoadsElement start (passed + 1)))) (rw (t, u) refl)
+            (goes_further false loads_it same (omega arith) (omega arith) t (grind (arith, nat_tests)))
+        go false t false u =
+            let last : c ≤ passed + 1 = grind (arith, nat_tests) in
+            parts (Done answers.TheVariants.ResetNone) (rw (t, u) refl) (finds_none false loads_it same (omega arith) (omega arith) t (omega arith))
+
+    abbrev exchanging : ℕ → Ask
+    exchanging found = record { word = element; op = Exchange found (without_flag found place) }
+
+    -- the exchange has cleared the bit
+    clears_it : (found : ℕ) → has_flag found place ≡ true → (word == found) ≡ true → backs + since ≤ changes
+        → steps ≤ 2 + passed + backs
+        → Does [] (Some (exchanging found)) false (GoOn (next_at c (resetting.TheVariants.StoresPosition place))) (Cleared p place ∷ [])
+    clears_it found was t paid few =
+        record {
+          conserves = record {
+            sized = as_long s.words (Some (exchanging found));
+            moved = λ b. moved b (place == b) refl;
+            within = λ b past. refl;
+            position = ap (λ ws. get_or ws 0 0) new ∙ get_or-set_other s.words element 0 (without_flag word place) 0 (λ e. elements_after place (sym e));
+            pays = pays_by s.words (Some (exchanging found)) changes;
+            right = (tt, tt);
+          };
+          own = (refl, tt);
+          stands = (refl, tt);
+          here = record { span = refl; steps = omega arith; at = (refl, place_near c start passed low below) };
+          knows = (omega arith, came);
+        }
+      where
+        came : CameTo p c place (events ++ Cleared p place ∷ [])
+        came =
+            record {
+              start = start;
+              passed = passed;
+              within = below;
+              is = refl;
+              begun = held_later p (λ part. at_most c (position_of part) ≡ start) events (Cleared p place ∷ []) tt began;
+              clear = λ k less. held_later p (λ part. standing (place_after c start k) part ≡ 0) events (Cleared p place ∷ []) tt (held k less);
+            }
+
+        same : found ≡ word
+        same = grind (arith, nat_tests)
+
+        then : List ℕ
+        then = words_after s.words (Some (exchanging found))
+
+        new : then ≡ set s.words element (without_flag word place)
+        new = done_writes s.words element found (without_flag found place) t ∙ ap (λ n. set s.words element (without_flag n place)) same
+
+        moved : (b : ℕ) (u : Bool) → (place == b) ≡ u → 0 + one_if (stands s.words b) ≡ clears {T = T} b (Cleared p place ∷ []) + one_if (stands then b)
+        moved b true u =
+            let here : place ≡ b = grind (arith, nat_tests) in
+            let before : stands s.words b ≡ true = ap (λ n. stands s.words n) (sym here) ∙ (ap (λ n. has_flag n place) (sym same) ∙ was) in
+            let after : stands then b ≡ false =
+            ap (λ ws. stands ws b) new
+            ∙ (ap (λ n. stands (set s.words element (without_flag word place)) n) (sym here) ∙ cleared_clear s.words place near) in
+            rw (u, before, after) refl
+        moved b false u =
+            let other : place ≢ b = grind (arith, nat_tests) in
+            let after : stands then b ≡ stands s.words b = ap (λ ws. stands ws b) new ∙ cleared_leaves s.words place b near other in
+            rw (u, after) refl
+
+    exchanges_it : (found : ℕ) → has_flag found place ≡ true → backs + since ≤ changes
+        → (word ≢ found → backs + since + 1 ≤ changes) → steps ≤ 2 + passed + backs
+        → DoesOf [] (resetting.TheVariants.ExchangesElement start passed found)
+    exchanges_it found was paid more few = go (word == found) refl (has_flag word place) refl (nat_lt (passed + 1) c) refl
+      where
+        stage : ResetNextStage
+        stage = resetting.TheVariants.ExchangesElement start passed found
+
+        parts : (back : Bool) (then : After BitsFlight (Answer T)) (fx : List (Event T))
+            → goes_back (next_at c stage) word ≡ back → after (next_at c stage) word ≡ then
+            → effects_of p (next_at c stage) word ≡ fx → Does [] (Some (exchanging found)) back then fx
+            → DoesOf [] stage
+        parts back then fx is_back goes tells shows =
+            by_parts code c s events turns p changes since steps backs [] next (next_at c stage) back then fx is_back goes tells shows
+
+        failed : (word == found) ≡ false → words_after s.words (Some (exchanging found)) ≡ s.words
+        failed t = failed_leaves s.words element found (without_flag found place) t
+
+        go : (t : Bool) → (word == found) ≡ t → (u : Bool) → has_flag word place ≡ u → (v : Bool) → nat_lt (passed + 1) c ≡ v → DoesOf [] stage
+        go true t u e v f =
+            parts false (GoOn (next_at c (resetting.TheVariants.StoresPosition place))) (Cleared p place ∷ [])
+            (rw t refl) (rw t refl) (rw t refl) (clears_it found was t paid few)
+        go false t true u v f =
+            let ne : word ≢ found = grind (arith, nat_tests) in
+            let again = more ne in
+            parts true (GoOn (next_at c (resetting.TheVariants.ExchangesElement start passed word))) [] (rw t refl) (rw (t, u) refl) (rw t refl)
+            (stood true (exchanging found) (failed t) (omega arith) (omega arith) u)
+        go false t false u true v =
+            let ne : word ≢ found = grind (arith, nat_tests) in
+            let again = more ne in
+            parts true (GoOn (next_at c (resetting.TheVariants.LoadsElement start (passed + 1)))) [] (rw t refl) (rw (t, u, v) refl) (rw t refl)
+            (goes_further true (exchanging found) (failed t) (omega arith) (omega arith) u (grind (arith, nat_tests)))
+        go false t false u false v =
+            let ne : word ≢ found = grind (arith, nat_tests) in
+            let again = more ne in
+            let last : c ≤ passed + 1 = grind (arith, nat_tests) in
+            parts true (Done answers.TheVariants.ResetNone) [] (rw t refl) (rw (t, u, v) refl) (rw t refl)
+            (finds_none true (exchanging found) (failed t) (omega arith) (omega arith) u (omega arith))
+
+  -- ---- the position after the place
+
+  stores : (place : ℕ) → backs + since ≤ changes → CameTo p c place events → steps ≤ 2 + c + backs
+      → DoesOf (Cleared p place ∷ []) (resetting.TheVariants.StoresPosition place)
+  stores place paid came few =
+      ends code c s events turns p changes since steps backs (Cleared p place ∷ []) next
+      (Some (record { word = 0; op = Store (after_position place) })) false (answers.TheVariants.Reset place)
+      (λ b. stands_elsewhere s.words 0 (after_position place) b (λ e. elements_after b (sym e))) stored came (refl, one) (omega arith) (omega arith)
+    where
+      stored : get_or (set s.words 0 (after_position place)) 0 0 ≡ after_position place
+      stored = let sized = holds.sized in get_or-set_same s.words 0 (after_position place) 0 (omega arith)
+
+      one : clears {T = T} place (Cleared p place ∷ []) ≡ 1
+      one = let t : (place == place) ≡ true = grind (arith, nat_tests) in rw t refl
+
+  pub next_step : (stage : ResetNextStage) → NextStands c stage
+      → KnowsNext c p events s.words since changes backs stage → steps ≤ next_number c stage backs
+      → DoesOf (next_wrote p stage) stage
+  next_step resetting.TheVariants.LoadsPosition at knows few = loads_position knows few
+  next_step (resetting.TheVariants.LoadsElement start passed) at knows few = loads start passed at.0 at.1 knows.1 knows.2 knows.0 few
+  next_step (resetting.TheVariants.ExchangesElement start passed found) at knows few =
+      exchanges_it start passed at.0 at.1 knows.1 knows.2 found at.2 knows.0.0 knows.0.1 few
+  next_step (resetting.TheVariants.StoresPosition place) at knows few = stores place knows.0 knows.1 few

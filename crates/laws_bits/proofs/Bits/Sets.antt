@@ -1,0 +1,169 @@
+-- The steps of a set.
+use Rattle.std.proofs.Common.{◌≡◌, ◌≢◌, ℕ, ◌+◌, ◌<◌, ◌≤◌, ◌==◌, Bool, true, false, Option, Some, List, [], ◌∷◌, length}
+use Rattle.std.proofs.Common.{get_or, set, refl, sym, ap, ◌∙◌, arith, get_or-set_other}
+use Rattle.std.proofs.lemmas.Bool.Decides.{nat_tests}
+use Rattle.steps.specs.declared.ask.Ask.{Ask}
+use Rattle.steps.specs.declared.ask.Op.TheVariants.{Load, Exchange}
+use Rattle.steps.specs.declared.ask.After.{After}
+use Rattle.steps.specs.declared.ask.After.TheVariants.{GoOn, Done}
+use Rattle.steps.specs.declared.bits.bit_set.SetStage.{SetStage}
+use Rattle.steps.specs.declared.bits.bit_set.SetStage as setting
+use Rattle.steps.specs.Bits.Words.{element_of, elements, has_flag, with_flag, stands}
+use Rattle.steps.proofs.Flags.Words.{set_stands, set_leaves, elements_after}
+use Rattle.model.specs.declared.event.Answer.{Answer}
+use Rattle.model.specs.declared.event.Answer as answers
+use Rattle.model.specs.declared.event.Event.{Event}
+use Rattle.model.specs.declared.event.Event as told
+use Rattle.model.specs.declared.event.Event.TheVariants.{Finished}
+use Rattle.model.specs.declared.event.Start.TheVariants.{Bits}
+use Rattle.model.specs.declared.families.bits.BitsStart as starts
+use Rattle.model.specs.declared.families.bits.calls.BitsFlight.{BitsFlight}
+use Rattle.model.specs.Coding.{Coding}
+use Rattle.model.specs.Families.Bits.Calls.{after, goes_back}
+use Rattle.model.specs.Families.Bits.Reading.{sets, standing}
+use Rattle.model.specs.Families.Bits.Steps.{effects_of}
+use Rattle.model.specs.Turns.{one_if, words_after}
+use Rattle.model.proofs.Moments.{held_now}
+use Rattle.laws_bits.proofs.Bits.Invariant.{Holds, bit_set}
+use Rattle.laws_bits.proofs.Bits.Knows.{SetStands, KnowsSet, set_at, set_number}
+use Rattle.laws_bits.proofs.Bits.Steps.{same_bits, ends, pays_by, as_long, by_parts}
+use Rattle.laws_bits.proofs.Family.{SetState, StepShows, ShowsStep}
+use Rattle.laws_bits.proofs.Words.{load_leaves, failed_leaves, done_writes}
+
+-- a bit below the capacity has its element among the words
+pub element_near : (c bit : ℕ) (words : List ℕ) → length words ≡ 1 + elements c → bit < c → element_of bit < length words
+element_near c bit words sized below = omega arith
+
+module _ {T : Type 0} (code : Coding T) (c : ℕ) (s : SetState T) (events : List (Event T))
+    (turns p changes since steps backs : ℕ) (holds : Holds c s.words events) (bit : ℕ) (below : bit < c) where
+  abbrev element : ℕ
+  element = element_of bit
+
+  abbrev word : ℕ
+  word = get_or s.words element 0
+
+  abbrev Does : Option Ask → Bool → After BitsFlight (Answer T) → List (Event T) → Type 0
+  Does ask back after fx = StepShows bit_set code c s events turns p changes since steps backs [] (starts.TheVariants.Set bit) ask back after fx
+
+  abbrev DoesOf : SetStage → Type 0
+  DoesOf stage = ShowsStep bit_set code c s events turns p changes since steps backs [] (starts.TheVariants.Set bit) (set_at bit stage)
+
+  -- the bit that stands is seen in the events
+  stood_now : has_flag word bit ≡ true → standing bit events ≡ 1
+  stood_now x0 = grind arith
+
+  -- ---- the test of the element, after a step that leaves the words
+
+  module _ (a : Ask) (back : Bool) (same : words_after s.words (Some a) ≡ s.words) (paid : backs + one_if back + since ≤ changes) where
+    stood : steps + 1 ≤ 2 + (backs + one_if back) → has_flag word bit ≡ true → Does (Some a) back (Done (answers.TheVariants.Truth false)) []
+    stood few t =
+        ends code c s events turns p changes since steps backs [] (starts.TheVariants.Set bit) (Some a) back
+        (answers.TheVariants.Truth false)
+        (same_bits code c s events turns p changes since steps backs (Some a) same)
+        (ap (λ ws. get_or ws 0 0) same)
+        (held_now p (λ part. standing bit part ≡ 1) events (stood_now t)) refl few paid
+
+    clear : steps + 1 ≤ 1 + (backs + one_if back) → has_flag word bit ≡ false
+        → Does (Some a) back (GoOn (set_at bit (setting.TheVariants.ExchangesElement word))) []
+    clear x0 x1 = grind arith
+
+  -- ---- the steps
+
+  abbrev loading : Ask
+  loading = record { word = element; op = Load }
+
+  loads : backs + since ≤ changes → steps ≤ backs → DoesOf setting.TheVariants.LoadsElement
+  loads paid few = go (has_flag word bit) refl
+    where
+      go : (t : Bool) → has_flag word bit ≡ t → DoesOf setting.TheVariants.LoadsElement
+      go true t = rw t (stood loading false (load_leaves s.words element) (omega arith) (omega arith) t)
+      go false t = rw t (clear loading false (load_leaves s.words element) (omega arith) (omega arith) t)
+
+  abbrev exchanging : ℕ → Ask
+  exchanging found = record { word = element; op = Exchange found (with_flag found bit) }
+
+  abbrev truth : Event T
+  truth = Finished p (Bits (starts.TheVariants.Set bit)) (answers.TheVariants.Truth true)
+
+  -- the exchange has set the bit
+  sets_it : (found : ℕ) → has_flag found bit ≡ false → (word == found) ≡ true → backs + since ≤ changes
+      → steps ≤ 1 + backs
+      → Does (Some (exchanging found)) false (Done (answers.TheVariants.Truth true)) (told.TheVariants.Set p bit ∷ [])
+  sets_it found was t paid few =
+      record {
+        conserves = record {
+          sized = as_long s.words (Some (exchanging found));
+          moved = λ b. moved b (bit == b) refl;
+          within = λ b past. (let t : (bit == b) ≡ false = grind (arith, nat_tests) in rw t refl);
+          position = ap (λ ws. get_or ws 0 0) new ∙ get_or-set_other s.words element 0 (with_flag word bit) 0 (λ e. elements_after bit (sym e));
+          pays = pays_by s.words (Some (exchanging found)) changes;
+          right = (tt, (tt, tt));
+        };
+        own = (refl, (refl, tt));
+        stands = ((refl, refl), ((refl, (refl, one)), tt));
+        here = record { answer = answers.TheVariants.Truth true; wrote = told.TheVariants.Set p bit ∷ []; span = refl; steps = omega arith };
+        knows = omega arith;
+      }
+    where
+      same : found ≡ word
+      same = grind (arith, nat_tests)
+
+      near : element < length s.words
+      near = element_near c bit s.words holds.sized below
+
+      then : List ℕ
+      then = words_after s.words (Some (exchanging found))
+
+      new : then ≡ set s.words element (with_flag word bit)
+      new = done_writes s.words element found (with_flag found bit) t ∙ ap (λ n. set s.words element (with_flag n bit)) same
+
+      one : sets {T = T} bit (told.TheVariants.Set p bit ∷ []) ≡ 1
+      one = let t : (bit == bit) ≡ true = grind (arith, nat_tests) in rw t refl
+
+      moved : (b : ℕ) (u : Bool) → (bit == b) ≡ u
+          → sets {T = T} b (told.TheVariants.Set p bit ∷ truth ∷ []) + one_if (stands s.words b) ≡ 0 + one_if (stands then b)
+      moved b true u =
+          let here : bit ≡ b = grind (arith, nat_tests) in
+          let before : stands s.words b ≡ false = ap (λ n. stands s.words n) (sym here) ∙ (ap (λ n. has_flag n bit) (sym same) ∙ was) in
+          let after : stands then b ≡ true =
+          ap (λ ws. stands ws b) new
+          ∙ (ap (λ n. stands (set s.words element (with_flag word bit)) n) (sym here) ∙ set_stands s.words bit near) in
+          rw (u, before, after) refl
+      moved b false u =
+          let other : bit ≢ b = grind (arith, nat_tests) in
+          let after : stands then b ≡ stands s.words b = ap (λ ws. stands ws b) new ∙ set_leaves s.words bit b near other in
+          rw (u, after) refl
+
+  exchanges : (found : ℕ) → has_flag found bit ≡ false → backs + since ≤ changes
+      → (word ≢ found → backs + since + 1 ≤ changes) → steps ≤ 1 + backs
+      → DoesOf (setting.TheVariants.ExchangesElement found)
+  exchanges found was paid more few = go (word == found) refl (has_flag word bit) refl
+    where
+      stage : SetStage
+      stage = setting.TheVariants.ExchangesElement found
+
+      parts : (back : Bool) (then : After BitsFlight (Answer T)) (fx : List (Event T))
+          → goes_back (set_at bit stage) word ≡ back → after (set_at bit stage) word ≡ then
+          → effects_of p (set_at bit stage) word ≡ fx → Does (Some (exchanging found)) back then fx → DoesOf stage
+      parts back then fx is_back goes tells shows =
+          by_parts code c s events turns p changes since steps backs [] (starts.TheVariants.Set bit) (set_at bit stage)
+          back then fx is_back goes tells shows
+
+      go : (t : Bool) → (word == found) ≡ t → (u : Bool) → has_flag word bit ≡ u → DoesOf stage
+      go true t u e =
+          parts false (Done (answers.TheVariants.Truth true)) (told.TheVariants.Set p bit ∷ []) (rw t refl) (rw t refl)
+          (rw t refl) (sets_it found was t paid few)
+      go false t true u =
+          let ne : word ≢ found = grind (arith, nat_tests) in
+          let next = more ne in
+          parts true (Done (answers.TheVariants.Truth false)) [] (rw t refl) (rw (t, u) refl) (rw t refl)
+          (stood (exchanging found) true (failed_leaves s.words element found (with_flag found bit) t) (omega arith) (omega arith) u)
+      go false t false u =
+          let ne : word ≢ found = grind (arith, nat_tests) in
+          let next = more ne in
+          parts true (GoOn (set_at bit (setting.TheVariants.ExchangesElement word))) [] (rw t refl) (rw (t, u) refl) (rw t refl)
+          (clear (exchanging found) true (failed_leaves s.words element found (with_flag found bit) t) (omega arith) (omega arith) u)
+
+  pub set_step : (stage : SetStage) → SetStands bit stage → KnowsSet s.words since changes backs bit stage → steps ≤ set_number stage backs → DoesOf stage
+  set_step setting.TheVariants.LoadsElement at knows few = loads knows few
+  set_step (setting.TheVariants.ExchangesElement found) at knows few = exchanges found at knows.0 knows.1 few

@@ -1,0 +1,96 @@
+-- Where the machine of a bit set opens, where each of its calls begins, and what each step of them shows.
+use Rattle.std.proofs.Common.{◌≡◌, ℕ, ◌+◌, ◌≤◌, false, Some, List, [], ◌∷◌, replicate, refl, sym, ap, subst, ◌∙◌, arith}
+use Rattle.std.proofs.lemmas.List.{length-replicate}
+use Rattle.steps.specs.Bits.Words.{element_of, elements, has_flag, stands}
+use Rattle.steps.proofs.Flags.Words.{none_stands}
+use Rattle.model.specs.declared.event.Event.{Event}
+use Rattle.model.specs.declared.event.Event.TheVariants.{Begun}
+use Rattle.model.specs.declared.event.Start.{Start}
+use Rattle.model.specs.declared.event.Start.TheVariants.{Bits}
+use Rattle.model.specs.declared.families.Registry.{Registry}
+use Rattle.model.specs.declared.families.Flight.{Flight}
+use Rattle.model.specs.declared.families.bits.BitsStart.{BitsStart}
+use Rattle.model.specs.declared.families.bits.BitsStart as starts
+use Rattle.model.specs.declared.families.bits.calls.BitsFlight.{BitsFlight}
+use Rattle.model.specs.declared.families.bits.calls.BitsFlight as calls
+use Rattle.model.specs.declared.turn.Kind as kinds
+use Rattle.model.specs.Coding.{Coding}
+use Rattle.model.specs.Families.{first_of, is_question}
+use Rattle.model.specs.Families.Bits.Calls.{first, want}
+use Rattle.model.specs.Families.Bits.Opening.{bits_words, is_past}
+use Rattle.model.specs.Families.Bits.Reading.{clears}
+use Rattle.model.specs.Turns.{one_if}
+use Rattle.model.proofs.Readings.{Each-nil}
+use Rattle.laws_bits.proofs.Bits.Alls.{reset_all_step}
+use Rattle.laws_bits.proofs.Bits.Invariant.{Holds, Conserves, bit_set}
+use Rattle.laws_bits.proofs.Bits.Knows.{CallAt, KnowsSet, KnowsNext, next_number, set_at, next_at}
+use Rattle.laws_bits.proofs.Bits.Nexts.{next_step}
+use Rattle.laws_bits.proofs.Bits.Sets.{set_step}
+use Rattle.laws_bits.proofs.Family.{SetState, ShowsStep, StepOf}
+use Rattle.laws_bits.proofs.Laws.{IsOwn, IsFirst}
+use Rattle.laws_bits.proofs.Words.{zeros}
+
+-- at the opening no bit stands
+opens_clear : (c b : ℕ) → stands (replicate (1 + elements c) 0) b ≡ false
+opens_clear c b = ap (λ w. has_flag w b) (zeros (1 + elements c) (element_of b) 0) ∙ none_stands b
+
+-- ---- no call of the set asks a question
+
+pub never_asks : {T : Type 0} (c : ℕ) (wrote : List (Event T)) (start : BitsStart) (flight : BitsFlight)
+    → CallAt c wrote start flight → is_question (want flight) ≡ false
+never_asks x0 x1 x2 x3 x4 = grind arith
+
+module _ {T : Type 0} where
+  pub opens : (c : ℕ) → Holds {T = T} c (bits_words c) []
+  opens c =
+      record {
+        sized = length-replicate (1 + elements c) 0;
+        conserved = λ b. (let none : one_if (stands (replicate (1 + elements c) 0) b) ≡ 0 = ap one_if (opens_clear c b) in omega arith);
+        within = λ b past. refl;
+        position = zeros (1 + elements c) 0 0;
+        answers = Each-nil _;
+      }
+
+  -- ---- one step of a call
+
+  module _ (code : Coding T) (c : ℕ) (s : SetState T) (events : List (Event T)) (turns p changes since steps backs : ℕ) (holds : Holds c s.words events) where
+    -- what its step shows, where its party's span was this
+    abbrev Shown : List (Event T) → BitsStart → BitsFlight → Type 0
+    Shown wrote start flight = ShowsStep bit_set code c s events turns p changes since steps backs wrote start flight
+
+    pub step_shows : (start : BitsStart) (flight : BitsFlight) (wrote : List (Event T))
+        → StepOf bit_set code c s events turns p changes since steps backs start flight wrote
+    step_shows (starts.TheVariants.Set bit) (calls.TheVariants.Set run) wrote at is from few knows =
+        subst (λ n. Shown wrote (starts.TheVariants.Set bit) (set_at n run.call.stage)) (sym at.0)
+        (subst (λ es. Shown es (starts.TheVariants.Set bit) (set_at bit run.call.stage)) (sym from)
+        (set_step code c s events turns p changes since steps backs holds bit at.1 run.call.stage at.2
+        (subst (λ n. KnowsSet s.words since changes backs n run.call.stage) at.0 knows) few))
+    step_shows starts.TheVariants.ResetNext (calls.TheVariants.ResetNext run) wrote at is from few knows =
+        subst (λ n. Shown wrote starts.TheVariants.ResetNext (next_at n run.call.stage)) (sym at.0)
+        (subst (λ es. Shown es starts.TheVariants.ResetNext (next_at c run.call.stage)) (sym from)
+        (next_step code c s events turns p changes since steps backs holds run.call.stage at.1
+        (subst (λ n. KnowsNext n p events s.words since changes backs run.call.stage) at.0 knows)
+        (subst (λ n. steps ≤ next_number n run.call.stage backs) at.0 few)))
+    step_shows starts.TheVariants.ResetAll (calls.TheVariants.ResetAll run) wrote at is from few knows =
+        reset_all_step code c s events turns p changes since steps backs holds wrote is run.call.word at.1
+        (λ b past. subst (λ xs. clears b xs ≡ 0) (sym from) (at.3 b past)) knows.1 knows.0 few run.room run.call.end
+        at.0 (let below = at.2 in let end = at.0 in omega arith)
+    step_shows start flight wrote at is from few knows = absurd at
+
+  -- ---- a call begins
+
+  module _ (c p : ℕ) (events : List (Event T)) (words : List ℕ) (changes : ℕ) where
+    abbrev First : BitsStart → BitsFlight → Type 0
+    First start flight = IsFirst bit_set c p events words changes start flight
+
+    pub first_is : (start : BitsStart) (flight : BitsFlight) → first kinds.TheVariants.Bits c start ≡ Some flight → is_past c start ≡ false → First start flight
+    first_is x0 x1 x2 x3 = grind arith
+
+  -- a call that begins on a bit set is one of its own
+  pub begins_own : (c : ℕ) (kept : Registry T) (start : Start T) (flight : Flight T) → first_of kinds.TheVariants.Bits c start kept ≡ Some flight → IsOwn start
+  begins_own x0 x1 x2 x3 x4 = grind arith
+
+  -- to begin changes no bit
+  pub begins_none : (c p : ℕ) (start : BitsStart) (words : List ℕ) (events : List (Event T)) (changes : ℕ)
+      → Conserves c words events changes words (Begun p (Bits start) ∷ []) changes
+  begins_none x0 x1 x2 x3 x4 x5 = grind arith

@@ -1,0 +1,103 @@
+-- What a step of a call of the bit set has to show: the common cases.
+use Rattle.std.proofs.Common.{◌≡◌, ℕ, ◌+◌, ◌≤◌, Bool, Option, Some, None, List, [], ◌∷◌, ◌++◌, fold, length, get_or, refl, ap, arith, length-set}
+use Rattle.steps.specs.declared.ask.Ask.{Ask}
+use Rattle.steps.specs.declared.ask.After.{After}
+use Rattle.steps.specs.declared.ask.After.TheVariants.{GoOn, Done}
+use Rattle.steps.specs.Bits.Words.{stands}
+use Rattle.model.specs.declared.event.Answer.{Answer}
+use Rattle.model.specs.declared.event.Event.{Event}
+use Rattle.model.specs.declared.event.Event.TheVariants.{Finished}
+use Rattle.model.specs.declared.event.Start.TheVariants.{Bits}
+use Rattle.model.specs.declared.families.bits.BitsStart.{BitsStart}
+use Rattle.model.specs.declared.families.bits.calls.BitsFlight.{BitsFlight}
+use Rattle.model.specs.Coding.{Coding}
+use Rattle.model.specs.Families.{ask_of}
+use Rattle.model.specs.Families.Bits.Bounds.{most_bits_steps}
+use Rattle.model.specs.Families.Bits.Calls.{want, after, goes_back}
+use Rattle.model.specs.Families.Bits.Promises.{BitsAnswerRight, BitsWrote}
+use Rattle.model.specs.Families.Bits.Reading.{sets, clears, position_after}
+use Rattle.model.specs.Families.Bits.Steps.{effects_of}
+use Rattle.model.specs.Reading.{Open, span_of}
+use Rattle.model.specs.Turns.{one_if, old_of, words_after, change_of, step_count}
+use Rattle.model.proofs.Readings.{AreRight}
+use Rattle.laws_bits.proofs.Bits.Invariant.{Pays, Conserves, rest_conserves, bit_set}
+use Rattle.laws_bits.proofs.Bits.Knows.{CallAt, KnowsCall, call_wrote, number_of}
+use Rattle.laws_bits.proofs.Family.{SetState, StepShows, ShowsStep}
+use Rattle.laws_bits.proofs.Spans.{wrote_in}
+use Rattle.laws_bits.proofs.Words.{change_one}
+
+-- the words of any operation are paid
+pub pays_by : (words : List ℕ) (ask : Option Ask) (changes : ℕ) → Pays words (words_after words ask) changes (changes + change_of words ask)
+pays_by words ask changes =
+    record { up = omega arith; changed = λ i ne. (let one = change_one words ask i ne in omega arith) }
+
+-- as long as before
+pub as_long : (words : List ℕ) (ask : Option Ask) → length (words_after words ask) ≡ length words
+as_long words None = refl
+as_long words (Some ask) = length-set words ask.word _
+
+module _ {T : Type 0} (code : Coding T) (c : ℕ) (s : SetState T) (events : List (Event T)) (turns p changes since steps backs : ℕ) where
+  abbrev Does : List (Event T) → BitsStart → Option Ask → Bool → After BitsFlight (Answer T) → List (Event T) → Type 0
+  Does before start ask back after fx = StepShows bit_set code c s events turns p changes since steps backs before start ask back after fx
+
+  abbrev DoesOf : List (Event T) → BitsStart → BitsFlight → Type 0
+  DoesOf before start flight = ShowsStep bit_set code c s events turns p changes since steps backs before start flight
+
+  -- no bit changes
+  abbrev pub SameBits : Option Ask → Type 0
+  SameBits ask = (b : ℕ) → stands (words_after s.words ask) b ≡ stands s.words b
+
+  pub same_bits : (ask : Option Ask) → words_after s.words ask ≡ s.words → SameBits ask
+  same_bits ask same b = ap (λ ws. stands ws b) same
+
+  -- the reset position after these events
+  abbrev pub Stands : Option Ask → List (Event T) → Type 0
+  Stands ask es = get_or (words_after s.words ask) 0 0 ≡ fold position_after (get_or s.words 0 0) es
+
+  pub no_change : (ask : Option Ask) (es : List (Event T)) → SameBits ask → ((b : ℕ) → sets b es ≡ 0)
+      → ((b : ℕ) → clears b es ≡ 0) → Stands ask es → AreRight (BitsAnswerRight c) events es
+      → Conserves c s.words events changes (words_after s.words ask) es (changes + change_of s.words ask)
+  no_change ask es same no_sets no_clears position right =
+      rest_conserves c s.words events changes (words_after s.words ask) es (changes + change_of s.words ask)
+      (as_long s.words ask) same no_sets no_clears position (pays_by s.words ask changes) right
+
+  -- a call that has written nothing goes on, and no bit changes
+  pub goes_on :
+      (start : BitsStart) (ask : Option Ask) (back : Bool) (flight : BitsFlight) → SameBits ask → Stands ask []
+      → steps + step_count ask ≤ number_of flight (backs + one_if back)
+      → [] ≡ call_wrote p flight (span_of p (events ++ [])) → CallAt c (wrote_in (span_of p (events ++ []))) start flight
+      → KnowsCall p (events ++ []) (words_after s.words ask) (since + change_of s.words ask) (changes + change_of s.words ask) (backs + one_if back) flight
+      → Does [] start ask back (GoOn flight) []
+  goes_on start ask back flight same position few none at knows =
+      record {
+        conserves = no_change ask [] same (λ b. refl) (λ b. refl) position tt;
+        own = tt;
+        stands = tt;
+        here = record { span = ap (λ es. Open (Bits start) es) none; steps = few; at = at };
+        knows = knows;
+      }
+
+  -- a call is done, and no bit changes
+  pub ends :
+      (wrote : List (Event T)) (start : BitsStart) (ask : Option Ask) (back : Bool) (answer : Answer T)
+      → SameBits ask → Stands ask (Finished p (Bits start) answer ∷ [])
+      → BitsAnswerRight c events (Finished p (Bits start) answer) → BitsWrote c (Bits start) answer wrote
+      → steps + step_count ask ≤ most_bits_steps c start (backs + one_if back) → backs + one_if back + since ≤ changes
+      → Does wrote start ask back (Done answer) []
+  ends wrote start ask back answer same position right says few paid =
+      record {
+        conserves = no_change ask (Finished p (Bits start) answer ∷ []) same (λ b. refl) (λ b. refl) position (right, tt);
+        own = (refl, tt);
+        stands = ((refl, says), tt);
+        here = record { answer = answer; wrote = wrote; span = refl; steps = few };
+        knows = omega arith;
+      }
+
+  -- a step whose parts come to these
+  pub by_parts :
+      (before : List (Event T)) (start : BitsStart) (flight : BitsFlight) (back : Bool)
+      (then : After BitsFlight (Answer T)) (fx : List (Event T))
+      → goes_back flight (old_of s.words (ask_of (want flight))) ≡ back
+      → after flight (old_of s.words (ask_of (want flight))) ≡ then
+      → effects_of p flight (old_of s.words (ask_of (want flight))) ≡ fx → Does before start (ask_of (want flight)) back then fx → DoesOf before start flight
+  by_parts x0 x1 x2 x3 x4 x5 x6 x7 x8 x9 = grind arith

@@ -1,0 +1,57 @@
+-- What the events say of each count, and what came since a party's latest call began.
+use Rattle.std.proofs.Common.{◌≡◌, ◌⊎◌, inl, inr, ℕ, ◌+◌, ◌-◌, ◌*◌, ◌^◌, ◌==◌, ◌<◌, ◌≤◌, Bool, true, false, cond, List}
+use Rattle.std.proofs.Common.{[], ◌∷◌, ◌++◌, refl, sym, ap, ◌∙◌, append_assoc, arith}
+use Rattle.std.proofs.lemmas.Bool.Decides.{nat_tests}
+use Rattle.std.proofs.lemmas.List.Sums.{sum_by-append}
+use Rattle.model.specs.declared.event.Event.{Event}
+use Rattle.model.specs.declared.event.Event.TheVariants.{Begun}
+use Rattle.model.specs.declared.event.Start.{Start}
+use Rattle.model.specs.Families.Bits.Reading.{is_count_of, take_of, counts, takes, count_at}
+
+-- of what was counted and taken out before and since
+either_way : (c t c' t' wraps : ℕ) → 1 ≤ c - t → c + c' ≡ t + t' + 2 ^ 64 * wraps → (1 ≤ t') ⊎ (2 ^ 64 ≤ c + c')
+either_way x0 x1 x2 x3 x4 x5 x6 = grind arith
+
+module _ {T : Type 0} where
+  pub counts_more : (place : ℕ) (xs ys : List (Event T)) → counts place (xs ++ ys) ≡ counts place xs + counts place ys
+  counts_more place xs ys = sum_by-append (λ e. cond (is_count_of place e) 1 0) xs ys
+
+  pub takes_more : (place : ℕ) (xs ys : List (Event T)) → takes place (xs ++ ys) ≡ takes place xs + takes place ys
+  takes_more place xs ys = sum_by-append (take_of place) xs ys
+
+  -- ---- what has been taken out since
+
+  -- of each place below this one that counted above 0 as the call began, something has been taken out, unless it was counted 2^64 times
+  abbrev pub TakenBelow : ℕ → List (Event T) → List (Event T) → Type 0
+  TakenBelow end before since = (b : ℕ) → b < end → 1 ≤ count_at b before → (1 ≤ takes b since) ⊎ (2 ^ 64 ≤ counts b before + counts b since)
+
+  pub taken_still : (end : ℕ) (before since es : List (Event T)) → TakenBelow end before since → TakenBelow end before (since ++ es)
+  taken_still end before since es taken b below some = go (taken b below some)
+    where
+      go : (1 ≤ takes b since) ⊎ (2 ^ 64 ≤ counts b before + counts b since) → (1 ≤ takes b (since ++ es)) ⊎ (2 ^ 64 ≤ counts b before + counts b (since ++ es))
+      go (inl had) = let more = takes_more b since es in inl (omega arith)
+      go (inr had) = let more = counts_more b since es in inr (omega arith)
+
+  -- a place of which as much was taken out as it counted is one of these
+  pub taken_next : (end p : ℕ) (start : Start T) (events before since es : List (Event T)) (wraps : ℕ)
+      → events ≡ before ++ Begun p start ∷ since → counts end (events ++ es) ≡ takes end (events ++ es) + 2 ^ 64 * wraps
+      → TakenBelow end before since
+      → TakenBelow (end + 1) before (since ++ es)
+  taken_next end p start events before since es wraps is none taken b below some = go (b == end) refl
+    where
+      go : (t : Bool) → (b == end) ≡ t → (1 ≤ takes b (since ++ es)) ⊎ (2 ^ 64 ≤ counts b before + counts b (since ++ es))
+      go false t =
+          let less : b < end = grind (arith, nat_tests) in
+          taken_still end before since es taken b less some
+      go true t =
+          let same : b ≡ end = grind (arith, nat_tests) in
+          let all : counts b (events ++ es) ≡ takes b (events ++ es) + 2 ^ 64 * wraps = rw same none in
+          let whole : events ++ es ≡ before ++ Begun p start ∷ (since ++ es) = ap (λ xs. xs ++ es) is ∙ append_assoc before (Begun p start ∷ since) es in
+          let both : counts b (before ++ Begun p start ∷ (since ++ es))
+          ≡ takes b (before ++ Begun p start ∷ (since ++ es)) + 2 ^ 64 * wraps =
+          rw (sym whole) all in
+          let c = counts_more b before (Begun p start ∷ (since ++ es)) in
+          let t = takes_more b before (Begun p start ∷ (since ++ es)) in
+          let same_takes = takes_more b (Begun p start ∷ []) (since ++ es) in
+          let same_counts = counts_more b (Begun p start ∷ []) (since ++ es) in
+          either_way (counts b before) (takes b before) (counts b (since ++ es)) (takes b (since ++ es)) wraps some (omega arith)

@@ -1,0 +1,122 @@
+-- What holds of a counting bit set's machine between any two turns beside what the frame says of every machine, and what a
+-- turn does to its counts that keeps it.
+use Rattle.std.proofs.Common.{◌≡◌, ℕ, ◌+◌, ◌*◌, ◌^◌, ◌<◌, ◌≤◌, List, [], ◌++◌, length, get_or, refl, ◌∙◌, arith}
+use Rattle.model.specs.declared.event.Event.{Event}
+use Rattle.model.specs.declared.families.bits.BitsStart.{BitsStart}
+use Rattle.model.specs.declared.families.bits.BitsStart.TheVariants.{Set, ResetAll}
+use Rattle.model.specs.declared.families.bits.calls.BitsFlight.{BitsFlight}
+use Rattle.model.specs.declared.families.bits.calls.BitsFlight.TheVariants.{Count, TakeAll}
+use Rattle.model.specs.declared.turn.Kind as kinds
+use Rattle.model.specs.Families.Bits.Promises.{CountsAnswerOn, counts_promise}
+use Rattle.model.specs.Families.Bits.Reading.{counts, takes}
+use Rattle.model.specs.Moments.{SinceBegin, BeginsNone}
+use Rattle.model.specs.Reading.{Each, Span}
+use Rattle.model.proofs.Moments.{since_more}
+use Rattle.model.proofs.Readings.{AreRight, Each-append}
+use Rattle.laws_bits.proofs.Counts.Core.{TakenBelow, taken_still, counts_more, takes_more}
+use Rattle.laws_bits.proofs.Family.{SetKind}
+use Rattle.laws_bits.proofs.Spans.{wrote_in}
+
+abbrev pub number_of : BitsFlight → ℕ
+number_of (TakeAll run) = run.call.word
+number_of flight = 0
+
+module _ {T : Type 0} where
+  pub record Holds (c : ℕ) (words : List ℕ) (events : List (Event T)) (turns : ℕ) : Type 0 where
+    pub sized : length words ≡ c
+    pub conserved : (b : ℕ) → (wraps : ℕ) × (counts b events ≡ takes b events + get_or words b 0 + 2 ^ 64 * wraps)
+    pub within : (b : ℕ) → c ≤ b → counts b events ≡ 0
+    pub low : (b : ℕ) → get_or words b 0 < 2 ^ 64
+    pub few : (b : ℕ) → counts b events ≤ turns
+    pub answers : Each (CountsAnswerOn c) events
+
+  -- ---- the calls
+
+  -- a set is done in one step, with what it writes
+  abbrev pub call_wrote : ℕ → BitsFlight → Span T → List (Event T)
+  call_wrote p (Count run) span = []
+  call_wrote p flight span = wrote_in span
+
+  -- a reset of all has taken nothing out of the places to which it is still to come
+  abbrev pub CallAt : ℕ → List (Event T) → BitsStart → BitsFlight → Type 0
+  CallAt c wrote (Set place) (Count run) = (run.given ≡ place) × (place < c)
+  CallAt c wrote ResetAll (TakeAll run) =
+      (run.call.end ≡ c) × (run.call.word ≤ c) × ((b : ℕ) → run.call.word ≤ b → takes b wrote ≡ 0)
+  CallAt c wrote start flight = ⊥
+
+  -- no call turns back
+  abbrev pub KnowsCall : ℕ → List (Event T) → ℕ → BitsFlight → Type 0
+  KnowsCall p events backs (Count run) = backs ≡ 0
+  KnowsCall p events backs (TakeAll run) =
+      (backs ≡ 0) × SinceBegin p (TakenBelow run.call.word) events
+  KnowsCall p events backs flight = ⊥
+
+  -- ---- what a turn conserves
+
+  -- the counts after a turn beside those of which its events tell
+  pub record Conserves (c : ℕ) (words : List ℕ) (events : List (Event T)) (turns : ℕ) (words' : List ℕ) (es : List (Event T)) : Type 0 where
+    pub sized : length words' ≡ length words
+    pub moved : (b : ℕ) → (wraps : ℕ) × (counts b es + get_or words b 0 ≡ takes b es + get_or words' b 0 + 2 ^ 64 * wraps)
+    pub within : (b : ℕ) → c ≤ b → counts b es ≡ 0
+    pub low : (b : ℕ) → get_or words' b 0 < 2 ^ 64
+    pub few : (b : ℕ) → counts b es ≤ 1
+    pub right : AreRight (CountsAnswerOn c) events es
+
+  -- so does a turn that leaves the counts, and whose events tell of none
+  pub rest_conserves : (c : ℕ) (words : List ℕ) (events : List (Event T)) (turns : ℕ) (es : List (Event T))
+      → Holds c words events turns → ((b : ℕ) → counts b es ≡ 0) → ((b : ℕ) → takes b es ≡ 0)
+      → AreRight (CountsAnswerOn c) events es → Conserves c words events turns words es
+  rest_conserves c words events turns es h no_counts no_takes right =
+      record {
+        sized = refl;
+        moved = λ b. (0, rw (no_counts b, no_takes b) (omega arith));
+        within = λ b past. no_counts b;
+        low = h.low;
+        few = λ b. (let none = no_counts b in omega arith);
+        right = right;
+      }
+
+  -- ---- the kind of the counting bit sets
+
+  abbrev pub counting_set : SetKind T
+  counting_set =
+      record {
+        kind = kinds.TheVariants.Counts;
+        own = refl;
+        promise = counts_promise;
+        Holds = Holds;
+        Conserves = λ c words events turns changes words' es changes'. Conserves c words events turns words' es;
+        wrote = call_wrote;
+        number = λ flight backs. number_of flight;
+        At = CallAt;
+        Knows = λ p events words since changes backs flight. KnowsCall p events backs flight;
+      }
+
+  module _ (c : ℕ) (words : List ℕ) (events : List (Event T)) (turns : ℕ) (words' : List ℕ) (es : List (Event T))
+      (conserves : Conserves c words events turns words' es) where
+    pub holds_more : Holds c words events turns → Holds c words' (events ++ es) (turns + 1)
+    holds_more h =
+        record {
+          sized = conserves.sized ∙ h.sized;
+          conserved = conserved;
+          within = λ b past. (let a = h.within b past in let e = conserves.within b past in counts_more b events es ∙ omega arith);
+          low = conserves.low;
+          few = λ b. (let a = h.few b in let e = conserves.few b in let c = counts_more b events es in omega arith);
+          answers = Each-append (CountsAnswerOn c) events es h.answers conserves.right;
+        }
+      where
+        conserved : (b : ℕ) → (wraps : ℕ) × (counts b (events ++ es) ≡ takes b (events ++ es) + get_or words' b 0 + 2 ^ 64 * wraps)
+        conserved b =
+            let before = (h.conserved b).1 in
+            let moved = (conserves.moved b).1 in
+            let c = counts_more b events es in
+            let t = takes_more b events es in
+            ((h.conserved b).0 + (conserves.moved b).0, omega arith)
+
+  -- a turn of another party leaves what a call knows
+  pub call_still : (p : ℕ) (events es : List (Event T)) (none : BeginsNone p es) (backs : ℕ) (flight : BitsFlight)
+      → KnowsCall p events backs flight → KnowsCall p (events ++ es) backs flight
+  call_still p events es none backs (Count run) h = h
+  call_still p events es none backs (TakeAll run) h =
+      (h.0, since_more p (TakenBelow run.call.word) (TakenBelow run.call.word) events es none h.1 (taken_still run.call.word h.1.before h.1.since es h.1.holds))
+  call_still p events es none backs flight h = absurd h

@@ -1,0 +1,55 @@
+-- What a step writes down, and with it all that a counting bit set owes of its machine.
+use native.Mathlib.Omega.{arith}
+use Rattle.std.proofs.Common.{◌≡◌, ℕ, ◌-◌, List, refl, sym, subst}
+use Rattle.std.specs.List.{AllByRecursion}
+use Rattle.model.specs.declared.event.Event.{Event}
+use Rattle.model.specs.declared.families.bits.BitsStart.{BitsStart}
+use Rattle.model.specs.declared.families.bits.calls.BitsFlight.{BitsFlight}
+use Rattle.model.specs.declared.turn.Kind as kinds
+use Rattle.model.specs.declared.turn.Turn.TheVariants.{Next}
+use Rattle.model.specs.Coding.{Coding}
+use Rattle.model.specs.Families.Bits.Steps.{effects_of}
+use Rattle.model.specs.Promises.Turns.{IsEffectOf}
+use Rattle.model.proofs.Orders.{Keeps}
+use Rattle.laws_bits.proofs.Counts.Invariant.{Holds, CallAt, counting_set, holds_more, call_still}
+use Rattle.laws_bits.proofs.Counts.Kept.{counts_kept, counts_on, steps_most, backs_paid}
+use Rattle.laws_bits.proofs.Counts.Sound.{opens, never_asks, step_shows, first_is, begins_own, begins_none}
+use Rattle.laws_bits.proofs.Laws.{SetLaws, sets_keep, sound_on}
+use Rattle.model.specs.Families.Bits.Promises.{IsCountingOn}
+use Rattle.model.specs.Turns.{IsReachedOn}
+use Rattle.model.specs.World.{Trace}
+
+are_effects : (T : Type 0) (c p old : ℕ) (wrote : List (Event T)) (start : BitsStart) (flight : BitsFlight)
+    → CallAt c wrote start flight → AllByRecursion (IsEffectOf {T = T} (Next p)) (effects_of p flight old)
+are_effects x0 x1 x2 x3 x4 x5 x6 x7 = grind arith
+
+module _ {T : Type 0} where
+  pub laws : (code : Coding T) (c : ℕ) → SetLaws counting_set code c
+  laws code c =
+      record {
+        bare = refl;
+        opens = opens c;
+        promise = refl;
+        tells = λ old turn new. tt;
+        keeps_promise = counts_kept c;
+        holds = λ words events turns changes words' es changes'. holds_more c words events turns words' es;
+        still = λ q words events turns changes words' es changes' conserves none since. call_still q events es none;
+        begins_own = begins_own c;
+        begins = λ p start words events turns changes. begins_none c p start words events turns;
+        first = first_is c;
+        asks = never_asks c;
+        effects = are_effects T c;
+        most = λ wrote backs. steps_most c wrote;
+        paid = λ p events words since changes. backs_paid p events (changes - since);
+        step = step_shows code c;
+      }
+
+  -- what is proved of every run of a counting bit set
+  pub counts_keep : Keeps T kinds.TheVariants.Counts
+  counts_keep = sets_keep counting_set laws
+
+  -- what is so of every run without a bound of turns or parties
+  pub counts_go_on : (t : Trace T) → t.world.kind ≡ kinds.TheVariants.Counts → IsReachedOn t → IsCountingOn t
+  counts_go_on t is r =
+      let s = sound_on counting_set laws t is r in
+      counts_on t.world.capacity t refl (subst (λ ws. Holds t.world.capacity ws t.events t.world.turns) (sym s.fit.1) s.holds.0)

@@ -1,0 +1,80 @@
+-- What the invariant says of the events, in the promises' words.
+use Rattle.std.proofs.Common.{◌≡◌, ◌⊎◌, inl, inr, ℕ, ◌+◌, ◌-◌, ◌^◌, ◌<◌, ◌≤◌, List, [], ◌∷◌, ◌++◌, ap, subst, arith}
+use Rattle.model.specs.declared.event.Event.{Event}
+use Rattle.model.specs.declared.families.bits.BitsStart.{BitsStart}
+use Rattle.model.specs.declared.families.bits.BitsStart.TheVariants.{Set, ResetAll}
+use Rattle.model.specs.declared.families.bits.calls.BitsFlight.{BitsFlight}
+use Rattle.model.specs.Families.Bits.Bounds.{most_counts_steps}
+use Rattle.model.specs.Families.Bits.Promises.{IsCountingSet, IsCountingOn, HasTaken, HasTakenOn, CountsAnswerRight, CountsAnswerOn}
+use Rattle.model.specs.Families.Bits.Reading.{counts, takes}
+use Rattle.model.specs.Moments.{SinceBegin}
+use Rattle.model.specs.declared.event.Answer.TheVariants.{Number}
+use Rattle.model.specs.declared.event.Event.TheVariants.{Begun, Counted, Finished}
+use Rattle.model.specs.declared.event.Start.TheVariants.{Bits}
+use Rattle.laws_bits.proofs.Counts.Core.{counts_more}
+use Rattle.model.specs.World.{Trace}
+use Rattle.laws_bits.proofs.Counts.Invariant.{Holds, CallAt, KnowsCall, number_of}
+
+module _ {T : Type 0} where
+  pub steps_most : (c : ℕ) (wrote : List (Event T)) (start : BitsStart) (flight : BitsFlight)
+      → CallAt c wrote start flight → number_of flight ≤ most_counts_steps c start
+  steps_most x0 x1 x2 x3 x4 = grind arith
+
+  pub backs_paid : (p : ℕ) (events : List (Event T)) (n backs : ℕ) (flight : BitsFlight) → KnowsCall p events backs flight → backs ≤ n
+  backs_paid x0 x1 x2 x3 x4 x5 = grind arith
+
+  -- ---- without an end
+
+  pub counts_on : (c : ℕ) (t : Trace T) → t.world.capacity ≡ c → Holds c t.world.words t.events t.world.turns → IsCountingOn t
+  counts_on c t same h =
+      record {
+        conserved = h.conserved;
+        within = λ b past. h.within b (subst (λ n. n ≤ b) same past);
+        answers = rw same h.answers;
+      }
+
+  -- ---- where no place was counted 2^64 times
+
+  part_counts : (b : ℕ) (events before after : List (Event T)) (e : Event T) → events ≡ before ++ e ∷ after → counts b before ≤ counts b events
+  part_counts b events before after e is = let m = counts_more b before (e ∷ after) in rw is (omega arith)
+
+  taken_exact : (c p : ℕ) (events : List (Event T)) → ((b : ℕ) → counts b events < 2 ^ 64)
+      → SinceBegin p (HasTakenOn c) events → SinceBegin p (HasTaken c) events
+  taken_exact c p events few h = record { before = h.before; start = h.start; since = h.since; is = h.is; within = h.within; holds = holds }
+    where
+      holds : HasTaken c h.before h.since
+      holds b below some = go (h.holds b below some)
+        where
+          go : (1 ≤ takes b h.since) ⊎ (2 ^ 64 ≤ counts b h.before + counts b h.since) → 1 ≤ takes b h.since
+          go (inl had) = had
+          go (inr far) =
+              let all = counts_more b h.before (Begun p h.start ∷ h.since) in
+              let own = counts_more b (Begun p h.start ∷ []) h.since in
+              let same : counts b events ≡ counts b (h.before ++ Begun p h.start ∷ h.since) = ap (counts b) h.is in
+              let low = few b in
+              absurd (omega arith)
+
+  answer_exact : (c : ℕ) (before : List (Event T)) (e : Event T) → ((b : ℕ) → counts b before < 2 ^ 64)
+      → CountsAnswerOn c before e → CountsAnswerRight c before e
+  answer_exact c before (Finished p (Bits (Set place)) (Number number)) few h =
+      let low = few place in
+      let m = counts_more place h.before (Counted p place ∷ []) in
+      let same : counts place before ≡ counts place (h.before ++ Counted p place ∷ []) = ap (counts place) h.is in
+      let count = h.count in
+      record { before = h.before; is = h.is; count = omega arith }
+  answer_exact c before (Finished p (Bits ResetAll) answer) few h = taken_exact c p before few h
+  answer_exact c before e few h = tt
+
+  pub exact : (t : Trace T) → ((b : ℕ) → counts b t.events < 2 ^ 64) → IsCountingOn t → IsCountingSet t
+  exact t few h =
+      record {
+        conserved = λ b. (let is = (h.conserved b).1 in let low = few b in omega arith);
+        within = h.within;
+        answers =
+            λ before after e is. answer_exact t.world.capacity before e
+            (λ b. (let less = part_counts b t.events before after e is in let low = few b in omega arith))
+            (h.answers before after e is);
+      }
+
+  pub counts_kept : (c : ℕ) (t : Trace T) → t.world.capacity ≡ c → t.world.turns ≤ 2 ^ 64 - 2 → Holds c t.world.words t.events t.world.turns → IsCountingSet t
+  counts_kept c t same small h = exact t (λ b. (let few = h.few b in omega arith)) (counts_on c t same h)

@@ -1,0 +1,263 @@
+-- What each step of a reset of all counts shows: it swaps the next count with 0.
+use Rattle.std.proofs.Common.{◌≡◌, ◌≢◌, ℕ, ◌+◌, ◌*◌, ◌^◌, ◌<◌, ◌≤◌, ◌==◌, nat_lt, Bool, true, false, cond, Option}
+use Rattle.std.proofs.Common.{Some, None, List, [], ◌∷◌, ◌++◌, fold, length, get_or, set, refl, sym, ap, subst, ◌∙◌}
+use Rattle.std.proofs.Common.{append-nil, arith, length-set, get_or-set_same, get_or-set_other}
+use Rattle.std.proofs.lemmas.Bool.Decides.{nat_tests}
+use Rattle.steps.specs.declared.ask.Ask.{Ask}
+use Rattle.steps.specs.declared.ask.Op.TheVariants.{Swap}
+use Rattle.steps.specs.declared.ask.After.{After}
+use Rattle.steps.specs.declared.ask.After.TheVariants.{GoOn, Done}
+use Rattle.steps.specs.declared.copied.OneWord.{OneWord}
+use Rattle.model.specs.declared.event.Answer.{Answer}
+use Rattle.model.specs.declared.event.Answer as answers
+use Rattle.model.specs.declared.event.Event.{Event}
+use Rattle.model.specs.declared.event.Event.TheVariants.{TakenOut}
+use Rattle.model.specs.declared.event.Start.TheVariants.{Bits}
+use Rattle.model.specs.declared.families.bits.BitsStart.TheVariants.{ResetAll}
+use Rattle.model.specs.declared.families.bits.calls.BitsFlight.{BitsFlight}
+use Rattle.model.specs.declared.families.bits.calls.BitsFlight.TheVariants.{TakeAll}
+use Rattle.model.specs.Coding.{Coding}
+use Rattle.model.specs.Families.{ask_of}
+use Rattle.model.specs.Families.Bits.Calls.{want, after}
+use Rattle.model.specs.Families.Bits.Reading.{counts, takes}
+use Rattle.model.specs.Families.Bits.Steps.{effects_of, take_events}
+use Rattle.model.specs.Moments.{SinceBegin, BeginsNone}
+use Rattle.model.specs.Reading.{Open, own_after, span_of}
+use Rattle.model.specs.Turns.{old_of, change_of}
+use Rattle.model.specs.Families.Bits.Promises.{CountsAnswerOn, HasTakenOn, counts_promise}
+use Rattle.model.specs.Promises.Spans.{Stands}
+use Rattle.model.proofs.Moments.{since_more}
+use Rattle.model.proofs.Readings.{AreRight, AreOwn, AllFollow, span_of-own}
+use Rattle.laws_bits.proofs.Counts.Core.{TakenBelow, taken_next, counts_more, takes_more}
+use Rattle.laws_bits.proofs.Counts.Invariant.{Holds, counting_set}
+use Rattle.laws_bits.proofs.Family.{SetState, Shows, party_then, StepShows}
+use Rattle.laws_bits.proofs.Spans.{wrote_in}
+
+-- the call at this word, where so many are to be emptied and this was found last
+abbrev pub take_at : OneWord → ℕ → ℕ → BitsFlight
+take_at room word end =
+    TakeAll (record { call = record { word = word; end = end }; given = tt; room = room })
+
+module _ {T : Type 0} (code : Coding T) (c : ℕ) (s : SetState T) (events : List (Event T))
+    (turns p changes since steps backs : ℕ) (holds : Holds c s.words events turns) (wrote : List (Event T))
+    (is : span_of p events ≡ Open (Bits ResetAll) wrote) (word : ℕ) (empty : (b : ℕ) → word ≤ b → takes b wrote ≡ 0)
+    (taken : SinceBegin p (TakenBelow word) events) (still : backs ≡ 0) (few : steps ≤ word) where
+  abbrev ws : List ℕ
+  ws = s.words
+
+  abbrev count : ℕ
+  count = get_or ws word 0
+
+  abbrev swaps : Option Ask
+  swaps = Some (record { word = word; op = Swap 0 })
+
+  abbrev Does : Option Ask → After BitsFlight (Answer T) → List (Event T) → Type 0
+  Does ask after fx = StepShows counting_set code c s events turns p changes since steps backs wrote ResetAll ask false after fx
+
+  -- ---- the count
+
+  swapped : (b n : ℕ) → word < length ws → n ≡ cond (word == b) count 0 → 0 + get_or ws b 0 ≡ n + get_or (set ws word 0) b 0
+  swapped b n within e = go (word == b) refl
+    where
+      go : (t : Bool) → (word == b) ≡ t → 0 + get_or ws b 0 ≡ n + get_or (set ws word 0) b 0
+      go true t =
+          let same : word ≡ b = grind (arith, nat_tests) in
+          let here = get_or-set_same ws word 0 0 within in
+          let all : n ≡ count = rw t at e in
+          rw (sym same) (omega arith)
+      go false t =
+          let other : b ≢ word = grind (arith, nat_tests) in
+          let there = get_or-set_other ws word b 0 0 other in
+          let none : n ≡ 0 = rw t at e in
+          omega arith
+
+  not_far : word < length ws → (b : ℕ) → get_or (set ws word 0) b 0 < 2 ^ 64
+  not_far within b = go (word == b) refl
+    where
+      go : (t : Bool) → (word == b) ≡ t → get_or (set ws word 0) b 0 < 2 ^ 64
+      go true t =
+          let same : word ≡ b = grind (arith, nat_tests) in
+          let here = get_or-set_same ws word 0 0 within in
+          rw (sym same) (omega arith)
+      go false t =
+          let other : b ≢ word = grind (arith, nat_tests) in
+          let there = get_or-set_other ws word b 0 0 other in
+          let low = holds.low b in
+          omega arith
+
+  -- what the step writes takes out the count
+  record TakesOut (fx : List (Event T)) : Type 0 where
+    pub own : AreOwn p fx
+    pub none : BeginsNone p fx
+    pub right : AreRight (CountsAnswerOn c) events fx
+    pub stands : AllFollow (Stands counts_promise c) (Open (Bits ResetAll) wrote) fx
+    pub counts : (b : ℕ) → counts b fx ≡ 0
+    pub takes : (b : ℕ) → takes b fx ≡ cond (word == b) count 0
+    pub span : fold own_after (Open (Bits ResetAll) wrote) fx ≡ Open (Bits ResetAll) (wrote ++ fx)
+
+  module _ (fx : List (Event T)) (out : TakesOut fx) where
+    taken_more : SinceBegin p (TakenBelow (word + 1)) (events ++ fx)
+    taken_more =
+        let t : (word == word) ≡ true = grind (arith, nat_tests) in
+        let all : takes word fx ≡ count = rw t at (out.takes word) in
+        let none = out.counts word in
+        let before = (holds.conserved word).1 in
+        let c = counts_more word events fx in
+        let m = takes_more word events fx in
+        let even : counts word (events ++ fx) ≡ takes word (events ++ fx) + 2 ^ 64 * (holds.conserved word).0 = omega arith in
+        since_more p (TakenBelow word) (TakenBelow (word + 1)) events fx out.none taken
+        (taken_next word p taken.start events taken.before taken.since fx (holds.conserved word).0 taken.is even taken.holds)
+
+    span_then : span_of p (events ++ fx) ≡ Open (Bits ResetAll) (wrote ++ fx)
+    span_then = span_of-own p events fx out.own ∙ (ap (λ s. fold own_after s fx) is ∙ out.span)
+
+    empty_then : (b : ℕ) → word + 1 ≤ b → takes b (wrote ++ fx) ≡ 0
+    empty_then b past =
+        let t : (word == b) ≡ false = grind (arith, nat_tests) in
+        let none : takes b fx ≡ 0 = rw t at (out.takes b) in
+        let before : takes b wrote ≡ 0 = empty b (omega arith) in
+        let m = takes_more b wrote fx in
+        omega arith
+
+  -- ---- the events of one swap
+
+  takes_nothing : count ≡ 0 → TakesOut []
+  takes_nothing none =
+      record {
+        own = tt;
+        none = tt;
+        right = tt;
+        stands = tt;
+        counts = λ b. refl;
+        takes = nothing;
+        span = ap (λ xs. Open (Bits ResetAll) xs) (sym (append-nil wrote));
+      }
+    where
+      nothing : (b : ℕ) → 0 ≡ cond (word == b) count 0
+      nothing b = go (word == b) refl
+        where
+          go : (t : Bool) → (word == b) ≡ t → 0 ≡ cond (word == b) count 0
+          go true t = rw t (sym none)
+          go false t = rw t refl
+
+  takes_some : 1 ≤ count → TakesOut (TakenOut p word count ∷ [])
+  takes_some x0 = grind arith
+
+  -- ---- a swap
+
+  module _ (room : OneWord) (end : ℕ) (all : end ≡ c) where
+    -- with what was found in the room
+    abbrev next : After BitsFlight (Answer T)
+    next = GoOn (take_at (record { 0 = count }) (word + 1) end)
+
+    abbrev done : After BitsFlight (Answer T)
+    done = Done answers.TheVariants.Done
+
+    module _ (within : word < length ws) where
+      moved : (b n m : ℕ) → n ≡ 0 → m ≡ cond (word == b) count 0 → (wraps : ℕ) × (n + get_or ws b 0 ≡ m + get_or (set ws word 0) b 0 + 2 ^ 64 * wraps)
+      moved b n m none out = let s = swapped b m within out in (0, omega arith)
+
+      goes_on : (fx : List (Event T)) → TakesOut fx → word + 1 < end → Does swaps next fx
+      goes_on fx out more =
+          subst (λ es. Shows counting_set code c s events turns p changes (set ws word 0) (Open (Bits ResetAll) wrote)
+          (party_then counting_set code c s events turns p changes since steps backs ResetAll swaps false next) es
+          (changes + change_of ws swaps))
+          (sym (append-nil fx))
+          (record {
+            conserves = record {
+              sized = length-set ws word 0;
+              moved = λ b. moved b (counts b fx) (takes b fx) (out.counts b) (out.takes b);
+              within = λ b past. out.counts b;
+              low = not_far within;
+              few = λ b. (let none = out.counts b in omega arith);
+              right = out.right;
+            };
+            own = out.own;
+            stands = out.stands;
+            here =
+                record {
+                  span = out.span ∙ ap (λ span. Open (Bits ResetAll) (wrote_in span)) (sym (span_then fx out));
+                  steps = omega arith;
+                  at = (all, omega arith, λ b past. subst (λ span. takes b (wrote_in span) ≡ 0) (sym (span_then fx out)) (empty_then fx out b past));
+                };
+            knows = (omega arith, taken_more fx out);
+          })
+
+      all_taken : word + 1 ≡ c → (fx : List (Event T)) → TakesOut fx → SinceBegin p (HasTakenOn c) (events ++ fx)
+      all_taken last fx out = subst (λ n. SinceBegin p (TakenBelow n) (events ++ fx)) last (taken_more fx out)
+
+      ends_with_none : word + 1 ≡ c → count ≡ 0 → Does swaps done []
+      ends_with_none last none =
+          let out = takes_nothing none in
+          record {
+            conserves = record {
+              sized = length-set ws word 0;
+              moved = λ b. moved b 0 0 refl (out.takes b);
+              within = λ b past. refl;
+              low = not_far within;
+              few = λ b. omega arith;
+              right = (subst (λ es. SinceBegin p (HasTakenOn c) es) (append-nil events) (all_taken last [] out), tt);
+            };
+            own = (refl, tt);
+            stands = ((refl, tt), tt);
+            here = record { answer = answers.TheVariants.Done; wrote = wrote; span = refl; steps = omega arith };
+            knows = omega arith;
+          }
+
+      ends_with_some : word + 1 ≡ c → 1 ≤ count → Does swaps done (TakenOut p word count ∷ [])
+      ends_with_some last some =
+          let out = takes_some some in
+          record {
+            conserves = record {
+              sized = length-set ws word 0;
+              moved = λ b. (0, (let m = swapped b (cond (word == b) count 0) within refl in omega arith));
+              within = λ b past. refl;
+              low = not_far within;
+              few = λ b. omega arith;
+              right = (tt, (all_taken last (TakenOut p word count ∷ []) out, tt));
+            };
+            own = (refl, (refl, tt));
+            stands = ((some, empty), ((refl, tt), tt));
+            here = record { answer = answers.TheVariants.Done; wrote = wrote ++ TakenOut p word count ∷ []; span = refl; steps = omega arith };
+            knows = omega arith;
+          }
+
+      -- whatever the count is
+      swaps_on : word + 1 < end → (t : Bool) → (count == 0) ≡ t → Does swaps next (take_events p word count)
+      swaps_on more true t = let none : count ≡ 0 = grind (arith, nat_tests) in rw t (goes_on [] (takes_nothing none) more)
+      swaps_on more false t = let some : 1 ≤ count = grind (arith, nat_tests) in rw t (goes_on (TakenOut p word count ∷ []) (takes_some some) more)
+
+      swaps_last : word + 1 ≡ c → (t : Bool) → (count == 0) ≡ t → Does swaps done (take_events p word count)
+      swaps_last last true t = let none : count ≡ 0 = grind (arith, nat_tests) in rw t (ends_with_none last none)
+      swaps_last last false t = let some : 1 ≤ count = grind (arith, nat_tests) in rw t (ends_with_some last some)
+
+    -- without a further word
+    asks_nothing : word ≡ c → Does None done []
+    asks_nothing x0 = grind arith
+
+    -- the step, whatever is left
+    pub reset_step : word ≤ c
+        → Does (ask_of (want (take_at room word end)))
+        (after (take_at room word end) (old_of ws (ask_of (want (take_at room word end)))))
+        (effects_of p (take_at room word end) (old_of ws (ask_of (want (take_at room word end)))))
+    reset_step below = go (nat_lt word end) refl (nat_lt (word + 1) end) refl
+      where
+        go : (t : Bool) → nat_lt word end ≡ t → (u : Bool) → nat_lt (word + 1) end ≡ u
+            → Does (ask_of (want (take_at room word end)))
+            (after (take_at room word end) (old_of ws (ask_of (want (take_at room word end)))))
+            (effects_of p (take_at room word end) (old_of ws (ask_of (want (take_at room word end)))))
+        go true t true u =
+            let less : word + 1 < end = grind (arith, nat_tests) in
+            let sized = holds.sized in
+            let within : word < length ws = omega arith in
+            rw t (rw u (swaps_on within less (count == 0) refl))
+        go true t false u =
+            let one : word < end = grind (arith, nat_tests) in
+            let last : end ≤ word + 1 = grind (arith, nat_tests) in
+            let sized = holds.sized in
+            let within : word < length ws = omega arith in
+            rw t (rw u (swaps_last within (omega arith) (count == 0) refl))
+        go false t u e =
+            let past : end ≤ word = grind (arith, nat_tests) in
+            let none : nat_lt (word + 1) end ≡ false = grind (arith, nat_tests) in
+            rw t (rw none (asks_nothing (omega arith)))

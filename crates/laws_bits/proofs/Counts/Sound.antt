@@ -1,0 +1,82 @@
+-- Where the machine of a counting bit set opens, where each of its calls begins, and what each step of them shows.
+use Rattle.std.proofs.Common.{◌≡◌, ℕ, false, Some, List, [], ◌∷◌, refl, sym, subst, arith}
+use Rattle.std.proofs.lemmas.List.{length-replicate}
+use Rattle.model.specs.declared.event.Event.{Event}
+use Rattle.model.specs.declared.event.Event.TheVariants.{Begun}
+use Rattle.model.specs.declared.event.Start.{Start}
+use Rattle.model.specs.declared.event.Start.TheVariants.{Bits}
+use Rattle.model.specs.declared.families.Registry.{Registry}
+use Rattle.model.specs.declared.families.Flight.{Flight}
+use Rattle.model.specs.declared.families.bits.BitsStart.{BitsStart}
+use Rattle.model.specs.declared.families.bits.BitsStart.TheVariants.{Set, ResetAll}
+use Rattle.model.specs.declared.families.bits.calls.BitsFlight.{BitsFlight}
+use Rattle.model.specs.declared.families.bits.calls.BitsFlight.TheVariants.{Count, TakeAll}
+use Rattle.model.specs.declared.turn.Kind as kinds
+use Rattle.model.specs.Coding.{Coding}
+use Rattle.model.specs.Families.{first_of, is_question}
+use Rattle.model.specs.Families.Bits.Calls.{first, want}
+use Rattle.model.specs.Families.Bits.Opening.{counts_words, is_past}
+use Rattle.model.specs.Families.Bits.Reading.{takes}
+use Rattle.model.proofs.Readings.{Each-nil}
+use Rattle.laws_bits.proofs.Counts.Invariant.{Holds, CallAt, Conserves, counting_set}
+use Rattle.laws_bits.proofs.Counts.Resets.{reset_step}
+use Rattle.laws_bits.proofs.Counts.Steps.{set_shows}
+use Rattle.laws_bits.proofs.Family.{SetState, ShowsStep, StepOf}
+use Rattle.laws_bits.proofs.Laws.{IsOwn, IsFirst}
+use Rattle.laws_bits.proofs.Words.{zeros}
+
+pub never_asks : {T : Type 0} (c : ℕ) (wrote : List (Event T)) (start : BitsStart) (flight : BitsFlight)
+    → CallAt c wrote start flight → is_question (want flight) ≡ false
+never_asks x0 x1 x2 x3 x4 = grind arith
+
+module _ {T : Type 0} where
+  pub opens : (c : ℕ) → Holds {T = T} c (counts_words c) [] 0
+  opens c =
+      record {
+        sized = length-replicate c 0;
+        conserved = λ b. (0, (let none = zeros c b 0 in omega arith));
+        within = λ b past. refl;
+        low = λ b. (let none = zeros c b 0 in omega arith);
+        few = λ b. omega arith;
+        answers = Each-nil _;
+      }
+
+  -- ---- one step of a call
+
+  module _ (code : Coding T) (c : ℕ) (s : SetState T) (events : List (Event T))
+      (turns p changes since steps backs : ℕ) (holds : Holds c s.words events turns) where
+    -- what its step shows, where its party's span was this
+    abbrev Shown : List (Event T) → BitsStart → BitsFlight → Type 0
+    Shown wrote start flight = ShowsStep counting_set code c s events turns p changes since steps backs wrote start flight
+
+    pub step_shows : (start : BitsStart) (flight : BitsFlight) (wrote : List (Event T))
+        → StepOf counting_set code c s events turns p changes since steps backs start flight wrote
+    step_shows (Set place) (Count run) wrote at is from few knows =
+        subst (λ n. Shown wrote (Set n) (Count run)) at.0
+        (subst (λ xs. Shown xs (Set run.given) (Count run)) (sym from)
+        (set_shows code c s events turns p changes since steps backs holds run.given (let below = at.1 in let same = at.0 in omega arith) few knows))
+    step_shows ResetAll (TakeAll run) wrote at is from few knows =
+        reset_step code c s events turns p changes since steps backs holds wrote is run.call.word
+        (λ b past. subst (λ xs. takes b xs ≡ 0) (sym from) (at.2 b past)) knows.1 knows.0 few run.room run.call.end
+        at.0 at.1
+    step_shows start flight wrote at is from few knows = absurd at
+
+  -- ---- a call begins
+
+  module _ (c p : ℕ) (events : List (Event T)) (words : List ℕ) (changes : ℕ) where
+    abbrev First : BitsStart → BitsFlight → Type 0
+    First start flight = IsFirst counting_set c p events words changes start flight
+
+    pub first_is : (start : BitsStart) (flight : BitsFlight) → first kinds.TheVariants.Counts c start ≡ Some flight
+        → is_past c start ≡ false → First start flight
+    first_is x0 x1 x2 x3 = grind arith
+
+  -- a call that begins on a counting bit set is one of its own
+  pub begins_own : (c : ℕ) (kept : Registry T) (start : Start T) (flight : Flight T)
+      → first_of kinds.TheVariants.Counts c start kept ≡ Some flight → IsOwn start
+  begins_own x0 x1 x2 x3 x4 = grind arith
+
+  -- to begin changes no count
+  pub begins_none : (c p : ℕ) (start : BitsStart) (words : List ℕ) (events : List (Event T)) (turns : ℕ)
+      → Holds c words events turns → Conserves c words events turns words (Begun p (Bits start) ∷ [])
+  begins_none x0 x1 x2 x3 x4 x5 x6 = grind arith

@@ -1,0 +1,104 @@
+-- What each step of a call shows: a set adds 1 to its count, and a reset of all swaps the next count with 0.
+use Rattle.std.proofs.Common.{◌≡◌, ◌≢◌, ℕ, ◌+◌, ◌*◌, ◌/◌, ◌%◌, ◌^◌, ◌<◌, ◌≤◌, ◌==◌, Bool, true, false, Some, List, []}
+use Rattle.std.proofs.Common.{◌∷◌, length, get_or, set, refl, sym, arith, length-set, get_or-set_same, get_or-set_other}
+use Rattle.std.proofs.lemmas.Bool.Decides.{nat_tests}
+use Rattle.steps.specs.declared.ask.Op.TheVariants.{Add}
+use Rattle.steps.specs.declared.ask.After.TheVariants.{Done}
+use Rattle.model.specs.declared.event.Answer as answers
+use Rattle.model.specs.declared.event.Event.{Event}
+use Rattle.model.specs.declared.event.Event.TheVariants.{Counted, Finished}
+use Rattle.model.specs.declared.event.Start.TheVariants.{Bits}
+use Rattle.model.specs.declared.families.bits.BitsStart.TheVariants.{Set}
+use Rattle.model.specs.Coding.{Coding}
+use Rattle.model.specs.Families.Bits.Reading.{counts, count_at}
+use Rattle.laws_bits.proofs.Counts.Invariant.{Holds, counting_set}
+use Rattle.laws_bits.proofs.Family.{SetState, StepShows}
+
+module _ {T : Type 0} (code : Coding T) (c : ℕ) (s : SetState T) (events : List (Event T)) (turns p changes since steps backs : ℕ) where
+  abbrev ws : List ℕ
+  ws = s.words
+
+  module _ (holds : Holds c ws events turns) where
+    -- ---- a set
+
+    pub set_shows : (place : ℕ) → place < c → steps ≤ 0 → backs ≡ 0
+        → StepShows counting_set code c s events turns p changes since steps backs [] (Set place)
+        (Some (record { word = place; op = Add 1 })) false (Done (answers.TheVariants.Number (get_or ws place 0)))
+        (Counted p place ∷ [])
+    set_shows place below s b =
+        let low = holds.low place in
+        let sized = holds.sized in
+        let within : place < length ws = omega arith in
+        record {
+          conserves = record {
+            sized = length-set ws place ((get_or ws place 0 + 1) % 2 ^ 64);
+            moved = moved within;
+            within = past;
+            low = not_far within;
+            few = at_most_one;
+            right = (tt, (record { before = events; is = refl; count = now }, tt));
+          };
+          own = (refl, (refl, tt));
+          stands = ((refl, refl), ((refl, (refl, one)), tt));
+          here = record { answer = answers.TheVariants.Number (get_or ws place 0); wrote = Counted p place ∷ []; span = refl; steps = omega arith };
+          knows = omega arith;
+        }
+      where
+        one : counts {T = T} place (Counted p place ∷ []) ≡ 1
+        one = let t : (place == place) ≡ true = grind (arith, nat_tests) in rw t refl
+
+        now : get_or ws place 0 ≡ count_at place events % 2 ^ 64
+        now = let h = (holds.conserved place).1 in let low = holds.low place in omega arith
+
+        at_most_one : (b : ℕ) → counts {T = T} b (Counted p place ∷ Finished p (Bits (Set place)) (answers.TheVariants.Number (get_or ws place 0)) ∷ []) ≤ 1
+        at_most_one b = go (place == b) refl
+          where
+            go : (t : Bool) → (place == b) ≡ t
+                → counts {T = T} b (Counted p place ∷ Finished p (Bits (Set place)) (answers.TheVariants.Number (get_or ws place 0)) ∷ [])
+                ≤ 1
+            go true t = rw t (omega arith)
+            go false t = rw t (omega arith)
+
+        -- a number below 2^64 wraps at most once
+        wraps : (n : ℕ) → n < 2 ^ 64 → (k : ℕ) × (1 + n ≡ (n + 1) % 2 ^ 64 + 2 ^ 64 * k)
+        wraps n below = ((n + 1) / 2 ^ 64, omega arith)
+
+        past : (b : ℕ) → c ≤ b → counts {T = T} b (Counted p place ∷ Finished p (Bits (Set place)) (answers.TheVariants.Number (get_or ws place 0)) ∷ []) ≡ 0
+        past b h = let t : (place == b) ≡ false = grind (arith, nat_tests) in rw t refl
+
+        moved : place < length ws → (b : ℕ)
+            → (wraps : ℕ)
+            × (counts {T = T} b (Counted p place ∷ Finished p (Bits (Set place)) (answers.TheVariants.Number (get_or ws place 0)) ∷ [])
+            + get_or ws b 0
+            ≡ 0 + get_or (set ws place ((get_or ws place 0 + 1) % 2 ^ 64)) b 0 + 2 ^ 64 * wraps)
+        moved within b = go (place == b) refl
+          where
+            go : (t : Bool) → (place == b) ≡ t
+                → (wraps : ℕ)
+                × (counts {T = T} b (Counted p place ∷ Finished p (Bits (Set place)) (answers.TheVariants.Number (get_or ws place 0)) ∷ [])
+                + get_or ws b 0
+                ≡ 0 + get_or (set ws place ((get_or ws place 0 + 1) % 2 ^ 64)) b 0 + 2 ^ 64 * wraps)
+            go true t =
+                let same : place ≡ b = grind (arith, nat_tests) in
+                let here = get_or-set_same ws place ((get_or ws place 0 + 1) % 2 ^ 64) 0 within in
+                let k = wraps (get_or ws place 0) (holds.low place) in
+                let is = k.1 in
+                (k.0, rw t (rw (sym same) (omega arith)))
+            go false t =
+                let other : b ≢ place = grind (arith, nat_tests) in
+                let there = get_or-set_other ws place b ((get_or ws place 0 + 1) % 2 ^ 64) 0 other in
+                (0, rw t (omega arith))
+
+        not_far : place < length ws → (b : ℕ) → get_or (set ws place ((get_or ws place 0 + 1) % 2 ^ 64)) b 0 < 2 ^ 64
+        not_far within b = go (b == place) refl
+          where
+            go : (t : Bool) → (b == place) ≡ t → get_or (set ws place ((get_or ws place 0 + 1) % 2 ^ 64)) b 0 < 2 ^ 64
+            go true t =
+                let same : b ≡ place = grind (arith, nat_tests) in
+                let here = get_or-set_same ws place ((get_or ws place 0 + 1) % 2 ^ 64) 0 within in
+                rw same (omega arith)
+            go false t =
+                let other : b ≢ place = grind (arith, nat_tests) in
+                let there = get_or-set_other ws place b ((get_or ws place 0 + 1) % 2 ^ 64) 0 other in
+                let low = holds.low b in
+                omega arith

@@ -1,0 +1,139 @@
+-- The machines of bit sets and of counting bit sets as families: what is said of one of the two kinds, and what each turn of
+-- its machine has to show.
+use Rattle.std.proofs.Common.{◌≡◌, ℕ, ◌+◌, ◌≤◌, Bool, false, Option, Some, List, [], ◌++◌, fold}
+use Rattle.steps.specs.declared.ask.Ask.{Ask}
+use Rattle.steps.specs.declared.ask.After.{After}
+use Rattle.model.specs.declared.event.Answer.{Answer}
+use Rattle.model.specs.declared.event.Event.{Event}
+use Rattle.model.specs.declared.event.Start.{Start}
+use Rattle.model.specs.declared.event.Start.TheVariants.{Bits}
+use Rattle.model.specs.declared.families.Flight.{Flight}
+use Rattle.model.specs.declared.families.Flight as flights
+use Rattle.model.specs.declared.families.Registry.{Registry}
+use Rattle.model.specs.declared.families.Registry as registries
+use Rattle.model.specs.declared.families.bits.BitsStart.{BitsStart}
+use Rattle.model.specs.declared.families.bits.calls.BitsFlight.{BitsFlight}
+use Rattle.model.specs.declared.party.Party.{Party}
+use Rattle.model.specs.declared.turn.Kind.{Kind}
+use Rattle.model.specs.Coding.{Coding}
+use Rattle.model.specs.Families.{ask_of}
+use Rattle.model.specs.Families.Bits.Calls.{want, after, goes_back}
+use Rattle.model.specs.Families.Bits.Steps.{effects_of}
+use Rattle.model.specs.Families.Loan.Opening.{is_loan}
+use Rattle.model.specs.Promise.{Promise}
+use Rattle.model.specs.Promises.Spans.{Stands}
+use Rattle.model.specs.Reading.{Span, Open, own_after, span_of}
+use Rattle.model.specs.Step.{answer_in}
+use Rattle.model.specs.Turns.{one_if, old_of, words_after, change_of, step_count, doing_after, ending_of}
+use Rattle.model.proofs.Frame as frame
+use Rattle.model.proofs.Frame.{Family}
+use Rattle.model.proofs.Readings.{AreOwn, AllFollow}
+use Rattle.laws_bits.proofs.Spans.{any_call, wrote_in}
+
+-- the words, and the events of the run, in which a call under way has written its own
+pub record SetState (T : Type 0) : Type 0 where
+  pub words : List ℕ
+  pub events : List (Event T)
+
+-- what is said of one of the two kinds
+pub record SetKind (T : Type 0) : Type 1 where
+  pub kind : Kind
+  pub own : is_loan kind ≡ false  -- it is made with one number
+  pub promise : Promise T
+  pub Holds : ℕ → List ℕ → List (Event T) → ℕ → Type 0  -- what is so of the words and of the events, at this capacity and after so many turns
+  -- what a turn conserves from there, after so many changes, that comes to these words with these events and to so many
+  -- changes
+  pub Conserves : ℕ → List ℕ → List (Event T) → ℕ → ℕ → List ℕ → List (Event T) → ℕ → Type 0
+  pub wrote : ℕ → BitsFlight → Span T → List (Event T)  -- what a party's call under way has written, where this is its span
+  pub number : BitsFlight → ℕ → ℕ  -- how many steps it has taken at most, having conserves back so often
+  pub At : ℕ → List (Event T) → BitsStart → BitsFlight → Type 0  -- where it stands, having written this
+  pub Knows : ℕ → List (Event T) → List ℕ → ℕ → ℕ → ℕ → BitsFlight → Type 0  -- what it knows of the events and of the counts
+
+module _ {T : Type 0} where
+  -- ---- the family of a kind
+
+  abbrev pub Represents : Registry T → List ℕ → SetState T → Type 0
+  Represents kept words s = (kept ≡ registries.TheVariants.Nothing) × (words ≡ s.words)
+
+  abbrev pub number_by : (BitsFlight → ℕ → ℕ) → Flight T → ℕ → ℕ
+  number_by number (flights.TheVariants.Bits flight) backs = number flight backs
+  number_by number flight backs = 0
+
+  abbrev pub FlightAt : (BitsStart → BitsFlight → Type 0) → Start T → Flight T → Type 0
+  FlightAt at (Bits start) (flights.TheVariants.Bits flight) = at start flight
+  FlightAt at start flight = ⊥
+
+  abbrev pub KnowsFlight : (BitsFlight → Type 0) → Flight T → Type 0
+  KnowsFlight knows (flights.TheVariants.Bits flight) = knows flight
+  KnowsFlight knows flight = ⊥
+
+  module _ (K : SetKind T) where
+    abbrev pub wrote_by : ℕ → Flight T → Span T → List (Event T)
+    wrote_by p (flights.TheVariants.Bits flight) span = K.wrote p flight span
+    wrote_by p flight span = []
+
+    abbrev pub family : Coding T → ℕ → Family T
+    family code c =
+        record {
+          coding = code;
+          kind = K.kind;
+          promise = K.promise;
+          capacity = c;
+          State = SetState T;
+          Represents = Represents;
+          Holds = λ s latest events turns. K.Holds c s.words events turns × (s.events ≡ events);
+          written = λ s p flight. wrote_by p flight (span_of p s.events);
+          number = λ wrote. number_by K.number;
+          At = λ s p start flight. FlightAt (K.At c (wrote_in (span_of p s.events))) start flight;
+          Knows = λ s p events since changes backs flight. KnowsFlight (K.Knows p events s.words since changes backs) flight;
+        }
+
+    -- ---- what a turn shows
+
+    module _ (code : Coding T) (c : ℕ) (s : SetState T) (events : List (Event T)) (turns p changes : ℕ) where
+      abbrev pub then_state : List ℕ → List (Event T) → SetState T
+      then_state words es = record { words = words; events = events ++ es }
+
+      -- that leaves these words, where the party's span was this
+      pub record Shows (words : List ℕ) (from : Span T) (y : Party T) (es : List (Event T)) (changes' : ℕ) : Type 0 where
+        pub conserves : K.Conserves c s.words events turns changes words es changes'
+        pub own : AreOwn p es
+        pub stands : AllFollow (Stands K.promise c) from es
+        pub here : frame.Fits (family code c) (then_state words es) p (Some y) (fold own_after from es)
+        pub knows : frame.KnowsDoing (family code c) (then_state words es) p (events ++ es) changes' y.backs y.doing
+
+      -- ---- what a step shows
+
+      module _ (since steps backs : ℕ) where
+        -- the party after a step that does this operation
+        abbrev pub party_then : BitsStart → Option Ask → Bool → After BitsFlight (Answer T) → Party T
+        party_then start ask back after =
+            record {
+              start = Bits start;
+              steps = steps + step_count ask;
+              backs = backs + one_if back;
+              doing = doing_after (changes + change_of s.words ask) (since + change_of s.words ask) (any_call after);
+            }
+
+        abbrev pub events_then : BitsStart → List (Event T) → After BitsFlight (Answer T) → List (Event T)
+        events_then start wrote after = wrote ++ ending_of p (Bits start) (answer_in (any_call after))
+
+        -- a step that shows what it has to, where its party's call had written this
+        abbrev pub StepShows : List (Event T) → BitsStart → Option Ask → Bool → After BitsFlight (Answer T) → List (Event T) → Type 0
+        StepShows before start ask back after wrote =
+            Shows (words_after s.words ask) (Open (Bits start) before) (party_then start ask back after)
+            (events_then start wrote after) (changes + change_of s.words ask)
+
+        -- the step of a call under way
+        abbrev pub ShowsStep : List (Event T) → BitsStart → BitsFlight → Type 0
+        ShowsStep before start flight =
+            StepShows before start (ask_of (want flight)) (goes_back flight (old_of s.words (ask_of (want flight))))
+            (after flight (old_of s.words (ask_of (want flight))))
+            (effects_of p flight (old_of s.words (ask_of (want flight))))
+
+        -- what is asked of it, where the call has this name and its party's span was this
+        abbrev pub StepOf : BitsStart → BitsFlight → List (Event T) → Type 0
+        StepOf start flight wrote =
+            K.At c (wrote_in (span_of p s.events)) start flight → span_of p events ≡ Open (Bits start) wrote
+            → wrote ≡ K.wrote p flight (span_of p s.events) → steps ≤ K.number flight backs
+            → K.Knows p events s.words since changes backs flight → ShowsStep wrote start flight

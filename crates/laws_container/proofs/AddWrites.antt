@@ -1,0 +1,404 @@
+-- The steps of an add that was granted its index: it is the one who may write there, until it ends.
+use Rattle.std.proofs.Common.{◌≡◌, ◌≢◌, ◌⊎◌, ⊎_elim, inl, inr, ℕ, ◌+◌, ◌*◌, ◌%◌, ◌<◌, ◌≤◌, ◌==◌, if◌then◌else◌, nat_lt}
+use Rattle.std.proofs.Common.{Bool, false, true, Option, Some, None, is_some, List, [], ◌∷◌, ◌++◌, get_or, set, refl}
+use Rattle.std.proofs.Common.{sym, ap, subst, ◌∙◌, append-nil, arith}
+use Rattle.std.proofs.lemmas.Bool.{cases_eq}
+use Rattle.std.proofs.lemmas.Bool.Decides.{nat_tests}
+use Rattle.std.proofs.lemmas.List.Sums.{fold-append}
+use Rattle.steps.specs.declared.ask.Ask.{Ask}
+use Rattle.steps.specs.declared.ask.After.{After}
+use Rattle.steps.specs.declared.ask.After.TheVariants.{GoOn, Done}
+use Rattle.steps.specs.declared.container.add.Add as add_calls
+use Rattle.steps.specs.declared.container.add.AddStage.{AddStage}
+use Rattle.steps.specs.declared.container.add.AddStage as adds
+use Rattle.steps.specs.Container.Add.{Added, first_add, at_add}
+use Rattle.steps.specs.Container.Layout.{change_word, count_word, element_word, is_even}
+use Rattle.steps.specs.Indices.Robust.Parts.{empty, one_more}
+use Rattle.steps.specs.Routine.{went_on}
+use Rattle.model.specs.declared.event.Answer.{Answer}
+use Rattle.model.specs.declared.event.Answer.TheVariants.{Index}
+use Rattle.model.specs.declared.event.Event.TheVariants.{Placed, Hidden, Finished}
+use Rattle.model.specs.declared.event.Start.TheVariants.{Container}
+use Rattle.model.specs.declared.families.container.ContainerStart.{ContainerStart}
+use Rattle.model.specs.declared.families.container.ContainerStart.TheVariants.{Add}
+use Rattle.model.specs.declared.families.container.calls.ContainerFlight.{ContainerFlight}
+use Rattle.model.specs.declared.families.container.calls.ContainerFlight as calls
+use Rattle.model.specs.declared.party.Party.{Party}
+use Rattle.model.specs.Families.Container.Calls.{added}
+use Rattle.model.specs.Families.Container.Reading.{Act, Places, Hides, places, contents_after, contents_of, announced_after, announced_of}
+use Rattle.model.specs.Families.Indices.Robust.Reading.{Deed, filled_after, holder_after}
+use Rattle.model.specs.Families.Queues.Calls.{as_it_is}
+use Rattle.model.specs.Parties.{put}
+use Rattle.model.specs.Step.{as_call}
+use Rattle.model.specs.Turns.{words_after, step_count}
+use Rattle.laws_robust.proofs.Effects.{at_same, at_other}
+use Rattle.laws_robust.proofs.Gone.{calm_less, gone_less, lives_settled}
+use Rattle.laws_robust.proofs.Rights.{right_after}
+use Rattle.laws_robust.proofs.Stages.{loads_same, exchanges, fails_same}
+use Rattle.laws_robust.proofs.Stages as set_stages
+use Rattle.laws_container.proofs.Adds.{acquire_step}
+use Rattle.laws_container.proofs.Contents.{store_writes}
+use Rattle.laws_container.proofs.Core.{count_at, count_set}
+use Rattle.laws_container.proofs.Invariant.{Scene, Inv, ActsFor, before, after, of_set, inv_of_set, view}
+use Rattle.laws_container.proofs.Knows.{AddOwns, Covers, Writes, HasPlaced, Stood, AddKnows, Knows}
+use Rattle.laws_container.proofs.Left.{left_after, left_of}
+use Rattle.laws_container.proofs.WellFormed.{IsWellFormedSoFar}
+use Rattle.laws_container.proofs.Sets.{leaves_behind, settles}
+use Rattle.laws_container.proofs.Stages.{IsHere, all, done, sees_now, then_sees, StepOf, Leads, none_lengthens}
+use Rattle.laws_container.proofs.Stages.{party_then, since_then, changes_then, backs_then, acts_more, goes_on}
+use Rattle.laws_container.proofs.Stages.{goes_calmly, ends, was_well_formed, was_well_formed_calmly}
+use Rattle.laws_container.proofs.Standing.{add_at, add_number, AddAt, IsGranted, MayHaveHidden}
+use Rattle.laws_container.proofs.Steps.{loads, stores_word, hides, places as places_it, misplaces, ends_counted}
+use Rattle.laws_container.proofs.Turns.{WellFormed, add_owes, count_in}
+use Rattle.laws_container.proofs.Writers.{IsWriter, one_writer}
+use Rattle.laws_container.proofs.Writing.{even_is, odd_is, adds_one, stores_to, adds_to_count, adds_to_change, hides_count}
+
+-- what it has placed, once it has placed this
+pub placed_once : {T : Type 0} (acts : List (Act T)) (i : ℕ) (value : T) → (acts ≡ []) ⊎ (acts ≡ Hides i ∷ [])
+    → places (acts ++ Places i value ∷ []) ≡ (i, value) ∷ []
+placed_once all_acts i value h =
+    ⊎_elim (λ e. ap (λ d. places (d ++ Places i value ∷ [])) e) (λ e. ap (λ d. places (d ++ Places i value ∷ [])) e) h
+
+module _ {T : Type 0} (scene : Scene T) (inv : Inv scene) (value : T) (owner : ℕ) (fits : owner < empty)
+    (acts : ActsFor scene owner) (i : ℕ)
+    (granted : IsGranted scene.capacity scene.coding.size (all scene) (done scene) owner i) where
+  open scene use {coding as code, capacity as c, party as p, steps as steps, backs as backs, events as events, latest as latest}
+
+  abbrev ws : List ℕ
+  ws = scene.words
+
+  abbrev start : ContainerStart T
+  start = Add value owner
+
+  abbrev at_stage : AddStage → ContainerFlight T
+  at_stage stage = add_at c value owner stage
+
+  below : i < c
+  below = granted.0
+
+  -- how the call goes on, as an add of the kind
+  abbrev as_add : After (add_calls.Add T) Added → After (ContainerFlight T) (Answer T)
+  as_add a = as_call calls.TheVariants.Add added (went_on as_it_is (record { value = value; owner = owner }) tt a)
+
+  abbrev Here : AddStage → Type 0
+  Here stage = IsHere scene (Add value owner) (add_at c value owner stage)
+
+  -- what it sees after a step that goes on to this stage
+  abbrev then_at : AddStage → Option Ask → Party T
+  then_at next ask = party_then scene start ask false (GoOn (at_stage next))
+
+  module _ (k : AddOwns c owner i (sees_now scene)) where
+    mine : WellFormed (before scene) → IsWriter p i owner events
+    mine well_formed = inl (k.owns well_formed.calm (acts.stays well_formed.kept)).by
+
+    nobody_else : {A : Type 0} → WellFormed (before scene) → (q : ℕ) → q ≢ p → (o : ℕ) → IsWriter q i o events → A
+    nobody_else holds q ne o theirs = absurd (ne (one_writer q p i o owner events (inv.good.owned holds.calm) theirs (mine holds)))
+
+    -- it owns its index still
+    owns_calm : (ask : Option Ask) (y : Party T)
+        → AddOwns c owner i (view scene.terms (words_after ws ask) scene.states (put p y latest) events p (since_then scene ask)
+        (changes_then scene ask) (backs_then scene false))
+    owns_calm ask y = record { paid = let paid = k.paid in omega arith; within = below; owns = k.owns }
+
+    owns_hidden : (ask : Option Ask) (y : Party T) → AddOwns c owner i (then_sees scene ask false scene.states y (Hidden p i ∷ []))
+    owns_hidden ask y =
+        record {
+          paid = let paid = k.paid in omega arith;
+          within = below;
+          owns = λ calm lives.
+              let h = k.owns (calm_less scene.terms.by events (Hidden p i ∷ []) calm) (gone_less scene.terms.by owner events (Hidden p i ∷ []) lives) in
+              record {
+                by =
+                    record {
+                      right = fold-append (right_after i) _ events (Hidden p i ∷ []) ∙ h.by.right;
+                      filled = fold-append (filled_after i) None events (Hidden p i ∷ []) ∙ h.by.filled;
+                    };
+                held = fold-append (holder_after i) None events (Hidden p i ∷ []) ∙ h.held;
+              };
+        }
+
+    owns_placed : (ask : Option Ask) (y : Party T) → AddOwns c owner i (then_sees scene ask false scene.states y (Placed p i value ∷ []))
+    owns_placed ask y =
+        record {
+          paid = let paid = k.paid in omega arith;
+          within = below;
+          owns = λ calm lives.
+              let h =
+              k.owns (calm_less scene.terms.by events (Placed p i value ∷ []) calm)
+              (gone_less scene.terms.by owner events (Placed p i value ∷ []) lives) in
+              record {
+                by =
+                    record {
+                      right = fold-append (right_after i) _ events (Placed p i value ∷ []) ∙ h.by.right;
+                      filled = fold-append (filled_after i) None events (Placed p i value ∷ []) ∙ h.by.filled;
+                    };
+                held = fold-append (holder_after i) None events (Placed p i value ∷ []) ∙ h.held;
+              };
+        }
+
+    -- ---- a step that changes nothing and writes nothing
+
+    calm_step : (stage next : AddStage) (ask : Option Ask) → words_after ws ask ≡ ws → Here stage
+        → add_owes next ≡ true → steps + step_count ask ≤ add_number c code.size next (backs_then scene false)
+        → AddAt c code.size (all scene) (done scene) owner next
+        → Knows code c (at_stage next)
+        (view scene.terms (words_after ws ask) scene.states (put p (then_at next ask) latest) events p
+        (since_then scene ask) (changes_then scene ask) (backs_then scene false))
+        → Leads scene start ask false scene.states [] (GoOn (at_stage next))
+    calm_step stage next ask same here owe few at known =
+        goes_calmly scene start (at_stage next) ask false scene.states here.span
+        (loads scene inv start (at_stage stage) tt here (then_at next ask) (words_after ws ask) same
+        (was_well_formed scene start tt here.span (words_after ws ask) (then_at next ask) [] tt) (λ was. owe))
+        few (refl, refl, fits, at) known
+
+    -- it goes on to the words of its value, from an even number
+    first_word : (ask : Option Ask) (y : Party T) → words_after ws ask ≡ ws
+        → (WellFormed (before scene) → count_in code c (before scene) i % 2 ≡ 0)
+        → (IsWellFormedSoFar scene.terms (put p y latest) events → WellFormed (before scene))
+        → Writes code c owner i value 0
+        (view scene.terms (words_after ws ask) scene.states (put p y latest) events p (since_then scene ask)
+        (changes_then scene ask) (backs_then scene false))
+    first_word ask y same even well_formed = grind arith
+
+    -- ---- the number is loaded
+
+    module _ (here : Here (adds.TheVariants.LoadsCount i)) (none : done scene ≡ []) (s : steps ≤ c + 3 + backs * (c + 1)) where
+      abbrev load_it : Option Ask
+      load_it = Some (set_stages.loads (count_word c i))
+
+      abbrev number : ℕ
+      number = count_in code c (before scene) i
+
+      loads_step : StepOf scene start (at_stage (adds.TheVariants.LoadsCount i))
+      loads_step = go (is_even number) refl
+        where
+          go : (b : Bool) → is_even number ≡ b → Leads scene start (Some (set_stages.loads (count_word c i))) false scene.states []
+              (as_add (if b then GoOn (at_add (first_add c) (adds.TheVariants.Stores i 0)) else GoOn (at_add (first_add c) (adds.TheVariants.Hides i number))))
+          go true t =
+              let some = inv.elements.coded.some in
+              calm_step (adds.TheVariants.LoadsCount i) (adds.TheVariants.Stores i 0) load_it
+              (loads_same ws (count_word c i)) here refl (omega arith) (granted, inl none, omega arith) (
+                owns_calm load_it (then_at (adds.TheVariants.Stores i 0) load_it),
+                first_word load_it (then_at (adds.TheVariants.Stores i 0) load_it) (loads_same ws (count_word c i))
+                    (λ holds. even_is number t)
+                    (was_well_formed_calmly scene start tt here.span (then_at (adds.TheVariants.Stores i 0) load_it)),
+              )
+          go false t =
+              calm_step (adds.TheVariants.LoadsCount i) (adds.TheVariants.Hides i number) load_it
+              (loads_same ws (count_word c i)) here refl (omega arith) (granted, none, odd_is number t) (
+                owns_calm load_it (then_at (adds.TheVariants.Hides i number) load_it),
+                (λ holds lives. inl (ap (λ w. count_at c w i) (loads_same ws (count_word c i)))),
+              )
+
+    -- ---- what stands there is hidden
+
+    module _ (count : ℕ) (here : Here (adds.TheVariants.Hides i count)) (none : done scene ≡ [])
+        (odd : count % 2 ≡ 1) (covers : Covers code c owner i count (sees_now scene))
+        (s : steps ≤ c + 4 + backs * (c + 1)) where
+      abbrev hide_it : Option Ask
+      hide_it = Some (exchanges (count_word c i) count (one_more count))
+
+      abbrev now_at : ℕ
+      now_at = count_in code c (before scene) i
+
+      hides_step : StepOf scene start (at_stage (adds.TheVariants.Hides i count))
+      hides_step = go (now_at == count) refl
+        where
+          go : (b : Bool) → (now_at == count) ≡ b
+              → Leads scene start (Some (exchanges (count_word c i) count (one_more count))) false scene.states
+              ((if b then Hidden p i ∷ [] else []) ++ []) (GoOn (at_stage (adds.TheVariants.Stores i 0)))
+          go true t =
+              let is : now_at ≡ count = grind (arith, nat_tests) in
+              let some = inv.elements.coded.some in
+              let wide = inv.elements.wide in
+              let y = then_at (adds.TheVariants.Stores i 0) hide_it in
+              let new = hides_count scene inv i count below is in
+              let now_odd : now_at % 2 ≡ 1 = ap (λ n. n % 2) is ∙ odd in
+              let well_formed = was_well_formed scene start tt here.span (words_after ws hide_it) y (Hidden p i ∷ []) (refl, tt) in
+              let after : count_at c (words_after ws hide_it) i ≡ one_more now_at =
+              ap (λ w. count_at c w i) new ∙ count_set c code.size ws i (one_more now_at) (omega arith) in
+              goes_on scene start (at_stage (adds.TheVariants.Stores i 0)) hide_it false scene.states (Hidden p i ∷ []) here.span (λ start w. refl)
+              (hides scene inv start (at_stage (adds.TheVariants.Hides i count)) tt here y (words_after ws hide_it)
+              i below new refl now_odd (λ holds q ne o theirs fresh. nobody_else holds q ne o theirs) well_formed)
+              ((granted.1, none), tt) (omega arith)
+              (refl, refl, fits, ((below, ap (λ (d : List Deed). d ++ []) granted.1), inr (ap (λ d. d ++ Hides i ∷ []) none), omega arith)) (
+                owns_hidden hide_it y,
+                record {
+                  few = omega arith;
+                  has = λ holds lives. record { even = ap (λ n. n % 2) after ∙ omega arith; written = λ j js. absurd (omega arith) };
+                },
+              )
+          go false t =
+              let other : now_at ≢ count = grind (arith, nat_tests) in
+              let some = inv.elements.coded.some in
+              let y = then_at (adds.TheVariants.Stores i 0) hide_it in
+              let same = fails_same ws (count_word c i) count (one_more count) other in
+              calm_step (adds.TheVariants.Hides i count) (adds.TheVariants.Stores i 0) hide_it same here refl (omega arith) (granted, inl none, omega arith) (
+                owns_calm hide_it y,
+                first_word hide_it y same
+                    (λ holds. ⊎_elim (λ e. absurd (other e)) (λ even. even) (covers holds (acts.stays holds.kept)))
+                    (was_well_formed_calmly scene start tt here.span y),
+              )
+
+    -- ---- a word is stored
+
+    module _ (at : ℕ) (here : Here (adds.TheVariants.Stores i at))
+        (hidden : MayHaveHidden c code.size (all scene) (done scene) i) (ats : at < code.size)
+        (w : Writes code c owner i value at (sees_now scene)) (s : steps ≤ c + 5 + at + backs * (c + 1)) where
+      abbrev store_it : Option Ask
+      store_it = Some (stores_to (element_word c code.size i at) (get_or (code.words_of value) at 0))
+
+      store_to : (next : AddStage) → add_owes next ≡ true
+          → steps + 1 ≤ add_number c code.size next (backs_then scene false)
+          → AddAt c code.size (all scene) (done scene) owner next
+          → Knows code c (at_stage next)
+          (view scene.terms (words_after ws store_it) scene.states (put p (then_at next store_it) latest) events p
+          (since_then scene store_it) (changes_then scene store_it) (backs_then scene false))
+          → Leads scene start store_it false scene.states [] (GoOn (at_stage next))
+      store_to next owe few stands known =
+          goes_calmly scene start (at_stage next) store_it false scene.states here.span
+          (stores_word scene inv start (at_stage (adds.TheVariants.Stores i at)) tt here (then_at next store_it)
+          (words_after ws store_it) i below at ats value owner mine (λ holds. w.has holds (acts.stays holds.kept))
+          refl
+          (was_well_formed scene start tt here.span (words_after ws store_it) (then_at next store_it) [] tt) (λ was. owe))
+          few (refl, refl, fits, stands) known
+
+      one_more_word : (next : AddStage)
+          → Writes code c owner i value (at + 1)
+          (view scene.terms (words_after ws store_it) scene.states (put p (then_at next store_it) latest) events p
+          (since_then scene store_it) (changes_then scene store_it) (backs_then scene false))
+      one_more_word next =
+          record {
+            few = omega arith;
+            has = λ holds lives.
+                let before_it = was_well_formed_calmly scene start tt here.span (then_at next store_it) holds in
+                store_writes code c ws events (inv.elements.whole before_it) inv.elements.wide i below value at ats
+                (w.has before_it (acts.stays before_it.kept));
+          }
+
+      stores_step : StepOf scene start (at_stage (adds.TheVariants.Stores i at))
+      stores_step = go (nat_lt (at + 1) code.size) refl
+        where
+          go : (b : Bool) → nat_lt (at + 1) code.size ≡ b
+              → Leads scene start (Some (stores_to (element_word c code.size i at) (get_or (code.words_of value) at 0)))
+              false scene.states []
+              (as_add (if b then GoOn (at_add (first_add c) (adds.TheVariants.Stores i (at + 1))) else GoOn
+              (at_add (first_add c) (adds.TheVariants.AddsCount i))))
+          go true t =
+              let more : at + 1 < code.size = grind (arith, nat_tests) in
+              store_to (adds.TheVariants.Stores i (at + 1)) refl (omega arith) (granted, hidden, more) (
+                owns_calm store_it (then_at (adds.TheVariants.Stores i (at + 1)) store_it),
+                one_more_word (adds.TheVariants.Stores i (at + 1)),
+              )
+          go false t =
+              let last : code.size ≤ at + 1 = grind (arith, nat_tests) in
+              let is : at + 1 ≡ code.size = omega arith in
+              store_to (adds.TheVariants.AddsCount i) refl (omega arith) (granted, hidden) (
+                owns_calm store_it (then_at (adds.TheVariants.AddsCount i) store_it),
+                subst (λ n. Writes code c owner i value n
+                    (view scene.terms (words_after ws store_it) scene.states
+                    (put p (then_at (adds.TheVariants.AddsCount i) store_it) latest) events p (since_then scene store_it)
+                    (changes_then scene store_it) (backs_then scene false)))
+                    is (one_more_word (adds.TheVariants.AddsCount i)),
+              )
+
+    -- ---- the value is placed
+
+    module _ (here : Here (adds.TheVariants.AddsCount i))
+        (hidden : MayHaveHidden c code.size (all scene) (done scene) i)
+        (w : Writes code c owner i value code.size (sees_now scene))
+        (s : steps ≤ c + 5 + code.size + backs * (c + 1)) where
+      abbrev add_it : Option Ask
+      add_it = Some (adds_one (count_word c i))
+
+      abbrev count_now : ℕ
+      count_now = count_in code c (before scene) i
+
+      abbrev y : Party T
+      y = then_at (adds.TheVariants.AddsChange i) add_it
+
+      new : words_after ws add_it ≡ set ws (count_word c i) (one_more count_now)
+      new = adds_to_count scene inv i below
+
+      places_step : StepOf scene start (at_stage (adds.TheVariants.AddsCount i))
+      places_step = go (is_even count_now) refl
+        where
+          go : (b : Bool) → is_even count_now ≡ b
+              → Leads scene start (Some (adds_one (count_word c i))) false scene.states
+              ((if b then Placed p i value ∷ [] else []) ++ []) (GoOn (at_stage (adds.TheVariants.AddsChange i)))
+          go true t =
+              let es = Placed p i value ∷ [] in
+              let well_formed = was_well_formed scene start tt here.span (words_after ws add_it) y es (refl, tt) in
+              goes_on scene start (at_stage (adds.TheVariants.AddsChange i)) add_it false scene.states es here.span (λ start w. refl)
+              (places_it scene inv start (at_stage (adds.TheVariants.AddsCount i)) tt here y (words_after ws add_it)
+              i below new refl value owner acts mine (λ holds. w.has holds (acts.stays holds.kept)) well_formed)
+              ((refl, granted.1, hidden), tt) (omega arith)
+              (refl, refl, fits, (below, ap (λ (d : List Deed). d ++ []) granted.1)) (
+                owns_placed add_it y,
+                (λ holds. ap (λ a. places a) (acts_more scene start here.span es (refl, tt) (λ start w. refl)) ∙ placed_once (done scene) i value hidden),
+                (λ holds lives. (
+                  fold-append (left_after i) true events es ∙ at_same i i false (left_of i events) refl,
+                  ap is_some (fold-append (contents_after i) None events es ∙ at_same i i (Some value) (contents_of i events) refl),
+                )),
+              )
+          go false t =
+              let well_formed = was_well_formed scene start tt here.span (words_after ws add_it) y [] tt in
+              let ill_formed =
+              λ (holds : WellFormed (after scene (words_after ws add_it) y [])).
+              let even = (w.has (well_formed holds) (acts.stays holds.kept)).even in
+              let odd = odd_is count_now t in
+              absurd {A = ⊥} (omega arith) in
+              goes_calmly scene start (at_stage (adds.TheVariants.AddsChange i)) add_it false scene.states here.span
+              (misplaces scene inv start (at_stage (adds.TheVariants.AddsCount i)) tt here y (words_after ws add_it) i below new refl well_formed ill_formed)
+              (omega arith) (refl, refl, fits, granted) (
+                owns_calm add_it y,
+                (λ holds. absurd
+                    (ill_formed (subst (λ es. IsWellFormedSoFar scene.terms (put p y latest) es) (sym (append-nil events)) holds))),
+                (λ holds lives. absurd
+                    (ill_formed (subst (λ es. IsWellFormedSoFar scene.terms (put p y latest) es) (sym (append-nil events)) holds))),
+              )
+
+    -- ---- the change is counted, and the call ends
+
+    module _ (here : Here (adds.TheVariants.AddsChange i)) (placed : HasPlaced code c i value (sees_now scene))
+        (stood : Stood code c owner i (sees_now scene)) (s : steps ≤ c + 6 + code.size + backs * (c + 1)) where
+      abbrev end_it : Option Ask
+      end_it = Some (adds_one (change_word c))
+
+      ends_step : StepOf scene start (at_stage (adds.TheVariants.AddsChange i))
+      ends_step =
+          let y = party_then scene start end_it false (Done (Index i)) in
+          let es = Finished p (Container start) (Index i) ∷ [] in
+          let well_formed = was_well_formed scene start tt here.span (words_after ws end_it) y es (refl, tt) in
+          let new = adds_to_change scene inv in
+          ends scene start (Index i) end_it false scene.states [] here.span none_lengthens
+          (ends_counted scene inv start (at_stage (adds.TheVariants.AddsChange i)) tt here y (words_after ws end_it) (Index i)
+          (settles (of_set scene) (inv_of_set scene inv) (words_after ws end_it)
+          (leaves_behind (of_set scene) (inv_of_set scene inv) (words_after ws end_it) (change_word c) _ (omega arith) new)
+          i owner value
+          (λ calm. k.owns (calm_less scene.terms.by events es calm)
+          (lives_settled scene.terms.by p i owner value events acts.alive calm.1)))
+          tt well_formed (λ holds. placed (well_formed holds)) new says)
+          ((refl, granted.1), tt) (omega arith) (let paid = k.paid in omega arith)
+        where
+          says : WellFormed (before scene) → (a : ℕ)
+              → announced_after a (announced_of a events) (Finished p (Container (Add value owner)) (Index i)) ≡ true
+              → is_some (contents_of a events) ≡ true
+          says holds a said =
+              ⊎_elim (λ e. subst (λ b. is_some (contents_of b events) ≡ true) (sym e) (stood holds (acts.stays holds.kept)).1)
+              (λ ne. inv.elements.announced holds a (sym (at_other i a true (announced_of a events) ne) ∙ said))
+              (cases_eq a i)
+
+-- ---- any step of an add
+
+module _ {T : Type 0} (scene : Scene T) (inv : Inv scene) (value : T) (owner : ℕ) (fits : owner < empty) (acts : ActsFor scene owner) where
+  pub add_step : (stage : AddStage) → IsHere scene (Add value owner) (add_at scene.capacity value owner stage)
+      → AddAt scene.capacity scene.coding.size (all scene) (done scene) owner stage
+      → AddKnows scene.coding scene.capacity value owner stage (sees_now scene)
+      → scene.steps ≤ add_number scene.capacity scene.coding.size stage scene.backs → StepOf scene (Add value owner) (add_at scene.capacity value owner stage)
+  add_step (adds.TheVariants.Acquires stage) here at k s = acquire_step scene inv value owner fits acts stage here at.1 at.0 k s
+  add_step (adds.TheVariants.LoadsCount i) here at k s = loads_step scene inv value owner fits acts i at.0 k here at.1 s
+  add_step (adds.TheVariants.Hides i count) here at k s = hides_step scene inv value owner fits acts i at.0 k.0 count here at.1 at.2 k.1 s
+  add_step (adds.TheVariants.Stores i word) here at k s = stores_step scene inv value owner fits acts i at.0 k.0 word here at.1 at.2 k.1 s
+  add_step (adds.TheVariants.AddsCount i) here at k s = places_step scene inv value owner fits acts i at.0 k.0 here at.1 k.1 s
+  add_step (adds.TheVariants.AddsChange i) here at k s = ends_step scene inv value owner fits acts i at k.0 here k.1 k.2 s

@@ -1,0 +1,163 @@
+-- The steps of an add while it acquires its index: what the acquire of the set leads to, in a call that goes on after the grant.
+use Rattle.std.proofs.Common.{inl, inr, ◌∙◌, ⊎_elim, ◌≡◌, ℕ, ◌<◌, ◌≤◌, Bool, false, Option, List, [], ◌∷◌, ◌++◌, refl, ap, arith}
+use Rattle.std.specs.Prelude.{Err}
+use Rattle.steps.specs.declared.ask.Ask.{Ask}
+use Rattle.steps.specs.declared.ask.After.{After}
+use Rattle.steps.specs.declared.ask.After.TheVariants.{GoOn, Done}
+use Rattle.steps.specs.declared.container.add.AddStage.{AddStage}
+use Rattle.steps.specs.declared.container.add.AddStage as adds
+use Rattle.steps.specs.declared.container.enums.ContainerAddFailure as add_failures
+use Rattle.steps.specs.declared.indices.enums.UniqueIndexSetAcquireFailure as failures
+use Rattle.steps.specs.declared.indices.robust.acquire.Acquire as set_calls
+use Rattle.steps.specs.declared.indices.robust.acquire.AcquireStage.{AcquireStage}
+use Rattle.steps.specs.declared.indices.robust.acquire.AcquireStage as acquires
+use Rattle.steps.specs.declared.indices.robust.parts.Raise as raises
+use Rattle.steps.specs.Container.Add.{first_add, add_acquired}
+use Rattle.steps.specs.Indices.Robust.Acquire.{Acquired}
+use Rattle.steps.specs.Indices.Robust.Parts.{cell_word, empty}
+use Rattle.steps.specs.Routine.{went_on}
+use Rattle.model.specs.declared.event.Answer.TheVariants.{NoPlace}
+use Rattle.model.specs.declared.event.Event.{Event}
+use Rattle.model.specs.declared.event.Event.TheVariants.{Filled, Granted, Finished}
+use Rattle.model.specs.declared.event.Start.TheVariants.{Container}
+use Rattle.model.specs.declared.families.container.ContainerStart.{ContainerStart}
+use Rattle.model.specs.declared.families.container.ContainerStart.TheVariants.{Add}
+use Rattle.model.specs.declared.families.container.calls.ContainerFlight.{ContainerFlight}
+use Rattle.model.specs.declared.families.container.calls.ContainerFlight as calls
+use Rattle.model.specs.declared.party.Party.{Party}
+use Rattle.model.specs.Families.Container.Calls.{added}
+use Rattle.model.specs.Families.Container.Reading.{Act}
+use Rattle.model.specs.Families.Indices.Robust.Reading.{Fills, Grants}
+use Rattle.model.specs.Families.Queues.Calls.{as_it_is}
+use Rattle.model.specs.Step.{as_call}
+use Rattle.model.specs.Turns.{words_after}
+use Rattle.laws_robust.proofs.Alone.{grants_alone, owns_then}
+use Rattle.laws_robust.proofs.Core as set_core
+use Rattle.laws_robust.proofs.Effects as set_effects
+use Rattle.laws_robust.proofs.Held.{Caller, WhyNot, FewEnd, held_step}
+use Rattle.laws_robust.proofs.Invariant as set_invariant
+use Rattle.laws_robust.proofs.Knows as set_knows
+use Rattle.laws_robust.proofs.Stages as set_stages
+use Rattle.laws_robust.proofs.Standing.{acquire_at, acquire_number, AcquireAt}
+use Rattle.laws_container.proofs.Effects.{OwesStill}
+use Rattle.laws_container.proofs.Invariant.{Scene, Inv, ActsFor, before, after, of_set, inv_of_set}
+use Rattle.laws_container.proofs.Sets.{quiet_end}
+use Rattle.laws_container.proofs.SetSteps.{rest_set, wide_set, fills, grants}
+use Rattle.laws_container.proofs.Stages.{IsHere, all, done, Leads, none_lengthens, StepOf, party_then, goes_on, goes_calmly, ends, owes_none, was_well_formed}
+use Rattle.laws_container.proofs.Standing.{add_at}
+use Rattle.laws_container.proofs.Steps.{loads, ends_calmly}
+use Rattle.laws_container.proofs.Turns.{WellFormed}
+
+module _ {T : Type 0} (scene : Scene T) (inv : Inv scene) (value : T) (owner : ℕ) (fits : owner < empty) (acts : ActsFor scene owner) (stage : AcquireStage)
+    (here : IsHere scene (Add value owner) (add_at scene.capacity value owner (adds.TheVariants.Acquires stage))) where
+  open scene use {coding as code, capacity as c, party as p, steps as steps, backs as backs, events as events}
+
+  abbrev ws : List ℕ
+  ws = scene.words
+
+  abbrev start : ContainerStart T
+  start = Add value owner
+
+  abbrev flight : ContainerFlight T
+  flight = add_at c value owner (adds.TheVariants.Acquires stage)
+
+  abbrev goes_to : AddStage → ContainerFlight T
+  goes_to next = add_at c value owner next
+
+  -- what a step leads to that did this, by how the acquire goes on
+  abbrev Lead : Option Ask → Bool → List (Event T) → After set_calls.Acquire Acquired → Type 0
+  Lead ask back did a =
+      Leads scene (Add value owner) ask back scene.states (did ++ [])
+      (as_call calls.TheVariants.Add added (went_on as_it_is (record { value = value; owner = owner }) tt (add_acquired (first_add c) a)))
+
+  module _ (none : done scene ≡ []) where
+    still : (words' : List ℕ) (y : Party T) (es : List (Event T))
+        (well_formed : WellFormed (after scene words' y es) → WellFormed (before scene))
+        → OwesStill scene inv words' y es well_formed
+    still words' y es well_formed = owes_none scene start flight y here refl
+
+    refuses : (failure : failures.UniqueIndexSetAcquireFailure) (ask : Option Ask) (back : Bool)
+        → words_after ws ask ≡ ws → WhyNot (of_set scene) (inv_of_set scene inv) owner fits acts.alive 0 failure
+        → set_knows.IsPaid (set_stages.sees (of_set scene) ask back)
+        → FewEnd (of_set scene) (inv_of_set scene inv) owner fits acts.alive 0 ask back → Lead ask back [] (Done (Err failure))
+    refuses failures.TheVariants.IsLocked ask back same why paid few =
+        let y = party_then scene start ask back (Done (NoPlace add_failures.TheVariants.IsLocked)) in
+        let es = Finished p (Container start) (NoPlace add_failures.TheVariants.IsLocked) ∷ [] in
+        let well_formed = was_well_formed scene start tt here.span (words_after ws ask) y es (refl, tt) in
+        ends scene start (NoPlace add_failures.TheVariants.IsLocked) ask back scene.states [] here.span none_lengthens
+        (ends_calmly scene inv start flight tt here y (words_after ws ask) (NoPlace add_failures.TheVariants.IsLocked)
+        (set_effects.quietly (of_set scene) (inv_of_set scene inv) (words_after ws ask) es
+        (set_effects.stays_same (of_set scene) (inv_of_set scene inv) (words_after ws ask) same).leaves
+        (quiet_end (of_set scene) (inv_of_set scene inv) start (NoPlace add_failures.TheVariants.IsLocked) (λ i o. refl) (λ i r. refl))
+        (refl, tt) (tt, tt) (tt, tt))
+        why.0 well_formed (λ holds. tt) same (λ i b. refl) (still (words_after ws ask) y es well_formed))
+        ((refl, why.1), tt) (omega arith) (omega arith)
+    refuses failures.TheVariants.OutOfIndices ask back same why paid few =
+        let y = party_then scene start ask back (Done (NoPlace add_failures.TheVariants.OutOfSpace)) in
+        let es = Finished p (Container start) (NoPlace add_failures.TheVariants.OutOfSpace) ∷ [] in
+        let well_formed = was_well_formed scene start tt here.span (words_after ws ask) y es (refl, tt) in
+        ends scene start (NoPlace add_failures.TheVariants.OutOfSpace) ask back scene.states [] here.span none_lengthens
+        (ends_calmly scene inv start flight tt here y (words_after ws ask) (NoPlace add_failures.TheVariants.OutOfSpace)
+        (set_effects.quietly (of_set scene) (inv_of_set scene inv) (words_after ws ask) es
+        (set_effects.stays_same (of_set scene) (inv_of_set scene inv) (words_after ws ask) same).leaves
+        (quiet_end (of_set scene) (inv_of_set scene inv) start (NoPlace add_failures.TheVariants.OutOfSpace)
+        (λ i o. refl) (λ i r. refl))
+        (refl, tt) (tt, tt) (tt, tt)) (
+          why.0,
+          ⊎_elim
+              (λ worn. inl (set_invariant.worn_on scene.terms.by ws (words_after ws ask) (λ end. ap set_core.counter_of same ∙ end) worn))
+              (λ all_filled. inr all_filled) why.1,
+        ) well_formed (λ holds. tt) same (λ i b. refl) (still (words_after ws ask) y es well_formed))
+        ((refl, why.2), tt) (omega arith) (omega arith)
+
+    caller : Caller (of_set scene) (inv_of_set scene inv) owner fits acts.alive 0 Lead
+    caller =
+        record {
+          quiet = λ next ask back same at known few.
+              let y = party_then scene start ask back (GoOn (goes_to (adds.TheVariants.Acquires next))) in
+              let well_formed = was_well_formed scene start tt here.span (words_after ws ask) y [] tt in
+              goes_calmly scene start (goes_to (adds.TheVariants.Acquires next)) ask back scene.states here.span
+              (loads scene inv start flight tt here y (words_after ws ask) same well_formed (still (words_after ws ask) y [] well_formed))
+              (omega arith) (refl, refl, fits, (at, none)) known;
+          filled = λ i ask new does below empty_all known few.
+              let y =
+              party_then scene start ask false
+              (GoOn (goes_to (adds.TheVariants.Acquires (acquires.TheVariants.Raises i raises.TheVariants.LoadsCounter)))) in
+              let es = Filled p i owner ∷ [] in
+              let well_formed = was_well_formed scene start tt here.span (words_after ws ask) y es (refl, tt) in
+              goes_on scene start (goes_to (adds.TheVariants.Acquires (acquires.TheVariants.Raises i raises.TheVariants.LoadsCounter)))
+              ask false scene.states es here.span (λ start w. refl)
+              (fills scene inv start flight tt here y (words_after ws ask)
+              (rest_set scene inv start flight tt here y (words_after ws ask) (cell_word i) owner (omega arith) new)
+              (wide_set scene inv start flight tt here y (words_after ws ask) (cell_word i) owner new) i owner does
+              well_formed (still (words_after ws ask) y es well_formed))
+              ((refl, empty_all), tt) (omega arith)
+              (refl, refl, fits, ((below, ap (λ d. d ++ Fills i owner ∷ []) empty_all), ap (λ (d : List (Act T)). d ++ []) none)) known;
+          fails = refuses;
+          grants = λ i ask back below filled mine raised paid few.
+              let stays = set_effects.raised_stays (of_set scene) (inv_of_set scene inv) (words_after ws ask) raised in
+              let y = party_then scene start ask back (GoOn (goes_to (adds.TheVariants.LoadsCount i))) in
+              let es = Granted p i owner ∷ [] in
+              let well_formed = was_well_formed scene start tt here.span (words_after ws ask) y es (refl, tt) in
+              let alone = grants_alone (of_set scene) (inv_of_set scene inv) (words_after ws ask) i owner mine acts.alive raised in
+              goes_on scene start (goes_to (adds.TheVariants.LoadsCount i)) ask back scene.states es here.span (λ start w. refl)
+              (grants scene inv start flight tt here y (words_after ws ask)
+              (λ n behind. stays.others n (omega arith)) stays.leaves.wide i owner alone well_formed
+              (still (words_after ws ask) y es well_formed))
+              ((refl, filled), tt) (omega arith)
+              (refl, refl, fits, ((below, ap (λ d. d ++ Grants i owner ∷ []) filled), ap (λ (d : List (Act T)). d ++ []) none))
+              (record {
+                paid = omega arith;
+                within = below;
+                owns =
+                    λ calm lives.
+                    let k = owns_then (of_set scene) (inv_of_set scene inv) (words_after ws ask) i owner mine acts.alive raised calm in
+                    record { by = k.0; held = k.1 };
+              });
+        }
+
+    pub acquire_step : AcquireAt c owner (all scene) stage
+        → set_knows.Knows c (acquire_at c owner stage) (set_stages.now (of_set scene))
+        → steps ≤ acquire_number c stage backs
+        → StepOf scene (Add value owner) (add_at c value owner (adds.TheVariants.Acquires stage))
+    acquire_step at k s = held_step (of_set scene) (inv_of_set scene inv) owner fits acts.alive 0 Lead caller stage at k (omega arith)

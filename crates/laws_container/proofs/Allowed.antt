@@ -1,0 +1,23 @@
+-- What a turn that is taken has passed, on a machine whose owners die or in an open run.
+use Rattle.std.proofs.Common.{◌≡◌, true, None, arith}
+use Rattle.model.specs.declared.turn.Turn.{Turn}
+use Rattle.model.specs.declared.turn.Turn.TheVariants.{Next, Decide}
+use Rattle.model.specs.Refusals.{is_due, call_refusal}
+use Rattle.model.specs.World.{World, flight_in}
+use Rattle.model.proofs.Frame as frame
+use Rattle.model.proofs.Rows.{must_be_due}
+use Rattle.laws_robust.specs.Open.{open_refusal}
+
+module _ {T : Type 0} where
+  abbrev pub IsAllowed : World T → Turn T → Type 0
+  IsAllowed w (Next p) = call_refusal w (Next p) ≡ None
+  IsAllowed w (Decide p said) = is_due w.coding (flight_in w p) ≡ true
+  IsAllowed w turn = Unit {0}
+
+  pub allowed_by : (w : World T) (turn : Turn T) → call_refusal w turn ≡ None → IsAllowed w turn
+  allowed_by w (Next p) e = e
+  allowed_by w (Decide p said) e = frame.is_true (is_due w.coding (flight_in w p)) (must_be_due w p said e)
+  allowed_by w turn e = tt
+
+  pub allowed_open : (w : World T) (turn : Turn T) → open_refusal w turn ≡ None → IsAllowed w turn
+  allowed_open w turn e = grind arith

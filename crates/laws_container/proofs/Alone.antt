@@ -1,0 +1,72 @@
+-- A call that was alone, by the events: it was so a turn ago, and no other party has a call under way.
+use Rattle.std.proofs.Common.{◌≡◌, ◌≢◌, ℕ, if◌then◌else◌, true, false, Option, Some, None, List, [], ◌∷◌, ◌++◌, fold}
+use Rattle.std.proofs.Common.{refl, sym, ap, subst, ◌∙◌, append_assoc, arith, eq-eqb, ne_eqb}
+use Rattle.std.proofs.lemmas.Bool.Decides.{nat_tests}
+use Rattle.std.proofs.lemmas.List.{append_cancel_left}
+use Rattle.std.proofs.lemmas.List.Sums.{fold-append}
+use Rattle.std.specs.List.{AllByRecursion}
+use Rattle.model.specs.declared.event.Event.{Event}
+use Rattle.model.specs.declared.event.Event.TheVariants.{Begun, Died}
+use Rattle.model.specs.Families.Container.Looks.{IsOwnOrDeath, WasAlone}
+use Rattle.model.specs.Moments.{BeginsNone}
+use Rattle.model.specs.Reading.{Span, Never, whose, is_party, own_after, span_after, span_of}
+use Rattle.model.specs.Shape.{IsShut}
+use Rattle.laws_robust.proofs.Past.{began_earlier}
+
+not_theirs : (p q : ℕ) (o : Option ℕ) → q ≢ p → is_party p o ≡ true → is_party q o ≡ false
+not_theirs p q None ne h = refl
+not_theirs p q (Some r) ne h = let is : r ≡ p = grind (arith, nat_tests) in ne_eqb r q (λ e. ne (sym e ∙ is))
+
+module _ {T : Type 0} where
+  all_less : (P : Event T → Type 0) (xs ys : List (Event T)) → AllByRecursion P (xs ++ ys) → AllByRecursion P xs
+  all_less P [] ys h = tt
+  all_less P (x ∷ xs) ys h = (h.0, all_less P xs ys h.1)
+
+  all_last : (P : Event T → Type 0) (xs ys : List (Event T)) → AllByRecursion P (xs ++ ys) → AllByRecursion P ys
+  all_last P [] ys h = h
+  all_last P (x ∷ xs) ys h = all_last P xs ys h.1
+
+  -- what came since a call began, in a run that has gone on
+  pub since_then : (p : ℕ) (events es : List (Event T)) → BeginsNone p es → (h : WasAlone p (events ++ es))
+      → WasAlone p events × AllByRecursion (IsOwnOrDeath p) es
+  since_then p events es none h =
+      let k = began_earlier p events es h.before h.start h.since h.is none h.within in
+      let same : h.since ≡ k.since ++ es =
+      sym (append_cancel_left (h.before ++ Begun p h.start ∷ []) (k.since ++ es) h.since
+      (append_assoc h.before (Begun p h.start ∷ []) (k.since ++ es)
+      ∙ (sym (append_assoc h.before (Begun p h.start ∷ k.since) es)
+      ∙ (ap (λ xs. xs ++ es) (sym k.is) ∙ (h.is ∙ sym (append_assoc h.before (Begun p h.start ∷ []) h.since)))))) in
+      let all : AllByRecursion (IsOwnOrDeath p) (k.since ++ es) = subst (AllByRecursion (IsOwnOrDeath p)) same h.holds.1 in (
+        record {
+          before = h.before;
+          start = h.start;
+          since = k.since;
+          is = k.is;
+          within = k.within;
+          holds = (h.holds.0, all_less (IsOwnOrDeath p) k.since es all);
+        },
+        all_last (IsOwnOrDeath p) k.since es all,
+      )
+
+  pub alone_less : (p : ℕ) (events es : List (Event T)) → BeginsNone p es → WasAlone p (events ++ es) → WasAlone p events
+  alone_less p events es none h = (since_then p events es none h).0
+
+  -- ---- the others have no call under way
+
+  theirs_stays : (p q : ℕ) (span : Span T) (e : Event T) → q ≢ p → IsOwnOrDeath p e → span_after q span e ≡ span
+  theirs_stays p q span (Died o) ne h = refl
+  theirs_stays p q span e ne h = ap (λ b. if b then own_after span e else span) (not_theirs p q (whose e) ne h)
+
+  all_stay : (p q : ℕ) (span : Span T) (es : List (Event T)) → q ≢ p → AllByRecursion (IsOwnOrDeath p) es → fold (span_after q) span es ≡ span
+  all_stay p q span [] ne h = refl
+  all_stay p q span (e ∷ es) ne h = ap (λ s. fold (span_after q) s es) (theirs_stays p q span e ne h.0) ∙ all_stay p q span es ne h.1
+
+  pub others_shut : (p q : ℕ) (events : List (Event T)) → q ≢ p → WasAlone p events → IsShut (span_of q events)
+  others_shut p q events ne h =
+      let began : span_of q (h.before ++ Begun p h.start ∷ h.since) ≡ span_of q h.before =
+      fold-append (span_after q) Never h.before (Begun p h.start ∷ h.since)
+      ∙ all_stay p q (span_of q h.before) (Begun p h.start ∷ h.since) ne (begun, h.holds.1) in
+      subst IsShut (sym (ap (span_of q) h.is ∙ began)) (h.holds.0 q ne)
+    where
+      begun : is_party p (Some p) ≡ true
+      begun = eq-eqb p p refl

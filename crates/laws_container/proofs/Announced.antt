@@ -1,0 +1,44 @@
+-- What was announced when a call began, and stood through it, is announced still.
+use Rattle.std.proofs.Common.{◌≡◌, ℕ, Bool, true, false, Option, Some, None, List, [], ◌∷◌, ◌++◌, refl, sym, ap, subst, ◌∙◌, append_assoc, append-nil, arith}
+use Rattle.std.proofs.lemmas.List.Sums.{fold-append}
+use Rattle.model.specs.declared.event.Event.{Event}
+use Rattle.model.specs.declared.event.Event.TheVariants.{Begun}
+use Rattle.model.specs.Families.Container.Looks.{WasAnnounced, StoodThrough}
+use Rattle.model.specs.Families.Container.Reading.{contents_after, contents_of, announced_after, announced_of}
+use Rattle.model.specs.Moments.{BeginsNone}
+
+module _ {T : Type 0} where
+  -- an event after which something stands hides nothing there
+  one_stays : (i : ℕ) (value : T) (e : Event T) (o : Option T) (c : Bool) → contents_after i o e ≡ Some value → c ≡ true → announced_after i c e ≡ true
+  one_stays i value e o c here h = grind arith
+
+  all_stays : (i : ℕ) (value : T) (es part : List (Event T))
+      → ((mid rest : List (Event T)) → es ≡ mid ++ rest → contents_of i (part ++ mid) ≡ Some value)
+      → announced_of i part ≡ true → announced_of i (part ++ es) ≡ true
+  all_stays i value [] part stood said = ap (announced_of i) (append-nil part) ∙ said
+  all_stays i value (e ∷ es) part stood said =
+      let here : contents_after i (contents_of i part) e ≡ Some value = sym (fold-append (contents_after i) None part (e ∷ [])) ∙ stood (e ∷ []) es refl in
+      let now : announced_of i (part ++ e ∷ []) ≡ true =
+      fold-append (announced_after i) false part (e ∷ []) ∙ one_stays i value e (contents_of i part) (announced_of i part) here said in
+      let later : announced_of i ((part ++ e ∷ []) ++ es) ≡ true =
+      all_stays i value es (part ++ e ∷ [])
+      (λ mid rest is. ap (contents_of i) (append_assoc part (e ∷ []) mid) ∙ stood (e ∷ mid) rest (ap (λ (xs : List (Event T)). e ∷ xs) is)) now in
+      ap (announced_of i) (sym (append_assoc part (e ∷ []) es)) ∙ later
+
+  none_rest : (p : ℕ) (mid rest : List (Event T)) → BeginsNone p (mid ++ rest) → BeginsNone p rest
+  none_rest p [] rest h = h
+  none_rest p (Begun q s ∷ es) rest h = none_rest p es rest h.1
+  none_rest p (e ∷ es) rest h = none_rest p es rest h
+
+  pub announced_through : (p i : ℕ) (value : T) (events : List (Event T)) → WasAnnounced p i events
+      → StoodThrough p i value events → announced_of i events ≡ true
+  announced_through p i value events said through =
+      let part : List (Event T) = said.before ++ Begun p said.start ∷ [] in
+      let is : part ++ said.since ≡ events = append_assoc said.before (Begun p said.start ∷ []) said.since ∙ sym said.is in
+      let begun : announced_of i part ≡ true = fold-append (announced_after i) false said.before (Begun p said.start ∷ []) ∙ said.holds in
+      subst (λ es. announced_of i es ≡ true) is
+      (all_stays i value said.since part
+      (λ mid rest e. through (part ++ mid) rest
+      (sym is ∙ (ap (λ xs. part ++ xs) e ∙ sym (append_assoc part mid rest)))
+      (none_rest p mid rest (subst (BeginsNone p) e said.within)))
+      begun)

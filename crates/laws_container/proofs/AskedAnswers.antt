@@ -1,0 +1,261 @@
+-- What becomes of the answer to a question: a no ends a find, a yes tells a recovery to free the index that it asked about, and
+-- no question is left.
+use Rattle.std.proofs.Common.{◌≡◌, ℕ, ⊎_elim, Bool, true, false, Option, Some, None, List, [], ◌∷◌, ◌++◌, refl, sym, ap, subst, ◌∙◌, append-nil, arith}
+use Rattle.std.proofs.lemmas.Bool.{cases_eq}
+use Rattle.steps.specs.declared.container.find.FindStage.{FindStage}
+use Rattle.steps.specs.declared.container.find.FindStage as finds
+use Rattle.steps.specs.declared.container.recover.DeadOwner.{DeadOwner}
+use Rattle.steps.specs.declared.container.recover.RecoverStage.{RecoverStage}
+use Rattle.steps.specs.declared.container.recover.RecoverStage as recovers
+use Rattle.steps.specs.declared.container.state.ContainerState.{ContainerState}
+use Rattle.steps.specs.declared.copied.Buffer as buffers
+use Rattle.steps.specs.declared.indices.enums.ReleaseMode.{ReleaseMode}
+use Rattle.steps.specs.Indices.Robust.Parts.{raise_want, lock_want}
+use Rattle.model.specs.declared.event.Answer.TheVariants.{Number}
+use Rattle.model.specs.declared.event.Event.{Event}
+use Rattle.model.specs.declared.event.Event.TheVariants.{Copied, Finished}
+use Rattle.model.specs.declared.event.Start.TheVariants.{Container}
+use Rattle.model.specs.declared.families.Flight as flights
+use Rattle.model.specs.declared.families.container.ContainerStart.{ContainerStart}
+use Rattle.model.specs.declared.families.container.ContainerStart as starts
+use Rattle.model.specs.declared.families.container.calls.ContainerFlight.{ContainerFlight}
+use Rattle.model.specs.declared.families.container.calls.ContainerFlight.TheVariants.{Find, Recover}
+use Rattle.model.specs.declared.turn.Turn.{Turn}
+use Rattle.model.specs.declared.turn.Turn.TheVariants.{Decide}
+use Rattle.model.specs.Coding.{Coding}
+use Rattle.model.specs.Families.{is_question}
+use Rattle.model.specs.Families.Container.Calls.{want, after}
+use Rattle.model.specs.Families.Container.Questions.{question_in, question_at, AllRight, HasWritten, AsksOnce}
+use Rattle.model.specs.Families.Container.Questions.{IsAnswered, IsTold, YesTells, NoTells, QuestionsRight}
+use Rattle.model.specs.Families.Container.Reading.{acts_of}
+use Rattle.model.specs.Families.Container.States.{state_of}
+use Rattle.model.specs.Families.Container.Steps.{effects, questions}
+use Rattle.model.specs.Families.Indices.Robust.Promises.{IsIn}
+use Rattle.model.specs.Families.Indices.Robust.Reading.{deeds_of}
+use Rattle.model.specs.Families.Queues.Calls.{read_in}
+use Rattle.model.specs.Step.{answer_in}
+use Rattle.model.specs.Turns.{number_of, ending_of, events_of, after_turn}
+use Rattle.model.specs.World.{Trace}
+use Rattle.model.proofs.Frame as frame
+use Rattle.laws_robust.proofs.Effects.{both_ways}
+use Rattle.laws_container.proofs.AskedLeft.{made}
+use Rattle.laws_container.proofs.AskedTurn.{IsCalm, IsGoing, any_turn, decided}
+use Rattle.laws_container.proofs.AskedWrites.{goes_right}
+use Rattle.laws_container.proofs.Invariant.{family_by}
+use Rattle.laws_robust.proofs.Sound.{raise_asks_none, lock_asks_none}
+use Rattle.laws_container.proofs.Sound.{MayGoOn, Shown}
+use Rattle.laws_container.proofs.Stages.{any_call}
+use Rattle.laws_container.proofs.Standing.{find_at, recover_at, At}
+use Rattle.laws_container.proofs.Tells.{counts_up_to}
+use Rattle.laws_container.specs.Tells.{StoppedIf, FindsUpToIf}
+use Rattle.laws_container.proofs.Allowed.{IsAllowed}
+use Rattle.laws_container.proofs.WellFormed.{IsWellFormedSoFar}
+use Rattle.laws_container.proofs.Terms.{Terms}
+
+-- ---- what a step makes a call ask about, it has copied; and it makes none ask that has waited for an answer
+
+module _ {T : Type 0} (code : Coding T) (q : ℕ) where
+  -- the step writes this first
+  pub record Writes (first : Event T) (es : List (Event T)) : Type 0 where
+    pub rest : List (Event T)
+    pub is : es ≡ first ∷ rest
+
+  abbrev writes : Option (ContainerState T) → ContainerFlight T → ℕ → List (Event T)
+  writes state flight old = effects code q state flight old ++ questions q flight old
+
+  abbrev Copies : Option (ContainerState T) → ContainerFlight T → ℕ → Type 0
+  Copies state flight old = (index : ℕ) (value : T) → made code flight old ≡ Some (index, value) → Writes (Copied q index value) (writes state flight old)
+
+  made_copies : (state : Option (ContainerState T)) (flight : ContainerFlight T) (old : ℕ) → Copies state flight old
+  made_copies state flight old = grind arith
+
+  abbrev Waits : ContainerFlight T → ℕ → Type 0
+  Waits flight old = is_question (want code flight) ≡ true → made code flight old ≡ None
+
+  waits_none : (flight : ContainerFlight T) (old : ℕ) → Waits flight old
+  waits_none flight old = grind arith
+
+-- ---- a decision
+
+module _ {T : Type 0} (shown : Shown T) (terms : Terms) (code : Coding T) (t : Trace T)
+    (s : frame.Sound (family_by terms code t.world.capacity) t) (may : MayGoOn terms t) where
+  abbrev c : ℕ
+  c = t.world.capacity
+
+  -- what the party of a call writes that is handed this answer, and what it asks about before
+  module _ (p : ℕ) where
+    abbrev state : Option (ContainerState T)
+    state = state_of p s.state.states
+
+    abbrev Wrote : Bool → ContainerStart T → ContainerFlight T → ℕ → Type 0
+    Wrote said start flight answer =
+        events_of t.world (Decide p said)
+        ≡ (effects code p state flight answer ++ questions p flight answer)
+        ++ ending_of p (Container start) (answer_in (any_call (after code state flight answer)))
+
+    abbrev HasAsked : ContainerFlight T → Type 0
+    HasAsked flight = question_at t p ≡ question_in code (Some (flights.TheVariants.Container flight))
+
+    -- a call of this name waits for the decision
+    pub record Waiting (said : Bool) (start : ContainerStart T) : Type 0 where
+      pub flight : ContainerFlight T
+      pub at : At c code.size (deeds_of p t.events) (acts_of p t.events) start flight
+      pub due : is_question (want code flight) ≡ true
+      pub asked : HasAsked flight
+      pub wrote : Wrote said start flight (number_of said)
+
+    waiting : (said : Bool) (start : ContainerStart T) → IsAllowed t.world (Decide p said) → IsIn p (Container start) t → Waiting said start
+    waiting said start r here = grind arith
+
+    -- ---- a recovery
+
+    module _ (owner : ℕ) (mode : ReleaseMode) where
+      abbrev Hears : ContainerFlight T → Type 0
+      Hears flight =
+          is_question (want code flight) ≡ true → HasAsked flight
+          → Wrote true (starts.TheVariants.Recover owner mode) flight 1
+          → IsTold p owner t (after_turn t (Decide p true))
+
+      stage_hears : (given : DeadOwner) → given.owner ≡ owner
+          → (capacity : ℕ) (room : buffers.Buffer 128) (stage : RecoverStage)
+          → Hears (recover_at capacity given.owner given.mode room stage)
+      stage_hears given same capacity room stage due asked e = grind arith
+
+      hears : (flight : ContainerFlight T)
+          → At c code.size (deeds_of p t.events) (acts_of p t.events) (starts.TheVariants.Recover owner mode) flight
+          → Hears flight
+      hears (Recover run) at = stage_hears run.given (ap (λ (o : DeadOwner). o.owner) at.1) run.call.capacity run.room run.call.stage
+      hears flight at = absurd at
+
+      abbrev Stays : ContainerFlight T → Type 0
+      Stays flight =
+          is_question (want code flight) ≡ true → Wrote false (starts.TheVariants.Recover owner mode) flight 0
+          → (after_turn t (Decide p false)).events ≡ t.events
+
+      stage_stays : (given : DeadOwner) (capacity : ℕ) (room : buffers.Buffer 128) (stage : RecoverStage)
+          → Stays (recover_at capacity given.owner given.mode room stage)
+      stage_stays given capacity room recovers.TheVariants.LoadsCounter due e = absurd (cc)
+      stage_stays given capacity room (recovers.TheVariants.LoadsCell k) due e = absurd (cc)
+      stage_stays given capacity room (recovers.TheVariants.LoadsCount k) due e = absurd (cc)
+      stage_stays given capacity room (recovers.TheVariants.LoadsWord k count at) due e = absurd (cc)
+      stage_stays given capacity room (recovers.TheVariants.ChecksCount k count) due e = absurd (cc)
+      stage_stays given capacity room (recovers.TheVariants.Asks k count) due e = ap (λ es. t.events ++ es) e ∙ append-nil t.events
+      stage_stays given capacity room (recovers.TheVariants.EmptiesCell k count) due e = absurd (cc)
+      stage_stays given capacity room (recovers.TheVariants.Hides k count) due e = absurd (cc)
+      stage_stays given capacity room (recovers.TheVariants.Raises k raise) due e = both_ways (is_question (raise_want raise)) (raise_asks_none raise) due
+      stage_stays given capacity room (recovers.TheVariants.Locks k lock) due e = both_ways (is_question (lock_want lock)) (lock_asks_none lock) due
+      stage_stays given capacity room recovers.TheVariants.LoadsCounterAgain due e = absurd (cc)
+      stage_stays given capacity room (recovers.TheVariants.AddsChange lock) due e = absurd (cc)
+
+      stays : (flight : ContainerFlight T)
+          → At c code.size (deeds_of p t.events) (acts_of p t.events) (starts.TheVariants.Recover owner mode) flight
+          → Stays flight
+      stays (Recover run) at = stage_stays run.given run.call.capacity run.room run.call.stage
+      stays flight at = absurd at
+
+    -- ---- a find
+
+    module _ (owner : ℕ) (r : IsAllowed t.world (Decide p false)) (well_formed : Type 0)
+        (so_far : well_formed
+        → IsWellFormedSoFar terms (after_turn t (Decide p false)).world.latest (after_turn t (Decide p false)).events) where
+      abbrev Stops : ContainerFlight T → Type 0
+      Stops flight =
+          is_question (want code flight) ≡ true → HasAsked flight → Wrote false (starts.TheVariants.Find owner) flight 0
+          → StoppedIf well_formed p owner t (after_turn t (Decide p false))
+
+      stage_stops : (capacity given : ℕ) (room : buffers.Buffer 128) (stage : FindStage) → Stops (find_at capacity given room stage)
+      stage_stops capacity given room (finds.TheVariants.LoadsCell k found) due asked e = absurd (cc)
+      stage_stops capacity given room (finds.TheVariants.LoadsCount k found) due asked e = absurd (cc)
+      stage_stops capacity given room (finds.TheVariants.LoadsWord k found count at) due asked e = absurd (cc)
+      stage_stops capacity given room (finds.TheVariants.ChecksCount k found count) due asked e = absurd (cc)
+      stage_stops capacity given room (finds.TheVariants.Asks k found) due asked e =
+          let ends : (after_turn t (Decide p false)).events
+          ≡ t.events ++ Finished p (Container (starts.TheVariants.Find owner)) (Number found) ∷ [] =
+          ap (λ es. t.events ++ es) e in
+          record {
+            index = k;
+            value = read_in code room;
+            number = found;
+            asked = asked;
+            ends = ends;
+            counts = counts_up_to shown terms code t s may (Decide p false) r well_formed so_far p owner found k (read_in code room) ends refl asked;
+          }
+
+      stops : (flight : ContainerFlight T) → At c code.size (deeds_of p t.events) (acts_of p t.events) (starts.TheVariants.Find owner) flight → Stops flight
+      stops (Find run) at = stage_stops run.call.capacity run.given run.room run.call.stage
+      stops flight at = absurd at
+
+  -- ---- any turn
+
+  module _ (turn : Turn T) (r : IsAllowed t.world turn) where
+    abbrev new : Trace T
+    new = after_turn t turn
+
+    by_turn : (p : ℕ) (said : Bool) → turn ≡ Decide p said → IsAllowed t.world (Decide p said)
+    by_turn p said is = subst (λ u. IsAllowed t.world u) is r
+
+    pub finds_up_to : (well_formed : Type 0)
+        (so_far : well_formed → IsWellFormedSoFar terms (after_turn t turn).world.latest (after_turn t turn).events)
+        → FindsUpToIf well_formed t turn (after_turn t turn)
+    finds_up_to well_formed so_far p owner is here =
+        let w = waiting p false (starts.TheVariants.Find owner) (by_turn p false is) here in
+        subst (λ u. StoppedIf well_formed p owner t (after_turn t u)) (sym is)
+        (stops p owner (by_turn p false is) well_formed
+        (subst (λ u. well_formed → IsWellFormedSoFar terms (after_turn t u).world.latest (after_turn t u).events) is so_far)
+        w.flight w.at w.due w.asked w.wrote)
+
+    tells_yes : YesTells t turn (after_turn t turn)
+    tells_yes p owner mode is here =
+        let w = waiting p true (starts.TheVariants.Recover owner mode) (by_turn p true is) here in
+        subst (λ u. IsTold p owner t (after_turn t u)) (sym is) (hears p owner mode w.flight w.at w.due w.asked w.wrote)
+
+    tells_no : NoTells t turn (after_turn t turn)
+    tells_no p owner mode is here =
+        let w = waiting p false (starts.TheVariants.Recover owner mode) (by_turn p false is) here in
+        subst (λ u. (after_turn t u).events ≡ t.events) (sym is) (stays p owner mode w.flight w.at w.due w.wrote)
+
+    answered : IsAnswered turn (after_turn t turn)
+    answered p said is =
+        let d = decided shown terms code c t s may p said (by_turn p said is) in
+        subst (λ u. question_at (after_turn t u) p ≡ None) (sym is) (d.goes.asks ∙ waits_none code p d.goes.flight d.goes.answer d.due)
+
+    once : AsksOnce t (after_turn t turn)
+    once p index value e ne =
+        ⊎_elim
+        (λ (calm : IsCalm shown terms code c t s may turn). absurd (ne (calm.asks p index value e)))
+        (λ (going : IsGoing shown terms code c t s may turn). ⊎_elim (λ is. here going is)
+        (λ other. absurd (ne (sym (going.goes.others p other) ∙ e))) (cases_eq p going.party))
+        (any_turn shown terms code c t s may turn r)
+      where
+        here : (going : IsGoing shown terms code c t s may turn) → p ≡ going.party → HasWritten (Copied p index value) t (after_turn t turn)
+        here going is =
+            let g = going.goes in
+            let first =
+            made_copies code going.party (state_of going.party s.state.states) g.flight g.answer index value
+            (sym g.asks ∙ subst (λ n. question_at (after_turn t turn) n ≡ Some (index, value)) is e) in
+            subst (λ n. HasWritten (Copied n index value) t (after_turn t turn)) (sym is)
+            (record {
+              before = [];
+              after =
+                  first.rest ++ ending_of going.party (Container g.start)
+                  (answer_in (any_call (after code (state_of going.party s.state.states) g.flight g.answer)));
+              is =
+                  ap (λ es. t.events ++ es)
+                  (g.wrote ∙ ap (λ es. es ++ ending_of going.party (Container g.start)
+                  (answer_in (any_call (after code (state_of going.party s.state.states) g.flight g.answer))))
+                  first.is);
+            })
+
+    all_right : AllRight t turn (after_turn t turn)
+    all_right =
+        record {
+          wrote = events_of t.world turn;
+          is = refl;
+          right = ⊎_elim
+              (λ (calm : IsCalm shown terms code c t s may turn). calm.right)
+              (λ (going : IsGoing shown terms code c t s may turn). goes_right shown terms code c t s may turn going.party going.goes)
+              (any_turn shown terms code c t s may turn r);
+        }
+
+    pub questions_right : QuestionsRight t turn (after_turn t turn)
+    questions_right = record { writes = all_right; once = once; answered = answered; yes = tells_yes; no = tells_no }

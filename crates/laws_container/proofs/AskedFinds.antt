@@ -1,0 +1,101 @@
+-- A find that ends writes nothing else in that turn, and where no no ends it, it has come to the indices of the whole container.
+use Rattle.std.proofs.Common.{◌≡◌, ℕ, ◌+◌, ⊎_elim, Option, Some, List, [], ◌∷◌, ◌++◌, refl, sym, ap, subst, ◌∙◌, append-nil, arith}
+use Rattle.std.proofs.lemmas.List.{append_cancel_left}
+use Rattle.steps.specs.declared.container.find.FindStage.{FindStage}
+use Rattle.steps.specs.declared.container.state.ContainerState.{ContainerState}
+use Rattle.steps.specs.declared.copied.Buffer as buffers
+use Rattle.model.specs.declared.event.Answer.{Answer}
+use Rattle.model.specs.declared.event.Answer.TheVariants.{Number}
+use Rattle.model.specs.declared.event.Event.{Event}
+use Rattle.model.specs.declared.event.Event.TheVariants.{Finished}
+use Rattle.model.specs.declared.event.Start.TheVariants.{Container}
+use Rattle.model.specs.declared.families.container.ContainerStart.TheVariants as starts
+use Rattle.model.specs.declared.families.container.calls.ContainerFlight.{ContainerFlight}
+use Rattle.model.specs.declared.families.container.calls.ContainerFlight.TheVariants.{Find}
+use Rattle.model.specs.declared.turn.Turn.{Turn}
+use Rattle.model.specs.Coding.{Coding}
+use Rattle.model.specs.Families.Container.Calls.{after}
+use Rattle.model.specs.Families.Container.Reading.{acts_of}
+use Rattle.model.specs.Families.Container.States.{state_of}
+use Rattle.model.specs.Families.Container.Steps.{effects, questions}
+use Rattle.model.specs.Families.Indices.Robust.Reading.{deeds_of}
+use Rattle.model.specs.Step.{answer_in}
+use Rattle.model.specs.Turns.{ending_of, events_of, after_turn}
+use Rattle.model.specs.World.{Trace}
+use Rattle.model.proofs.Frame as frame
+use Rattle.model.proofs.Readings.{no_more}
+use Rattle.laws_container.proofs.AskedTurn.{GoesOn, IsCalm, IsGoing, any_turn}
+use Rattle.laws_container.proofs.Invariant.{family_by}
+use Rattle.laws_container.proofs.LooksTell.{container_is, ends_last}
+use Rattle.laws_container.proofs.Sound.{MayGoOn, Shown}
+use Rattle.laws_container.proofs.Stages.{any_call}
+use Rattle.laws_container.proofs.Standing.{find_at, At}
+use Rattle.laws_container.proofs.Tells.{counts_all}
+use Rattle.laws_container.proofs.Written.{all_effects}
+use Rattle.laws_container.specs.Tells.{CountsIf, FindsAllIf}
+use Rattle.laws_container.proofs.Allowed.{IsAllowed}
+use Rattle.laws_container.proofs.WellFormed.{IsWellFormedSoFar}
+use Rattle.laws_container.proofs.Terms.{Terms}
+
+-- ---- the step that ends a find
+
+module _ {T : Type 0} (code : Coding T) (q : ℕ) (state : Option (ContainerState T)) (answer : Answer T) where
+  abbrev Silent : ContainerFlight T → ℕ → Type 0
+  Silent flight old = answer_in (any_call (after code state flight old)) ≡ Some answer → effects code q state flight old ++ questions q flight old ≡ []
+
+  stage_silent : (c owner : ℕ) (room : buffers.Buffer 128) (stage : FindStage) (old : ℕ) → Silent (find_at c owner room stage) old
+  stage_silent c owner room stage old e = grind arith
+
+-- a list that is one event and ends with one has no other
+only_one : {A : Type 0} → (x y : A) (before : List A) → x ∷ [] ≡ before ++ y ∷ [] → before ≡ []
+only_one x y [] e = refl
+only_one x y (z ∷ zs) e = let none : [] ≡ zs ++ y ∷ [] = cc in absurd (no_more zs y [] none)
+
+module _ {T : Type 0} (shown : Shown T) (terms : Terms) (code : Coding T) (t : Trace T)
+    (s : frame.Sound (family_by terms code t.world.capacity) t) (may : MayGoOn terms t) (turn : Turn T)
+    (r : IsAllowed t.world turn) (p owner number : ℕ) where
+  abbrev c : ℕ
+  c = t.world.capacity
+
+  abbrev last : Event T
+  last = Finished p (Container (starts.Find owner)) (Number number)
+
+  silent_there : (q old : ℕ) (flight : ContainerFlight T)
+      → At c code.size (deeds_of q t.events) (acts_of q t.events) (starts.Find owner) flight
+      → Silent code q (state_of q s.state.states) (Number number) flight old
+  silent_there q old (Find run) at = stage_silent code q (state_of q s.state.states) (Number number) run.call.capacity run.given run.room run.call.stage old
+  silent_there q old flight at = absurd at
+
+  ends_alone : (wrote : List (Event T)) → events_of t.world turn ≡ wrote ++ Finished p (Container (starts.Find owner)) (Number number) ∷ [] → wrote ≡ []
+  ends_alone wrote e =
+      ⊎_elim
+      (λ (calm : IsCalm shown terms code c t s may turn). absurd (calm.ends_none p (Container (starts.Find owner)) (Number number) wrote e))
+      (λ (going : IsGoing shown terms code c t s may turn). by going.party going.goes)
+      (any_turn shown terms code c t s may turn r)
+    where
+      by : (q : ℕ) → GoesOn shown terms code c t s may turn q → wrote ≡ []
+      by q g =
+          let state = state_of q s.state.states in
+          let did = effects code q state g.flight g.answer ++ questions q g.flight g.answer in
+          let outcome = answer_in (any_call (after code state g.flight g.answer)) in
+          let whole : did ++ ending_of q (Container g.start) outcome ≡ wrote ++ last ∷ [] = sym g.wrote ∙ e in
+          let end =
+          ends_last turn q p did (Container g.start) (Container (starts.Find owner)) outcome (Number number) wrote
+          (all_effects turn q g.mine code state g.flight g.answer) whole in
+          let name = container_is g.start (starts.Find owner) end.name in
+          let at = subst (λ a. At c code.size (deeds_of q t.events) (acts_of q t.events) a g.flight) name g.at in
+          let nothing : did ≡ [] = silent_there q g.answer g.flight at end.done in
+          only_one (Finished q (Container g.start) (Number number)) last wrote
+          (sym (ap (λ es. es ++ ending_of q (Container g.start) outcome) nothing ∙ ap (λ o. ending_of q (Container g.start) o) end.done) ∙ whole)
+
+module _ {T : Type 0} (shown : Shown T) (terms : Terms) (code : Coding T) (t : Trace T)
+    (s : frame.Sound (family_by terms code t.world.capacity) t) (may : MayGoOn terms t) (turn : Turn T)
+    (r : IsAllowed t.world turn)
+    (well_formed : Type 0) (so_far : well_formed → IsWellFormedSoFar terms (after_turn t turn).world.latest (after_turn t turn).events) where
+  pub finds_all : FindsAllIf well_formed t turn (after_turn t turn)
+  finds_all p owner number ends ne =
+      let none = ends_alone shown terms code t s may turn r p owner number ends.wrote (append_cancel_left t.events (events_of t.world turn) _ ends.is) in
+      let alone = subst (λ w. (after_turn t turn).events ≡ t.events ++ (w ++ Finished p (Container (starts.Find owner)) (Number number) ∷ [])) none ends.is in
+      subst (λ w. CountsIf well_formed p owner t.world.capacity number (t.events ++ w)) (sym none)
+      (subst (λ es. CountsIf well_formed p owner t.world.capacity number es) (sym (append-nil t.events))
+      (counts_all shown terms code t s may turn r well_formed so_far p owner number alone ne))

@@ -1,0 +1,56 @@
+-- What a call of the container asks about once it has gone on: a find or a recovery about the value that it has just copied,
+-- and any other, or after any other step, about none.
+use Rattle.std.proofs.Common.{◌≡◌, ℕ, ◌==◌, if◌then◌else◌, Option, Some, None, arith}
+use Rattle.steps.specs.declared.ask.After.{After}
+use Rattle.steps.specs.declared.ask.After.TheVariants.{GoOn, Done}
+use Rattle.steps.specs.declared.container.find.FindStage.{FindStage}
+use Rattle.steps.specs.declared.container.find.FindStage as finds
+use Rattle.steps.specs.declared.container.recover.RecoverStage.{RecoverStage}
+use Rattle.steps.specs.declared.container.recover.RecoverStage as recovers
+use Rattle.steps.specs.declared.container.state.ContainerState.{ContainerState}
+use Rattle.model.specs.declared.event.Answer.{Answer}
+use Rattle.model.specs.declared.families.Flight.{Flight}
+use Rattle.model.specs.declared.families.Flight as flights
+use Rattle.model.specs.declared.families.container.ContainerStart.{ContainerStart}
+use Rattle.model.specs.declared.families.container.calls.ContainerFlight.{ContainerFlight}
+use Rattle.model.specs.declared.families.container.calls.ContainerFlight.TheVariants.{Find, Recover}
+use Rattle.model.specs.Coding.{Coding}
+use Rattle.model.specs.Families.Container.Calls.{first, after}
+use Rattle.model.specs.Families.Container.Questions.{question_in}
+use Rattle.model.specs.Families.Queues.Calls.{read_in}
+use Rattle.laws_container.proofs.Stages.{any_call}
+
+module _ {T : Type 0} where
+  -- the call that goes on
+  abbrev pub call_in : After (Flight T) (Answer T) → Option (Flight T)
+  call_in (GoOn flight) = Some flight
+  call_in (Done answer) = None
+
+module _ {T : Type 0} (code : Coding T) where
+  -- ---- what a step makes it ask about
+
+  abbrev pub find_made : FindStage → T → ℕ → Option (ℕ × T)
+  find_made (finds.TheVariants.ChecksCount index found count) value old = if old == count then Some (index, value) else None
+  find_made stage value old = None
+
+  abbrev pub recover_made : RecoverStage → T → ℕ → Option (ℕ × T)
+  recover_made (recovers.TheVariants.ChecksCount index count) value old = if old == count then Some (index, value) else None
+  recover_made stage value old = None
+
+  abbrev pub made : ContainerFlight T → ℕ → Option (ℕ × T)
+  made (Find run) old = find_made run.call.stage (read_in code run.room) old
+  made (Recover run) old = recover_made run.call.stage (read_in code run.room) old
+  made flight old = None
+
+  -- what it asks about that has gone on so
+  abbrev pub left : After (ContainerFlight T) (Answer T) → Option (ℕ × T)
+  left goes = question_in code (call_in (any_call goes))
+
+  -- ---- any call
+
+  pub question_left : (o : Option (ContainerState T)) (flight : ContainerFlight T) (old : ℕ) → left (after code o flight old) ≡ made flight old
+  question_left o flight old = grind arith
+
+  -- and one that begins asks about none
+  pub question_first : (c : ℕ) (start : ContainerStart T) → question_in code (Some (flights.TheVariants.Container (first c start))) ≡ None
+  question_first c start = grind arith

@@ -1,0 +1,320 @@
+-- A turn in which a call of the container goes on: what it writes, and what its party asks about then. Another party asks about
+-- what it did, and so does each party after a begin or a death.
+use Rattle.std.proofs.Common.{◌≡◌, ◌≢◌, ℕ, ◌+◌, ◌⊎◌, ⊎_elim, inl, inr, Bool, true, false, Option, Some, None, is_none}
+use Rattle.std.proofs.Common.{List, [], ◌∷◌, ◌++◌, refl, sym, ap, subst, ◌∙◌}
+use Rattle.std.specs.List.{AllByRecursion}
+use Rattle.std.proofs.lemmas.Bool.{cases_eq}
+use Rattle.steps.specs.declared.ask.After.{After}
+use Rattle.steps.specs.declared.ask.After.TheVariants.{GoOn, Done}
+use Rattle.model.specs.declared.event.Answer.{Answer}
+use Rattle.model.specs.declared.event.Event.{Event}
+use Rattle.model.specs.declared.event.Event.TheVariants.{Begun, Died, Finished}
+use Rattle.model.specs.declared.event.Start.{Start}
+use Rattle.model.specs.declared.event.Start.TheVariants.{Container}
+use Rattle.model.specs.declared.families.Flight.{Flight}
+use Rattle.model.specs.declared.families.Flight as flights
+use Rattle.model.specs.declared.families.Registry.{Registry}
+use Rattle.model.specs.declared.families.container.ContainerStart.{ContainerStart}
+use Rattle.model.specs.declared.families.container.calls.ContainerFlight.{ContainerFlight}
+use Rattle.model.specs.declared.party.Doing.{Doing}
+use Rattle.model.specs.declared.party.Doing.TheVariants.{Going, Over}
+use Rattle.model.specs.declared.party.Party.{Party}
+use Rattle.model.specs.declared.turn.Kind as kinds
+use Rattle.model.specs.declared.turn.Refusal.TheVariants.{Idle, Undecided}
+use Rattle.model.specs.declared.turn.Turn.{Turn}
+use Rattle.model.specs.declared.turn.Turn.TheVariants.{Begin, Next, Decide, Die}
+use Rattle.model.specs.Coding.{Coding}
+use Rattle.model.specs.Families.{first_of, want_of, is_question, beside_of, step_of}
+use Rattle.model.specs.Families.Container.Calls.{want, after}
+use Rattle.model.specs.Families.Container.Questions.{question_in, question_at, WritesRight}
+use Rattle.model.specs.Families.Container.Reading.{acts_of}
+use Rattle.model.specs.Families.Container.States.{state_of}
+use Rattle.model.specs.Families.Container.Steps.{effects, questions}
+use Rattle.model.specs.Families.Indices.Robust.Reading.{deeds_of}
+use Rattle.model.specs.Parties.{party_of, doing_of, flight_of}
+use Rattle.model.specs.Promises.Turns.{IsParty}
+use Rattle.model.specs.Reading.{Open, span_of}
+use Rattle.model.specs.Refusals.{is_due, call_refusal}
+use Rattle.model.specs.Step.{Step, answer_in}
+use Rattle.model.specs.Turns.{old_of, number_of, doing_after, party_after, party_at_begin, after_begin, after_step}
+use Rattle.model.specs.Turns.{after_answer, after_next, after_decision, step_in, step_count, change_of, events_of_step}
+use Rattle.model.specs.Turns.{events_of_answer, events_of_next, events_of_decision, events_of, ending_of, ask_of_doing}
+use Rattle.model.specs.Turns.{after_turn}
+use Rattle.model.specs.World.{World, Trace, flight_in}
+use Rattle.model.proofs.Frame as frame
+use Rattle.model.proofs.Parties.{party_put_same, party_put_other}
+use Rattle.model.proofs.Rows.{row_passed}
+use Rattle.model.proofs.Scenes.{StandsThere, stands_there}
+use Rattle.laws_container.proofs.AskedLeft.{call_in, made, question_left, question_first}
+use Rattle.laws_container.proofs.Invariant.{family_by, view, wrote_of}
+use Rattle.laws_container.proofs.Knows.{Knows}
+use Rattle.laws_container.proofs.LooksTell.{no_end}
+use Rattle.laws_container.proofs.Sound.{MayGoOn, Shown, kept_is, kept_now, is_there, begins_own}
+use Rattle.laws_container.proofs.Stages.{any_call}
+use Rattle.laws_container.proofs.Standing.{At}
+use Rattle.laws_container.proofs.Terms.{Terms}
+use Rattle.laws_container.proofs.Allowed.{IsAllowed}
+
+-- ---- what a party asks about in a machine
+
+module _ {T : Type 0} where
+  abbrev world_asks : World T → ℕ → Option (ℕ × T)
+  world_asks w p = question_in w.coding (flight_in w p)
+
+  doing_call : (changes since : ℕ) (a : After (Flight T) (Answer T)) → flight_of (Some (doing_after changes since a)) ≡ call_in a
+  doing_call changes since (GoOn flight) = refl
+  doing_call changes since (Done answer) = refl
+
+  -- the party asks as its call does, and any other as before
+  module _ (w : World T) (q : ℕ) (x : Party T) (since : ℕ) (flight : Flight T) (answer : ℕ) where
+    abbrev step_there : Step (Flight T) (Registry T) T
+    step_there = step_in w q x flight answer
+
+    same_asks : (ask : _) → world_asks (after_step w q x since ask step_there) q ≡ question_in w.coding (call_in step_there.after)
+    same_asks ask =
+        let y : Party T = party_after x since w.changes (step_count ask) (change_of w.words ask) step_there in
+        ap (λ o. question_in w.coding (flight_of (doing_of o))) (party_put_same q y w.latest)
+        ∙ ap (question_in w.coding) (doing_call (w.changes + change_of w.words ask) (since + change_of w.words ask) step_there.after)
+
+    other_asks : (ask : _) (p : ℕ) → p ≢ q → world_asks (after_step w q x since ask step_there) p ≡ world_asks w p
+    other_asks ask p ne =
+        let y : Party T = party_after x since w.changes (step_count ask) (change_of w.words ask) step_there in
+        ap (λ o. question_in w.coding (flight_of (doing_of o))) (party_put_other p q y w.latest ne)
+
+-- ---- a call goes on
+
+module _ {T : Type 0} (shown : Shown T) (terms : Terms) (code : Coding T) (c : ℕ) (t : Trace T)
+    (s : frame.Sound (family_by terms code c) t) (may : MayGoOn terms t) where
+  -- the party's call goes on, handed this answer
+  pub record GoesOn (turn : Turn T) (q : ℕ) : Type 0 where
+    pub start : ContainerStart T
+    pub flight : ContainerFlight T
+    pub answer : ℕ
+    pub since : ℕ
+    pub backs : ℕ
+    pub asked : question_at t q ≡ question_in code (Some (flights.TheVariants.Container flight))
+    pub span : span_of q t.events ≡ Open (Container start) (wrote_of q t.events)
+    pub at : At c code.size (deeds_of q t.events) (acts_of q t.events) start flight
+    pub knows : Knows code c flight (view terms s.state.words s.state.states t.world.latest t.events q since t.world.changes backs)
+    pub wrote : events_of t.world turn
+        ≡ (effects code q (state_of q s.state.states) flight answer ++ questions q flight answer)
+        ++ ending_of q (Container start) (answer_in (any_call (after code (state_of q s.state.states) flight answer)))
+    pub asks : question_at (after_turn t turn) q ≡ made code flight answer
+    pub others : (p : ℕ) → p ≢ q → question_at (after_turn t turn) p ≡ question_at t p
+    pub mine : IsParty turn q
+    pub by_yes : is_question (want code flight) ≡ true → answer ≢ 0 → turn ≡ Decide q true
+
+  -- a decision, which it waits for
+  pub record IsDecided (q : ℕ) (said : Bool) : Type 0 where
+    pub goes : GoesOn (Decide q said) q
+    pub due : is_question (want code goes.flight) ≡ true
+    pub answer_is : goes.answer ≡ number_of said
+
+  module _ (turn : Turn T) (q answer : ℕ) (mine : IsParty turn q) (x : Party T) (since : ℕ) (found : party_of q t.world.latest ≡ Some x) where
+    abbrev stepping : Coding T → Registry T → Start T → Flight T → Step (Flight T) (Registry T) T
+    stepping y kept a flight = step_of y t.world.words (beside_of t.world.words kept t.world.latest q) q a flight answer kept
+
+    abbrev Wrote : Coding T → Registry T → Start T → Flight T → Type 0
+    Wrote y kept a flight = events_of t.world turn ≡ events_of_step q a (stepping y kept a flight)
+
+    abbrev Asks : Coding T → Registry T → Start T → Flight T → Type 0
+    Asks y kept a flight = question_at (after_turn t turn) q ≡ question_in y (call_in (stepping y kept a flight).after)
+
+    abbrev ByYes : Coding T → Flight T → Type 0
+    ByYes y flight = is_question (want_of y flight) ≡ true → answer ≢ 0 → turn ≡ Decide q true
+
+    -- with what stays so of the flight
+    pub record Went (flight : Flight T) : Type 0 where
+      pub on : GoesOn turn q
+      pub is : flight ≡ flights.TheVariants.Container on.flight
+      pub answered : on.answer ≡ answer
+
+    abbrev From : Coding T → Registry T → Start T → Flight T → Type 0
+    From y kept a flight =
+        Wrote y kept a flight → Asks y kept a flight
+        → ((p : ℕ) → p ≢ q → question_at (after_turn t turn) p ≡ question_at t p) → ByYes y flight
+        → question_at t q ≡ question_in y (Some flight) → Went flight
+
+    by_names : (a : Start T) (flight : Flight T) → StandsThere (family_by terms code c) t s q x since a flight
+        → From code (kept_now shown terms code c t s) a flight
+    by_names (Container start) (flights.TheVariants.Container flight) stands wrote asks others told asked =
+        let there = is_there shown terms code c t s q x since found start flight stands in
+        record {
+          on =
+              record {
+                start = start;
+                flight = flight;
+                answer = answer;
+                since = since;
+                backs = x.backs;
+                asked = asked;
+                span = there.here.span;
+                at = there.at;
+                knows = there.knows;
+                wrote = wrote;
+                asks = asks ∙ question_left code (state_of q s.state.states) flight answer;
+                others = others;
+                mine = mine;
+                by_yes = told;
+              };
+          is = refl;
+          answered = refl;
+        }
+    by_names a flight stands wrote asks others told asked = absurd stands.at
+
+    went : (flight : Flight T) → x.doing ≡ Going flight since → From t.world.coding t.world.kept x.start flight
+    went flight doing =
+        subst (λ y. From y t.world.kept x.start flight) (sym s.coding)
+        (subst (λ kept. From code kept x.start flight) (sym (kept_is t.world.kept t.world.words s.state s.fit).0)
+        (by_names x.start flight (stands_there (family_by terms code c) t s q x since flight found doing)))
+
+  -- ---- a step
+
+  abbrev next_number : Party T → Doing T → ℕ
+  next_number x doing = old_of t.world.words (ask_of_doing t.world.coding doing)
+
+  next_by : (q : ℕ) (x : Party T) → party_of q t.world.latest ≡ Some x → is_none (flight_in t.world q) ≡ false
+      → is_due t.world.coding (flight_in t.world q) ≡ false → (doing : Doing T) → x.doing ≡ doing → GoesOn (Next q) q
+  next_by q x found some free (Over others) d =
+      let here : flight_in t.world q ≡ None = ap (λ o. flight_of (doing_of o)) found ∙ ap (λ d. flight_of (Some d)) d in
+      let none : is_none (flight_in t.world q) ≡ true = ap is_none here in
+      absurd (cc)
+  next_by q x found some free (Going flight since) d =
+      let w = t.world in
+      let here : flight_in w q ≡ Some flight = ap (λ o. flight_of (doing_of o)) found ∙ ap (λ d. flight_of (Some d)) d in
+      let asks_none : is_question (want_of w.coding flight) ≡ false = rw here at free in
+      let n = next_number x (Going flight since) in
+      let ask = ask_of_doing w.coding (Going flight since) in
+      (went (Next q) q n refl x since found flight d
+      (ap (events_of_next w q) found ∙ ap (λ doing. events_of_answer w q x (next_number x doing) doing) d)
+      (ap (λ o. world_asks (after_next w q o) q) found
+      ∙ (ap (λ doing. world_asks (after_answer w q x (ask_of_doing w.coding doing) (next_number x doing) doing) q) d
+      ∙ same_asks w q x since flight n ask))
+      (λ p ne. ap (λ o. world_asks (after_next w q o) p) found
+      ∙ (ap (λ doing. world_asks (after_answer w q x (ask_of_doing w.coding doing) (next_number x doing) doing) p) d
+      ∙ other_asks w q x since flight n ask p ne))
+      (λ due not. absurd (cc))
+      (ap (question_in w.coding) here)).on
+
+  next_goes : (q : ℕ) → call_refusal t.world (Next q) ≡ None → GoesOn (Next q) q
+  next_goes q r = by (party_of q t.world.latest) refl
+    where
+      by : (o : Option (Party T)) → party_of q t.world.latest ≡ o → GoesOn (Next q) q
+      by None found =
+          let first = row_passed (is_none (flight_in t.world q)) Idle _ r in
+          let none : is_none (flight_in t.world q) ≡ true = ap (λ o. is_none (flight_of (doing_of o))) found in
+          let some = first.0 in
+          absurd (cc)
+      by (Some x) found =
+          let first = row_passed (is_none (flight_in t.world q)) Idle _ r in
+          let second = row_passed (is_due t.world.coding (flight_in t.world q)) Undecided _ first.1 in
+          next_by q x found first.0 second.0 x.doing refl
+
+  -- ---- a decision
+
+  decision_by : (q : ℕ) (said : Bool) (x : Party T) → party_of q t.world.latest ≡ Some x
+      → is_due t.world.coding (flight_in t.world q) ≡ true → (doing : Doing T) → x.doing ≡ doing → IsDecided q said
+  decision_by q said x found due (Over others) d =
+      let here : flight_in t.world q ≡ None = ap (λ o. flight_of (doing_of o)) found ∙ ap (λ d. flight_of (Some d)) d in
+      let none : is_due t.world.coding (flight_in t.world q) ≡ false = ap (is_due t.world.coding) here in
+      absurd (cc)
+  decision_by q said x found due (Going flight since) d =
+      let w = t.world in
+      let here : flight_in w q ≡ Some flight = ap (λ o. flight_of (doing_of o)) found ∙ ap (λ d. flight_of (Some d)) d in
+      let n = number_of said in
+      let h = went (Decide q said) q n refl x since found flight d
+      (ap (events_of_decision w q said) found ∙ ap (events_of_answer w q x n) d)
+      (ap (λ o. world_asks (after_decision w q said o) q) found
+      ∙ (ap (λ doing. world_asks (after_answer w q x None n doing) q) d ∙ same_asks w q x since flight n None))
+      (λ p ne. ap (λ o. world_asks (after_decision w q said o) p) found
+      ∙ (ap (λ doing. world_asks (after_answer w q x None n doing) p) d ∙ other_asks w q x since flight n None p ne))
+      (λ waits some. ap (Decide q) (is_yes said some))
+      (ap (question_in w.coding) here)
+      in
+      let asks : is_question (want_of w.coding flight) ≡ true = rw here at due in
+      record {
+        goes = h.on;
+        due = subst (λ f. is_question (want_of code f) ≡ true) h.is (subst (λ y. is_question (want_of y flight) ≡ true) s.coding asks);
+        answer_is = h.answered;
+      }
+    where
+      is_yes : (b : Bool) → number_of b ≢ 0 → b ≡ true
+      is_yes true some = refl
+      is_yes false some = absurd (some refl)
+
+  pub decided : (q : ℕ) (said : Bool) → IsAllowed t.world (Decide q said) → IsDecided q said
+  decided q said r = by (party_of q t.world.latest) refl
+    where
+      due : is_due t.world.coding (flight_in t.world q) ≡ true
+      due = r
+
+      by : (o : Option (Party T)) → party_of q t.world.latest ≡ o → IsDecided q said
+      by None found =
+          let none : is_due t.world.coding (flight_in t.world q) ≡ false = ap (λ o. is_due t.world.coding (flight_of (doing_of o))) found in
+          let waits = due in
+          absurd (cc)
+      by (Some x) found = decision_by q said x found due x.doing refl
+
+  -- ---- a begin, and a death
+
+  -- the turn writes no end, nothing of a question, and no question comes
+  pub record IsCalm (turn : Turn T) : Type 0 where
+    pub right : AllByRecursion (WritesRight t turn (after_turn t turn)) (events_of t.world turn)
+    pub ends_none : (p : ℕ) (start : Start T) (answer : Answer T) (wrote : List (Event T)) → events_of t.world turn ≡ wrote ++ Finished p start answer ∷ [] → ⊥
+    pub asks : (p index : ℕ) (value : T) → question_at (after_turn t turn) p ≡ Some (index, value) → question_at t p ≡ Some (index, value)
+
+  begun_asks : (q : ℕ) (start : Start T) (o : Option (Flight T))
+      → first_of t.world.kind t.world.capacity start t.world.kept ≡ o → (p index : ℕ) (value : T)
+      → world_asks (after_begin t.world q start o) p ≡ Some (index, value) → world_asks t.world p ≡ Some (index, value)
+  begun_asks q start None first p index value e = e
+  begun_asks q start (Some flight) first p index value e = ⊎_elim here there (cases_eq p q)
+    where
+      there : p ≢ q → world_asks t.world p ≡ Some (index, value)
+      there ne =
+          sym (ap (λ o. question_in t.world.coding (flight_of (doing_of o)))
+          (party_put_other p q (party_at_begin start flight t.world.changes) t.world.latest ne))
+          ∙ e
+
+      none_of : (start : Start T) (flight : Flight T)
+          → first_of kinds.TheVariants.Container t.world.capacity start t.world.kept ≡ Some flight
+          → question_in t.world.coding (Some flight) ≡ None
+      none_of (Container a) (flights.TheVariants.Container one) is =
+          let own = begins_own t.world.capacity t.world.kept (Container a) (flights.TheVariants.Container one) is in
+          subst (λ f. question_in t.world.coding (Some (flights.TheVariants.Container f)) ≡ None) own.0 (question_first t.world.coding t.world.capacity a)
+      none_of a one is = absurd (begins_own t.world.capacity t.world.kept a one is)
+
+      here : p ≡ q → world_asks t.world p ≡ Some (index, value)
+      here is =
+          let named : first_of kinds.TheVariants.Container t.world.capacity start t.world.kept ≡ Some flight =
+          subst (λ kind. first_of kind t.world.capacity start t.world.kept ≡ Some flight) s.kind first in
+          let none : question_in t.world.coding (Some flight) ≡ None = none_of start flight named in
+          let stands : world_asks (after_begin t.world q start (Some flight)) q ≡ question_in t.world.coding (Some flight) =
+          ap (λ o. question_in t.world.coding (flight_of (doing_of o))) (party_put_same q (party_at_begin start flight t.world.changes) t.world.latest)
+          in
+          let moved : world_asks (after_begin t.world q start (Some flight)) q ≡ Some (index, value) =
+          subst (λ n. world_asks (after_begin t.world q start (Some flight)) n ≡ Some (index, value)) is e in
+          absurd (cc)
+
+  -- ---- any turn
+
+  pub record IsGoing (turn : Turn T) : Type 0 where
+    pub party : ℕ
+    pub goes : GoesOn turn party
+
+  pub any_turn : (turn : Turn T) → IsAllowed t.world turn → IsCalm turn ⊎ IsGoing turn
+  any_turn (Begin q start) r =
+      inl
+      (record {
+        right = (tt, tt);
+        ends_none = λ p b answer wrote e. no_end (Begun q start) p b answer wrote (λ h. cc) e;
+        asks = begun_asks q start (first_of t.world.kind t.world.capacity start t.world.kept) refl;
+      })
+  any_turn (Next q) r = inr (record { party = q; goes = next_goes q r })
+  any_turn (Decide q said) r = inr (record { party = q; goes = (decided q said r).goes })
+  any_turn (Die o) r =
+      inl
+      (record {
+        right = (tt, tt);
+        ends_none = λ p b answer wrote e. no_end (Died o) p b answer wrote (λ h. cc) e;
+        asks = λ p index value e. e;
+      })

@@ -1,0 +1,313 @@
+-- What a call does as it begins, and what its first stage knows. The party's span was shut.
+use Rattle.std.proofs.Common.{◌≡◌, ◌≢◌, ℕ, ⊎_elim, inl, if◌then◌else◌, nat_lt, Bool, true, false, Option, Some, None}
+use Rattle.std.proofs.Common.{is_some, List, [], ◌∷◌, ◌++◌, refl, sym, ap, subst, ◌∙◌, arith}
+use Rattle.std.proofs.lemmas.Bool.Decides.{nat_tests}
+use Rattle.std.proofs.lemmas.List.{length-replicate}
+use Rattle.std.proofs.lemmas.List.Sums.{fold-append}
+use Rattle.steps.specs.declared.container.remove.RemoveStage as removes
+use Rattle.steps.specs.declared.container.replace.ReplaceStage as replaces
+use Rattle.steps.specs.declared.container.state.ContainerState.{ContainerState}
+use Rattle.steps.specs.declared.indices.enums.ReleaseMode.{ReleaseMode}
+use Rattle.model.specs.declared.event.Event.{Event}
+use Rattle.model.specs.declared.event.Event.TheVariants.{Begun}
+use Rattle.model.specs.declared.event.Start.TheVariants.{Container}
+use Rattle.model.specs.declared.families.container.ContainerStart.{ContainerStart}
+use Rattle.model.specs.declared.families.container.ContainerStart as starts
+use Rattle.model.specs.declared.party.Party.{Party}
+use Rattle.model.specs.Families.Container.Calls.{first}
+use Rattle.model.specs.Families.Container.Looks.{is_looking}
+use Rattle.model.specs.Families.Container.Opening.{names_owner, states_at_begin}
+use Rattle.model.specs.Families.Container.Promises.{StandsWellFormed, WasShown}
+use Rattle.model.specs.Families.Container.Reading.{Sees, contents_after, contents_of, announced_after, announced_of, acts, acts_of}
+use Rattle.model.specs.Families.Container.States.{state_of, with_state, fresh}
+use Rattle.model.specs.Families.Indices.Robust.Promises.{IsFilledWith}
+use Rattle.model.specs.Families.Indices.Robust.Reading.{Yes, deeds, deeds_of, dead_after, filled_after, settled_of, wrote_in, IsOneOf}
+use Rattle.model.specs.Parties.{party_of, put, doing_of, flight_of}
+use Rattle.model.specs.Reading.{Open, span_of}
+use Rattle.model.specs.Shape.{IsShut}
+use Rattle.model.proofs.Parties.{party_put_other, found_put_same, found_put_other}
+use Rattle.model.proofs.Readings.{no_more, span_of-own}
+use Rattle.laws_robust.proofs.Counting.{count_none}
+use Rattle.laws_robust.specs.Gone.{GoneBy, Death, Word, is_gone}
+use Rattle.laws_robust.proofs.Effects.{both_ways}
+use Rattle.laws_robust.proofs.Gone.{calm_less, gone_begun}
+use Rattle.laws_robust.proofs.Invariant as set
+use Rattle.laws_robust.proofs.Past.{since_begun}
+use Rattle.laws_robust.proofs.Rights.{IsBy, AreOwned}
+use Rattle.laws_container.proofs.Invariant.{Scene, Elements, Changes, Does, before, after, of_set, view}
+use Rattle.laws_container.proofs.KeptCopies.{name_of}
+use Rattle.laws_container.proofs.Knows.{View, Knows, IsPaid, RemoveKnows, ReplacesKnow, LookRests}
+use Rattle.laws_container.proofs.Left.{left_after, left_of}
+use Rattle.laws_container.proofs.WellFormed.{well_formed_before}
+use Rattle.laws_container.proofs.Replaces.{replace_begun}
+use Rattle.laws_container.proofs.SetBegins.{begins, takes_right}
+use Rattle.laws_container.proofs.Opening.{shows_same}
+use Rattle.laws_container.proofs.Sights.{Rests, rests_later}
+use Rattle.laws_container.proofs.Sound.{MayRecover, first_party, Begins}
+use Rattle.laws_container.proofs.Standing.{At}
+use Rattle.laws_container.proofs.Turns.{Now, WellFormed, Owing, owes, Passes}
+
+none_of : {X : Type 0} {A : Type 0} (one : X) (done before after : List X) → done ≡ [] → done ≡ before ++ one ∷ after → A
+none_of one done before after none is = absurd (no_more before one after (sym none ∙ is))
+
+module _ {T : Type 0} (scene : Scene T)
+    (g : set.Good scene.terms.by scene.capacity scene.words scene.dead scene.events scene.turns)
+    (h : Elements scene.coding scene.capacity (before scene) scene.states scene.turns)
+    (free : flight_of (doing_of (party_of scene.party scene.latest)) ≡ None)
+    (shut : IsShut (span_of scene.party scene.events)) where
+  open scene use {coding as code, capacity as c, party as p, changes as changes, turns as turns, latest as latest, events as events}
+
+  abbrev begun : ContainerStart T → List (Event T)
+  begun start = Begun p (Container start) ∷ []
+
+  abbrev y : ContainerStart T → Party T
+  y start = first_party c changes start
+
+  abbrev m : Now T
+  m = before scene
+
+  abbrev m' : ContainerStart T → Now T
+  m' start = after scene scene.words (y start) (begun start)
+
+  abbrev states' : ContainerStart T → List (ℕ × ContainerState T)
+  states' start = states_at_begin code c start p scene.states
+
+  -- ---- what it does to the elements
+
+  stands_shut : (o : Option (Party T)) → StandsWellFormed p o events
+  stands_shut None = tt
+  stands_shut (Some x) = λ index owner value wrote span steps found. absurd (subst IsShut span shut)
+
+  was_well_formed : (start : ContainerStart T) → WellFormed (m' start) → WellFormed m
+  was_well_formed start = well_formed_before scene.terms p (y start) latest events (begun start) (refl, tt) (λ well_formed. stands_shut (party_of p latest))
+
+  same_contents : (start : ContainerStart T) (i : ℕ) → contents_of i (events ++ begun start) ≡ contents_of i events
+  same_contents start i = fold-append (contents_after i) None events (begun start)
+
+  same_announced : (start : ContainerStart T) (i : ℕ) → announced_of i (events ++ begun start) ≡ announced_of i events
+  same_announced start i = fold-append (announced_after i) false events (begun start)
+
+  same_left : (start : ContainerStart T) (i : ℕ) → left_of i (events ++ begun start) ≡ left_of i events
+  same_left start i = fold-append (left_after i) true events (begun start)
+
+  -- who owed a raise was another party
+  still_owing : (start : ContainerStart T) → Owing latest → Owing (put p (y start) latest)
+  still_owing start owing =
+      let none : owes (flight_of (doing_of (party_of p latest))) ≡ false = ap owes free in
+      let other : owing.party ≢ p =
+      λ e. both_ways (owes (flight_of (doing_of (party_of p latest)))) none
+      (subst (λ q. owes (flight_of (doing_of (party_of q latest))) ≡ true) e owing.is) in
+      record { party = owing.party; is = ap (λ o. owes (flight_of (doing_of o))) (party_put_other owing.party p (y start) latest other) ∙ owing.is }
+
+  passes : (start : ContainerStart T) → Passes code c m (m' start)
+  passes start =
+      record {
+        well_formed = was_well_formed start;
+        kept = λ kept. kept;
+        counts = λ kept i below. omega arith;
+        change = λ kept. omega arith;
+        stands = λ well_formed i below same. same_contents start i;
+        words = λ well_formed i below same odd j js. refl;
+        stood = λ well_formed i below was is. refl;
+        left = λ well_formed i below same was. same_left start i ∙ was;
+        announces = λ well_formed same i below said. (sym (same_announced start i) ∙ said, refl);
+        owing = λ same owing. still_owing start owing;
+        owed = λ same i below. inl refl;
+        lost = λ well_formed i o below dead filled. inl refl;
+      }
+
+  changes_none : (start : ContainerStart T) → Changes scene scene.words (y start) (begun start)
+  changes_none start =
+      record {
+        passes = passes start;
+        leaves = λ q ne.
+            record {
+              under = λ well_formed i owner below lives writes even. (refl, λ j js. refl);
+              over = λ well_formed i owner below lives writes. inl refl;
+              placed = λ well_formed i owner below lives writes left some. (same_left start i ∙ left, ap is_some (same_contents start i) ∙ some);
+              alone = λ alone i below. refl;
+            };
+        wide = refl;
+        counts = λ kept i below. let few = h.counts kept i below in omega arith;
+        change = λ kept. let few = h.change kept in omega arith;
+        within = λ i value e. h.within i value (sym (same_contents start i) ∙ e);
+        announced =
+            λ well_formed i e. ap is_some (same_contents start i)
+            ∙ h.announced (was_well_formed start well_formed) i (sym (same_announced start i) ∙ e);
+        whole = λ well_formed i below. rw (same_contents start i) (h.whole (was_well_formed start well_formed) i below);
+      }
+
+  -- ---- and to the states
+
+  idle : is_looking (flight_of (doing_of (party_of p latest))) ≡ false
+  idle = ap is_looking free
+
+  new_other : (q : ℕ) → q ≢ p → state_of q (with_state p (fresh code c) scene.states) ≡ state_of q scene.states
+  new_other q ne = found_put_other q p (fresh code c) scene.states ne
+
+  other_states : (start : ContainerStart T) (q : ℕ) → q ≢ p → state_of q (states' start) ≡ state_of q scene.states
+  other_states starts.TheVariants.GetState q ne = new_other q ne
+  other_states starts.TheVariants.UpdateState q ne = go (is_some (state_of p scene.states))
+    where
+      go : (b : Bool) → state_of q (if b then scene.states else with_state p (fresh code c) scene.states) ≡ state_of q scene.states
+      go true = refl
+      go false = new_other q ne
+  other_states start q ne = refl
+
+  still_rests : (start : ContainerStart T) (s : ContainerState T) → state_of p scene.states ≡ Some s → Rests code c (m' start) p s
+  still_rests start s found = rests_later code c m (m' start) (begun start) refl (passes start) p s (h.rests p s idle found)
+
+  rests_then : (start : ContainerStart T) (s : ContainerState T)
+      → is_looking (flight_of (Some (y start).doing)) ≡ false → state_of p (states' start) ≡ Some s
+      → Rests code c (m' start) p s
+  rests_then (starts.TheVariants.Add value owner) s no_look found = still_rests (starts.TheVariants.Add value owner) s found
+  rests_then (starts.TheVariants.Remove index owner mode) s no_look found = still_rests (starts.TheVariants.Remove index owner mode) s found
+  rests_then (starts.TheVariants.Replace index value owner) s no_look found = still_rests (starts.TheVariants.Replace index value owner) s found
+  rests_then (starts.TheVariants.Find owner) s no_look found = still_rests (starts.TheVariants.Find owner) s found
+  rests_then (starts.TheVariants.Recover owner mode) s no_look found = still_rests (starts.TheVariants.Recover owner mode) s found
+  rests_then starts.TheVariants.GetState s no_look found = absurd (cc)
+  rests_then starts.TheVariants.UpdateState s no_look found = absurd (cc)
+  rests_then starts.TheVariants.Len s no_look found = still_rests starts.TheVariants.Len s found
+  rests_then starts.TheVariants.IsEmpty s no_look found = still_rests starts.TheVariants.IsEmpty s found
+  rests_then starts.TheVariants.IsLocked s no_look found = still_rests starts.TheVariants.IsLocked s found
+
+  does : (start : ContainerStart T) → Does scene scene.words (states' start) (y start) (begun start)
+  does start =
+      record {
+        set = begins (of_set scene) g start;
+        changes = changes_none start;
+        right = record { asks = (tt, tt); recovers = (tt, tt); answers = (tt, tt); contains = λ well_formed. (tt, tt); places = λ well_formed. (tt, tt) };
+        others = other_states start;
+        rests = rests_then start;
+      }
+
+  -- ---- what its first stage knows
+
+  abbrev v : ContainerStart T → View T
+  v start = view scene.terms scene.words (states' start) (put p (y start) latest) (events ++ begun start) p changes changes 0
+
+  paid : (start : ContainerStart T) → IsPaid (v start)
+  paid start = omega arith
+
+  span_begun : (start : ContainerStart T) → span_of p (events ++ begun start) ≡ Open (Container start) []
+  span_begun start = span_of-own p events (begun start) (refl, tt)
+
+  no_deeds : (start : ContainerStart T) → deeds_of p (events ++ begun start) ≡ []
+  no_deeds start = ap (λ a. deeds (wrote_in a)) (span_begun start)
+
+  no_acts : (start : ContainerStart T) → acts_of p (events ++ begun start) ≡ []
+  no_acts start = ap (λ a. acts (wrote_in a)) (span_begun start)
+
+  -- a remove takes the right
+  taken : (index owner : ℕ) (mode : ReleaseMode) → AreOwned events → settled_of index events ≡ Some owner
+      → IsBy p index owner (events ++ begun (starts.TheVariants.Remove index owner mode))
+  taken index owner mode owned e =
+      let k = owned.settled index owner e in
+      record {
+        right = takes_right p index owner mode events k.1;
+        filled = fold-append (filled_after index) None events (begun (starts.TheVariants.Remove index owner mode)) ∙ k.0;
+      }
+
+  module _ (index owner : ℕ) (mode : ReleaseMode) where
+    abbrev removing : ContainerStart T
+    removing = starts.TheVariants.Remove index owner mode
+
+    remove_knows : (b : Bool) → nat_lt index c ≡ b
+        → RemoveKnows code c (if b then index else c) owner mode
+        (if nat_lt (if b then index else c) c then removes.TheVariants.LoadsCount else removes.TheVariants.Refuses)
+        (v removing)
+    remove_knows true t =
+        rw t
+        (record {
+          paid = paid removing;
+          scanned = tt;
+          owns =
+              λ calm alive began. taken index owner mode
+              (g.owned (calm_less scene.terms.by events (begun removing) calm))
+              (since_begun p (λ part. settled_of index part ≡ Some owner) events (Container removing) began);
+          says = tt;
+          gone = tt;
+        })
+    remove_knows false t = let past : nat_lt c c ≡ false = grind (arith, nat_tests) in rw past (paid removing)
+
+  module _ (index : ℕ) (value : T) (owner : ℕ) where
+    abbrev replacing : ContainerStart T
+    replacing = starts.TheVariants.Replace index value owner
+
+    replaces_know : (b : Bool) → nat_lt index c ≡ b
+        → ReplacesKnow code c (if b then index else c) value owner
+        (if nat_lt (if b then index else c) c then replaces.TheVariants.LoadsCell else replaces.TheVariants.Refuses)
+        (v replacing)
+    replaces_know true t = rw t (paid replacing, replace_begun scene.terms.by p index owner value events)
+    replaces_know false t = let past : nat_lt c c ≡ false = grind (arith, nat_tests) in rw past (paid replacing)
+
+  -- a look's state
+  new_state : (start : ContainerStart T)
+      → LookRests code c (view scene.terms scene.words (with_state p (fresh code c) scene.states) (put p (y start) latest)
+      (events ++ begun start) p changes changes 0)
+  new_state start =
+      record {
+        state = fresh code c;
+        found = found_put_same p (fresh code c) scene.states;
+        rests = rests_later code c m (m' start) (begun start) refl (passes start) p (fresh code c) (h.fresh p);
+        own = λ getting i value ne is. let none : None ≡ Some value = sym (shows_same _ c i) ∙ is in absurd (cc);
+      }
+
+  old_state : (start : ContainerStart T) → start ≢ starts.TheVariants.GetState → (o : Option (ContainerState T))
+      → state_of p scene.states ≡ o
+      → LookRests code c (view scene.terms scene.words (if is_some o then scene.states else with_state p (fresh code c) scene.states)
+      (put p (y start) latest) (events ++ begun start) p changes changes 0)
+  old_state start other None e = new_state start
+  old_state start other (Some s) e =
+      record {
+        state = s;
+        found = e;
+        rests = still_rests start s e;
+        own =
+            λ getting. let name : Some (Container start) ≡ Some (Container starts.TheVariants.GetState) =
+            sym (ap name_of (span_begun start)) ∙ getting in
+            absurd (other (cc));
+      }
+
+  at_first : (start : ContainerStart T) → names_owner start ≡ true → At c code.size [] [] start (first c start)
+  at_first start named = grind arith
+
+  gone_then : (by : GoneBy) (owner : ℕ) (mode : ReleaseMode)
+      → MayRecover by events (starts.TheVariants.Recover owner mode)
+      → is_gone by owner (events ++ begun (starts.TheVariants.Recover owner mode)) ≡ true
+  gone_then Death owner mode dead = fold-append (dead_after owner) false events (begun (starts.TheVariants.Recover owner mode)) ∙ dead
+  gone_then Word owner mode may = gone_begun p owner mode events
+
+  knows_first : (start : ContainerStart T) → MayRecover scene.terms.by events start → Knows code c (first c start) (v start)
+  knows_first (starts.TheVariants.Add value owner) r =
+      record { paid = paid (starts.TheVariants.Add value owner); scanned = tt; owns = tt; says = tt; gone = tt }
+  knows_first (starts.TheVariants.Remove index owner mode) r = remove_knows index owner mode (nat_lt index c) refl
+  knows_first (starts.TheVariants.Replace index value owner) r = replaces_know index value owner (nat_lt index c) refl
+  knows_first (starts.TheVariants.Find owner) r =
+      let start : ContainerStart T = starts.TheVariants.Find owner in
+      let none = count_none p (IsFilledWith owner) (events ++ begun start) in
+      (length-replicate {A = ℕ} 128 0, (paid start, none, λ well_formed. record { count = none; copied = λ index less chosen through. absurd (omega arith) }))
+  knows_first (starts.TheVariants.Recover owner mode) r =
+      let start : ContainerStart T = starts.TheVariants.Recover owner mode in
+      let dead = gone_then scene.terms.by owner mode r in (
+        length-replicate {A = ℕ} 128 0,
+        (
+          paid start,
+          dead,
+          λ honest i. ⊎_elim
+              (λ (told : IsOneOf (Yes i owner) (deeds_of p (events ++ begun start))). none_of (Yes i owner)
+              (deeds_of p (events ++ begun start)) told.before told.after (no_deeds start) told.is)
+              (λ (seen : WasShown p i (events ++ begun start)). none_of (Sees i) (acts_of p (events ++ begun start))
+              seen.before seen.after (no_acts start) seen.is),
+        ),
+        tt,
+      )
+  knows_first starts.TheVariants.GetState r = (paid starts.TheVariants.GetState, new_state starts.TheVariants.GetState)
+  knows_first starts.TheVariants.UpdateState r =
+      (paid starts.TheVariants.UpdateState, old_state starts.TheVariants.UpdateState (λ e. cc) (state_of p scene.states) refl)
+  knows_first starts.TheVariants.Len r = record { paid = paid starts.TheVariants.Len; scanned = tt; owns = tt; says = tt; gone = tt }
+  knows_first starts.TheVariants.IsEmpty r = record { paid = paid starts.TheVariants.IsEmpty; scanned = tt; owns = tt; says = tt; gone = tt }
+  knows_first starts.TheVariants.IsLocked r = record { paid = paid starts.TheVariants.IsLocked; scanned = tt; owns = tt; says = tt; gone = tt }
+
+  pub begins_shown : (start : ContainerStart T) → names_owner start ≡ true → MayRecover scene.terms.by events start → Begins scene start
+  begins_shown start named r = record { does = does start; at = at_first start named; knows = knows_first start r }

@@ -1,0 +1,122 @@
+-- How many steps a call has taken at most, wherever it stands, and that each turn back is paid.
+use Rattle.std.proofs.Common.{◌≡◌, ℕ, ◌+◌, ◌-◌, ◌*◌, ◌≤◌, List, sym, subst, arith}
+use Rattle.steps.specs.declared.container.add.AddStage.{AddStage}
+use Rattle.steps.specs.declared.container.find.FindStage.{FindStage}
+use Rattle.steps.specs.declared.container.find.FindStage as finds
+use Rattle.steps.specs.declared.container.look.LookStage.{LookStage}
+use Rattle.steps.specs.declared.container.look.LookStage as looks
+use Rattle.steps.specs.declared.container.recover.DeadOwner.{DeadOwner}
+use Rattle.steps.specs.declared.container.recover.RecoverStage.{RecoverStage}
+use Rattle.steps.specs.declared.container.remove.RemoveStage.{RemoveStage}
+use Rattle.steps.specs.declared.container.replace.ReplaceStage.{ReplaceStage}
+use Rattle.steps.specs.declared.indices.enums.ReleaseMode.{ReleaseMode}
+use Rattle.steps.specs.declared.indices.enums.ReleaseMode.TheVariants.{LockIfLastIndex, Default}
+use Rattle.steps.specs.declared.indices.robust.parts.Lock.{Lock}
+use Rattle.steps.specs.declared.indices.robust.release.GiveBack.{GiveBack}
+use Rattle.model.specs.declared.event.Start.{Start}
+use Rattle.model.specs.declared.event.Start.TheVariants.{Container}
+use Rattle.model.specs.declared.families.Flight.{Flight}
+use Rattle.model.specs.declared.families.Flight as flights
+use Rattle.model.specs.declared.families.container.ContainerStart.{ContainerStart}
+use Rattle.model.specs.declared.families.container.ContainerStart as starts
+use Rattle.model.specs.declared.families.container.calls.ContainerFlight.{ContainerFlight}
+use Rattle.model.specs.declared.families.container.calls.ContainerFlight.TheVariants.{Add, Remove, Replace, Find, Recover, Look, Count, IsLocked}
+use Rattle.model.specs.Coding.{Coding}
+use Rattle.model.specs.Families.Container.Bounds.{most_steps}
+use Rattle.model.specs.Families.Container.Calls.{place_of}
+use Rattle.model.specs.Families.Container.Promises.{most}
+use Rattle.model.specs.Families.Container.Reading.{Act}
+use Rattle.model.specs.Families.Indices.Robust.Reading.{Deed}
+use Rattle.model.proofs.Frame as frame
+use Rattle.laws_robust.proofs.Counting.{times_below}
+use Rattle.laws_robust.proofs.Kept.{count_most, lock_most}
+use Rattle.laws_robust.proofs.Standing.{lock_number, LockAt}
+use Rattle.laws_container.proofs.Invariant.{ContainerNow, family}
+use Rattle.laws_container.proofs.Knows.{View, Knows}
+use Rattle.laws_container.proofs.Standing.{add_number, remove_number, replace_number, find_number, for_back, for_index}
+use Rattle.laws_container.proofs.Standing.{recover_number, look_number, number_of, AddAt, RemoveAt, ReplaceAt, FindAt}
+use Rattle.laws_container.proofs.Standing.{RecoverAt, LookAt, At}
+
+-- ---- how many steps a call has taken
+
+module _ {T : Type 0} (c z : ℕ) (all : List Deed) (done : List (Act T)) where
+  add_most : (owner : ℕ) (stage : AddStage) (backs : ℕ) → AddAt c z all done owner stage → add_number c z stage backs ≤ c + 7 + z + backs * (c + 1)
+  add_most owner stage backs at = grind arith
+
+  remove_most : (i index owner : ℕ) (mode : ReleaseMode) (stage : RemoveStage) (backs : ℕ)
+      → RemoveAt c z all done index owner mode stage
+      → remove_number c i owner mode stage backs ≤ most_steps {T = T} c z (starts.TheVariants.Remove index owner mode) backs
+  remove_most i index owner mode stage backs at = grind arith
+
+  replace_most : (index : ℕ) (stage : ReplaceStage) → ReplaceAt c z all done index stage → replace_number z stage ≤ 5 + z
+  replace_most index stage at = grind arith
+
+  find_most : (stage : FindStage) → FindAt c z all done stage → find_number z stage ≤ c * (z + 3)
+  find_most (finds.TheVariants.LoadsCell index found) at = let few = times_below c index (z + 3) at.1 in omega arith
+  find_most (finds.TheVariants.LoadsCount index found) at = let few = times_below c index (z + 3) at.1 in omega arith
+  find_most (finds.TheVariants.LoadsWord index found count word) at = let few = times_below c index (z + 3) at.1.0 in let below = at.2 in omega arith
+  find_most (finds.TheVariants.ChecksCount index found count) at = let few = times_below c index (z + 3) at.1.0 in omega arith
+  find_most (finds.TheVariants.Asks index found) at = let few = times_below c index (z + 3) at.1 in omega arith
+
+  recover_at_most : (owner : ℕ) (mode : ReleaseMode) (stage : RecoverStage) (backs : ℕ) → z + 7 ≤ for_index c z mode
+      → ((lock : Lock) → mode ≡ LockIfLastIndex → LockAt c lock → lock_number c lock + z + 5 ≤ for_index c z mode)
+      → RecoverAt c z all done owner mode stage → recover_number c z mode stage backs ≤ 3 + c * for_index c z mode + backs * for_back c z mode
+  recover_at_most owner mode stage backs wide lock at = grind arith
+
+  recover_most : (owner : ℕ) (mode : ReleaseMode) (stage : RecoverStage) (backs : ℕ)
+      → RecoverAt c z all done owner mode stage
+      → recover_number c z mode stage backs ≤ most_steps {T = T} c z (starts.TheVariants.Recover owner mode) backs
+  recover_most owner Default stage backs at = recover_at_most owner Default stage backs (omega arith) (λ lock mode lock_at. absurd (cc)) at
+  recover_most owner LockIfLastIndex stage backs at =
+      recover_at_most owner LockIfLastIndex stage backs (omega arith) (λ lock mode lock_at. let few = lock_most c lock lock_at in omega arith) at
+
+  look_most : (stage : LookStage) (backs : ℕ) → LookAt c z all done stage → look_number z stage backs ≤ 1 + c * (z + 2) + backs * (z + 1)
+  look_most looks.TheVariants.LoadsChange backs at = omega arith
+  look_most (looks.TheVariants.LoadsCount index) backs at = let few = times_below c index (z + 2) at.1 in omega arith
+  look_most (looks.TheVariants.LoadsWord index count word) backs at = let few = times_below c index (z + 2) at.1.0 in let below = at.2 in omega arith
+  look_most (looks.TheVariants.ChecksCount index count) backs at = let few = times_below c index (z + 2) at.1.0 in omega arith
+
+  steps_most : (backs : ℕ) (start : ContainerStart T) (flight : ContainerFlight T) → At c z all done start flight
+      → number_of c z flight backs ≤ most_steps c z start backs
+  steps_most backs (starts.TheVariants.Add value owner) (Add run) at = add_most owner run.call.stage backs at.3
+  steps_most backs (starts.TheVariants.Remove index owner mode) (Remove run) at =
+      subst (λ (o : GiveBack). remove_number c o.index o.owner o.mode run.call.stage backs
+      ≤ most_steps {T = T} c z (starts.TheVariants.Remove index owner mode) backs)
+      (sym at.1)
+      (remove_most (place_of c index) index owner mode run.call.stage backs at.3)
+  steps_most backs (starts.TheVariants.Replace index value owner) (Replace run) at = replace_most index run.call.stage at.3
+  steps_most backs (starts.TheVariants.Find owner) (Find run) at = find_most run.call.stage at.3
+  steps_most backs (starts.TheVariants.Recover owner mode) (Recover run) at =
+      subst (λ (o : DeadOwner). recover_number c z o.mode run.call.stage backs
+      ≤ most_steps {T = T} c z (starts.TheVariants.Recover owner mode) backs)
+      (sym at.1) (recover_most owner mode run.call.stage backs at.3)
+  steps_most backs starts.TheVariants.GetState (Look which call) at = look_most call.stage backs at.2
+  steps_most backs starts.TheVariants.UpdateState (Look which call) at = look_most call.stage backs at.2
+  steps_most backs starts.TheVariants.Len (Count which run) at = let few = count_most c run.call.count at.2 in omega arith
+  steps_most backs starts.TheVariants.IsEmpty (Count which run) at = let few = count_most c run.call.count at.2 in omega arith
+  steps_most backs starts.TheVariants.IsLocked (IsLocked run) at = omega arith
+  steps_most backs start flight at = absurd at
+
+-- ---- how often it has turned back
+
+module _ {T : Type 0} where
+  abbrev Pays : View T → Type 0
+  Pays v = v.backs ≤ v.changes - v.since
+
+  module _ (code : Coding T) (c : ℕ) (v : View T) where
+    pays : (flight : ContainerFlight T) → Knows code c flight v → Pays v
+    pays flight h = grind arith
+
+  pub bounds : (code : Coding T) (c : ℕ) → frame.Bounds (family code c)
+  bounds code c = record { most = at_most; paid = paid }
+    where
+      at_most : (s : ContainerNow T) (p backs : ℕ) (start : Start T) (flight : Flight T)
+          → (family code c).At s p start flight
+          → (family code c).number ((family code c).written s p flight) flight backs ≤ most c code.size start backs
+      at_most s p backs (Container start) (flights.TheVariants.Container flight) h = steps_most c code.size _ _ backs start flight h
+      at_most s p backs start flight h = absurd h
+
+      paid : (s : ContainerNow T) (p : ℕ) (events : List _) (since changes backs : ℕ) (flight : Flight T)
+          → (family code c).Knows s p events since changes backs flight → backs ≤ changes - since
+      paid s p events since changes backs (flights.TheVariants.Container flight) h = pays code c _ flight h
+      paid s p events since changes backs flight h = absurd h

@@ -1,0 +1,151 @@
+-- What stands in a container by its events stands in its words; and what a writer knows of the words that it has stored. No
+-- value is ever half there: under an even count nothing is said of the data words but by the one writer.
+use Rattle.std.proofs.Common.{◌≡◌, ◌≢◌, ℕ, ◌+◌, ◌*◌, ◌%◌, ◌<◌, ◌≤◌, ⊎_elim, Option, Some, None, List, [], ◌∷◌, ◌++◌}
+use Rattle.std.proofs.Common.{length, get_or, set, refl, sym, ap, subst, ◌∙◌, arith}
+use Rattle.std.proofs.lemmas.Bool.{cases_eq, cases_lt}
+use Rattle.std.proofs.lemmas.List.Sums.{fold-append}
+use Rattle.steps.specs.Container.Layout.{count_word, element_word}
+use Rattle.model.specs.declared.event.Event.{Event}
+use Rattle.model.specs.declared.event.Event.TheVariants.{Placed, Hidden}
+use Rattle.model.specs.Coding.{Coding}
+use Rattle.model.specs.Families.Container.Reading.{contents_after, contents_of}
+use Rattle.laws_robust.proofs.Effects.{at_same, at_other}
+use Rattle.laws_container.proofs.Core.{count_at, datum_at, data_within, counts_stay, datum_set, datum_before, data_stay, count_set, count_stays, data_all_stay}
+
+module _ {T : Type 0} (code : Coding T) (c : ℕ) where
+  abbrev z : ℕ
+  z = code.size
+
+  -- these data words are the first so many of the value
+  abbrev pub HasWords : List ℕ → ℕ → T → ℕ → Type 0
+  HasWords words i value k = (j : ℕ) → j < k → datum_at c z words i j ≡ get_or (code.words_of value) j 0
+
+  abbrev pub Stands : List ℕ → ℕ → Option T → Type 0
+  Stands words i None = count_at c words i % 2 ≡ 0
+  Stands words i (Some value) = (count_at c words i % 2 ≡ 1) × HasWords words i value z
+
+  -- at each index
+  abbrev pub IsWhole : List ℕ → List (Event T) → Type 0
+  IsWhole words events = (i : ℕ) → i < c → Stands words i (contents_of i events)
+
+  -- what a writer knows that has stored so many words
+  pub record Writing (words : List ℕ) (i : ℕ) (value : T) (k : ℕ) : Type 0 where
+    pub even : count_at c words i % 2 ≡ 0
+    pub written : HasWords words i value k
+
+  -- ---- the words alone
+
+  -- an even count: nothing stands there
+  none_stands : (words : List ℕ) (i : ℕ) (o : Option T) → Stands words i o → count_at c words i % 2 ≡ 0 → o ≡ None
+  none_stands words i None h even = refl
+  none_stands words i (Some value) h even = let odd = h.0 in absurd (omega arith)
+
+  -- an odd one: something does
+  pub some_stands : (words : List ℕ) (i : ℕ) (o : Option T) → Stands words i o → count_at c words i % 2 ≡ 1 → o ≢ None
+  some_stands words i None h odd e = absurd (omega arith)
+  some_stands words i (Some value) h odd e = cc
+
+  -- where count and data words stay, so does what stands
+  pub stands_on : (words words' : List ℕ) (i : ℕ) (o : Option T) → count_at c words' i ≡ count_at c words i
+      → ((j : ℕ) → j < z → datum_at c z words' i j ≡ datum_at c z words i j) → Stands words i o → Stands words' i o
+  stands_on words words' i None count kept h = ap (λ n. n % 2) count ∙ h
+  stands_on words words' i (Some value) count kept h = (ap (λ n. n % 2) count ∙ h.0, λ j js. kept j js ∙ h.1 j js)
+
+  pub writes_on : (words words' : List ℕ) (i : ℕ) (value : T) (k : ℕ) → k ≤ z → count_at c words' i ≡ count_at c words i
+      → ((j : ℕ) → j < z → datum_at c z words' i j ≡ datum_at c z words i j) → Writing words i value k → Writing words' i value k
+  writes_on words words' i value k few count kept h =
+      record { even = ap (λ n. n % 2) count ∙ h.even; written = λ j js. kept j (omega arith) ∙ h.written j js }
+
+  module _ (words : List ℕ) (events : List (Event T)) (whole : IsWhole words events) (wide : length words ≡ 2 + (c + c) + z * c) (i : ℕ) (below : i < c) where
+    -- ---- a writer stores a word
+
+    module _ (value : T) (k : ℕ) (ks : k < z) (w : Writing words i value k) where
+      abbrev x : ℕ
+      x = get_or (code.words_of value) k 0
+
+      abbrev stored : List ℕ
+      stored = set words (element_word c z i k) x
+
+      -- what stands at another index stays
+      other_data : (a : ℕ) → a ≢ i → (j : ℕ) → j < z → datum_at c z stored a j ≡ datum_at c z words a j
+      other_data a ne j js = data_stay c z words i k x a j ne js ks
+
+      pub store_whole : IsWhole stored events
+      store_whole a low = ⊎_elim here there (cases_eq a i)
+        where
+          there : a ≢ i → Stands stored a (contents_of a events)
+          there ne = stands_on words stored a (contents_of a events) (counts_stay c z words i k x a low) (other_data a ne) (whole a low)
+
+          here : a ≡ i → Stands stored a (contents_of a events)
+          here e =
+              let even : count_at c words a % 2 ≡ 0 = ap (λ n. count_at c words n % 2) e ∙ w.even in
+              let none = none_stands words a (contents_of a events) (whole a low) even in
+              subst (Stands stored a) (sym none) (ap (λ n. n % 2) (counts_stay c z words i k x a low) ∙ even)
+
+      pub store_writes : Writing stored i value (k + 1)
+      store_writes =
+          record {
+            even = ap (λ n. n % 2) (counts_stay c z words i k x i below) ∙ w.even;
+            written = λ j js. ⊎_elim (before j) (here j js) (cases_lt j k);
+          }
+        where
+          before : (j : ℕ) → j < k → datum_at c z stored i j ≡ get_or (code.words_of value) j 0
+          before j less = datum_before c z words i k x j less ∙ w.written j less
+
+          here : (j : ℕ) → j < k + 1 → k ≤ j → datum_at c z stored i j ≡ get_or (code.words_of value) j 0
+          here j js more =
+              let same : j ≡ k = omega arith in
+              let within = data_within c z i k below ks in
+              rw same (datum_set c z words i k x (omega arith))
+
+    -- ---- a count changes
+
+    module _ (n : ℕ) where
+      abbrev counted : List ℕ
+      counted = set words (count_word c i) n
+
+      is_now : count_at c counted i ≡ n
+      is_now = count_set c z words i n (omega arith)
+
+      count_there : (e : Event T) (o : Option T)
+          → ((a : ℕ) → a ≢ i → contents_of a (events ++ e ∷ []) ≡ contents_of a events)
+          → contents_of i (events ++ e ∷ []) ≡ o → Stands counted i o → IsWhole counted (events ++ e ∷ [])
+      count_there e o others mine h a low = ⊎_elim here there (cases_eq a i)
+        where
+          here : a ≡ i → Stands counted a (contents_of a (events ++ e ∷ []))
+          here same = subst (λ b. Stands counted b (contents_of b (events ++ e ∷ []))) (sym same) (subst (Stands counted i) (sym mine) h)
+
+          there : a ≢ i → Stands counted a (contents_of a (events ++ e ∷ []))
+          there ne =
+              subst (Stands counted a) (sym (others a ne))
+              (stands_on words counted a (contents_of a events) (count_stays c z words i n a ne) (λ j js. data_all_stay c z words i n a j below) (whole a low))
+
+    -- a writer that has stored all words makes the count odd: there was nothing, and its value stands
+    pub place_none : (value : T) → Writing words i value z → contents_of i events ≡ None
+    place_none value w = none_stands words i (contents_of i events) (whole i below) w.even
+
+    pub place_whole : (p n : ℕ) (value : T) → Writing words i value z → n % 2 ≡ 1 → IsWhole (set words (count_word c i) n) (events ++ Placed p i value ∷ [])
+    place_whole p n value w odd =
+        count_there n (Placed p i value) (Some value)
+        (λ a ne. fold-append (contents_after a) None events (Placed p i value ∷ []) ∙ at_other i a (Some value) (contents_of a events) ne)
+        (fold-append (contents_after i) None events (Placed p i value ∷ []) ∙ at_same i i (Some value) (contents_of i events) refl)
+        (ap (λ m. m % 2) (is_now n) ∙ odd, λ j js. data_all_stay c z words i n i j below ∙ w.written j js)
+
+    -- anyone makes an odd count even: what stood is gone
+    pub hide_some : count_at c words i % 2 ≡ 1 → contents_of i events ≢ None
+    hide_some odd = some_stands words i (contents_of i events) (whole i below) odd
+
+    pub hide_whole : (p n : ℕ) → n % 2 ≡ 0 → IsWhole (set words (count_word c i) n) (events ++ Hidden p i ∷ [])
+    hide_whole p n even =
+        count_there n (Hidden p i) None
+        (λ a ne. fold-append (contents_after a) None events (Hidden p i ∷ []) ∙ at_other i a None (contents_of a events) ne)
+        (fold-append (contents_after i) None events (Hidden p i ∷ []) ∙ at_same i i None (contents_of i events) refl)
+        (ap (λ m. m % 2) (is_now n) ∙ even)
+
+  -- ---- a copy
+
+  -- a copy whose count still stands has the words that stand
+  pub record Reads (words : List ℕ) (i count : ℕ) (copy : List ℕ) (k : ℕ) : Type 0 where
+    pub odd : count % 2 ≡ 1
+    pub below : count ≤ count_at c words i
+    pub same : count_at c words i ≡ count → (j : ℕ) → j < k → get_or copy j 0 ≡ datum_at c z words i j

@@ -1,0 +1,82 @@
+-- Copies of elements. While the number of an element is still the one that was loaded, the words read so far are those that stand;
+-- and at the exchange of the number for itself the copy is the value that stands.
+use Rattle.std.proofs.Common.{◌≡◌, ◌≢◌, ⊎_elim, ℕ, ◌+◌, ◌%◌, ◌<◌, ◌≤◌, if◌then◌else◌, nat_lt, false, Option, Some}
+use Rattle.std.proofs.Common.{None, List, length, take, get_or, set, replicate, sym, ap, subst, ◌∙◌, arith}
+use Rattle.std.proofs.Common.{get_or-set_same, get_or-set_other, get_or-take, length-take-le, ext_get_or}
+use Rattle.std.proofs.lemmas.Bool.{cases_eq}
+use Rattle.std.proofs.lemmas.Bool.Decides.{nat_tests}
+use Rattle.std.proofs.lemmas.List.{length-set}
+use Rattle.steps.specs.Copied.{value_in}
+use Rattle.model.specs.Coding.{Coding, IsCoding}
+use Rattle.model.specs.Families.Container.Reading.{contents_of}
+use Rattle.laws_container.proofs.Contents.{IsWhole, Stands}
+use Rattle.laws_container.proofs.Knows.{View, now, HasCome, Copying}
+use Rattle.laws_container.proofs.Terms.{Keeps}
+use Rattle.laws_container.proofs.Turns.{WellFormed, count_in, datum_in}
+
+module _ {T : Type 0} (code : Coding T) (c : ℕ) where
+  -- ---- its first word is to be read
+
+  pub copying_first : (v : View T) (index count : ℕ) (copy : List ℕ) → index < c → length copy ≡ 128 → count % 2 ≡ 1
+      → HasCome code c index count v → Copying code c index count copy 0 v
+  copying_first v index count copy within room odd below =
+      record { within = within; few = omega arith; room = room; odd = odd; below = below; same = λ well_formed is j js. absurd (omega arith) }
+
+  -- ---- a word is read, by a step that leaves the words
+
+  pub copying_more : (v v' : View T) (index count : ℕ) (copy : List ℕ) (at : ℕ) → at < code.size → code.size ≤ 128
+      → v'.words ≡ v.words → (Keeps v'.terms → Keeps v.terms) → (WellFormed (now v') → WellFormed (now v))
+      → Copying code c index count copy at v
+      → Copying code c index count (set copy at (datum_in code c (now v) index at)) (at + 1) v'
+  copying_more v v' index count copy at ats few same kept well_formed h =
+      record {
+        within = h.within;
+        few = omega arith;
+        room = length-set copy at _ ∙ h.room;
+        odd = h.odd;
+        below = λ keeps. let low = h.below (kept keeps) in let eq = count_same in omega arith;
+        same = λ holds is j js. ⊎_elim (λ e. here j e) (λ ne. there holds is j js ne) (cases_eq j at);
+      }
+    where
+      count_same : count_in code c (now v') index ≡ count_in code c (now v) index
+      count_same = ap (λ w. count_in code c (record { terms = v.terms; words = w; latest = v.latest; events = v.events }) index) same
+
+      datum_same : (j : ℕ) → datum_in code c (now v') index j ≡ datum_in code c (now v) index j
+      datum_same j = ap (λ w. datum_in code c (record { terms = v.terms; words = w; latest = v.latest; events = v.events }) index j) same
+
+      here : (j : ℕ) → j ≡ at → get_or (set copy at (datum_in code c (now v) index at)) j 0 ≡ datum_in code c (now v') index j
+      here j e =
+          subst (λ n. get_or (set copy at (datum_in code c (now v) index at)) n 0 ≡ datum_in code c (now v') index n) (sym e)
+          (get_or-set_same copy at (datum_in code c (now v) index at) 0 (let room = h.room in omega arith) ∙ sym (datum_same at))
+
+      there : WellFormed (now v') → count_in code c (now v') index ≡ count → (j : ℕ) → j < at + 1 → j ≢ at
+          → get_or (set copy at (datum_in code c (now v) index at)) j 0 ≡ datum_in code c (now v') index j
+      there holds is j js ne =
+          get_or-set_other copy at j (datum_in code c (now v) index at) 0 ne
+          ∙ (h.same (well_formed holds) (sym count_same ∙ is) j (omega arith) ∙ sym (datum_same j))
+
+  -- ---- all its words are read, and the number is there still
+
+  pub copied_value : (v : View T) (index count : ℕ) (copy : List ℕ) → IsCoding code
+      → (WellFormed (now v) → IsWhole code c v.words v.events) → Copying code c index count copy code.size v
+      → count_in code c (now v) index ≡ count → WellFormed (now v)
+      → contents_of index v.events ≡ Some (value_in code.value_of code.size copy)
+  copied_value v index count copy coded whole h is well_formed = by (contents_of index v.events) (whole well_formed index h.within)
+    where
+      big : nat_lt (length copy) code.size ≡ false
+      big = let room = h.room in let few = coded.few in grind (arith, nat_tests)
+
+      by : (o : Option T) → Stands code c v.words index o → o ≡ Some (value_in code.value_of code.size copy)
+      by None stands = let odd = h.odd in absurd (omega arith)
+      by (Some value) stands =
+          let room = h.room in
+          let few = coded.few in
+          let long : length (take code.size copy) ≡ code.size = length-take-le code.size copy (omega arith) in
+          let sized = coded.sized value in
+          let words : take code.size copy ≡ code.words_of value =
+          ext_get_or 0 (take code.size copy) (code.words_of value) (long ∙ sym sized)
+          (λ j js. get_or-take code.size copy j 0 (omega arith) ∙ (h.same well_formed is j (omega arith) ∙ stands.1 j (omega arith))) in
+          let value_is : value_in code.value_of code.size copy ≡ value =
+          ap (λ b. if b then code.value_of (take code.size (replicate 128 0)) else code.value_of (take code.size copy)) big
+          ∙ (ap code.value_of words ∙ coded.given_back value) in
+          ap Some (sym value_is)

@@ -1,0 +1,217 @@
+-- The steps of the calls that look at the set of a container: how many indices are filled, and whether it is locked.
+use Rattle.std.proofs.Common.{◌≡◌, ℕ, ◌+◌, ◌*◌, ◌≤◌, ◌==◌, Bool, true, false, Option, Some, None, is_some, List, [], ◌∷◌, refl, ap, arith}
+use Rattle.steps.specs.declared.ask.Ask.{Ask}
+use Rattle.steps.specs.declared.ask.After.{After}
+use Rattle.steps.specs.declared.ask.After.TheVariants.{GoOn, Done}
+use Rattle.steps.specs.declared.indices.robust.parts.Count.{Count as Counting}
+use Rattle.steps.specs.declared.indices.robust.parts.Count as parts
+use Rattle.steps.specs.declared.indices.robust.parts.Counted.{Counted}
+use Rattle.steps.specs.Indices.Robust.Looks.{borrowed_counted}
+use Rattle.steps.specs.Indices.Robust.Parts.{locked, count_after, count_goes_back}
+use Rattle.steps.specs.Routine.{went_on}
+use Rattle.model.specs.declared.event.Answer.TheVariants.{Truth}
+use Rattle.model.specs.declared.event.Event.{Event}
+use Rattle.model.specs.declared.event.Event.TheVariants.{Finished}
+use Rattle.model.specs.declared.event.Start.TheVariants.{Container}
+use Rattle.model.specs.declared.families.container.ContainerStart.{ContainerStart}
+use Rattle.model.specs.declared.families.container.ContainerStart as starts
+use Rattle.model.specs.declared.families.container.calls.ContainerFlight as calls
+use Rattle.model.specs.declared.families.container.calls.CountOf.{CountOf}
+use Rattle.model.specs.declared.families.container.calls.CountOf as counts
+use Rattle.model.specs.declared.party.Party.{Party}
+use Rattle.model.specs.Families.Container.Bounds.{most_steps}
+use Rattle.model.specs.Families.Container.Calls.{counted}
+use Rattle.model.specs.Families.Container.Promises.{IsLength}
+use Rattle.model.specs.Families.Container.Reading.{Act, announced_after}
+use Rattle.model.specs.Families.Container.Spans.{HasDone}
+use Rattle.model.specs.Families.Indices.Robust.Promises.{IsFilled}
+use Rattle.model.specs.Families.Indices.Robust.Reading.{Deed, settled_after, filled_of}
+use Rattle.model.specs.Families.Queues.Calls.{as_it_is}
+use Rattle.model.specs.Step.{as_call}
+use Rattle.model.specs.Turns.{old_of, words_after, step_count}
+use Rattle.laws_robust.proofs.Core.{counter_of}
+use Rattle.laws_robust.proofs.Counting.{count_none, count_next}
+use Rattle.laws_robust.proofs.Effects.{Stays, both_ways, not_shut, unlocked, is_shut, stays_same, stays_raised}
+use Rattle.laws_robust.proofs.Knows as set_knows
+use Rattle.laws_robust.proofs.Parts.{count_ask, count_step as part_step, IsSaid}
+use Rattle.laws_robust.proofs.Rights.{Right, right_after}
+use Rattle.laws_robust.proofs.Stages as set_stages
+use Rattle.laws_robust.proofs.Standing.{count_number, CountAt}
+use Rattle.laws_robust.specs.Gone.{GoneBy}
+use Rattle.laws_robust.proofs.Invariant.{IsWorn}
+use Rattle.laws_container.specs.Gone.{AnswersBy}
+use Rattle.laws_container.proofs.Effects.{OwesStill}
+use Rattle.laws_container.proofs.HiddenKnows.{EndsRight}
+use Rattle.laws_container.proofs.Invariant.{Scene, Inv, before, after, of_set, inv_of_set}
+use Rattle.laws_container.proofs.Knows.{Knows}
+use Rattle.laws_container.proofs.Sets.{quiet_end}
+use Rattle.laws_container.proofs.SetStays.{moves, ends_there}
+use Rattle.laws_container.proofs.Stages.{NoReplace, IsHere, all, done, sees_now, StepOf, Leads, none_lengthens}
+use Rattle.laws_container.proofs.Stages.{party_then, backs_then, goes_calmly, ends, owes_none, was_well_formed}
+use Rattle.laws_container.proofs.Standing.{count_at, lock_at, At}
+use Rattle.laws_container.proofs.Turns.{WellFormed}
+
+-- the call of each kind of count
+abbrev pub counts_as : {T : Type 0} → CountOf → ContainerStart T
+counts_as counts.TheVariants.Len = starts.TheVariants.Len
+counts_as counts.TheVariants.IsEmpty = starts.TheVariants.IsEmpty
+
+one_filled : {A : Type 0} (o : Option ℕ) → o ≡ None → is_some o ≡ true → A
+one_filled o none some = both_ways (is_some o) (ap is_some none) some
+
+module _ (T : Type 0) where
+  no_replace : (which : CountOf) → NoReplace (counts_as {T = T} which)
+  no_replace counts.TheVariants.Len = tt
+  no_replace counts.TheVariants.IsEmpty = tt
+
+  at_count : (which : CountOf) (c z : ℕ) (deeds : List Deed) (acts : List (Act T)) (count : Counting)
+      → CountAt c count → deeds ≡ [] → At c z deeds acts (counts_as which) (count_at which c count)
+  at_count counts.TheVariants.Len c z deeds acts count at none = (refl, refl, at, none)
+  at_count counts.TheVariants.IsEmpty c z deeds acts count at none = (refl, refl, at, none)
+
+  few_count : (which : CountOf) (c z n backs : ℕ) → n ≤ c + 2 + backs * (c + 2) → n ≤ most_steps c z (counts_as {T = T} which) backs
+  few_count counts.TheVariants.Len c z n backs few = few
+  few_count counts.TheVariants.IsEmpty c z n backs few = few
+
+  answers_count : (by : GoneBy) (worn : Type 0) (which : CountOf) (c p number : ℕ) (events : List (Event T))
+      → IsLength p c number events
+      → AnswersBy by worn c events (Finished p (Container (counts_as which)) (counted which number))
+  answers_count by worn counts.TheVariants.Len c p number events h = h
+  answers_count by worn counts.TheVariants.IsEmpty c p number events h = record { number = number; is = refl; length = h }
+
+  does_count : (which : CountOf) (number : ℕ) (deeds : List Deed) (acts : List (Act T)) → deeds ≡ []
+      → HasDone (counts_as {T = T} which) (counted which number) deeds acts
+  does_count counts.TheVariants.Len number deeds acts none = none
+  does_count counts.TheVariants.IsEmpty number deeds acts none = none
+
+  settles_not : (which : CountOf) (p number i : ℕ) (o : Option ℕ)
+      → settled_after {T = T} i o (Finished p (Container (counts_as which)) (counted which number)) ≡ o
+  settles_not counts.TheVariants.Len p number i o = refl
+  settles_not counts.TheVariants.IsEmpty p number i o = refl
+
+  rights_not : (which : CountOf) (p number i : ℕ) (r : Right) → right_after {T = T} i r (Finished p (Container (counts_as which)) (counted which number)) ≡ r
+  rights_not counts.TheVariants.Len p number i r = refl
+  rights_not counts.TheVariants.IsEmpty p number i r = refl
+
+  announces_not : (which : CountOf) (p number i : ℕ) (b : Bool)
+      → announced_after {T = T} i b (Finished p (Container (counts_as which)) (counted which number)) ≡ b
+  announces_not counts.TheVariants.Len p number i b = refl
+  announces_not counts.TheVariants.IsEmpty p number i b = refl
+
+  places_not : (which : CountOf) (p number : ℕ) (events : List (Event T)) → EndsRight events (Finished p (Container (counts_as which)) (counted which number))
+  places_not counts.TheVariants.Len p number events = tt
+  places_not counts.TheVariants.IsEmpty p number events = tt
+
+module _ {T : Type 0} (scene : Scene T) (inv : Inv scene) where
+  open scene use {coding as code, capacity as c, party as p, steps as steps, backs as backs, events as events}
+
+  abbrev ws : List ℕ
+  ws = scene.words
+
+  said : IsSaid (of_set scene) (inv_of_set scene inv) (set_knows.Borrowed (set_stages.now (of_set scene)))
+  said =
+      record {
+        none = count_none p IsFilled events;
+        empty_next =
+            λ k filled below none counted. count_next p IsFilled k filled events counted false filled (omega arith)
+            (λ e. absurd (cc)) (λ e some. one_filled (filled_of k events) none some);
+        filled_next =
+            λ k filled owner below is counted. count_next p IsFilled k filled events counted true (filled + 1)
+            (omega arith) (λ e. ap is_some is) (λ e. absurd (cc));
+      }
+
+  module _ (which : CountOf) (count : Counting) (here : IsHere scene (counts_as which) (count_at which c count))
+      (at : CountAt c count) (none : all scene ≡ []) (k : Knows code c (count_at which c count) (sees_now scene))
+      (s : steps ≤ count_number c count + backs * (c + 2)) where
+    abbrev start : ContainerStart T
+    start = counts_as which
+
+    still : (words' : List ℕ) (y : Party T) (es : List (Event T))
+        (well_formed : WellFormed (after scene words' y es) → WellFormed (before scene))
+        → OwesStill scene inv words' y es well_formed
+    still words' y es well_formed = owes_none scene start (count_at which c count) y here refl
+
+    abbrev counts_to : Option Ask → Bool → After Counting Counted → Type 0
+    counts_to ask back r =
+        Leads scene (counts_as which) ask back scene.states []
+        (as_call (λ run. calls.TheVariants.Count which run) (counted which)
+        (went_on as_it_is tt tt (borrowed_counted (record { capacity = c; count = count }) r)))
+
+    -- the count ends with this number
+    counts_end : (number : ℕ) (ask : Option Ask) → Stays (of_set scene) (words_after ws ask)
+        → IsLength p c number events → set_knows.IsPaid (set_stages.sees (of_set scene) ask false)
+        → steps + step_count ask ≤ c + 2 + backs_then scene false * (c + 2)
+        → Leads scene (counts_as which) ask false scene.states [] (Done (counted which number))
+    counts_end number ask stays is paid few =
+        let y = party_then scene start ask false (Done (counted which number)) in
+        let es = Finished p (Container start) (counted which number) ∷ [] in
+        let well_formed = was_well_formed scene start (no_replace T which) here.span (words_after ws ask) y es (refl, tt) in
+        ends scene start (counted which number) ask false scene.states [] here.span none_lengthens
+        (ends_there scene inv start (count_at which c count) tt here y (words_after ws ask) stays
+        (counted which number)
+        (quiet_end (of_set scene) (inv_of_set scene inv) start (counted which number) (settles_not T which p number)
+        (rights_not T which p number))
+        (announces_not T which p number)
+        (answers_count T scene.terms.by (IsWorn scene.terms.by (words_after ws ask)) which c p number events is)
+        well_formed (λ holds. places_not T which p number events) (still (words_after ws ask) y es well_formed))
+        ((refl, does_count T which number (all scene) (done scene) none), tt) (few_count T which c code.size _ (backs_then scene false) few) (omega arith)
+
+    counts_move : counts_to (Some (count_ask count)) (count_goes_back count (old_of ws (Some (count_ask count))))
+        (count_after c count (old_of ws (Some (count_ask count))))
+    counts_move =
+        part_step (of_set scene) (inv_of_set scene inv) (set_knows.Borrowed (set_stages.now (of_set scene))) said counts_to count at k.paid k.scanned k.says
+        (λ next ask back same next_at paid scanned says few.
+        let low = few 0 (c + 2) (omega arith) (omega arith) in
+        let y = party_then scene start ask back (GoOn (count_at which c next)) in
+        let well_formed = was_well_formed scene start (no_replace T which) here.span (words_after ws ask) y [] tt in
+        goes_calmly scene start (count_at which c next) ask back scene.states here.span
+        (moves scene inv start (count_at which c count) tt here y (words_after ws ask)
+        (stays_same (of_set scene) (inv_of_set scene inv) (words_after ws ask) same) well_formed
+        (still (words_after ws ask) y [] well_formed))
+        (omega arith) (at_count T which c code.size (all scene) (done scene) next next_at none)
+        (record { paid = paid; scanned = scanned; owns = tt; says = says; gone = tt }))
+        (λ ask same shut paid few.
+        let low = few 0 (c + 2) (omega arith) (omega arith) in
+        counts_end 0 ask (stays_same (of_set scene) (inv_of_set scene inv) (words_after ws ask) same)
+        (record { none = λ t. refl; some = λ f. both_ways _ f (is_shut (of_set scene) (inv_of_set scene inv) shut) }) paid (omega arith))
+        (λ filled ask same worn end most says paid few.
+        let low = few 0 (c + 2) (omega arith) (omega arith) in
+        counts_end filled ask (stays_same (of_set scene) (inv_of_set scene inv) (words_after ws ask) same)
+        (record {
+          none = λ t. both_ways _ (unlocked (of_set scene) (inv_of_set scene inv) (λ shut. absurd (omega arith))) t;
+          some = λ f. says;
+        }) paid (omega arith))
+        (λ filled ask less new most says unheld paid few.
+        let low = few 0 (c + 2) (omega arith) (omega arith) in
+        counts_end filled ask (stays_raised (of_set scene) (inv_of_set scene inv) (words_after ws ask) less new)
+        (record {
+          none =
+              λ t. both_ways _ (unlocked (of_set scene) (inv_of_set scene inv) (not_shut (of_set scene) (inv_of_set scene inv) less)) t;
+          some = λ f. says;
+        }) paid (omega arith))
+
+  pub count_step : (which : CountOf) (count : Counting) → IsHere scene (counts_as which) (count_at which c count)
+      → CountAt c count → all scene ≡ [] → Knows code c (count_at which c count) (sees_now scene)
+      → steps ≤ count_number c count + backs * (c + 2) → StepOf scene (counts_as which) (count_at which c count)
+  count_step which parts.TheVariants.LoadsCounter here at none k s = counts_move which parts.TheVariants.LoadsCounter here at none k s
+  count_step which (parts.TheVariants.LoadsCell number i filled) here at none k s =
+      counts_move which (parts.TheVariants.LoadsCell number i filled) here at none k s
+  count_step which (parts.TheVariants.ExchangesCounter number filled) here at none k s =
+      counts_move which (parts.TheVariants.ExchangesCounter number filled) here at none k s
+
+  pub lock_step : IsHere scene starts.TheVariants.IsLocked lock_at → all scene ≡ []
+      → Knows code c lock_at (sees_now scene) → steps ≤ 0 → StepOf scene starts.TheVariants.IsLocked lock_at
+  lock_step here none k s =
+      let ask = Some (set_stages.loads 0) in
+      let answer = Truth (counter_of ws == locked) in
+      let y = party_then scene starts.TheVariants.IsLocked ask false (Done answer) in
+      let es = Finished p (Container starts.TheVariants.IsLocked) answer ∷ [] in
+      let well_formed = was_well_formed scene starts.TheVariants.IsLocked tt here.span (words_after ws ask) y es (refl, tt) in
+      let paid = k.paid in
+      ends scene starts.TheVariants.IsLocked answer ask false scene.states [] here.span none_lengthens
+      (ends_there scene inv starts.TheVariants.IsLocked lock_at tt here y (words_after ws ask)
+      (stays_same (of_set scene) (inv_of_set scene inv) (words_after ws ask) (set_stages.loads_same ws 0)) answer
+      (quiet_end (of_set scene) (inv_of_set scene inv) starts.TheVariants.IsLocked answer (λ i o. refl) (λ i r. refl))
+      (λ i b. refl) inv.good.lock well_formed (λ holds. tt)
+      (owes_none scene starts.TheVariants.IsLocked lock_at y here refl))
+      ((refl, none), tt) (omega arith) (omega arith)

@@ -1,0 +1,116 @@
+-- The death of an owner.
+use Rattle.std.proofs.Common.{◌≡◌, ℕ, ◌+◌, inl, true, false, None, is_some, List, [], ◌∷◌, ◌++◌, refl, sym, ap, ◌∙◌, arith}
+use Rattle.std.proofs.lemmas.List.Sums.{fold-append}
+use Rattle.steps.specs.declared.container.state.ContainerState.{ContainerState}
+use Rattle.model.specs.declared.event.Event.{Event}
+use Rattle.model.specs.declared.event.Event.TheVariants.{Died}
+use Rattle.model.specs.declared.party.Party.{Party}
+use Rattle.model.specs.Coding.{Coding}
+use Rattle.model.specs.Families.Container.Promises.{ContainsRight, ReplacesRight}
+use Rattle.model.specs.Families.Container.Reading.{contents_after, contents_of, announced_after, announced_of}
+use Rattle.model.specs.Families.Indices.Robust.Reading.{is_dead}
+use Rattle.model.specs.Parties.{party_of}
+use Rattle.model.proofs.Readings.{Each-append, span_of-death}
+use Rattle.laws_robust.proofs.Gone.{calm_less}
+use Rattle.laws_robust.proofs.Deaths.{death_good, death_goes, death_spares}
+use Rattle.laws_robust.proofs.Invariant as set
+use Rattle.laws_container.specs.Gone.{AsksBy, RecoversBy, AnswersBy}
+use Rattle.laws_container.proofs.HiddenKnows.{EndsRight}
+use Rattle.laws_container.proofs.Invariant.{Elements, moment, view}
+use Rattle.laws_container.proofs.KeepingReads.{still_knows}
+use Rattle.laws_container.proofs.Left.{left_after, left_of}
+use Rattle.laws_container.proofs.WellFormed.{each_less, stands_less}
+use Rattle.laws_container.proofs.Sights.{rests_later}
+use Rattle.laws_container.proofs.Sound.{Dies}
+use Rattle.laws_container.proofs.Terms.{Terms}
+use Rattle.laws_container.proofs.Turns.{Now, WellFormed, Passes, Leaves}
+
+module _ {T : Type 0} (terms : Terms) (code : Coding T) (c : ℕ) (words dead : List ℕ)
+    (states : List (ℕ × ContainerState T)) (latest : List (ℕ × Party T)) (events : List (Event T)) (turns o : ℕ)
+    (g : set.Good terms.by c words dead events turns)
+    (h : Elements code c (moment terms words latest events) states turns)
+    (alive : is_dead o events ≡ false) where
+  abbrev es : List (Event T)
+  es = Died o ∷ []
+
+  abbrev m : Now T
+  m = moment terms words latest events
+
+  abbrev m' : Now T
+  m' = moment terms words latest (events ++ es)
+
+  same_contents : (i : ℕ) → contents_of i (events ++ es) ≡ contents_of i events
+  same_contents i = fold-append (contents_after i) None events es
+
+  same_announced : (i : ℕ) → announced_of i (events ++ es) ≡ announced_of i events
+  same_announced i = fold-append (announced_after i) false events es
+
+  same_left : (i : ℕ) → left_of i (events ++ es) ≡ left_of i events
+  same_left i = fold-append (left_after i) true events es
+
+  was_well_formed : WellFormed m' → WellFormed m
+  was_well_formed well_formed =
+      record {
+        kept = well_formed.kept;
+        calm = calm_less terms.by events es well_formed.calm;
+        replaced = each_less ReplacesRight events es well_formed.replaced;
+        replaces = λ q. stands_less q (party_of q latest) events es tt (span_of-death q events o) (well_formed.replaces q);
+      }
+
+  passes : Passes code c m m'
+  passes =
+      record {
+        well_formed = was_well_formed;
+        kept = λ kept. kept;
+        counts = λ kept i below. omega arith;
+        change = λ kept. omega arith;
+        stands = λ well_formed i below same. same_contents i;
+        words = λ well_formed i below same odd j js. refl;
+        stood = λ well_formed i below was is. refl;
+        left = λ well_formed i below same was. same_left i ∙ was;
+        announces = λ well_formed same i below said. (sym (same_announced i) ∙ said, refl);
+        owing = λ same owing. owing;
+        owed = λ same i below. inl refl;
+        lost = λ well_formed i owner below dead filled. inl refl;
+      }
+
+  leaves : (q : ℕ) → Leaves code c q m m'
+  leaves q =
+      record {
+        under = λ well_formed i owner below lives writes even. (refl, λ j js. refl);
+        over = λ well_formed i owner below lives writes. inl refl;
+        placed = λ well_formed i owner below lives writes left some. (same_left i ∙ left, ap is_some (same_contents i) ∙ some);
+        alone = λ alone i below. refl;
+      }
+
+  elements_then : Elements code c m' states (turns + 1)
+  elements_then =
+      record {
+        coded = h.coded;
+        wide = h.wide;
+        counts = λ kept i below. let few = h.counts kept i below in omega arith;
+        change = λ kept. let few = h.change kept in omega arith;
+        within = λ i value e. h.within i value (sym (same_contents i) ∙ e);
+        announced = λ well_formed i e. ap is_some (same_contents i) ∙ h.announced (was_well_formed well_formed) i (sym (same_announced i) ∙ e);
+        whole = λ well_formed i below. rw (same_contents i) (h.whole (was_well_formed well_formed) i below);
+        asks = Each-append (AsksBy terms.by) events es h.asks (tt, tt);
+        recovers = Each-append (RecoversBy terms.by) events es h.recovers (tt, tt);
+        answers = Each-append (AnswersBy terms.by (set.IsWorn terms.by words) c) events es h.answers (tt, tt);
+        contains = λ well_formed. Each-append ContainsRight events es (h.contains (was_well_formed well_formed)) (tt, tt);
+        places = λ well_formed. Each-append EndsRight events es (h.places (was_well_formed well_formed)) (tt, tt);
+        rests = λ q s idle found. rests_later code c m m' es refl passes q s (h.rests q s idle found);
+        fresh = λ q. rests_later code c m m' es refl passes q _ (h.fresh q);
+      }
+
+  pub dies : Dies terms code c words dead states latest events turns o
+  dies =
+      record {
+        good = death_good terms.by c words dead events turns o g alive;
+        elements = elements_then;
+        knows = λ q since changes backs flight k.
+            still_knows code c (view terms words states latest events q since changes backs) words states latest es
+            changes (death_goes terms.by c words dead events turns o g alive)
+            (death_spares terms.by c words dead events turns o g alive q) (inl (refl, refl)) passes (leaves q)
+            (span_of-death q events o) refl refl
+            flight k;
+      }

@@ -1,0 +1,363 @@
+-- What a turn does to the elements, by what it changes: nothing of them; the number of changes; a word of an element; or the
+-- number of an element, where a value is placed or hidden.
+use Rattle.std.proofs.Common.{◌≡◌, ◌≢◌, ⊎_elim, inl, inr, ℕ, ◌+◌, ◌%◌, ◌<◌, ◌≤◌, true, false, Some, is_some, List}
+use Rattle.std.proofs.Common.{◌++◌, length, get_or, set, sym, ap, subst, ◌∙◌, arith, get_or-set_other}
+use Rattle.std.proofs.lemmas.Bool.{cases_eq}
+use Rattle.std.proofs.lemmas.List.{length-set}
+use Rattle.steps.specs.Container.Layout.{change_word, count_word, element_word}
+use Rattle.steps.specs.Indices.Robust.Parts.{one_more}
+use Rattle.model.specs.declared.event.Event.{Event}
+use Rattle.model.specs.declared.event.Start.{Start}
+use Rattle.model.specs.declared.party.Party.{Party}
+use Rattle.model.specs.Families.Container.Looks.{WasAlone}
+use Rattle.model.specs.Families.Container.Reading.{contents_of, announced_of}
+use Rattle.model.specs.Families.Indices.Robust.Reading.{filled_of}
+use Rattle.model.specs.Parties.{party_of, put, doing_of, flight_of}
+use Rattle.model.specs.Reading.{Open, span_of}
+use Rattle.model.specs.Shape.{IsShut}
+use Rattle.model.proofs.Moments.{others_begin_none}
+use Rattle.model.proofs.Parties.{party_put_same, party_put_other}
+use Rattle.model.proofs.Readings.{AreOwn}
+use Rattle.laws_robust.specs.Gone.{is_gone}
+use Rattle.laws_container.proofs.Alone.{alone_less, others_shut}
+use Rattle.laws_container.proofs.Contents.{IsWhole, Writing, Stands, stands_on, store_whole}
+use Rattle.laws_container.proofs.Core.{count_at, datum_at, change_at, counts_stay, data_stay, count_set, count_stays}
+use Rattle.laws_container.proofs.Core.{data_all_stay, change_set, changes_no_count, changes_no_datum}
+use Rattle.laws_container.proofs.Invariant.{Scene, Inv, Elements, Changes, before, after}
+use Rattle.laws_container.proofs.Left.{left_of}
+use Rattle.laws_container.proofs.Terms.{Keeps}
+use Rattle.laws_container.proofs.Turns.{Owing, owes, Now, WellFormed, count_in, datum_in, change_in}
+use Rattle.laws_container.proofs.Writers.{IsWriter}
+
+module _ {T : Type 0} (scene : Scene T) (inv : Inv scene) (words' : List ℕ) (y : Party T) (es : List (Event T))
+    (well_formed : WellFormed (after scene words' y es) → WellFormed (before scene)) where
+  open scene use {coding as code, capacity as c, party as p, turns as turns, latest as latest, events as events}
+
+  abbrev ws : List ℕ
+  ws = scene.words
+
+  abbrev m : Now T
+  m = before scene
+
+  abbrev m' : Now T
+  m' = after scene words' y es
+
+  e : Elements code c m scene.states turns
+  e = inv.elements
+
+  -- the party owes the changes a raise still
+  abbrev pub OwesStill : Type 0
+  OwesStill =
+      owes (flight_of (doing_of (party_of p latest))) ≡ true → owes (flight_of (Some y.doing)) ≡ true
+
+  owing_still : OwesStill → Owing latest → Owing (put p y latest)
+  owing_still still o = ⊎_elim here there (cases_eq o.party p)
+    where
+      here : o.party ≡ p → Owing (put p y latest)
+      here same =
+          record {
+            party = p;
+            is =
+                ap (λ x. owes (flight_of (doing_of x))) (party_put_same p y latest)
+                ∙ still (subst (λ n. owes (flight_of (doing_of (party_of n latest))) ≡ true) same o.is);
+          }
+
+      there : o.party ≢ p → Owing (put p y latest)
+      there ne = record { party = o.party; is = ap (λ x. owes (flight_of (doing_of x))) (party_put_other o.party p y latest ne) ∙ o.is }
+
+  -- it owes one from now on
+  owing_now : owes (flight_of (Some y.doing)) ≡ true → Owing (put p y latest)
+  owing_now is = record { party = p; is = ap (λ x. owes (flight_of (doing_of x))) (party_put_same p y latest) ∙ is }
+
+  -- it writes nothing of elements
+  pub record IsCalm : Type 0 where
+    pub contents : (i : ℕ) → contents_of i (events ++ es) ≡ contents_of i events
+    pub announced : (i : ℕ) → announced_of i (events ++ es) ≡ announced_of i events
+    pub left : (i : ℕ) → left_of i events ≡ true → left_of i (events ++ es) ≡ true
+    -- nor frees an index where another writes
+    pub spares : WellFormed m' → (q : ℕ) → q ≢ p → (i o : ℕ) → is_gone scene.terms.by o events ≡ false
+        → IsWriter q i o events → left_of i events ≡ false → left_of i (events ++ es) ≡ false
+
+  still_stands : ((i : ℕ) → i < c → count_in code c m' i ≡ count_in code c m i)
+      → ((i : ℕ) → i < c → (j : ℕ) → j < code.size → datum_in code c m' i j ≡ datum_in code c m i j)
+      → ((i : ℕ) → contents_of i (events ++ es) ≡ contents_of i events) → WellFormed m' → IsWhole code c words' (events ++ es)
+  still_stands counts words same holds i low =
+      subst (Stands code c words' i) (sym (same i))
+      (stands_on code c ws words' i (contents_of i events) (counts i low) (words i low) (e.whole (well_formed holds) i low))
+
+  -- ---- nothing of them
+
+  module _ (rest : (n : ℕ) → 1 + c ≤ n → get_or words' n 0 ≡ get_or ws n 0) (wide : length words' ≡ length ws) (calm : IsCalm) (still : OwesStill) where
+    same_count : (i : ℕ) → i < c → count_in code c m' i ≡ count_in code c m i
+    same_count i low = rest (count_word c i) (omega arith)
+
+    same_datum : (i j : ℕ) → datum_in code c m' i j ≡ datum_in code c m i j
+    same_datum i j = rest (element_word c code.size i j) (omega arith)
+
+    same_change : change_in code c m' ≡ change_in code c m
+    same_change = rest (change_word c) (omega arith)
+
+    pub calmly : Changes scene words' y es
+    calmly =
+        record {
+          passes =
+              record {
+                well_formed = well_formed;
+                kept = λ kept. kept;
+                counts = λ kept i low. let same = same_count i low in omega arith;
+                change = λ kept. let same = same_change in omega arith;
+                stands = λ holds i low is. calm.contents i;
+                words = λ holds i low is odd j js. same_datum i j;
+                stood = λ holds i low was now. same_count i low;
+                left = λ holds i low is was. calm.left i was;
+                announces = λ holds is i low said. (sym (calm.announced i) ∙ said, same_count i low);
+                owing = λ is o. owing_still still o;
+                owed = λ is i low. inl (same_count i low);
+                lost = λ holds i o low dead filled. inl (same_count i low);
+              };
+          leaves = λ q ne.
+              record {
+                under = λ holds i o low lives mine even. (same_count i low, λ j js. same_datum i j);
+                over = λ holds i o low lives mine. inl (same_count i low);
+                placed = λ holds i o low lives mine fresh some. (calm.spares holds q ne i o lives mine fresh, ap is_some (calm.contents i) ∙ some);
+                alone = λ was i low. same_count i low;
+              };
+          wide = wide;
+          counts = λ kept i low. let same = same_count i low in let few = e.counts kept i low in omega arith;
+          change = λ kept. let same = same_change in let few = e.change kept in omega arith;
+          within = λ i value is. e.within i value (sym (calm.contents i) ∙ is);
+          announced = λ holds i said. ap is_some (calm.contents i) ∙ e.announced (well_formed holds) i (sym (calm.announced i) ∙ said);
+          whole = still_stands same_count (λ i low j js. same_datum i j) calm.contents;
+        }
+
+  -- ---- the number of changes
+
+  module _ (new : words' ≡ set ws (change_word c) (one_more (change_in code c m))) (contents : (i : ℕ) → contents_of i (events ++ es) ≡ contents_of i events)
+      (left : (i : ℕ) → left_of i (events ++ es) ≡ left_of i events)
+      (says : WellFormed m' → (i : ℕ) → announced_of i (events ++ es) ≡ true → is_some (contents_of i events) ≡ true) where
+    within_words : change_word c < length ws
+    within_words = let wide = e.wide in omega arith
+
+    raised : change_in code c m' ≡ one_more (change_in code c m)
+    raised = ap (change_at c) new ∙ change_set c code.size ws (one_more (change_in code c m)) within_words
+
+    raised_few : Keeps scene.terms → change_in code c m' ≡ change_in code c m + 1
+    raised_few kept =
+        let more = raised in
+        let few = e.change kept in
+        let small = inv.small kept in
+        omega arith
+
+    count_as_it_was : (i : ℕ) → count_in code c m' i ≡ count_in code c m i
+    count_as_it_was i = ap (λ w. count_at c w i) new ∙ changes_no_count c code.size ws (one_more (change_in code c m)) i
+
+    datum_as_it_was : (i j : ℕ) → datum_in code c m' i j ≡ datum_in code c m i j
+    datum_as_it_was i j = ap (λ w. datum_at c code.size w i j) new ∙ changes_no_datum c code.size ws (one_more (change_in code c m)) i j
+
+    pub counts_change : Changes scene words' y es
+    counts_change =
+        record {
+          passes =
+              record {
+                well_formed = well_formed;
+                kept = λ kept. kept;
+                counts = λ kept i low. let same = count_as_it_was i in omega arith;
+                change = λ kept. let more = raised_few kept in omega arith;
+                stands = λ holds i low is. contents i;
+                words = λ holds i low is odd j js. datum_as_it_was i j;
+                stood = λ holds i low was now. count_as_it_was i;
+                left = λ holds i low is was. left i ∙ was;
+                announces = λ holds is i low said. let more = raised in absurd (omega arith);
+                owing = λ is o. let more = raised in absurd (omega arith);
+                owed = λ is i low. inl (count_as_it_was i);
+                lost = λ holds i o low dead filled. inl (count_as_it_was i);
+              };
+          leaves = λ q ne.
+              record {
+                under = λ holds i o low lives mine even. (count_as_it_was i, λ j js. datum_as_it_was i j);
+                over = λ holds i o low lives mine. inl (count_as_it_was i);
+                placed = λ holds i o low lives mine fresh some. (left i ∙ fresh, ap is_some (contents i) ∙ some);
+                alone = λ was i low. count_as_it_was i;
+              };
+          wide = ap length new ∙ length-set ws (change_word c) (one_more (change_in code c m));
+          counts = λ kept i low. let same = count_as_it_was i in let few = e.counts kept i low in omega arith;
+          change = λ kept. let more = raised_few kept in let few = e.change kept in omega arith;
+          within = λ i value is. e.within i value (sym (contents i) ∙ is);
+          announced = λ holds i said. ap is_some (contents i) ∙ says holds i said;
+          whole = still_stands (λ i low. count_as_it_was i) (λ i low j js. datum_as_it_was i j) contents;
+        }
+
+  -- ---- a word of an element, by one who writes there
+
+  module _ (i : ℕ) (below : i < c) (k : ℕ) (ks : k < code.size) (value : T) (owner : ℕ)
+      (mine : WellFormed m → IsWriter p i owner events) (writing : WellFormed m → Writing code c ws i value k)
+      (new : words' ≡ set ws (element_word c code.size i k) (get_or (code.words_of value) k 0)) (calm : IsCalm) (still : OwesStill) where
+    count_kept : (a : ℕ) → a < c → count_in code c m' a ≡ count_in code c m a
+    count_kept a low = ap (λ w. count_at c w a) new ∙ counts_stay c code.size ws i k _ a low
+
+    datum_kept : (a j : ℕ) → a ≢ i → j < code.size → datum_in code c m' a j ≡ datum_in code c m a j
+    datum_kept a j ne js = ap (λ w. datum_at c code.size w a j) new ∙ data_stay c code.size ws i k _ a j ne js ks
+
+    change_kept : change_in code c m' ≡ change_in code c m
+    change_kept = ap (change_at c) new ∙ get_or-set_other ws (element_word c code.size i k) (change_word c) _ 0 (λ e. absurd (omega arith))
+
+    -- what stands under an odd number is elsewhere
+    elsewhere : WellFormed m' → (a : ℕ) → count_in code c m a % 2 ≡ 1 → a ≢ i
+    elsewhere holds a odd same = grind arith
+
+    -- and so is what another writes
+    not_theirs : WellFormed m' → (q : ℕ) → q ≢ p → (a o : ℕ) → IsWriter q a o events → a ≢ i
+    not_theirs holds q ne a o theirs same = grind arith
+
+    pub stores : Changes scene words' y es
+    stores =
+        record {
+          passes =
+              record {
+                well_formed = well_formed;
+                kept = λ kept. kept;
+                counts = λ kept a low. let same = count_kept a low in omega arith;
+                change = λ kept. let same = change_kept in omega arith;
+                stands = λ holds a low is. calm.contents a;
+                words = λ holds a low is odd j js. datum_kept a j (elsewhere holds a odd) js;
+                stood = λ holds a low was now. count_kept a low;
+                left = λ holds a low is was. calm.left a was;
+                announces = λ holds is a low said. (sym (calm.announced a) ∙ said, count_kept a low);
+                owing = λ is o. owing_still still o;
+                owed = λ is a low. inl (count_kept a low);
+                lost = λ holds a o low dead filled. inl (count_kept a low);
+              };
+          leaves = λ q ne.
+              record {
+                under = λ holds a o low lives theirs even. (count_kept a low, λ j js. datum_kept a j (not_theirs holds q ne a o theirs) js);
+                over = λ holds a o low lives theirs. inl (count_kept a low);
+                placed = λ holds a o low lives theirs fresh some. (calm.spares holds q ne a o lives theirs fresh, ap is_some (calm.contents a) ∙ some);
+                alone = λ was a low. count_kept a low;
+              };
+          wide = ap length new ∙ length-set ws (element_word c code.size i k) _;
+          counts = λ kept a low. let same = count_kept a low in let few = e.counts kept a low in omega arith;
+          change = λ kept. let same = change_kept in let few = e.change kept in omega arith;
+          within = λ a v is. e.within a v (sym (calm.contents a) ∙ is);
+          announced = λ holds a said. ap is_some (calm.contents a) ∙ e.announced (well_formed holds) a (sym (calm.announced a) ∙ said);
+          whole = λ holds a low.
+              let h = well_formed holds in
+              let all : IsWhole code c words' events =
+              subst (λ w. IsWhole code c w events) (sym new)
+              (store_whole code c ws events (e.whole h) e.wide i below value k ks (writing h)) in
+              subst (Stands code c words' a) (sym (calm.contents a)) (all a low);
+        }
+
+  -- ---- the number of an element
+
+  module _ (i : ℕ) (below : i < c) (new : words' ≡ set ws (count_word c i) (one_more (count_in code c m i)))
+      (own : AreOwn p es) (start : Start T) (wrote : List (Event T)) (open_now : span_of p events ≡ Open start wrote)
+      (owed : owes (flight_of (Some y.doing)) ≡ true) where
+    count_here : count_in code c m' i ≡ one_more (count_in code c m i)
+    count_here = let wide = e.wide in ap (λ w. count_at c w i) new ∙ count_set c code.size ws i (one_more (count_in code c m i)) (omega arith)
+
+    count_few : Keeps scene.terms → count_in code c m' i ≡ count_in code c m i + 1
+    count_few kept =
+        let here = count_here in
+        let few = e.counts kept i below in
+        let small = inv.small kept in
+        omega arith
+
+    count_there : (a : ℕ) → a ≢ i → count_in code c m' a ≡ count_in code c m a
+    count_there a ne = ap (λ w. count_at c w a) new ∙ count_stays c code.size ws i (one_more (count_in code c m i)) a ne
+
+    datum_all : (a j : ℕ) → datum_in code c m' a j ≡ datum_in code c m a j
+    datum_all a j = ap (λ w. datum_at c code.size w a j) new ∙ data_all_stay c code.size ws i (one_more (count_in code c m i)) a j below
+
+    change_same : change_in code c m' ≡ change_in code c m
+    change_same = ap (change_at c) new ∙ get_or-set_other ws (count_word c i) (change_word c) _ 0 (λ e. absurd (omega arith))
+
+    -- a number that stays is another's
+    moved : (a : ℕ) → count_in code c m' a ≡ count_in code c m a → a ≢ i
+    moved a is same =
+        let here = count_here in
+        let now : count_in code c m' a ≡ count_in code c m' i = ap (count_in code c m') same in
+        let was : count_in code c m a ≡ count_in code c m i = ap (count_in code c m) same in
+        absurd (omega arith)
+
+    not_alone : {A : Type 0} → (q : ℕ) → q ≢ p → WasAlone q (events ++ es) → A
+    not_alone q ne was =
+        absurd (subst IsShut open_now (others_shut q p events (λ e. ne (sym e)) (alone_less q events es (others_begin_none q p es ne own) was)))
+
+    pub record IsCounted : Type 0 where
+      pub contents : (a : ℕ) → a ≢ i → contents_of a (events ++ es) ≡ contents_of a events
+      pub announced : WellFormed m' → (a : ℕ) → announced_of a (events ++ es) ≡ true → (a ≢ i) × (announced_of a events ≡ true)
+      pub left : (a : ℕ) → a ≢ i → left_of a (events ++ es) ≡ left_of a events
+      pub placed : WellFormed m' → (q : ℕ) → q ≢ p → (o : ℕ) → IsWriter q i o events → left_of i events ≡ false → is_some (contents_of i events) ≡ true → ⊥
+      pub stood : WellFormed m' → is_some (contents_of i events) ≡ true → is_some (contents_of i (events ++ es)) ≡ true → ⊥
+      pub under : WellFormed m' → (q : ℕ) → q ≢ p → (a o : ℕ) → IsWriter q a o events → count_in code c m a % 2 ≡ 0 → a ≢ i
+      pub over : WellFormed m' → (q : ℕ) → q ≢ p → (o : ℕ) → IsWriter q i o events → one_more (count_in code c m i) % 2 ≡ 0
+      pub lost : WellFormed m' → (o : ℕ) → is_gone scene.terms.by o events ≡ true → filled_of i events ≡ Some o → count_in code c m i % 2 ≡ 1
+      pub whole : WellFormed m' → IsWhole code c words' (events ++ es)
+
+    pub counts_one : IsCounted → Changes scene words' y es
+    counts_one h =
+        record {
+          passes =
+              record {
+                well_formed = well_formed;
+                kept = λ kept. kept;
+                counts = λ kept a low. ⊎_elim (λ same. grown kept a same) (λ ne. let is = count_there a ne in omega arith) (cases_eq a i);
+                change = λ kept. let same = change_same in omega arith;
+                stands = λ holds a low is. h.contents a (moved a is);
+                words = λ holds a low is odd j js. datum_all a j;
+                stood =
+                    λ holds a low was now. ⊎_elim
+                    (λ same. absurd (h.stood holds (subst (λ b. is_some (contents_of b events) ≡ true) same was)
+                    (subst (λ b. is_some (contents_of b (events ++ es)) ≡ true) same now)))
+                    (λ ne. count_there a ne) (cases_eq a i);
+                left = λ holds a low is was. h.left a (moved a is) ∙ was;
+                announces = λ holds is a low said. let k = h.announced holds a said in (k.1, count_there a k.0);
+                owing = λ is o. owing_now owed;
+                owed = λ is a low. inr (owing_now owed);
+                lost =
+                    λ holds a o low dead filled. ⊎_elim (λ same. inr (lost_here holds a o same dead filled))
+                    (λ other. inl (count_there a other)) (cases_eq a i);
+              };
+          leaves = λ q ne.
+              record {
+                under = λ holds a o low lives theirs even. (count_there a (h.under holds q ne a o theirs even), λ j js. datum_all a j);
+                over =
+                    λ holds a o low lives theirs. ⊎_elim (λ same. inr (over_here holds q ne a o same theirs))
+                    (λ other. inl (count_there a other)) (cases_eq a i);
+                placed =
+                    λ holds a o low lives theirs fresh some. ⊎_elim
+                    (λ same. absurd (h.placed holds q ne o (subst (λ b. IsWriter q b o events) same theirs)
+                    (subst (λ b. left_of b events ≡ false) same fresh)
+                    (subst (λ b. is_some (contents_of b events) ≡ true) same some)))
+                    (λ other. (h.left a other ∙ fresh, ap is_some (h.contents a other) ∙ some)) (cases_eq a i);
+                alone = λ was a low. not_alone q ne was;
+              };
+          wide = ap length new ∙ length-set ws (count_word c i) _;
+          counts =
+              λ kept a low. ⊎_elim (λ same. bounded kept a same)
+              (λ ne. let is = count_there a ne in let few = e.counts kept a low in omega arith) (cases_eq a i);
+          change = λ kept. let same = change_same in let few = e.change kept in omega arith;
+          within = λ a v is. ⊎_elim (λ same. subst (λ b. b < c) (sym same) below) (λ ne. e.within a v (sym (h.contents a ne) ∙ is)) (cases_eq a i);
+          announced = λ holds a said. let k = h.announced holds a said in ap is_some (h.contents a k.0) ∙ e.announced (well_formed holds) a k.1;
+          whole = h.whole;
+        }
+      where
+        grown : Keeps scene.terms → (a : ℕ) → a ≡ i → count_in code c m a ≤ count_in code c m' a
+        grown kept a same = subst (λ b. count_in code c m b ≤ count_in code c m' b) (sym same) (let here = count_few kept in omega arith)
+
+        bounded : Keeps scene.terms → (a : ℕ) → a ≡ i → count_in code c m' a ≤ turns + 1
+        bounded kept a same =
+            subst (λ b. count_in code c m' b ≤ turns + 1) (sym same)
+            (let here = count_few kept in let few = e.counts kept i below in omega arith)
+
+        over_here : WellFormed m' → (q : ℕ) → q ≢ p → (a o : ℕ) → a ≡ i → IsWriter q a o events → count_in code c m' a % 2 ≡ 0
+        over_here holds q ne a o same theirs =
+            subst (λ b. count_in code c m' b % 2 ≡ 0) (sym same)
+            (ap (λ n. n % 2) count_here ∙ h.over holds q ne o (subst (λ b. IsWriter q b o events) same theirs))
+
+        lost_here : WellFormed m' → (a o : ℕ) → a ≡ i → is_gone scene.terms.by o events ≡ true
+            → filled_of a events ≡ Some o → (count_in code c m a % 2 ≡ 1) × (count_in code c m' a % 2 ≡ 0)
+        lost_here holds a o same dead filled =
+            let odd = h.lost holds o dead (subst (λ b. filled_of b events ≡ Some o) same filled) in
+            let new = count_here in
+            subst (λ b. (count_in code c m b % 2 ≡ 1) × (count_in code c m' b % 2 ≡ 0)) (sym same) (odd, omega arith)

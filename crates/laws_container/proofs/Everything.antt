@@ -1,0 +1,46 @@
+-- All that is shown of the turns of a container, call by call, and so what is proved of every run.
+use Rattle.model.specs.declared.turn.Kind as kinds
+use Rattle.model.proofs.Orders.{Keeps}
+use Rattle.laws_container.proofs.AddWrites.{add_step}
+use Rattle.laws_container.proofs.Begins.{begins_shown}
+use Rattle.laws_container.proofs.Counts.{count_step, lock_step}
+use Rattle.laws_container.proofs.Deaths.{dies}
+use Rattle.laws_container.proofs.FindChecks.{find_step, find_decided}
+use Rattle.laws_container.proofs.Invariant.{Scene, Inv}
+use Rattle.laws_container.proofs.Justified.{keeps}
+use Rattle.laws_container.proofs.Looks.{look_step}
+use Rattle.laws_container.proofs.Moves.{CallSteps}
+use Rattle.laws_container.proofs.Opening.{opens}
+use Rattle.laws_container.proofs.RecoverClosing.{recover_step, recover_decided}
+use Rattle.laws_container.proofs.RemoveSteps.{remove_step}
+use Rattle.laws_container.proofs.ReplaceFound.{replace_step}
+use Rattle.laws_container.proofs.Sound.{Shown}
+
+module _ {T : Type 0} where
+  calls : (scene : Scene T) → Inv scene → CallSteps scene
+  calls scene inv =
+      record {
+        add = λ value owner fits acts stage here at k s. add_step scene inv value owner fits acts stage here at k s;
+        remove = λ index owner mode fits acts stage at here k s. remove_step scene inv index owner mode fits acts stage at here k s;
+        replace = λ index value owner fits acts stage at here k s. replace_step scene inv index value owner fits acts stage at here k s;
+        find = λ owner fits room stage at here k s. find_step scene inv owner fits room stage at here k s;
+        find_decided = λ owner fits room index found at here k s answer. find_decided scene inv owner fits room index found at here k s answer;
+        recover = λ owner mode fits room stage at here k s. recover_step scene inv owner mode fits room stage at here k s;
+        recover_decided = λ owner mode fits room index count at here k s answer. recover_decided scene inv owner mode fits room index count at here k s answer;
+        look = λ which stage at here k s. look_step scene inv which stage here at k s;
+        count = λ which count at none here k s. count_step scene inv which count here at none k s;
+        lock = λ none here k s. lock_step scene inv here none k s;
+      }
+
+  pub shown : Shown T
+  shown =
+      record {
+        calls = calls;
+        begins = λ scene g h free shut start named may. begins_shown scene g h free shut start named may;
+        dies = λ terms code c words dead states latest events turns o g h alive. dies terms code c words dead states latest events turns o g h alive;
+        opens = λ terms code c coded some few. opens terms code c coded some few;
+      }
+
+  -- what is proved of every run of the container
+  pub container_keeps : Keeps T kinds.TheVariants.Container
+  container_keeps = keeps shown

@@ -1,0 +1,197 @@
+-- A find checks the number of what it has copied, and is told whether to go on; and any step of one.
+use Rattle.std.proofs.Common.{◌≡◌, ◌≢◌, ⊎_elim, ℕ, ◌+◌, ◌*◌, ◌<◌, ◌≤◌, ◌==◌, if◌then◌else◌, Bool, false}
+use Rattle.std.proofs.Common.{true, Option, Some, None, is_some, List, [], ◌∷◌, ◌++◌, set, refl, sym, ap, subst}
+use Rattle.std.proofs.Common.{◌∙◌, arith}
+use Rattle.std.proofs.lemmas.Bool.{cases_eq}
+use Rattle.std.proofs.lemmas.Bool.Decides.{nat_tests}
+use Rattle.std.proofs.lemmas.List.{set-get_or}
+use Rattle.steps.specs.declared.ask.Ask.{Ask}
+use Rattle.steps.specs.declared.ask.After.{After}
+use Rattle.steps.specs.declared.ask.After.TheVariants.{GoOn, Done}
+use Rattle.steps.specs.declared.container.find.Find as find_calls
+use Rattle.steps.specs.declared.container.find.FindStage.{FindStage}
+use Rattle.steps.specs.declared.container.find.FindStage as finds
+use Rattle.steps.specs.declared.copied.Buffer as buffers
+use Rattle.steps.specs.Container.Find.{at_find, find_comes_to}
+use Rattle.steps.specs.Container.Layout.{count_word}
+use Rattle.steps.specs.Indices.Robust.Parts.{empty}
+use Rattle.steps.specs.Routine.{went_on}
+use Rattle.model.specs.declared.event.Answer.{Answer}
+use Rattle.model.specs.declared.event.Answer.TheVariants as answers
+use Rattle.model.specs.declared.event.Event.{Event}
+use Rattle.model.specs.declared.event.Event.TheVariants.{Copied}
+use Rattle.model.specs.declared.event.Start.TheVariants.{Container}
+use Rattle.model.specs.declared.families.container.ContainerStart.{ContainerStart}
+use Rattle.model.specs.declared.families.container.ContainerStart.TheVariants.{Find}
+use Rattle.model.specs.declared.families.container.calls.ContainerFlight.{ContainerFlight}
+use Rattle.model.specs.declared.families.container.calls.ContainerFlight as calls
+use Rattle.model.specs.Families.Container.Reading.{Copies, Has, acts_of, contents_of}
+use Rattle.model.specs.Families.Indices.Robust.Promises.{IsFilledWith}
+use Rattle.model.specs.Families.Indices.Robust.Reading.{Deed}
+use Rattle.model.specs.Families.Queues.Calls.{as_it_is, read_in}
+use Rattle.model.specs.Step.{as_call}
+use Rattle.model.specs.Turns.{words_after}
+use Rattle.model.proofs.Moments.{held_later}
+use Rattle.laws_robust.proofs.Counting.{times_below, count_later}
+use Rattle.laws_robust.proofs.Past.{through_less}
+use Rattle.laws_robust.proofs.Stages.{exchanges, exchange_sets, fails_same}
+use Rattle.laws_container.proofs.Copies.{copied_value}
+use Rattle.laws_container.proofs.Invariant.{Scene, Inv, before}
+use Rattle.laws_container.proofs.Knows.{View, Finds, FindKnows, Knows}
+use Rattle.laws_container.proofs.Silent.{silently}
+use Rattle.laws_container.proofs.Stages.{IsHere, all, done, sees_now, StepOf, AnswerOf, Leads}
+use Rattle.laws_container.proofs.Stages.{acts_more, goes_on}
+use Rattle.laws_container.proofs.Stages.{owes_none, was_well_formed}
+use Rattle.laws_container.proofs.Standing.{find_at, find_number, FindAt}
+use Rattle.laws_container.proofs.Turns.{count_in}
+use Rattle.laws_container.proofs.Finds.{below_more, cell_step, comes_to_next, count_step, ends_there, found_past}
+use Rattle.laws_container.proofs.Finds.{has_last, has_more, seen_more, then_at, word_step}
+
+module _ {T : Type 0} (scene : Scene T) (inv : Inv scene) (owner : ℕ) (fits : owner < empty) where
+  open scene use {coding as code, capacity as c, party as p, steps as steps, backs as backs, events as events, latest as latest}
+
+  abbrev ws : List ℕ
+  ws = scene.words
+
+  abbrev z : ℕ
+  z = code.size
+
+  abbrev start : ContainerStart T
+  start = Find owner
+
+  abbrev v : View T
+  v = sees_now scene
+
+  abbrev as_find : buffers.Buffer 128 → After (find_calls.Find T (buffers.Buffer 128)) ℕ → After (ContainerFlight T) (Answer T)
+  as_find room a = as_call calls.TheVariants.Find answers.Number (went_on as_it_is owner room a)
+
+  abbrev first : find_calls.Find T (buffers.Buffer 128)
+  first = record { capacity = c; stage = finds.TheVariants.LoadsCell 0 0; of = record {} }
+
+  -- ---- its (number scene inv owner fits) is checked
+
+  module _ (room : buffers.Buffer 128) (k found count : ℕ)
+      (here : IsHere scene (Find owner) (find_at c owner room (finds.TheVariants.ChecksCount k found count)))
+      (stands : FindAt c z (all scene) (done scene) (finds.TheVariants.ChecksCount k found count))
+      (h : FindKnows code c owner room (finds.TheVariants.ChecksCount k found count) v) (s : steps ≤ 2 + z + k * (z + 3)) where
+    abbrev count_now : ℕ
+    count_now = count_in code c (before scene) k
+
+    abbrev check_it : Option Ask
+    check_it = Some (exchanges (count_word c k) count count)
+
+    abbrev value : T
+    value = read_in code room
+
+    abbrev copying : List (Event T)
+    copying = Copied p k value ∷ []
+
+    -- the copy is whole
+    copies : count_now ≡ count → Leads scene start check_it false scene.states copying (GoOn (find_at c owner room (finds.TheVariants.Asks k found)))
+    copies is =
+        let same : words_after ws check_it ≡ ws =
+        exchange_sets ws (count_word c k) count count is ∙ (ap (set ws (count_word c k)) (sym is) ∙ set-get_or ws (count_word c k) 0) in
+        let y =
+        (then_at scene inv owner fits) room (finds.TheVariants.ChecksCount k found count) here stands.0 room
+        (finds.TheVariants.Asks k found) check_it in
+        let well_formed = was_well_formed scene start tt here.span (words_after ws check_it) y copying (refl, tt) in
+        let acts_then : acts_of p (events ++ copying) ≡ done scene ++ Copies k value ∷ [] =
+        acts_more scene start here.span copying (refl, tt) (λ start w. refl) in
+        goes_on scene start (find_at c owner room (finds.TheVariants.Asks k found)) check_it false scene.states copying here.span (λ start w. refl)
+        (silently scene inv (words_after ws check_it) same y copying (tt, tt) (refl, tt) start
+        (find_at c owner room (finds.TheVariants.ChecksCount k found count)) tt here well_formed
+        (owes_none scene start (find_at c owner room (finds.TheVariants.ChecksCount k found count)) y here refl)
+        (record {
+          asks = (tt, tt);
+          recovers = (tt, tt);
+          answers = (tt, tt);
+          contains =
+              λ holds. (copied_value code c v k count room.words inv.elements.coded inv.elements.whole h.2 is (well_formed holds), tt);
+          places = λ holds. (tt, tt);
+        }))
+        (stands.1.1, tt) (omega arith) (
+          refl,
+          refl,
+          fits,
+          (
+            ap (λ (d : List Deed). d ++ []) stands.0,
+            stands.1.0,
+            seen_more (k + 1) (done scene) (Copies k value) (below_more k (k + 1) _ (omega arith) stands.1.1) (omega arith, tt),
+          ),
+        ) (
+          h.2.room,
+          (
+            (
+              let paid = h.0.0 in omega arith,
+              count_later p (IsFilledWith owner) (k + 1) found events h.0.1 copying tt,
+              λ holds.
+                  let g = h.0.2 (well_formed holds) in
+                  record {
+                    count =
+                        record {
+                          chosen = g.count.chosen;
+                          is = g.count.is;
+                          once = λ i less chosen. held_later p (IsFilledWith owner i) events copying tt (g.count.once i less chosen);
+                          through = λ i less through. g.count.through i less (through_less p (IsFilledWith owner i) events copying tt through);
+                        };
+                    copied = λ i less chosen through.
+                        ⊎_elim (λ e. (
+                          value,
+                          subst (λ n. Has (Copies n value) (acts_of p (events ++ copying))) (sym e)
+                              (subst (Has (Copies k value)) (sym acts_then) (has_last (Copies k value) (done scene))),
+                        ))
+                        (λ ne.
+                        let had = g.copied i (omega arith) chosen (through_less p (λ part. is_some (contents_of i part) ≡ true) events copying tt through) in
+                        (had.0, subst (Has (Copies i had.0)) (sym acts_then) (has_more (Copies i had.0) (done scene) (Copies k value ∷ []) had.1)))
+                        (cases_eq i k);
+                  },
+            ),
+            record { before = done scene; is = acts_then },
+          ),
+        )
+
+    fails : count_now ≢ count → Leads scene start check_it false scene.states [] (as_find room (find_comes_to first (k + 1) found))
+    fails other =
+        (comes_to_next scene inv owner fits) room (finds.TheVariants.ChecksCount k found count) here stands.0 check_it
+        (fails_same ws (count_word c k) count count other) k found stands.1.0 h.0.0 (omega arith)
+        (below_more k (k + 1) _ (omega arith) stands.1.1) h.0.1
+        ((found_past scene inv owner fits) k found (λ holds through. other (h.1 holds through)) h.0.2) h.2.room
+
+    check_step : StepOf scene start (find_at c owner room (finds.TheVariants.ChecksCount k found count))
+    check_step = go (count_now == count) refl
+      where
+        go : (b : Bool) → (count_now == count) ≡ b
+            → Leads scene start (Some (exchanges (count_word c k) count count)) false scene.states
+            ((if b then Copied p k (read_in code room) ∷ [] else []) ++ [])
+            (as_find room (if b then GoOn (at_find first (finds.TheVariants.Asks k found)) else find_comes_to first (k + 1) found))
+        go true t = let is : count_now ≡ count = grind (arith, nat_tests) in copies is
+        go false t = let other : count_now ≢ count = grind (arith, nat_tests) in fails other
+
+  -- ---- it is told whether to go on
+
+  pub find_decided : (room : buffers.Buffer 128) (k found : ℕ)
+      → FindAt c z (all scene) (done scene) (finds.TheVariants.Asks k found)
+      → IsHere scene (Find owner) (find_at c owner room (finds.TheVariants.Asks k found))
+      → Knows code c (find_at c owner room (finds.TheVariants.Asks k found)) v
+      → steps ≤ find_number z (finds.TheVariants.Asks k found) → (answer : ℕ)
+      → AnswerOf scene (Find owner) (find_at c owner room (finds.TheVariants.Asks k found)) None answer
+  find_decided room k found at here h s answer = go (answer == 0)
+    where
+      go : (b : Bool) → Leads scene start None false scene.states [] (as_find room (if b then Done found else find_comes_to first (k + 1) found))
+      go true = let all_of = times_below c k (z + 3) at.1 in
+          let below = at.1 in
+          (ends_there scene inv owner fits) room (finds.TheVariants.Asks k found) here at.0 None refl (k + 1) found (omega arith) h.1.0.0 (omega arith) h.1.0.1
+      go false =
+          (comes_to_next scene inv owner fits) room (finds.TheVariants.Asks k found) here at.0 None refl k found at.1
+          h.1.0.0 (omega arith) at.2 h.1.0.1 h.1.0.2 h.0
+
+  -- ---- any step
+
+  pub find_step : (room : buffers.Buffer 128) (stage : FindStage) → FindAt c z (all scene) (done scene) stage
+      → IsHere scene (Find owner) (find_at c owner room stage) → Knows code c (find_at c owner room stage) v
+      → steps ≤ find_number z stage → StepOf scene (Find owner) (find_at c owner room stage)
+  find_step room (finds.TheVariants.LoadsCell k found) at here h s = (cell_step scene inv owner fits) room h.0 k found here at h.1 s
+  find_step room (finds.TheVariants.LoadsCount k found) at here h s = (count_step scene inv owner fits) room h.0 k found here at h.1 s
+  find_step room (finds.TheVariants.LoadsWord k found count word) at here h s = (word_step scene inv owner fits) room k found count word here at h.1 s
+  find_step room (finds.TheVariants.ChecksCount k found count) at here h s = check_step room k found count here at h.1 s
+  find_step room (finds.TheVariants.Asks k found) at here h s = find_decided room k found at here h s 0

@@ -1,0 +1,63 @@
+-- What a call knows of an index that it will free, or has freed: that its number is the one that it has loaded, or is even; then,
+-- that what stands there stands under that number still, or that nothing has stood there since.
+use Rattle.std.proofs.Common.{◌≡◌, ◌⊎◌, ℕ, ◌%◌, false, true, Some, is_some, List}
+use Rattle.model.specs.declared.event.Event.{Event}
+use Rattle.model.specs.declared.event.Event.TheVariants.{Finished}
+use Rattle.model.specs.declared.event.Start.TheVariants.{Container}
+use Rattle.model.specs.declared.event.Answer.TheVariants.{Done, Index, State}
+use Rattle.model.specs.declared.families.container.ContainerStart.TheVariants.{Add, Remove, Replace, Recover}
+use Rattle.model.specs.Coding.{Coding}
+use Rattle.model.specs.Families.Container.Reading.{contents_of}
+use Rattle.model.specs.Families.Container.Removals.{EmptySinceFreed, HidesRight}
+use Rattle.model.specs.Families.Container.Promises.{PlacesRight}
+use Rattle.model.specs.Families.Indices.Robust.Reading.{Frees, filled_of, settled_of, deeds_of, IsOneOf}
+use Rattle.model.specs.Moments.{SinceBegin}
+use Rattle.laws_robust.specs.Gone.{is_gone}
+use Rattle.laws_container.proofs.Turns.{Now, WellFormed, count_in}
+
+module _ {T : Type 0} (code : Coding T) (c : ℕ) where
+  -- the number is the one that was loaded, or somebody has hidden what stood there
+  abbrev pub Covered : ℕ → ℕ → Now T → Type 0
+  Covered index count m =
+      (count_in code c m index ≡ count) ⊎ (count_in code c m index % 2 ≡ 0)
+
+  -- so it is before a remove that may give the index back
+  abbrev pub RemoveCovers : ℕ → ℕ → ℕ → ℕ → Now T → Type 0
+  RemoveCovers p owner index count m =
+      WellFormed m → is_gone m.terms.by owner m.events ≡ false
+      → SinceBegin p (λ part since. settled_of index part ≡ Some owner) m.events
+      → Covered index count m
+
+  -- and before a recovery, while its owner fills the index
+  abbrev pub RecoverCovers : ℕ → ℕ → ℕ → Now T → Type 0
+  RecoverCovers owner index count m =
+      WellFormed m → filled_of index m.events ≡ Some owner → Covered index count m
+
+  -- something stands at the index under the number that was loaded
+  abbrev pub StillStands : ℕ → ℕ → Now T → ℕ → Type 0
+  StillStands index count m i =
+      (i ≡ index) × (count_in code c m index ≡ count) × (is_some (contents_of index m.events) ≡ true)
+
+  -- at each index that it has freed nothing has stood since, but those that are exempt
+  abbrev pub HasHidden : ℕ → ℕ → (ℕ → Type 0) → Now T → Type 0
+  HasHidden p owner But m =
+      WellFormed m → (i : ℕ) → IsOneOf (Frees i owner) (deeds_of p m.events)
+      → EmptySinceFreed p owner i m.events ⊎ But i
+
+-- no index is exempt
+abbrev pub no_index : ℕ → Type 0
+no_index i = ⊥
+
+-- ---- what a finished call has done to elements
+
+module _ {T : Type 0} where
+  abbrev pub EndsRight : List (Event T) → Event T → Type 0
+  EndsRight before (Finished p (Container (Add value owner)) (Index index)) =
+      PlacesRight before (Finished p (Container (Add value owner)) (Index index))
+  EndsRight before (Finished p (Container (Replace index value owner)) Done) =
+      PlacesRight before (Finished p (Container (Replace index value owner)) Done)
+  EndsRight before (Finished p (Container (Remove index owner mode)) (State state)) =
+      HidesRight before (Finished p (Container (Remove index owner mode)) (State state))
+  EndsRight before (Finished p (Container (Recover owner mode)) (State state)) =
+      HidesRight before (Finished p (Container (Recover owner mode)) (State state))
+  EndsRight before e = Unit {0}

@@ -1,0 +1,82 @@
+-- What a call knows of an index that it will free, or has freed, it knows still after any turn of another party.
+use Rattle.std.proofs.Common.{◌≡◌, ◌⊎◌, ⊎_elim, inl, inr, ℕ, ◌%◌, ◌<◌, Bool, false, true, Option, Some, None, is_some, List, ◌++◌, refl, ap, subst, ◌∙◌}
+use Rattle.model.specs.declared.event.Event.{Event}
+use Rattle.model.specs.declared.party.Party.{Party}
+use Rattle.model.specs.Coding.{Coding}
+use Rattle.model.specs.Families.Container.Reading.{contents_of}
+use Rattle.model.specs.Families.Container.Removals.{EmptySinceFreed}
+use Rattle.model.specs.Families.Indices.Robust.Reading.{Frees, settled_of, deeds_of, IsOneOf}
+use Rattle.model.specs.Moments.{SinceBegin}
+use Rattle.model.proofs.Moments.{held_now, held_later}
+use Rattle.laws_robust.specs.Gone.{is_gone, IsCalm}
+use Rattle.laws_robust.proofs.Gone.{gone_less, stays_lost}
+use Rattle.laws_robust.proofs.Knows.{Goes, Spares}
+use Rattle.laws_robust.proofs.Past.{since_less}
+use Rattle.laws_robust.proofs.Rights.{IsBy}
+use Rattle.laws_container.proofs.HiddenKnows.{RemoveCovers, RecoverCovers, StillStands, HasHidden}
+use Rattle.laws_container.proofs.Turns.{Now, WellFormed, Passes, Leaves}
+
+module _ {T : Type 0} where
+  -- nothing stands there
+  pub nothing_is : (o : Option T) → is_some o ≡ false → o ≡ None
+  nothing_is None e = refl
+  nothing_is (Some value) e = absurd (cc)
+
+  -- at this moment nothing stands at an index that has been freed
+  pub empty_now : (p owner i index : ℕ) (events : List (Event T)) → IsOneOf (Frees i owner) (deeds_of p events)
+      → i ≡ index → contents_of index events ≡ None → EmptySinceFreed p owner i events
+  empty_now p owner i index events freed is none =
+      held_now p (λ part. IsOneOf (Frees i owner) (deeds_of p part) × (contents_of i part ≡ None)) events (freed, ap (λ n. contents_of n events) is ∙ none)
+
+module _ {T : Type 0} (code : Coding T) (c q owner index count : ℕ) (m : Now T) (words' : List ℕ)
+    (latest' : List (ℕ × Party T)) (es : List (Event T)) (goes : Goes m.words words' m.events es)
+    (spares : Spares m.terms.by q m.events es)
+    (passes : Passes code c m (record { terms = m.terms; words = words'; latest = latest'; events = m.events ++ es }))
+    (leaves : Leaves code c q m (record { terms = m.terms; words = words'; latest = latest'; events = m.events ++ es }))
+    (below : index < c) where
+  abbrev m' : Now T
+  m' = record { terms = m.terms; words = words'; latest = latest'; events = m.events ++ es }
+
+  pub remove_covers : (IsCalm m.terms.by m.events → is_gone m.terms.by owner m.events ≡ false
+      → SinceBegin q (λ part since. settled_of index part ≡ Some owner) m.events → IsBy q index owner m.events)
+      → RemoveCovers code c q owner index count m → RemoveCovers code c q owner index count m'
+  remove_covers owns h well_formed alive since =
+      let before = passes.well_formed well_formed in
+      let lives = gone_less m.terms.by owner m.events es alive in
+      let began = since_less q (λ part. settled_of index part ≡ Some owner) m.events es spares.none since in
+      let mine = owns before.calm lives began in
+      ⊎_elim
+      (λ is. ⊎_elim (λ same. inl (same ∙ is)) (λ even. inr even) (leaves.over well_formed index owner below lives (inl mine)))
+      (λ even. inr (ap (λ n. n % 2) (leaves.under well_formed index owner below lives (inl mine) even).0 ∙ even))
+      (h before lives began)
+
+  pub recover_covers : is_gone m.terms.by owner m.events ≡ true → RecoverCovers code c owner index count m → RecoverCovers code c owner index count m'
+  recover_covers dead h well_formed filled =
+      let had = stays_lost m.terms.by m.events es goes.fills index owner well_formed.calm.1 dead filled in
+      let turn = passes.lost well_formed index owner below dead had in
+      ⊎_elim
+      (λ is. ⊎_elim (λ same. inl (same ∙ is)) (λ lost. inr lost.1) turn)
+      (λ even. ⊎_elim (λ same. inr (ap (λ n. n % 2) same ∙ even)) (λ lost. inr lost.1) turn)
+      (h (passes.well_formed well_formed) had)
+
+  -- what stood there stands, or is hidden now
+  stands_on : WellFormed m' → (i : ℕ) → IsOneOf (Frees i owner) (deeds_of q (m.events ++ es))
+      → StillStands code c index count m i → (b : Bool) → is_some (contents_of index (m.events ++ es)) ≡ b
+      → EmptySinceFreed q owner i (m.events ++ es) ⊎ StillStands code c index count m' i
+  stands_on well_formed i freed s true t = inr (s.0, passes.stood well_formed index below s.2 t ∙ s.1, t)
+  stands_on well_formed i freed s false t = inl (empty_now q owner i index (m.events ++ es) freed s.0 (nothing_is (contents_of index (m.events ++ es)) t))
+
+  pub hidden_stands : HasHidden code c q owner (StillStands code c index count m) m → HasHidden code c q owner (StillStands code c index count m') m'
+  hidden_stands h well_formed i freed =
+      ⊎_elim (λ gone. inl (held_later q _ m.events es spares.none gone))
+      (λ s. stands_on well_formed i freed s (is_some (contents_of index (m.events ++ es))) refl)
+      (h (passes.well_formed well_formed) i (subst (IsOneOf (Frees i owner)) spares.deeds freed))
+
+module _ {T : Type 0} (code : Coding T) (c q owner : ℕ) (But : ℕ → Type 0) (m : Now T) (words' : List ℕ)
+    (latest' : List (ℕ × Party T)) (es : List (Event T)) (spares : Spares m.terms.by q m.events es)
+    (passes : Passes code c m (record { terms = m.terms; words = words'; latest = latest'; events = m.events ++ es })) where
+  pub hidden_later : HasHidden code c q owner But m
+      → HasHidden code c q owner But (record { terms = m.terms; words = words'; latest = latest'; events = m.events ++ es })
+  hidden_later h well_formed i freed =
+      ⊎_elim (λ gone. inl (held_later q _ m.events es spares.none gone)) (λ but. inr but)
+      (h (passes.well_formed well_formed) i (subst (IsOneOf (Frees i owner)) spares.deeds freed))

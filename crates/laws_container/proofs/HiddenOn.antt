@@ -1,0 +1,149 @@
+-- What a call knows of an index that it will free, or has freed, after a step of its own.
+use Rattle.std.proofs.Common.{◌≡◌, ◌≢◌, ◌⊎◌, ⊎_elim, inl, inr, ℕ, ◌%◌, ◌<◌, Option, Some, None, is_some, List, [], ◌∷◌}
+use Rattle.std.proofs.Common.{◌++◌, refl, sym, ap, subst, ◌∙◌, append-nil, arith}
+use Rattle.std.proofs.lemmas.List.Sums.{fold-append}
+use Rattle.model.specs.declared.event.Event.{Event}
+use Rattle.model.specs.declared.event.Event.TheVariants.{FreedOf, Hidden}
+use Rattle.model.specs.declared.event.Start.TheVariants.{Container}
+use Rattle.model.specs.declared.families.container.ContainerStart.{ContainerStart}
+use Rattle.model.specs.declared.party.Party.{Party}
+use Rattle.model.specs.Coding.{Coding}
+use Rattle.model.specs.Families.Container.Reading.{contents_after, contents_of}
+use Rattle.model.specs.Families.Container.Removals.{EmptySinceFreed}
+use Rattle.model.specs.Families.Indices.Robust.Reading.{Frees, filled_of, deeds, deeds_of, IsOneOf}
+use Rattle.model.specs.Moments.{BeginsNone}
+use Rattle.model.specs.Parties.{put}
+use Rattle.model.specs.Reading.{Open, span_of}
+use Rattle.model.proofs.Moments.{held_later}
+use Rattle.model.proofs.Readings.{AreOwn}
+use Rattle.laws_robust.proofs.Deeds.{was_one}
+use Rattle.laws_robust.proofs.Effects.{at_same}
+use Rattle.laws_container.proofs.Contents.{IsWhole, Stands}
+use Rattle.laws_container.proofs.Core.{count_at}
+use Rattle.laws_container.proofs.HiddenKnows.{Covered, RecoverCovers, StillStands, HasHidden, no_index}
+use Rattle.laws_container.proofs.HiddenLater.{empty_now}
+use Rattle.laws_container.proofs.Invariant.{Scene, Inv, before, after, moment, wrote_of}
+use Rattle.laws_container.proofs.Stages.{NoReplace, Lengthens, all, deeds_more, was_well_formed, was_well_formed_calmly}
+use Rattle.laws_container.proofs.Turns.{Now, WellFormed, count_in}
+
+-- ---- what is exempt no more
+
+module _ {T : Type 0} (code : Coding T) (c p owner index count : ℕ) (m : Now T) where
+  -- under an even number nothing stands
+  pub hidden_even : (WellFormed m → IsWhole code c m.words m.events) → index < c → count % 2 ≡ 0
+      → HasHidden code c p owner (StillStands code c index count m) m → HasHidden code c p owner no_index m
+  hidden_even whole below even h well_formed i freed = grind arith
+
+  -- nor where the number is another by now
+  pub hidden_other : count_in code c m index ≢ count → HasHidden code c p owner (StillStands code c index count m) m → HasHidden code c p owner no_index m
+  hidden_other other h well_formed i freed = ⊎_elim (λ gone. inl gone) (λ s. absurd (other s.1)) (h well_formed i freed)
+
+-- ---- a step of its own
+
+module _ {T : Type 0} (scene : Scene T) (start : ContainerStart T) (none : NoReplace start)
+    (span : span_of scene.party scene.events ≡ Open (Container start) (wrote_of scene.party scene.events))
+    (owner : ℕ) where
+  open scene use {coding as code, capacity as c, party as p, latest as latest, events as events}
+
+  -- that writes nothing
+  module _ (words' : List ℕ) (y : Party T) where
+    abbrev calm : Now T
+    calm = moment scene.terms words' (put p y latest) events
+
+    pub hidden_calm : HasHidden code c p owner no_index (before scene) → HasHidden code c p owner no_index calm
+    hidden_calm h well_formed i freed = h (was_well_formed_calmly scene start none span y well_formed) i freed
+
+    pub stands_calm : (index count : ℕ) → count_at c words' index ≡ count_in code c (before scene) index
+        → HasHidden code c p owner (StillStands code c index count (before scene)) (before scene)
+        → HasHidden code c p owner (StillStands code c index count calm) calm
+    stands_calm index count same h well_formed i freed =
+        ⊎_elim (λ gone. inl gone) (λ s. inr (s.0, same ∙ s.1, s.2)) (h (was_well_formed_calmly scene start none span y well_formed) i freed)
+
+  -- that frees nothing
+  module _ (words' : List ℕ) (y : Party T) (es : List (Event T)) (own : AreOwn p es) (fresh : BeginsNone p es)
+      (longer : Lengthens es)
+      (frees_none : (i : ℕ) → IsOneOf (Frees i owner) (all scene ++ deeds es) → IsOneOf (Frees i owner) (all scene)) where
+    abbrev then_is : Now T
+    then_is = after scene words' y es
+
+    hidden_so : (But But' : ℕ → Type 0)
+        → (WellFormed then_is → (i : ℕ) → IsOneOf (Frees i owner) (deeds_of p (events ++ es)) → But i
+        → EmptySinceFreed p owner i (events ++ es) ⊎ But' i)
+        → HasHidden code c p owner But (before scene) → HasHidden code c p owner But' then_is
+    hidden_so But But' stays h well_formed i freed =
+        ⊎_elim (λ gone. inl (held_later p _ events es fresh gone)) (λ but. stays well_formed i freed but)
+        (h (was_well_formed scene start none span words' y es own well_formed) i
+        (frees_none i (subst (IsOneOf (Frees i owner)) (deeds_more scene start span es own longer) freed)))
+
+    pub hidden_on : HasHidden code c p owner no_index (before scene) → HasHidden code c p owner no_index then_is
+    hidden_on h = hidden_so no_index no_index (λ well_formed i freed but. absurd but) h
+
+    pub stands_on : (index count : ℕ) → count_at c words' index ≡ count_in code c (before scene) index
+        → contents_of index (events ++ es) ≡ contents_of index events
+        → HasHidden code c p owner (StillStands code c index count (before scene)) (before scene)
+        → HasHidden code c p owner (StillStands code c index count then_is) then_is
+    stands_on index count same contents h =
+        hidden_so (StillStands code c index count (before scene)) (StillStands code c index count then_is)
+        (λ well_formed i freed s. inr (s.0, same ∙ s.1, ap is_some contents ∙ s.2)) h
+
+    -- and after which nothing stands there
+    pub hidden_now : (index count : ℕ) → contents_of index (events ++ es) ≡ None
+        → HasHidden code c p owner (StillStands code c index count (before scene)) (before scene)
+        → HasHidden code c p owner no_index then_is
+    hidden_now index count nothing h =
+        hidden_so (StillStands code c index count (before scene)) no_index
+        (λ well_formed i freed s. inl (empty_now p owner i index (events ++ es) freed s.0 nothing)) h
+
+  -- a number that was covered is so still
+  pub covers_on : (words' : List ℕ) (y : Party T) (es : List (Event T)) → AreOwn p es → (index count : ℕ)
+      → count_at c words' index ≡ count_in code c (before scene) index
+      → filled_of index (events ++ es) ≡ filled_of index events → RecoverCovers code c owner index count (before scene)
+      → RecoverCovers code c owner index count (after scene words' y es)
+  covers_on words' y es own index count same still h well_formed filled =
+      ⊎_elim (λ is. inl (same ∙ is)) (λ even. inr (ap (λ n. n % 2) same ∙ even))
+      (h (was_well_formed scene start none span words' y es own well_formed) (sym still ∙ filled))
+
+  -- it hides what stands there
+  pub hides_it : (words' : List ℕ) (y : Party T) (index count : ℕ)
+      → HasHidden code c p owner (StillStands code c index count (before scene)) (before scene)
+      → HasHidden code c p owner no_index (after scene words' y (Hidden p index ∷ []))
+  hides_it words' y index count h =
+      hidden_now words' y (Hidden p index ∷ []) (refl, tt) tt (λ start w. refl)
+      (λ i freed. subst (IsOneOf (Frees i owner)) (append-nil (all scene)) freed) index count
+      (fold-append (contents_after index) None events (Hidden p index ∷ []) ∙ at_same index index None (contents_of index events) refl) h
+
+  -- ---- it frees an index
+
+  module _ (inv : Inv scene) (index count : ℕ) (below : index < c) (words' : List ℕ) (y : Party T)
+      (same : count_at c words' index ≡ count_in code c (before scene) index) where
+    abbrev free : List (Event T)
+    free = FreedOf p index owner ∷ []
+
+    abbrev freed_is : Now T
+    freed_is = after scene words' y free
+
+    deeds_then : deeds_of p (events ++ free) ≡ all scene ++ Frees index owner ∷ []
+    deeds_then = deeds_more scene start span free (refl, tt) (λ start w. refl)
+
+    same_contents : contents_of index (events ++ free) ≡ contents_of index events
+    same_contents = fold-append (contents_after index) None events free
+
+    freed_now : (i : ℕ) → IsOneOf (Frees i owner) (deeds_of p (events ++ free)) → i ≡ index
+        → Covered code c index count (before scene) → (o : Option T) → contents_of index events ≡ o
+        → Stands code c scene.words index o
+        → EmptySinceFreed p owner i (events ++ free) ⊎ StillStands code c index count freed_is i
+    freed_now i freed is covered None e stands = inl (empty_now p owner i index (events ++ free) freed is (same_contents ∙ e))
+    freed_now i freed is covered (Some value) e stands =
+        ⊎_elim (λ number. inr (is, same ∙ number, ap is_some (same_contents ∙ e))) (λ even. let odd = stands.0 in absurd (omega arith)) covered
+
+    pub hidden_freed : HasHidden code c p owner no_index (before scene)
+        → (WellFormed (before scene) → WellFormed freed_is → Covered code c index count (before scene))
+        → HasHidden code c p owner (StillStands code c index count freed_is) freed_is
+    hidden_freed h covered well_formed i freed =
+        let earlier = was_well_formed scene start none span words' y free (refl, tt) well_formed in
+        ⊎_elim
+        (λ had. ⊎_elim (λ gone. inl (held_later p _ events free tt gone)) (λ never. absurd never) (h earlier i had))
+        (λ e. let is : index ≡ i = cc in
+        freed_now i freed (sym is) (covered earlier well_formed) (contents_of index events) refl
+        (inv.elements.whole earlier index below))
+        (was_one (Frees i owner) (Frees index owner) (all scene) (subst (IsOneOf (Frees i owner)) deeds_then freed))

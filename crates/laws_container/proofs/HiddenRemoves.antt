@@ -1,0 +1,244 @@
+-- The end of a remove: it hides what stands there, unless that has changed, and counts its change.
+use Rattle.std.proofs.Common.{◌≡◌, ◌≢◌, ⊎_elim, inl, inr, ℕ, ◌+◌, ◌%◌, ◌<◌, ◌≤◌, ◌==◌, if◌then◌else◌, Bool, false}
+use Rattle.std.proofs.Common.{true, Option, Some, List, [], ◌∷◌, ◌++◌, refl, sym, ap, subst, ◌∙◌, append-nil, arith}
+use Rattle.std.proofs.lemmas.Bool.Decides.{nat_tests}
+use Rattle.steps.specs.declared.ask.Ask.{Ask}
+use Rattle.steps.specs.declared.ask.After.TheVariants.{GoOn, Done}
+use Rattle.steps.specs.declared.container.remove.RemoveStage.{RemoveStage}
+use Rattle.steps.specs.declared.container.remove.RemoveStage as removes
+use Rattle.steps.specs.declared.indices.enums.ReleaseMode.{ReleaseMode}
+use Rattle.steps.specs.declared.indices.enums.ReleaseMode.TheVariants.{LockIfLastIndex, Default}
+use Rattle.steps.specs.declared.indices.enums.ReleaseState.{ReleaseState}
+use Rattle.steps.specs.declared.indices.enums.ReleaseState as states
+use Rattle.steps.specs.declared.indices.robust.release.GiveBack.{GiveBack}
+use Rattle.steps.specs.Container.Layout.{change_word, count_word}
+use Rattle.steps.specs.Indices.Robust.Parts.{empty, greatest, one_more}
+use Rattle.model.specs.declared.event.Answer.TheVariants as answers
+use Rattle.model.specs.declared.event.Event.{Event}
+use Rattle.model.specs.declared.event.Event.TheVariants.{Hidden, Finished}
+use Rattle.model.specs.declared.event.Start.TheVariants.{Container}
+use Rattle.model.specs.declared.families.container.ContainerStart.{ContainerStart}
+use Rattle.model.specs.declared.families.container.ContainerStart.TheVariants.{Remove}
+use Rattle.model.specs.declared.families.container.calls.ContainerFlight.{ContainerFlight}
+use Rattle.model.specs.declared.party.Party.{Party}
+use Rattle.model.specs.Families.Container.Bounds.{most_steps}
+use Rattle.model.specs.Families.Container.Calls.{place_of}
+use Rattle.model.specs.Families.Container.Reading.{Act}
+use Rattle.model.specs.Families.Container.Spans.{HasDone}
+use Rattle.model.specs.Families.Indices.Robust.Promises.{IsUnlocked, FilledSinceFreed}
+use Rattle.model.specs.Families.Indices.Robust.Reading.{Deed, Frees, Locks, IsOneOf}
+use Rattle.model.specs.Moments.{BeginsNone}
+use Rattle.model.specs.Turns.{words_after}
+use Rattle.model.proofs.Moments.{held_later}
+use Rattle.laws_robust.proofs.Core.{counter_of}
+use Rattle.laws_robust.proofs.Invariant.{IsWorn, worn_on}
+use Rattle.laws_robust.proofs.Effects.{both_ways}
+use Rattle.laws_robust.proofs.Effects as set_effects
+use Rattle.laws_robust.proofs.Stages.{exchanges, fails_same}
+use Rattle.laws_container.specs.Gone.{AnswersBy}
+use Rattle.laws_container.proofs.HiddenOn.{hidden_other, hidden_on, hides_it}
+use Rattle.laws_container.proofs.Invariant.{Scene, Inv, ActsFor, before, of_set, inv_of_set}
+use Rattle.laws_container.proofs.Keeping.{shut_later}
+use Rattle.laws_container.proofs.Knows.{RemoveSays, RemoveKnows}
+use Rattle.laws_container.proofs.Left.{left_of}
+use Rattle.laws_container.proofs.Sets.{leaves_behind, quiet_end}
+use Rattle.laws_container.proofs.Stages.{IsHere, all, done, sees_now, then_sees, StepOf, Leads, none_lengthens}
+use Rattle.laws_container.proofs.Stages.{party_then, backs_then, goes_on, ends, was_well_formed}
+use Rattle.laws_container.proofs.Standing.{remove_at, release_total, RemoveAt, place_is}
+use Rattle.laws_container.proofs.Steps.{loads, hides, ends_counted}
+use Rattle.laws_container.proofs.Turns.{count_in}
+use Rattle.laws_container.proofs.Writing.{adds_one, adds_to_change, hides_count}
+
+-- a release and 3 steps
+pub total_is : (c z index owner : ℕ) (mode : ReleaseMode) (backs : ℕ) (T : Type 0)
+    → 3 + release_total c index owner mode backs ≡ most_steps {T = T} c z (Remove index owner mode) backs
+total_is c z index owner Default backs T = omega arith
+total_is c z index owner LockIfLastIndex backs T = omega arith
+
+-- it has freed its index
+removed_frees : (T : Type 0) (index owner : ℕ) (mode : ReleaseMode) (state : ReleaseState) (made : List Deed)
+    → HasDone {T = T} (Remove index owner mode) (answers.State state) made [] → IsOneOf (Frees index owner) made
+removed_frees T index owner Default states.TheVariants.Locked made h = absurd h
+removed_frees T index owner Default states.TheVariants.Unlocked made h =
+    subst (IsOneOf (Frees index owner)) (sym h) (record { before = []; after = []; is = refl })
+removed_frees T index owner LockIfLastIndex states.TheVariants.Locked made h =
+    ⊎_elim (λ e. subst (IsOneOf (Frees index owner)) (sym e) (record { before = []; after = []; is = refl }))
+    (λ e. subst (IsOneOf (Frees index owner)) (sym e) (record { before = []; after = Locks ∷ []; is = refl })) h
+removed_frees T index owner LockIfLastIndex states.TheVariants.Unlocked made h =
+    subst (IsOneOf (Frees index owner)) (sym h) (record { before = []; after = []; is = refl })
+
+-- whatever it has done to elements
+removed_done : {T : Type 0} (index owner : ℕ) (mode : ReleaseMode) (state : ReleaseState) (made : List Deed) (done : List (Act T))
+    → HasDone {T = T} (Remove index owner mode) (answers.State state) made []
+    → HasDone {T = T} (Remove index owner mode) (answers.State state) made done
+removed_done index owner mode state made acts h = grind arith
+
+module _ {T : Type 0} (scene : Scene T) (inv : Inv scene) (index owner : ℕ) (mode : ReleaseMode)
+    (fits : owner < empty) (acts : ActsFor scene owner) (below : index < scene.capacity) where
+  open scene use {coding as code, capacity as c, party as p, steps as steps, backs as backs, events as events, latest as latest}
+
+  abbrev ws : List ℕ
+  ws = scene.words
+
+  abbrev z : ℕ
+  z = code.size
+
+  abbrev start : ContainerStart T
+  start = Remove index owner mode
+
+  abbrev at_stage : RemoveStage → ContainerFlight T
+  at_stage stage = remove_at c index owner mode stage
+
+  abbrev Here : RemoveStage → Type 0
+  Here stage = IsHere scene (Remove index owner mode) (remove_at c index owner mode stage)
+
+  abbrev then_at : RemoveStage → Option Ask → Bool → Party T
+  then_at next ask back = party_then scene start ask back (GoOn (at_stage next))
+
+  given_is : ◌≡◌ {A = GiveBack} (record { index = index; owner = owner; mode = mode }) (record { index = place_of c index; owner = owner; mode = mode })
+  given_is = ap (λ n. record { index = n; owner = owner; mode = mode }) (sym (place_is c index below))
+
+  -- no turn back was counted
+  same_total : release_total c index owner mode (backs_then scene false) ≡ release_total c index owner mode backs
+  same_total = let same : backs + 0 ≡ backs = omega arith in ap (λ n. release_total c index owner mode n) same
+
+  -- ---- what stands there is hidden
+
+  module _ (count : ℕ) (state : ReleaseState) (here : Here (removes.TheVariants.Hides count state))
+      (stands : RemoveAt c z (all scene) (done scene) index owner mode (removes.TheVariants.Hides count state))
+      (k : RemoveKnows code c index owner mode (removes.TheVariants.Hides count state) (sees_now scene))
+      (s : steps ≤ 1 + release_total c index owner mode backs) where
+    abbrev hide_it : Option Ask
+    hide_it = Some (exchanges (count_word c index) count (one_more count))
+
+    abbrev count_now : ℕ
+    count_now = count_in code c (before scene) index
+
+    abbrev next : RemoveStage
+    next = removes.TheVariants.AddsChange state
+
+    -- the exchange leaves the counter
+    counter_stays : counter_of ws ≡ greatest → counter_of (words_after ws hide_it) ≡ greatest
+    counter_stays end = go (count_now == count) refl
+      where
+        go : (b : Bool) → (count_now == count) ≡ b → counter_of (words_after ws hide_it) ≡ greatest
+        go true t =
+            let is : count_now ≡ count = grind (arith, nat_tests) in
+            (leaves_behind (of_set scene) (inv_of_set scene inv) (words_after ws hide_it) (count_word c index) _
+            (omega arith) (hides_count scene inv index count below is)).stuck
+            end
+        go false t =
+            let other : count_now ≢ count = grind (arith, nat_tests) in
+            ap counter_of (fails_same ws (count_word c index) count (one_more count) other) ∙ end
+
+    says_then : (m : ReleaseMode) (t : ReleaseState) (es : List (Event T)) → BeginsNone p es → (y : Party T)
+        → RemoveSays code c index owner m t (sees_now scene)
+        → RemoveSays code c index owner m t (then_sees scene hide_it false scene.states y es)
+    says_then m states.TheVariants.Locked es fresh y h = shut_later events es h
+    says_then Default states.TheVariants.Unlocked es fresh y h = tt
+    says_then LockIfLastIndex states.TheVariants.Unlocked es fresh y h = (
+      held_later p IsUnlocked events es fresh h.0,
+      ⊎_elim (λ end. inl (worn_on scene.terms.by ws (words_after ws hide_it) counter_stays end))
+          (λ (found : FilledSinceFreed p owner index events). inr
+          (record { other = found.other; once = held_later p _ events es fresh found.once }))
+          h.1,
+    )
+
+    pub hides_step : StepOf scene start (at_stage (removes.TheVariants.Hides count state))
+    hides_step = go (count_now == count) refl
+      where
+        go : (b : Bool) → (count_now == count) ≡ b
+            → Leads scene start (Some (exchanges (count_word c index) count (one_more count))) false scene.states
+            ((if b then Hidden p index ∷ [] else []) ++ []) (GoOn (at_stage (removes.TheVariants.AddsChange state)))
+        go true t =
+            let is : count_now ≡ count = grind (arith, nat_tests) in
+            let y = then_at next hide_it false in
+            let es = Hidden p index ∷ [] in
+            let odd : count_now % 2 ≡ 1 = ap (λ n. n % 2) is ∙ stands.4 in
+            let total = same_total in
+            goes_on scene start (at_stage next) hide_it false scene.states es here.span (λ start w. refl)
+            (hides scene inv start (at_stage (removes.TheVariants.Hides count state)) tt here y
+            (words_after ws hide_it) index below (hides_count scene inv index count below is) refl odd
+            (λ holds q ne o theirs fresh. both_ways (left_of index events) fresh (k.2.left holds is))
+            (was_well_formed scene start tt here.span (words_after ws hide_it) y es (refl, tt)))
+            ((refl, stands.2, stands.3), tt) (omega arith) (
+              refl,
+              given_is,
+              fits,
+              (
+                below,
+                subst (λ d. HasDone {T = T} (Remove index owner mode) (answers.State state) d []) (sym (append-nil (all scene))) stands.1,
+              ),
+            ) (
+              let paid = k.0 in
+                  omega arith,
+              says_then mode state es tt y k.1,
+              hides_it scene start tt here.span owner (words_after ws hide_it) y index count k.3,
+            )
+        go false t =
+            let other : count_now ≢ count = grind (arith, nat_tests) in
+            let y = then_at next hide_it false in
+            let total = same_total in
+            goes_on scene start (at_stage next) hide_it false scene.states [] here.span none_lengthens
+            (loads scene inv start (at_stage (removes.TheVariants.Hides count state)) tt here y
+            (words_after ws hide_it) (fails_same ws (count_word c index) count (one_more count) other)
+            (was_well_formed scene start tt here.span (words_after ws hide_it) y [] tt) (λ was. refl))
+            tt (omega arith) (
+              refl,
+              given_is,
+              fits,
+              (
+                below,
+                subst (λ d. HasDone {T = T} (Remove index owner mode) (answers.State state) d []) (sym (append-nil (all scene))) stands.1,
+              ),
+            ) (
+              let paid = k.0 in omega arith,
+              says_then mode state [] tt y k.1,
+              hidden_on scene start tt here.span owner (words_after ws hide_it) y [] tt tt none_lengthens
+                  (λ i was. subst (IsOneOf (Frees i owner)) (append-nil (all scene)) was)
+                  (hidden_other code c p owner index count (before scene) other k.3),
+            )
+
+  -- ---- the change is counted, and the call ends
+
+  module _ (state : ReleaseState) (here : Here (removes.TheVariants.AddsChange state))
+      (has_done : HasDone {T = T} (Remove index owner mode) (answers.State state) (all scene) [])
+      (k : RemoveKnows code c index owner mode (removes.TheVariants.AddsChange state) (sees_now scene))
+      (s : steps ≤ 2 + release_total c index owner mode backs) where
+    abbrev end_it : Option Ask
+    end_it = Some (adds_one (change_word c))
+
+    counter_stays_then : counter_of ws ≡ greatest → counter_of (words_after ws end_it) ≡ greatest
+    counter_stays_then end =
+        (leaves_behind (of_set scene) (inv_of_set scene inv) (words_after ws end_it) (change_word c) _ (omega arith)
+        (adds_to_change scene inv)).stuck
+        end
+
+    answers_right : (m : ReleaseMode) (t : ReleaseState) → RemoveSays code c index owner m t (sees_now scene)
+        → AnswersBy scene.terms.by (IsWorn scene.terms.by (words_after ws end_it)) c events
+        (Finished p (Container (Remove index owner m)) (answers.State t))
+    answers_right Default states.TheVariants.Locked h = h
+    answers_right Default states.TheVariants.Unlocked h = tt
+    answers_right LockIfLastIndex states.TheVariants.Locked h = h
+    answers_right LockIfLastIndex states.TheVariants.Unlocked h =
+        (h.0, ⊎_elim (λ end. inl (worn_on scene.terms.by ws (words_after ws end_it) counter_stays_then end)) (λ found. inr found) h.1)
+
+    pub end_step : StepOf scene start (at_stage (removes.TheVariants.AddsChange state))
+    end_step =
+        let y = party_then scene start end_it false (Done (answers.State state)) in
+        let es = Finished p (Container start) (answers.State state) ∷ [] in
+        let well_formed = was_well_formed scene start tt here.span (words_after ws end_it) y es (refl, tt) in
+        let new = adds_to_change scene inv in
+        let most = total_is c z index owner mode (backs_then scene false) T in
+        let total = same_total in
+        ends scene start (answers.State state) end_it false scene.states [] here.span none_lengthens
+        (ends_counted scene inv start (at_stage (removes.TheVariants.AddsChange state)) tt here y (words_after ws end_it) (answers.State state)
+        (set_effects.quietly (of_set scene) (inv_of_set scene inv) (words_after ws end_it) es
+        (leaves_behind (of_set scene) (inv_of_set scene inv) (words_after ws end_it) (change_word c) _ (omega arith) new)
+        (quiet_end (of_set scene) (inv_of_set scene inv) start (answers.State state) (λ i o. refl) (λ i r. refl))
+        (refl, tt) (tt, tt) (tt, tt))
+        (answers_right mode state k.1) well_formed
+        (λ holds. ⊎_elim (λ empty. empty) (λ never. absurd never)
+        (k.2 (well_formed holds) index (removed_frees T index owner mode state (all scene) has_done)))
+        new (λ holds i said. inv.elements.announced holds i said))
+        ((refl, removed_done index owner mode state (all scene) (done scene) has_done), tt) (omega arith) (let paid = k.0 in omega arith)

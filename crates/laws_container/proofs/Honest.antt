@@ -1,0 +1,252 @@
+-- A faithful turn of an open run is honest: who takes no step for an owner who is gone fills, is granted and gives back nothing
+-- for one.
+use Rattle.std.proofs.Common.{◌≡◌, ◌⊎◌, ⊎_elim, inl, inr, ℕ, Bool, true, false, Option, Some, None, IfSome, List, []}
+use Rattle.std.proofs.Common.{◌∷◌, ◌++◌, refl, sym, ap, subst, ◌∙◌, append_assoc, append-nil, arith}
+use Rattle.std.specs.List.{AllByRecursion}
+use Rattle.std.proofs.lemmas.List.Sums.{fold-append}
+use Rattle.steps.specs.declared.indices.enums.ReleaseMode.{ReleaseMode}
+use Rattle.model.specs.declared.event.Answer.{Answer}
+use Rattle.model.specs.declared.event.Event.{Event}
+use Rattle.model.specs.declared.event.Event.TheVariants.{Begun}
+use Rattle.model.specs.declared.event.Start.{Start}
+use Rattle.model.specs.declared.event.Start.TheVariants.{Container}
+use Rattle.model.specs.declared.families.Flight.{Flight}
+use Rattle.model.specs.declared.families.Flight as flights
+use Rattle.model.specs.declared.families.Registry.{Registry}
+use Rattle.model.specs.declared.families.Registry as registries
+use Rattle.model.specs.declared.families.container.ContainerStart.{ContainerStart}
+use Rattle.model.specs.declared.families.container.ContainerStart.TheVariants.{Add, Remove}
+use Rattle.model.specs.declared.families.container.calls.ContainerFlight.{ContainerFlight}
+use Rattle.model.specs.declared.party.Doing.{Doing}
+use Rattle.model.specs.declared.party.Doing.TheVariants.{Going, Over}
+use Rattle.model.specs.declared.party.Party.{Party}
+use Rattle.model.specs.declared.turn.Turn.{Turn}
+use Rattle.model.specs.declared.turn.Turn.TheVariants.{Begin, Next, Decide, Die}
+use Rattle.model.specs.Coding.{Coding}
+use Rattle.model.specs.Families.{want_of, is_question, beside_of, step_of}
+use Rattle.model.specs.Families.Container.Calls.{want, after}
+use Rattle.model.specs.Families.Container.Promises.{promise}
+use Rattle.model.specs.Families.Container.Reading.{Act}
+use Rattle.model.specs.Families.Container.Spans.{may_stand}
+use Rattle.model.specs.Families.Container.States.{state_of}
+use Rattle.model.specs.Families.Container.Steps.{effects, questions}
+use Rattle.model.specs.Families.Indices.Robust.Reading.{Deed}
+use Rattle.model.specs.Parties.{party_of, doing_of, flight_of}
+use Rattle.model.specs.Promises.Spans.{Stands, StandsRight}
+use Rattle.model.specs.Promises.Turns.{IsEffectOf}
+use Rattle.model.specs.Reading.{Each, Span, Open, whose, own_after, span_of}
+use Rattle.model.specs.Refusals.{is_due}
+use Rattle.model.specs.Step.{answer_in}
+use Rattle.model.specs.Turns.{old_of, number_of, ask_of_doing, ending_of, events_of_step, events_of_answer, events_of_next, events_of_decision, after_turn}
+use Rattle.model.specs.World.{Trace, flight_in}
+use Rattle.model.proofs.Frame as frame
+use Rattle.model.proofs.Readings.{AreRight, Each-append, span_of-own}
+use Rattle.model.proofs.Scenes.{StandsThere, stands_there}
+use Rattle.laws_robust.specs.Gone.{Word, gone_after, is_gone, ActsForRight, IsHonest}
+use Rattle.laws_robust.specs.Open.{open_refusal}
+use Rattle.laws_container.specs.Gone.{acts_for_gone}
+use Rattle.laws_container.specs.Open.{is_for_gone, steps_for_gone}
+use Rattle.laws_container.proofs.Allowed.{allowed_open}
+use Rattle.laws_container.proofs.Invariant.{family_by, wrote_of}
+use Rattle.laws_container.proofs.WellFormed.{each_less}
+use Rattle.laws_container.proofs.Sound.{kept_is}
+use Rattle.laws_container.proofs.Stages.{any_call}
+use Rattle.laws_container.proofs.Standing.{At}
+use Rattle.laws_container.proofs.Terms.{Terms}
+use Rattle.laws_container.proofs.Written.{all_effects}
+
+-- ---- for whom a call is
+
+module _ {T : Type 0} (events : List (Event T)) where
+  -- it fills, or gives back, for no owner who is gone
+  abbrev IsForLiving : ContainerStart T → Type 0
+  IsForLiving (Add value owner) = is_gone Word owner events ≡ false
+  IsForLiving (Remove index owner mode) = is_gone Word owner events ≡ false
+  IsForLiving start = Unit {0}
+
+  module _ (code : Coding T) (c z : ℕ) (all : List Deed) (done : List (Act T)) where
+    living_by : (start : ContainerStart T) (flight : ContainerFlight T) → At c z all done start flight → acts_for_gone Word events flight ≡ false
+        → IsForLiving start
+    living_by start flight at alive = grind arith
+
+    -- and one that waits for an answer does neither
+    living_asked : (start : ContainerStart T) (flight : ContainerFlight T) → At c z all done start flight → is_question (want code flight) ≡ true
+        → IsForLiving start
+    living_asked start flight at asks = grind arith
+
+-- ---- one event that a step writes
+
+module _ (p : ℕ) where
+  at_party : (o : Option ℕ) (P : ℕ → Type 0) → o ≡ Some p → IfSome o P → P p
+  at_party None P is h = absurd (cc)
+  at_party (Some q) P is h = let same : q ≡ p = cc in subst P same h
+
+module _ {T : Type 0} (p : ℕ) where
+  effect_own : (e : Event T) → IsEffectOf (Next p) e → whose e ≡ Some p
+  effect_own e its = grind arith
+
+  stand_by : (c : ℕ) (e : Event T) → IsEffectOf (Next p) e → (span : Span T) → Stands promise c e span → may_stand e span
+  stand_by c e its span h = grind arith
+
+  longer_by : (start : Start T) (e : Event T) → IsEffectOf (Next p) e → (wrote : List (Event T)) → own_after (Open start wrote) e ≡ Open start (wrote ++ e ∷ [])
+  longer_by start e its wrote = grind arith
+
+  -- an add and a remove are told nothing
+  add_leaves : (value : T) (o : ℕ) (wrote : List (Event T)) (e : Event T) → IsEffectOf (Next p) e → may_stand e (Open (Container (Add value o)) wrote)
+      → (owner : ℕ) (gone : Bool) → gone_after owner gone e ≡ gone
+  add_leaves value o wrote e its h owner gone = grind arith
+
+  remove_leaves : (index o : ℕ) (mode : ReleaseMode) (wrote : List (Event T)) (e : Event T) → IsEffectOf (Next p) e
+      → may_stand e (Open (Container (Remove index o mode)) wrote) → (owner : ℕ) (gone : Bool) → gone_after owner gone e ≡ gone
+  remove_leaves index o mode wrote e its h owner gone = grind arith
+
+  module _ (wrote events : List (Event T)) where
+    abbrev at : ContainerStart T → Span T
+    at start = Open (Container start) wrote
+
+    stays : (start : ContainerStart T) (e : Event T) → IsEffectOf (Next p) e → may_stand e (at start) → IsForLiving events start
+        → IsForLiving (events ++ e ∷ []) start
+    stays (Add value owner) e its h live =
+        fold-append (gone_after owner) false events (e ∷ []) ∙ (add_leaves value owner wrote e its h owner (is_gone Word owner events) ∙ live)
+    stays (Remove index owner mode) e its h live =
+        fold-append (gone_after owner) false events (e ∷ []) ∙ (remove_leaves index owner mode wrote e its h owner (is_gone Word owner events) ∙ live)
+    stays start e its h live = tt
+
+    acts_right : (start : ContainerStart T) (e : Event T) → IsEffectOf (Next p) e → span_of p events ≡ at start → may_stand e (at start)
+        → IsForLiving events start → ActsForRight events e
+    acts_right start e its is h live = grind arith
+
+  -- ---- all that a step writes
+
+  module _ (c : ℕ) (start : ContainerStart T) where
+    -- the party's call is under way, for none who is gone
+    record Goes (events : List (Event T)) : Type 0 where
+      pub wrote : List (Event T)
+      pub span : span_of p events ≡ Open (Container start) wrote
+      pub living : IsForLiving events start
+
+    one : (events : List (Event T)) (e : Event T) → IsEffectOf (Next p) e → StandsRight promise c events e → Goes events
+        → ActsForRight events e × Goes (events ++ e ∷ [])
+    one events e its right goes =
+        let own = effect_own e its in
+        let there = stand_by c e its (span_of p events) (at_party p (whose e) (λ q. Stands promise c e (span_of q events)) own right) in
+        let stands : may_stand e (Open (Container start) goes.wrote) = subst (may_stand e) goes.span there in (
+          acts_right goes.wrote events start e its goes.span stands goes.living,
+          record {
+            wrote = goes.wrote ++ e ∷ [];
+            span = span_of-own p events (e ∷ []) (own, tt) ∙ (ap (λ span. own_after span e) goes.span ∙ longer_by (Container start) e its goes.wrote);
+            living = stays goes.wrote events start e its stands goes.living;
+          },
+        )
+
+    all_right : (events es : List (Event T)) → AllByRecursion (IsEffectOf (Next p)) es → Each (StandsRight promise c) (events ++ es) → Goes events
+        → AreRight ActsForRight events es × Goes (events ++ es)
+    all_right events [] its spans goes = (tt, subst Goes (sym (append-nil events)) goes)
+    all_right events (e ∷ es) its spans goes =
+        let is : (events ++ e ∷ []) ++ es ≡ events ++ e ∷ es = append_assoc events (e ∷ []) es in
+        let first = one events e its.0 (spans events es e refl) goes in
+        let rest = all_right (events ++ e ∷ []) es its.1 (subst (Each (StandsRight promise c)) (sym is) spans) first.1 in
+        ((first.0, rest.0), subst Goes is rest.1)
+
+    end_right : (events : List (Event T)) (outcome : Option (Answer T)) → IsForLiving events start
+        → AreRight ActsForRight events (ending_of p (Container start) outcome)
+    end_right events outcome live = grind arith
+
+    honest_more : (events did : List (Event T)) (outcome : Option (Answer T)) → AllByRecursion (IsEffectOf (Next p)) did → Goes events → IsHonest events
+        → Each (StandsRight promise c) (events ++ (did ++ ending_of p (Container start) outcome))
+        → IsHonest (events ++ (did ++ ending_of p (Container start) outcome))
+    honest_more events did outcome its goes honest spans =
+        let ends = ending_of p (Container start) outcome in
+        let is : (events ++ did) ++ ends ≡ events ++ (did ++ ends) = append_assoc events did ends in
+        let before = each_less (StandsRight promise c) (events ++ did) ends (subst (Each (StandsRight promise c)) (sym is) spans) in
+        let r = all_right events did its before goes in
+        subst IsHonest is
+        (Each-append ActsForRight (events ++ did) ends (Each-append ActsForRight events did honest r.0) (end_right (events ++ did) outcome r.1.living))
+
+-- ---- one turn
+
+module _ {T : Type 0} (terms : Terms) (code : Coding T) (c : ℕ) (t : Trace T) (s : frame.Sound (family_by terms code c) t) (honest : IsHonest t.events) where
+  abbrev Spans : List (Event T) → Type 0
+  Spans es = Each (StandsRight promise c) (t.events ++ es)
+
+  abbrev Honest : List (Event T) → Type 0
+  Honest es = IsHonest (t.events ++ es)
+
+  -- a call that acts for none who is gone, or waits for an answer
+  abbrev Minds : Flight T → Type 0
+  Minds (flights.TheVariants.Container flight) = (acts_for_gone Word t.events flight ≡ false) ⊎ (is_question (want t.world.coding flight) ≡ true)
+  Minds flight = Unit {0}
+
+  module _ (p answer : ℕ) (x : Party T) (since : ℕ) where
+    abbrev writes : Registry T → Start T → Flight T → List (Event T)
+    writes kept start flight =
+        events_of_step p start (step_of t.world.coding t.world.words (beside_of t.world.words kept t.world.latest p) p start flight answer kept)
+
+    by_name : (start : Start T) (flight : Flight T) → StandsThere (family_by terms code c) t s p x since start flight → Minds flight
+        → Spans (writes (registries.TheVariants.Container s.state.dead s.state.states) start flight)
+        → Honest (writes (registries.TheVariants.Container s.state.dead s.state.states) start flight)
+    by_name (Container start) (flights.TheVariants.Container flight) stands minds spans =
+        let state = state_of p s.state.states in
+        let did : List (Event T) = effects t.world.coding p state flight answer ++ questions p flight answer in
+        let live : IsForLiving t.events start =
+        ⊎_elim (λ alive. living_by t.events t.world.coding c code.size _ _ start flight stands.at alive)
+        (λ asks. living_asked t.events t.world.coding c code.size _ _ start flight stands.at asks) minds in
+        honest_more p c start t.events did (answer_in (any_call (after t.world.coding state flight answer)))
+        (all_effects (Next p) p refl t.world.coding state flight answer)
+        (record { wrote = wrote_of p s.state.events; span = stands.span; living = live }) honest spans
+    by_name start flight stands minds spans = absurd stands.at
+
+    went : (flight : Flight T) → party_of p t.world.latest ≡ Some x → x.doing ≡ Going flight since → Minds flight → Spans (writes t.world.kept x.start flight)
+        → Honest (writes t.world.kept x.start flight)
+    went flight found doing minds =
+        subst (λ kept. Spans (writes kept x.start flight) → Honest (writes kept x.start flight)) (sym (kept_is t.world.kept t.world.words s.state s.fit).0)
+        (by_name x.start flight (stands_there (family_by terms code c) t s p x since flight found doing) minds)
+
+  -- what its word holds
+  abbrev old : Doing T → ℕ
+  old doing = old_of t.world.words (ask_of_doing t.world.coding doing)
+
+  same : Honest []
+  same = subst IsHonest (sym (append-nil t.events)) honest
+
+  by_steps : (flight : Flight T) → is_for_gone t.events (Some flight) ≡ false → Minds flight
+  by_steps (flights.TheVariants.Container flight) h = inl h
+  by_steps flight h = tt
+
+  by_question : (flight : Flight T) → is_question (want_of t.world.coding flight) ≡ true → Minds flight
+  by_question (flights.TheVariants.Container flight) h = inr h
+  by_question flight h = tt
+
+  flies : (p : ℕ) (x : Party T) (flight : Flight T) (since : ℕ) → party_of p t.world.latest ≡ Some x → x.doing ≡ Going flight since
+      → flight_in t.world p ≡ Some flight
+  flies p x flight since e d = ap (λ o. flight_of (doing_of o)) e ∙ ap (λ d. flight_of (Some d)) d
+
+  next_honest : (p : ℕ) → is_for_gone t.events (flight_in t.world p) ≡ false → (o : Option (Party T)) → party_of p t.world.latest ≡ o
+      → Spans (events_of_next t.world p o) → Honest (events_of_next t.world p o)
+  next_honest p steps None e spans = same
+  next_honest p steps (Some x) e spans = go x.doing refl spans
+    where
+      go : (doing : Doing T) → x.doing ≡ doing → Spans (events_of_answer t.world p x (old doing) doing)
+          → Honest (events_of_answer t.world p x (old doing) doing)
+      go (Over others) d spans = same
+      go (Going flight since) d spans =
+          went p (old (Going flight since)) x since flight e d
+          (by_steps flight (subst (λ o. is_for_gone t.events o ≡ false) (flies p x flight since e d) steps)) spans
+
+  decision_honest : (p : ℕ) (said : Bool) → is_due t.world.coding (flight_in t.world p) ≡ true → (o : Option (Party T)) → party_of p t.world.latest ≡ o
+      → Spans (events_of_decision t.world p said o) → Honest (events_of_decision t.world p said o)
+  decision_honest p said due None e spans = same
+  decision_honest p said due (Some x) e spans = go x.doing refl spans
+    where
+      go : (doing : Doing T) → x.doing ≡ doing → Spans (events_of_answer t.world p x (number_of said) doing)
+          → Honest (events_of_answer t.world p x (number_of said) doing)
+      go (Over others) d spans = same
+      go (Going flight since) d spans =
+          went p (number_of said) x since flight e d (by_question flight (subst (λ o. is_due t.world.coding o ≡ true) (flies p x flight since e d) due)) spans
+
+  pub turn_honest : (turn : Turn T) → open_refusal t.world turn ≡ None → steps_for_gone t turn ≡ false
+      → frame.Sound (family_by terms code c) (after_turn t turn) → IsHonest (after_turn t turn).events
+  turn_honest (Begin p start) e steps next = Each-append ActsForRight t.events (Begun p start ∷ []) honest (tt, tt)
+  turn_honest (Next p) e steps next = next_honest p steps (party_of p t.world.latest) refl next.inv.spans
+  turn_honest (Decide p said) e steps next = decision_honest p said (allowed_open t.world (Decide p said) e) (party_of p t.world.latest) refl next.inv.spans
+  turn_honest (Die owner) e steps next = absurd (cc)

@@ -1,0 +1,353 @@
+-- What holds of the machine of a container between any two turns beside what the frame says of every machine, and what a turn
+-- must show to keep it.
+use Rattle.std.proofs.Common.{◌≡◌, ◌≢◌, ⊎_elim, ℕ, ◌+◌, ◌-◌, ◌^◌, ◌<◌, ◌≤◌, true, false, Some, is_some, List, ◌++◌}
+use Rattle.std.proofs.Common.{length, fold, refl, sym, ap, subst, ◌∙◌, arith}
+use Rattle.std.proofs.lemmas.Bool.{cases_eq}
+use Rattle.steps.specs.Container.Layout.{total_words}
+use Rattle.steps.specs.declared.container.state.ContainerState.{ContainerState}
+use Rattle.model.specs.declared.event.Event.{Event}
+use Rattle.model.specs.declared.event.Start.{Start}
+use Rattle.model.specs.declared.event.Start as any_starts
+use Rattle.model.specs.declared.families.Flight.{Flight}
+use Rattle.model.specs.declared.families.Flight as flights
+use Rattle.model.specs.declared.families.Registry.{Registry}
+use Rattle.model.specs.declared.families.Registry as registries
+use Rattle.model.specs.declared.party.Party.{Party}
+use Rattle.model.specs.declared.turn.Kind as kinds
+use Rattle.model.specs.Coding.{Coding, IsCoding}
+use Rattle.model.specs.Families.Container.Looks.{is_looking}
+use Rattle.model.specs.Families.Container.Promises.{ContainsRight, promise}
+use Rattle.model.specs.Families.Container.Reading.{Act, acts, contents_of, announced_of, acts_of}
+use Rattle.model.specs.Families.Container.States.{state_of, fresh}
+use Rattle.model.specs.Families.Indices.Robust.Reading.{Deed, is_dead, deeds, wrote_in, deeds_of}
+use Rattle.model.specs.Parties.{party_of, put, doing_of, flight_of}
+use Rattle.model.specs.Promises.Spans.{Stands}
+use Rattle.model.specs.Reading.{Each, Span, own_after, span_of}
+use Rattle.model.proofs.Frame as frame
+use Rattle.model.proofs.Frame.{Family}
+use Rattle.model.proofs.Parties.{party_put_same, party_put_other}
+use Rattle.model.proofs.Readings.{AllFollow, AreRight, Each-append, span_of-other}
+use Rattle.laws_robust.specs.Gone.{is_gone}
+use Rattle.laws_robust.proofs.Invariant as set
+use Rattle.laws_robust.proofs.Knows.{IsSeen}
+use Rattle.laws_container.specs.Gone.{AsksBy, RecoversBy, AnswersBy}
+use Rattle.laws_container.proofs.Answers.{answers_on}
+use Rattle.laws_container.proofs.Contents.{IsWhole}
+use Rattle.laws_container.proofs.KeepingReads.{still_knows}
+use Rattle.laws_container.proofs.HiddenKnows.{EndsRight}
+use Rattle.laws_container.proofs.Knows.{View, Knows}
+use Rattle.laws_container.proofs.Sights.{Rests, rests_later}
+use Rattle.laws_container.proofs.Standing.{number_of, At}
+use Rattle.laws_container.proofs.Terms.{Terms, dying, Keeps}
+use Rattle.laws_container.proofs.Turns.{Now, WellFormed, count_in, change_in, Passes, Leaves}
+
+-- the words, the dead and the states; and the latest calls and the events, by which those under way are read
+pub record ContainerNow (T : Type 0) : Type 0 where
+  pub words : List ℕ
+  pub dead : List ℕ
+  pub states : List (ℕ × ContainerState T)
+  pub latest : List (ℕ × Party T)
+  pub events : List (Event T)
+
+-- a turn of a party, with the machine around it
+pub record Scene (T : Type 0) : Type 0 where
+  pub terms : Terms
+  pub coding : Coding T
+  pub capacity : ℕ
+  pub words : List ℕ
+  pub dead : List ℕ
+  pub states : List (ℕ × ContainerState T)
+  pub party : ℕ
+  pub steps : ℕ
+  pub backs : ℕ
+  pub since : ℕ
+  pub changes : ℕ
+  pub turns : ℕ
+  pub latest : List (ℕ × Party T)
+  pub events : List (Event T)
+
+module _ {T : Type 0} where
+  abbrev pub Represents : Registry T → List ℕ → ContainerNow T → Type 0
+  Represents (registries.TheVariants.Container dead states) words s =
+      (words ≡ s.words) × (dead ≡ s.dead) × (states ≡ s.states)
+  Represents kept words s = ⊥
+
+  -- the turn as one of its set of indices
+  abbrev pub of_set : Scene T → set.Scene T
+  of_set scene =
+      record {
+        by = scene.terms.by;
+        coding = scene.coding;
+        capacity = scene.capacity;
+        set = record { words = scene.words; dead = scene.dead; events = scene.events };
+        party = scene.party;
+        steps = scene.steps;
+        backs = scene.backs;
+        since = scene.since;
+        changes = scene.changes;
+        turns = scene.turns;
+        latest = scene.latest;
+        events = scene.events;
+      }
+
+  abbrev pub is_idle : ℕ → List (ℕ × Party T) → Type 0
+  is_idle q latest = is_looking (flight_of (doing_of (party_of q latest))) ≡ false
+
+  abbrev pub moment : Terms → List ℕ → List (ℕ × Party T) → List (Event T) → Now T
+  moment terms words latest events = record { terms = terms; words = words; latest = latest; events = events }
+
+  -- what is so of the elements and of the states, after so many turns
+  pub record Elements (code : Coding T) (c : ℕ) (m : Now T) (states : List (ℕ × ContainerState T)) (turns : ℕ) : Type 0 where
+    pub coded : IsCoding code
+    pub wide : length m.words ≡ total_words c code.size
+    pub counts : Keeps m.terms → (i : ℕ) → i < c → count_in code c m i ≤ turns
+    pub change : Keeps m.terms → change_in code c m ≤ turns
+    pub within : (i : ℕ) (value : T) → contents_of i m.events ≡ Some value → i < c
+    pub announced : WellFormed m → (i : ℕ) → announced_of i m.events ≡ true → is_some (contents_of i m.events) ≡ true
+    pub whole : WellFormed m → IsWhole code c m.words m.events
+    pub asks : Each (AsksBy m.terms.by) m.events
+    pub recovers : Each (RecoversBy m.terms.by) m.events
+    pub answers : Each (AnswersBy m.terms.by (set.IsWorn m.terms.by m.words) c) m.events
+    pub contains : WellFormed m → Each ContainsRight m.events
+    pub places : WellFormed m → Each EndsRight m.events
+    pub rests : (q : ℕ) (s : ContainerState T) → is_idle q m.latest → state_of q states ≡ Some s → Rests code c m q s
+    pub fresh : (q : ℕ) → Rests code c m q (fresh code c)
+
+  pub record Holds (terms : Terms) (code : Coding T) (c : ℕ) (s : ContainerNow T) (latest : List (ℕ × Party T))
+      (events : List (Event T)) (turns : ℕ) : Type 0 where
+    pub same : s.events ≡ events
+    pub same_latest : s.latest ≡ latest
+    pub begun : (p : ℕ) (x : Party T) → party_of p latest ≡ Some x → 1 ≤ turns
+    pub good : set.Good terms.by c s.words s.dead events turns
+    pub elements : Elements code c (moment terms s.words latest events) s.states turns
+
+  -- ---- the family of the container
+
+  abbrev pub wrote_of : ℕ → List (Event T) → List (Event T)
+  wrote_of p events = wrote_in (span_of p events)
+
+  abbrev number : ℕ → ℕ → Flight T → ℕ → ℕ
+  number c z (flights.TheVariants.Container flight) backs = number_of c z flight backs
+  number c z flight backs = 0
+
+  abbrev pub FlightAt : ℕ → ℕ → List Deed → List (Act T) → Start T → Flight T → Type 0
+  FlightAt c z all done (any_starts.TheVariants.Container start) (flights.TheVariants.Container flight) =
+      At c z all done start flight
+  FlightAt c z all done start flight = ⊥
+
+  abbrev pub Knowing : Coding T → ℕ → Flight T → View T → Type 0
+  Knowing code c (flights.TheVariants.Container flight) v = Knows code c flight v
+  Knowing code c flight v = ⊥
+
+  abbrev pub view : Terms → List ℕ → List (ℕ × ContainerState T) → List (ℕ × Party T) → List (Event T) → ℕ → ℕ → ℕ → ℕ → View T
+  view terms words states latest events p since changes backs =
+      record {
+        terms = terms;
+        words = words;
+        states = states;
+        latest = latest;
+        events = events;
+        party = p;
+        since = since;
+        changes = changes;
+        backs = backs;
+      }
+
+  abbrev pub family_by : Terms → Coding T → ℕ → Family T
+  family_by terms code c =
+      record {
+        coding = code;
+        kind = kinds.TheVariants.Container;
+        promise = promise;
+        capacity = c;
+        State = ContainerNow T;
+        Represents = Represents;
+        Holds = λ s latest events turns. Holds terms code c s latest events turns;
+        written = λ s p flight. wrote_of p s.events;
+        number = λ wrote. number c code.size;
+        At = λ s p start flight. FlightAt c code.size (deeds_of p s.events) (acts_of p s.events) start flight;
+        Knows = λ s p events since changes backs flight. Knowing code c flight (view terms s.words s.states s.latest events p since changes backs);
+      }
+
+  -- the family where owners die
+  abbrev pub family : Coding T → ℕ → Family T
+  family code c = family_by dying code c
+
+  pub record Inv (scene : Scene T) : Type 0 where
+    pub good : set.Good scene.terms.by scene.capacity scene.words scene.dead scene.events scene.turns
+    pub elements : Elements scene.coding scene.capacity (moment scene.terms scene.words scene.latest scene.events) scene.states scene.turns
+    pub begun : 1 ≤ scene.turns
+    pub room : set.HasRoom scene.terms.by scene.words
+    pub small : Keeps scene.terms → scene.turns < 2 ^ 64 - 2
+
+  pub inv_of_set : (scene : Scene T) → Inv scene → set.Inv (of_set scene)
+  inv_of_set scene inv =
+      record { good = inv.good; begun = inv.begun; room = inv.room }
+
+  -- the turn is of a call for this owner
+  pub record ActsFor (scene : Scene T) (owner : ℕ) : Type 0 where
+    pub alive : is_dead owner scene.events ≡ false
+    pub stays : Keeps scene.terms → is_gone scene.terms.by owner scene.events ≡ false
+
+-- ---- what a turn of a party does
+
+module _ {T : Type 0} (scene : Scene T) where
+  open scene use {coding as code, capacity as c, party as p, turns as turns, latest as latest, events as events}
+
+  abbrev pub before : Now T
+  before = moment scene.terms scene.words latest events
+
+  abbrev pub after : List ℕ → Party T → List (Event T) → Now T
+  after words' y es = moment scene.terms words' (put p y latest) (events ++ es)
+
+  -- what it does to the elements, that leaves these words, and the party so, and writes these events
+  pub record Changes (words' : List ℕ) (y : Party T) (es : List (Event T)) : Type 0 where
+    pub passes : Passes code c before (after words' y es)
+    pub leaves : (q : ℕ) → q ≢ p → Leaves code c q before (after words' y es)
+    pub wide : length words' ≡ length scene.words
+    pub counts : Keeps scene.terms → (i : ℕ) → i < c → count_in code c (after words' y es) i ≤ turns + 1
+    pub change : Keeps scene.terms → change_in code c (after words' y es) ≤ turns + 1
+    pub within : (i : ℕ) (value : T) → contents_of i (events ++ es) ≡ Some value → i < c
+    pub announced : WellFormed (after words' y es) → (i : ℕ) → announced_of i (events ++ es) ≡ true → is_some (contents_of i (events ++ es)) ≡ true
+    pub whole : WellFormed (after words' y es) → IsWhole code c words' (events ++ es)
+
+  -- its events are right
+  pub record AreAllRight (words' : List ℕ) (y : Party T) (es : List (Event T)) : Type 0 where
+    pub asks : AreRight (AsksBy scene.terms.by) events es
+    pub recovers : AreRight (RecoversBy scene.terms.by) events es
+    pub answers : AreRight (AnswersBy scene.terms.by (set.IsWorn scene.terms.by words') c) events es
+    pub contains : WellFormed (after words' y es) → AreRight ContainsRight events es
+    pub places : WellFormed (after words' y es) → AreRight EndsRight events es
+
+  -- all of it, where it leaves these states
+  pub record Does (words' : List ℕ) (states' : List (ℕ × ContainerState T)) (y : Party T) (es : List (Event T)) : Type 0 where
+    pub set : set.Does (of_set scene) words' es
+    pub changes : Changes words' y es
+    pub right : AreAllRight words' y es
+    pub others : (q : ℕ) → q ≢ p → state_of q states' ≡ state_of q scene.states
+    pub rests : (s : ContainerState T) → is_looking (flight_of (Some y.doing)) ≡ false → state_of p states' ≡ Some s → Rests code c (after words' y es) p s
+
+  module _ (words' : List ℕ) (states' : List (ℕ × ContainerState T)) (y : Party T) (es : List (Event T))
+      (does : Does words' states' y es) (h : Elements code c before scene.states turns) where
+    abbrev m' : Now T
+    m' = after words' y es
+
+    still_rests : (q : ℕ) (s : ContainerState T) → is_idle q (put p y latest) → state_of q states' ≡ Some s → Rests code c m' q s
+    still_rests q s idle found = ⊎_elim here there (cases_eq q p)
+      where
+        here : q ≡ p → Rests code c m' q s
+        here e =
+            subst (λ n. Rests code c m' n s) (sym e)
+            (does.rests s
+            (ap (λ o. is_looking (flight_of (doing_of o))) (sym (party_put_same p y latest)) ∙ subst (λ n. is_idle n (put p y latest)) e idle)
+            (subst (λ n. state_of n states' ≡ Some s) e found))
+
+        there : q ≢ p → Rests code c m' q s
+        there ne =
+            rests_later code c before m' es refl does.changes.passes q s
+            (h.rests q s (ap (λ o. is_looking (flight_of (doing_of o))) (sym (party_put_other q p y latest ne)) ∙ idle) (sym (does.others q ne) ∙ found))
+
+    pub elements_then : Elements code c m' states' (turns + 1)
+    elements_then =
+        record {
+          coded = h.coded;
+          wide = does.changes.wide ∙ h.wide;
+          counts = does.changes.counts;
+          change = does.changes.change;
+          within = does.changes.within;
+          announced = does.changes.announced;
+          whole = does.changes.whole;
+          asks = Each-append (AsksBy scene.terms.by) events es h.asks does.right.asks;
+          recovers = Each-append (RecoversBy scene.terms.by) events es h.recovers does.right.recovers;
+          answers =
+              Each-append (AnswersBy scene.terms.by (set.IsWorn scene.terms.by words') c) events es
+              (answers_on (set.IsWorn scene.terms.by scene.words) (set.IsWorn scene.terms.by words')
+              (set.worn_on scene.terms.by scene.words words' does.set.goes.stuck) scene.terms.by c events h.answers)
+              does.right.answers;
+          contains =
+              λ well_formed. Each-append ContainsRight events es
+              (h.contains (does.changes.passes.well_formed well_formed)) (does.right.contains well_formed);
+          places = λ well_formed. Each-append EndsRight events es (h.places (does.changes.passes.well_formed well_formed)) (does.right.places well_formed);
+          rests = still_rests;
+          fresh = λ q. rests_later code c before m' es refl does.changes.passes q (fresh code c) (h.fresh q);
+        }
+
+-- ---- what a turn shows, where the party's span was this
+
+module _ {T : Type 0} (scene : Scene T) where
+  open scene use {coding as code, capacity as c, party as p, turns as turns, latest as latest, events as events}
+
+  abbrev pub then_is : List ℕ → List (ℕ × ContainerState T) → Party T → List (Event T) → ContainerNow T
+  then_is words' states' y es =
+      record {
+        words = words';
+        dead = scene.dead;
+        states = states';
+        latest = put p y latest;
+        events = events ++ es;
+      }
+
+  pub record Shows (words' : List ℕ) (states' : List (ℕ × ContainerState T)) (from : Span T) (y : Party T) (es : List (Event T)) (changes' : ℕ) : Type 0 where
+    pub does : Does scene words' states' y es
+    pub stands : AllFollow (Stands promise c) from es
+    pub here : frame.Fits (family_by scene.terms code c) (then_is words' states' y es) p (Some y) (fold own_after from es)
+    pub knows : frame.KnowsDoing (family_by scene.terms code c) (then_is words' states' y es) p (events ++ es) changes' y.backs y.doing
+    pub seen : IsSeen scene.words words' scene.changes changes'
+
+  -- a call of another party stands there and knows what it knew
+  any_knows : (words' : List ℕ) (states' : List (ℕ × ContainerState T)) (y : Party T) (es : List (Event T)) (changes' : ℕ)
+      → Does scene words' states' y es → IsSeen scene.words words' scene.changes changes' → (q : ℕ) → q ≢ p
+      → (since backs : ℕ) (flight : Flight T)
+      → Knowing code c flight (view scene.terms scene.words scene.states latest events q since scene.changes backs)
+      → Knowing code c flight (view scene.terms words' states' (put p y latest) (events ++ es) q since changes' backs)
+  any_knows words' states' y es changes' does seen q ne since backs (flights.TheVariants.Container flight) h =
+      still_knows code c (view scene.terms scene.words scene.states latest events q since scene.changes backs)
+      words' states' (put p y latest) es changes' does.set.goes (does.set.spares q ne) seen does.changes.passes
+      (does.changes.leaves q ne)
+      (span_of-other p q events es ne does.set.own) (party_put_other q p y latest ne) (does.others q ne) flight h
+  any_knows words' states' y es changes' does seen q ne since backs flight h = absurd h
+
+  pub at_written : (c z : ℕ) (w w' : List (Event T)) (start : Start T) (flight : Flight T) → w' ≡ w
+      → FlightAt c z (deeds w) (acts w) start flight → FlightAt c z (deeds w') (acts w') start flight
+  at_written c z w w' start flight same h = subst (λ x. FlightAt c z (deeds x) (acts x) start flight) (sym same) h
+
+  module _ (words' : List ℕ) (states' : List (ℕ × ContainerState T)) (from : Span T) (y : Party T)
+      (es : List (Event T)) (changes' : ℕ) (s : Shows words' states' from y es changes') (old : ContainerNow T)
+      (here : old ≡ record { words = scene.words; dead = scene.dead; states = scene.states; latest = latest; events = events })
+      (h : Holds scene.terms code c old latest events turns)
+      (inv : frame.Inv (family_by scene.terms code c) old latest events scene.changes) where
+    still_wrote : (q : ℕ) → q ≢ p → wrote_of q (events ++ es) ≡ wrote_of q old.events
+    still_wrote q ne = ap wrote_in (span_of-other p q events es ne s.does.set.own) ∙ ap (wrote_of q) (sym h.same)
+
+    pub owes : span_of p events ≡ from → frame.Owes (family_by scene.terms code c) (then_is words' states' y es) p y latest events es changes'
+    owes is =
+        frame.owes (family_by scene.terms code c) old (then_is words' states' y es) from p y latest events es scene.changes changes' is inv
+        (record {
+          own = s.does.set.own;
+          stands = s.stands;
+          here = s.here;
+          knows = s.knows;
+          others =
+              λ q ne start flight at. (
+                at_written c code.size (wrote_of q old.events) (wrote_of q (events ++ es)) start flight (still_wrote q ne) at,
+                still_wrote q ne,
+              );
+          others_know = λ q ne since backs flight known.
+              any_knows words' states' y es changes' s.does s.seen q ne since backs flight
+              (subst (λ (o : ContainerNow T). Knowing code c flight
+              (view scene.terms o.words o.states o.latest events q since scene.changes backs))
+              here known);
+        })
+
+    elements : Elements code c (before scene) scene.states turns
+    elements = subst (λ (o : ContainerNow T). Elements code c (moment scene.terms o.words latest events) o.states turns) here h.elements
+
+    pub holds_more : Holds scene.terms code c (then_is words' states' y es) (put p y latest) (events ++ es) (turns + 1)
+    holds_more =
+        record {
+          same = refl;
+          same_latest = refl;
+          begun = λ q x found. omega arith;
+          good = s.does.set.good;
+          elements = elements_then scene words' states' y es s.does elements;
+        }

@@ -1,0 +1,345 @@
+-- What a call of the container knows it knows still after any turn of another party.
+use Rattle.std.proofs.Common.{◌≡◌, ⊎_elim, inl, inr, ℕ, ◌+◌, ◌%◌, ◌<◌, Bool, false, true, is_some, List}
+use Rattle.std.proofs.Common.{[], ◌∷◌, ◌++◌, fold, refl, sym, ap, subst, ◌∙◌, arith}
+use Rattle.std.proofs.lemmas.List.Sums.{fold-append}
+use Rattle.steps.specs.declared.container.add.AddStage.{AddStage}
+use Rattle.steps.specs.declared.container.add.AddStage as adds
+use Rattle.steps.specs.declared.container.find.FindStage.{FindStage}
+use Rattle.steps.specs.declared.container.find.FindStage as finds
+use Rattle.steps.specs.declared.container.look.LookStage.{LookStage}
+use Rattle.steps.specs.declared.container.recover.RecoverStage.{RecoverStage}
+use Rattle.steps.specs.declared.container.remove.RemoveStage.{RemoveStage}
+use Rattle.steps.specs.declared.container.remove.RemoveStage as removes
+use Rattle.steps.specs.declared.container.replace.ReplaceStage.{ReplaceStage}
+use Rattle.steps.specs.declared.container.replace.ReplaceStage as replaces
+use Rattle.steps.specs.declared.container.state.ContainerState.{ContainerState}
+use Rattle.steps.specs.declared.copied.Buffer as buffers
+use Rattle.steps.specs.declared.indices.enums.ReleaseMode.{ReleaseMode}
+use Rattle.steps.specs.declared.indices.enums.ReleaseMode.TheVariants.{LockIfLastIndex, Default}
+use Rattle.steps.specs.declared.indices.enums.ReleaseState.{ReleaseState}
+use Rattle.steps.specs.declared.indices.enums.ReleaseState as states
+use Rattle.steps.specs.declared.indices.robust.release.ReleaseStage.{ReleaseStage}
+use Rattle.steps.specs.declared.indices.robust.release.ReleaseStage as releases
+use Rattle.model.specs.declared.event.Event.{Event}
+use Rattle.model.specs.declared.event.Event.TheVariants.{Locked}
+use Rattle.model.specs.declared.families.container.calls.ContainerFlight.{ContainerFlight}
+use Rattle.model.specs.declared.party.Party.{Party}
+use Rattle.model.specs.Coding.{Coding}
+use Rattle.model.specs.Families.Container.Promises.{StandsWellFormed}
+use Rattle.model.specs.Families.Container.Reading.{MayReplace, Copies, Has, HasLatest, acts, acts_of, places, contents_of}
+use Rattle.model.specs.Families.Container.States.{state_of}
+use Rattle.model.specs.Families.Indices.Reading.{locked_after, is_locked}
+use Rattle.model.specs.Families.Indices.Robust.Promises.{IsFilledWith, IsUnlocked, FilledSinceFreed}
+use Rattle.model.specs.Families.Indices.Robust.Reading.{Asks, deeds_of, wrote_in}
+use Rattle.model.specs.Families.Queues.Calls.{read_in}
+use Rattle.model.specs.Moments.{HeldSometime}
+use Rattle.model.specs.Parties.{party_of}
+use Rattle.model.specs.Reading.{span_of}
+use Rattle.model.proofs.Moments.{held_later}
+use Rattle.laws_robust.proofs.Gone.{gone_less}
+use Rattle.laws_robust.proofs.Invariant.{worn_on}
+use Rattle.laws_robust.proofs.Counting.{count_later}
+use Rattle.laws_robust.proofs.Knows.{Goes, Spares, IsSeen, knows_later}
+use Rattle.laws_robust.proofs.Knows as set
+use Rattle.laws_robust.proofs.Past.{through_less, through_now}
+use Rattle.laws_robust.proofs.Standing.{acquire_at, release_at}
+use Rattle.laws_container.proofs.Contents.{writes_on}
+use Rattle.laws_container.proofs.HiddenKnows.{no_index}
+use Rattle.laws_container.proofs.HiddenLater.{remove_covers, hidden_stands, hidden_later}
+use Rattle.laws_container.proofs.Knows.{View, of_set, now, IsPaid, Lives, Worn, WasFilled, AddOwns, HasFound}
+use Rattle.laws_container.proofs.Knows.{ReplaceKnows, Covers, Writes, HasPlaced, Stood, AddKnows, ReplacesKnow}
+use Rattle.laws_container.proofs.Knows.{RemoveSays, HasCome, HasLeft, ReleaseHides, ReleaseLeft, RemoveKnows, Copying}
+use Rattle.laws_container.proofs.Knows.{HasCopied, CheckPaid, HasFoundBelow, Finds, Steady, FindKnows}
+use Rattle.laws_container.proofs.Knows.{Knows}
+use Rattle.laws_container.proofs.Replaces.{ReplaceOwns, replace_later, add_later}
+use Rattle.laws_container.proofs.Sights.{StoodThere}
+use Rattle.laws_container.proofs.Terms.{Keeps}
+use Rattle.laws_container.proofs.Turns.{WellFormed, count_in, Passes, Leaves}
+use Rattle.laws_container.proofs.Writers.{Replacing, IsWriter}
+
+module _ {T : Type 0} where
+  -- what is locked stays so
+  shut_on : (b : Bool) (es : List (Event T)) → b ≡ true → fold locked_after b es ≡ true
+  shut_on b [] h = h
+  shut_on b (Locked p ∷ es) h = shut_on true es refl
+  shut_on b (e ∷ es) h = shut_on b es h
+
+  pub shut_later : (events es : List (Event T)) → is_locked events ≡ true → is_locked (events ++ es) ≡ true
+  shut_later events es h = fold-append locked_after false events es ∙ shut_on (is_locked events) es h
+
+  -- a replace that has taken a step was begun rightly, in a well-formed run
+  pub may_replace : (index owner : ℕ) (value : T) (v : View T) → HasFound index owner value v
+      → WasFilled owner index v → WellFormed (now v) → MayReplace v.party index owner v.events
+  may_replace index owner value v h filled well_formed =
+      subst (λ o. StandsWellFormed v.party o v.events) h.found (well_formed.replaces v.party) index owner value h.wrote h.span h.steps filled
+
+  pub replacing : (c index owner : ℕ) (value : T) (v : View T) → ReplaceKnows c index owner value v
+      → WellFormed (now v) → Lives owner v → Replacing v.party index owner v.events
+  replacing c index owner value v h well_formed alive = h.owns well_formed.calm alive (may_replace index owner value v h.found h.filled well_formed)
+
+module _ {T : Type 0} (code : Coding T) (c : ℕ) (v : View T) (words' : List ℕ)
+    (states' : List (ℕ × ContainerState T)) (latest' : List (ℕ × Party T)) (es : List (Event T)) (changes' : ℕ)
+    (goes : Goes v.words words' v.events es) (spares : Spares v.terms.by v.party v.events es) (seen : IsSeen v.words words' v.changes changes')
+    (passes : Passes code c (now v) (record { terms = v.terms; words = words'; latest = latest'; events = v.events ++ es }))
+    (leaves : Leaves code c v.party (now v) (record { terms = v.terms; words = words'; latest = latest'; events = v.events ++ es }))
+    (span : span_of v.party (v.events ++ es) ≡ span_of v.party v.events)
+    (same_party : party_of v.party latest' ≡ party_of v.party v.latest)
+    (same_state : state_of v.party states' ≡ state_of v.party v.states) where
+  abbrev pub later : View T
+  later =
+      record {
+        terms = v.terms;
+        words = words';
+        states = states';
+        latest = latest';
+        events = v.events ++ es;
+        party = v.party;
+        since = v.since;
+        changes = changes';
+        backs = v.backs;
+      }
+
+  abbrev q : ℕ
+  q = v.party
+
+  abbrev events : List (Event T)
+  events = v.events
+
+  pub paid : IsPaid v → IsPaid later
+  paid h = ⊎_elim (λ s. let same = s.1 in omega arith) (λ more. omega arith) seen
+
+  pub check_paid : (index count : ℕ) → CheckPaid code c index count v → CheckPaid code c index count later
+  check_paid index count h = grind arith
+
+  lives : (owner : ℕ) → Lives owner later → Lives owner v
+  lives owner alive = gone_less v.terms.by owner events es alive
+
+  pub set_knows : (flight : _) → set.Knows c flight (of_set v) → set.Knows c flight (of_set later)
+  set_knows flight h = knows_later v.terms.by v.words words' events es q v.since v.changes changes' v.backs goes spares seen c flight h
+
+  pub once : (P : List (Event T) → Type 0) → HeldSometime q P events → HeldSometime q P (events ++ es)
+  once P h = held_later q P events es spares.none h
+
+  pub acts_same : acts_of q (events ++ es) ≡ acts_of q events
+  acts_same = ap (λ s. acts (wrote_in s)) span
+
+  pub deeds_same : deeds_of q (events ++ es) ≡ deeds_of q events
+  deeds_same = spares.deeds
+
+  -- ---- a writer
+
+  add_owns : (owner index : ℕ) → AddOwns c owner index v → AddOwns c owner index later
+  add_owns owner index h =
+      record { paid = paid h.paid; within = h.within; owns = add_later v.terms.by events es q index owner spares h.owns }
+
+  pub found : (index owner : ℕ) (value : T) → HasFound index owner value v → HasFound index owner value later
+  found index owner value h =
+      record { party = h.party; found = same_party ∙ h.found; steps = h.steps; wrote = h.wrote; span = span ∙ h.span }
+
+  replace_owns : (index owner : ℕ) → ReplaceOwns v.terms.by q index owner events → ReplaceOwns v.terms.by q index owner (events ++ es)
+  replace_owns index owner h = replace_later v.terms.by events es q index owner spares h
+
+  replace_knows : (index owner : ℕ) (value : T) → ReplaceKnows c index owner value v → ReplaceKnows c index owner value later
+  replace_knows index owner value h =
+      record {
+        paid = paid h.paid;
+        within = h.within;
+        owns = replace_owns index owner h.owns;
+        found = found index owner value h.found;
+        filled = once (IsFilledWith owner index) h.filled;
+      }
+
+  -- it writes at the index
+  abbrev IsTheWriter : ℕ → ℕ → Type 0
+  IsTheWriter owner index = WellFormed (now v) → Lives owner v → IsWriter q index owner events
+
+  adds_write : (owner index : ℕ) → AddOwns c owner index v → IsTheWriter owner index
+  adds_write owner index h well_formed alive = inl (h.owns well_formed.calm alive).by
+
+  replaces_write : (owner index : ℕ) (value : T) → ReplaceKnows c index owner value v → IsTheWriter owner index
+  replaces_write owner index value h well_formed alive = inr (replacing c index owner value v h well_formed alive)
+
+  covers : (owner index count : ℕ) → index < c → IsTheWriter owner index → Covers code c owner index count v → Covers code c owner index count later
+  covers owner index count below writer h well_formed alive =
+      let before = passes.well_formed well_formed in
+      let mine = writer before (lives owner alive) in
+      ⊎_elim
+      (λ e. ⊎_elim (λ same. inl (same ∙ e)) (λ even. inr even) (leaves.over well_formed index owner below (lives owner alive) mine))
+      (λ even. inr (ap (λ n. n % 2) (leaves.under well_formed index owner below (lives owner alive) mine even).0 ∙ even))
+      (h before (lives owner alive))
+
+  writes : (owner index : ℕ) (value : T) (k : ℕ) → index < c → IsTheWriter owner index
+      → Writes code c owner index value k v → Writes code c owner index value k later
+  writes owner index value k below writer h =
+      record {
+        few = h.few;
+        has = λ well_formed alive.
+            let before = passes.well_formed well_formed in
+            let w = h.has before (lives owner alive) in
+            let same = leaves.under well_formed index owner below (lives owner alive) (writer before (lives owner alive)) w.even in
+            writes_on code c v.words words' index value k h.few same.0 same.1 w;
+      }
+
+  placed : (index : ℕ) (value : T) → HasPlaced code c index value v → HasPlaced code c index value later
+  placed index value h well_formed = ap (λ a. places a) acts_same ∙ h (passes.well_formed well_formed)
+
+  stood : (owner index : ℕ) → index < c → IsTheWriter owner index → Stood code c owner index v → Stood code c owner index later
+  stood owner index below writer h well_formed alive =
+      let before = passes.well_formed well_formed in
+      let k = h before (lives owner alive) in
+      leaves.placed well_formed index owner below (lives owner alive) (writer before (lives owner alive)) k.0 k.1
+
+  pub add_knows : (value : T) (owner : ℕ) (stage : AddStage) → AddKnows code c value owner stage v → AddKnows code c value owner stage later
+  add_knows value owner (adds.TheVariants.Acquires stage) h = set_knows (acquire_at c owner stage) h
+  add_knows value owner (adds.TheVariants.LoadsCount index) h = add_owns owner index h
+  add_knows value owner (adds.TheVariants.Hides index count) h =
+      (add_owns owner index h.0, covers owner index count h.0.within (adds_write owner index h.0) h.1)
+  add_knows value owner (adds.TheVariants.Stores index at) h =
+      (add_owns owner index h.0, writes owner index value at h.0.within (adds_write owner index h.0) h.1)
+  add_knows value owner (adds.TheVariants.AddsCount index) h =
+      (add_owns owner index h.0, writes owner index value code.size h.0.within (adds_write owner index h.0) h.1)
+  add_knows value owner (adds.TheVariants.AddsChange index) h =
+      (add_owns owner index h.0, placed index value h.1, stood owner index h.0.within (adds_write owner index h.0) h.2)
+
+  pub replaces_know : (index : ℕ) (value : T) (owner : ℕ) (stage : ReplaceStage)
+      → ReplacesKnow code c index value owner stage v → ReplacesKnow code c index value owner stage later
+  replaces_know index value owner replaces.TheVariants.Refuses h = paid h
+  replaces_know index value owner replaces.TheVariants.LoadsCell h = (paid h.0, replace_owns index owner h.1)
+  replaces_know index value owner replaces.TheVariants.LoadsCount h = replace_knows index owner value h
+  replaces_know index value owner (replaces.TheVariants.Hides count) h =
+      (replace_knows index owner value h.0, covers owner index count h.0.within (replaces_write owner index value h.0) h.1)
+  replaces_know index value owner (replaces.TheVariants.Stores at) h =
+      (replace_knows index owner value h.0, writes owner index value at h.0.within (replaces_write owner index value h.0) h.1)
+  replaces_know index value owner replaces.TheVariants.AddsCount h =
+      (replace_knows index owner value h.0, writes owner index value code.size h.0.within (replaces_write owner index value h.0) h.1)
+  replaces_know index value owner replaces.TheVariants.AddsChange h =
+      (replace_knows index owner value h.0, placed index value h.1, stood owner index h.0.within (replaces_write owner index value h.0) h.2)
+
+  -- ---- a remove
+
+  freed_later : (owner index : ℕ) → FilledSinceFreed q owner index events → FilledSinceFreed q owner index (events ++ es)
+  freed_later owner index h = record { other = h.other; once = once _ h.once }
+
+  -- a counter at its end is there still
+  pub worn : Worn v → Worn later
+  worn end = worn_on v.terms.by v.words words' goes.stuck end
+
+  remove_says : (index owner : ℕ) (mode : ReleaseMode) (state : ReleaseState)
+      → RemoveSays code c index owner mode state v → RemoveSays code c index owner mode state later
+  remove_says index owner mode states.TheVariants.Locked h = shut_later events es h
+  remove_says index owner LockIfLastIndex states.TheVariants.Unlocked h =
+      (once IsUnlocked h.0, ⊎_elim (λ end. inl (worn end)) (λ found. inr (freed_later owner index found)) h.1)
+  remove_says index owner Default states.TheVariants.Unlocked h = tt
+
+  pub count_below : (index count : ℕ) → index < c → HasCome code c index count v → HasCome code c index count later
+  count_below index count low h kept = grind arith
+
+  -- a number that is there still was there before
+  was_there : (index count : ℕ) → index < c → HasCome code c index count v → Keeps v.terms
+      → count_in code c (now later) index ≡ count → count_in code c (now v) index ≡ count
+  was_there index count low h kept is = grind arith
+
+  pub has_left : (index count : ℕ) → HasLeft code c index count v → HasLeft code c index count later
+  has_left index count h = grind arith
+
+  release_left : (index count : ℕ) (stage : ReleaseStage) → ReleaseLeft code c index count stage v → ReleaseLeft code c index count stage later
+  release_left index count stage h = grind arith
+
+  release_hides : (index owner : ℕ) (mode : ReleaseMode) (count : ℕ) (stage : ReleaseStage)
+      → set.Knows c (release_at c index owner mode stage) (of_set v) → ReleaseLeft code c index count stage v
+      → ReleaseHides code c index owner count stage v → ReleaseHides code c index owner count stage later
+  release_hides index owner mode count releases.TheVariants.EmptiesCell k left h =
+      remove_covers code c q owner index count (now v) words' latest' es goes spares passes leaves left.0 k.owns h
+  release_hides index owner mode count (releases.TheVariants.Raises raise) k left h =
+      hidden_stands code c q owner index count (now v) words' latest' es goes spares passes leaves left.within h
+  release_hides index owner mode count (releases.TheVariants.Locks lock) k left h =
+      hidden_stands code c q owner index count (now v) words' latest' es goes spares passes leaves left.within h
+
+  pub remove_knows : (index owner : ℕ) (mode : ReleaseMode) (stage : RemoveStage)
+      → RemoveKnows code c index owner mode stage v → RemoveKnows code c index owner mode stage later
+  remove_knows index owner mode removes.TheVariants.Refuses h = paid h
+  remove_knows index owner mode removes.TheVariants.LoadsCount h = set_knows (release_at c index owner mode releases.TheVariants.EmptiesCell) h
+  remove_knows index owner mode (removes.TheVariants.Releases count stage) h = (
+    set_knows (release_at c index owner mode stage) h.0,
+    release_left index count stage h.1,
+    release_hides index owner mode count stage h.0 h.1 h.2,
+  )
+  remove_knows index owner mode (removes.TheVariants.Hides count state) h = (
+    paid h.0,
+    remove_says index owner mode state h.1,
+    has_left index count h.2,
+    hidden_stands code c q owner index count (now v) words' latest' es goes spares passes leaves h.2.within h.3,
+  )
+  remove_knows index owner mode (removes.TheVariants.AddsChange state) h =
+      (paid h.0, remove_says index owner mode state h.1, hidden_later code c q owner no_index (now v) words' latest' es spares passes h.2)
+
+  -- ---- a copy, and a find
+
+  pub copying : (index count : ℕ) (copy : List ℕ) (k : ℕ) → Copying code c index count copy k v → Copying code c index count copy k later
+  copying index count copy k h =
+      record {
+        within = h.within;
+        few = h.few;
+        room = h.room;
+        odd = h.odd;
+        below = count_below index count h.within h.below;
+        same = λ well_formed is j js.
+            let was : count_in code c (now v) index ≡ count = was_there index count h.within h.below well_formed.kept is in
+            h.same (passes.well_formed well_formed) was j js
+            ∙ sym
+            (passes.words well_formed index h.within (is ∙ sym was) (ap (λ n. n % 2) was ∙ h.odd) j (let few = h.few in omega arith));
+      }
+
+  pub has_copied : (index : ℕ) (room : buffers.Buffer 128) → HasCopied code c index room v → HasCopied code c index room later
+  has_copied index room h = subst (HasLatest (Copies index (read_in code room))) (sym acts_same) h
+
+  through_before : (i : ℕ) → StoodThere q i (events ++ es) → StoodThere q i events
+  through_before i through = through_less q (λ part. is_some (contents_of i part) ≡ true) events es spares.none through
+
+  found_below : (owner bound k number : ℕ) → HasFoundBelow code c owner bound k number v → HasFoundBelow code c owner bound k number later
+  found_below owner bound k number h =
+      record {
+        count =
+            record {
+              chosen = h.count.chosen;
+              is = h.count.is;
+              once = λ i below chosen. once (IsFilledWith owner i) (h.count.once i below chosen);
+              through = λ i below through. h.count.through i below (through_less q (IsFilledWith owner i) events es spares.none through);
+            };
+        copied = λ i less chosen through.
+            let had = h.copied i less chosen (through_before i through) in
+            (had.0, subst (Has _) (sym acts_same) had.1);
+      }
+
+  finds_on : (owner bound k number : ℕ) → Finds code c owner bound k number v → Finds code c owner bound k number later
+  finds_on owner bound k number h = (
+    paid h.0,
+    count_later q (IsFilledWith owner) bound number events h.1 es spares.none,
+    λ well_formed. found_below owner bound k number (h.2 (passes.well_formed well_formed)),
+  )
+
+  steady : (index count : ℕ) → index < c → Steady code c index count v → Steady code c index count later
+  steady index count below h well_formed through =
+      let less = through_before index through in
+      let was = h (passes.well_formed well_formed) less in
+      passes.stood well_formed index below
+      (through_now q (λ part. is_some (contents_of index part) ≡ true) events less)
+      (through_now q (λ part. is_some (contents_of index part) ≡ true) (events ++ es) through)
+      ∙ was
+
+  pub find_knows : (owner : ℕ) (room : buffers.Buffer 128) (stage : FindStage) → FindKnows code c owner room stage v → FindKnows code c owner room stage later
+  find_knows owner room (finds.TheVariants.LoadsCell index number) h = finds_on owner index index number h
+  find_knows owner room (finds.TheVariants.LoadsCount index number) h = (finds_on owner (index + 1) index number h.0, once (IsFilledWith owner index) h.1)
+  find_knows owner room (finds.TheVariants.LoadsWord index number count at) h = (
+    finds_on owner (index + 1) index number h.0,
+    steady index count h.2.within h.1,
+    copying index count room.words at h.2,
+    once (IsFilledWith owner index) h.3,
+  )
+  find_knows owner room (finds.TheVariants.ChecksCount index number count) h = (
+    finds_on owner (index + 1) index number h.0,
+    steady index count h.2.within h.1,
+    copying index count room.words code.size h.2,
+    once (IsFilledWith owner index) h.3,
+  )
+  find_knows owner room (finds.TheVariants.Asks index number) h = (finds_on owner (index + 1) (index + 1) number h.0, has_copied index room h.1)

@@ -1,0 +1,350 @@
+-- What a recovery and a look know stays known while others take turns; and so of any call.
+use Rattle.std.proofs.Common.{◌≡◌, ⊎_elim, inl, inr, ℕ, ◌+◌, ◌<◌, Some, None, List}
+use Rattle.std.proofs.Common.{◌++◌, refl, sym, subst, ◌∙◌}
+use Rattle.steps.specs.declared.container.add.AddStage.{AddStage}
+use Rattle.steps.specs.declared.container.find.FindStage.{FindStage}
+use Rattle.steps.specs.declared.container.look.LookStage.{LookStage}
+use Rattle.steps.specs.declared.container.look.LookStage as looks
+use Rattle.steps.specs.declared.container.recover.RecoverStage.{RecoverStage}
+use Rattle.steps.specs.declared.container.recover.RecoverStage as recovers
+use Rattle.steps.specs.declared.container.remove.RemoveStage.{RemoveStage}
+use Rattle.steps.specs.declared.container.replace.ReplaceStage.{ReplaceStage}
+use Rattle.steps.specs.declared.container.state.ContainerState.{ContainerState}
+use Rattle.steps.specs.declared.copied.Buffer as buffers
+use Rattle.steps.specs.declared.indices.enums.ReleaseMode.{ReleaseMode}
+use Rattle.steps.specs.declared.indices.enums.ReleaseState.{ReleaseState}
+use Rattle.steps.specs.declared.indices.enums.ReleaseState as states
+use Rattle.steps.specs.declared.indices.robust.release.ReleaseStage.{ReleaseStage}
+use Rattle.model.specs.declared.event.Event.{Event}
+use Rattle.model.specs.declared.event.Event.TheVariants.{Locked}
+use Rattle.model.specs.declared.families.container.calls.ContainerFlight.{ContainerFlight}
+use Rattle.model.specs.declared.families.container.calls.ContainerFlight.TheVariants.{Add, Remove, Replace, Find, Recover, Look, Count, IsLocked}
+use Rattle.model.specs.declared.party.Party.{Party}
+use Rattle.model.specs.Coding.{Coding}
+use Rattle.model.specs.Families.Container.Promises.{WasShown}
+use Rattle.model.specs.Families.Container.Reading.{Sees, Has}
+use Rattle.model.specs.Families.Container.States.{state_of}
+use Rattle.model.specs.Families.Indices.Robust.Promises.{IsFilledWith, IsUnlocked, StillToFree}
+use Rattle.model.specs.Families.Indices.Robust.Reading.{filled_of, Frees, Asks, Yes, IsOneOf}
+use Rattle.model.specs.Parties.{party_of}
+use Rattle.model.specs.Reading.{span_of}
+use Rattle.laws_robust.specs.Gone.{IsHonestBy}
+use Rattle.laws_robust.proofs.Gone.{gone_more, honest_less, stays_lost}
+use Rattle.laws_robust.proofs.Knows.{Goes, Spares, IsSeen, held_paid, still_scanned}
+use Rattle.laws_robust.proofs.Knows as set
+use Rattle.laws_robust.proofs.Past.{through_less}
+use Rattle.laws_robust.proofs.Standing.{borrowed_at, looking}
+use Rattle.laws_container.specs.Gone.{HasRecoveredBy}
+use Rattle.laws_container.proofs.HiddenKnows.{RecoverCovers, StillStands, HasHidden, no_index}
+use Rattle.laws_container.proofs.HiddenLater.{recover_covers, hidden_stands, hidden_later}
+use Rattle.laws_container.proofs.Knows.{View, now, IsGone, Worn}
+use Rattle.laws_container.proofs.Knows.{AskedBelow}
+use Rattle.laws_container.proofs.Knows.{GoneBut, Recovers, RecoverSays, RecoverKnows, RecoverFills, Looks, LookCopies}
+use Rattle.laws_container.proofs.Knows.{LookRests, LookKnows, Knows}
+use Rattle.laws_container.proofs.KeptCopies.{CallsOn, own_later, calls_same}
+use Rattle.laws_container.proofs.KeptLocks.{NoIndex, FilledBut, filled_then, each_later, says_later, unlocked_later}
+use Rattle.laws_container.proofs.Sights.{rests_later, course_later}
+use Rattle.laws_container.proofs.Turns.{Now, Passes, Leaves}
+use Rattle.laws_container.proofs.Keeping.{acts_same, add_knows, check_paid, copying, count_below, deeds_same}
+use Rattle.laws_container.proofs.Keeping.{find_knows, found, has_copied, has_left, once, paid, remove_knows}
+use Rattle.laws_container.proofs.Keeping.{replaces_know, set_knows, shut_later, worn}
+
+module _ {T : Type 0} (code : Coding T) (c : ℕ) (v : View T) (words' : List ℕ)
+    (states' : List (ℕ × ContainerState T)) (latest' : List (ℕ × Party T)) (es : List (Event T)) (changes' : ℕ)
+    (goes : Goes v.words words' v.events es) (spares : Spares v.terms.by v.party v.events es) (seen : IsSeen v.words words' v.changes changes')
+    (passes : Passes code c (now v) (record { terms = v.terms; words = words'; latest = latest'; events = v.events ++ es }))
+    (leaves : Leaves code c v.party (now v) (record { terms = v.terms; words = words'; latest = latest'; events = v.events ++ es }))
+    (span : span_of v.party (v.events ++ es) ≡ span_of v.party v.events)
+    (same_party : party_of v.party latest' ≡ party_of v.party v.latest)
+    (same_state : state_of v.party states' ≡ state_of v.party v.states) where
+  abbrev pub later : View T
+  later =
+      record {
+        terms = v.terms;
+        words = words';
+        states = states';
+        latest = latest';
+        events = v.events ++ es;
+        party = v.party;
+        since = v.since;
+        changes = changes';
+        backs = v.backs;
+      }
+
+  abbrev q : ℕ
+  q = v.party
+
+  abbrev events : List (Event T)
+  events = v.events
+
+  -- ---- a recovery
+
+  shown_same : (i : ℕ) → WasShown q i (events ++ es) → WasShown q i events
+  shown_same i h = subst (Has (Sees i)) (acts_same code c v words' states' latest' es changes' goes spares seen passes leaves span same_party same_state) h
+
+  asked_below : (owner k : ℕ) → AskedBelow code c owner k v → AskedBelow code c owner k later
+  asked_below owner k h i below through =
+      ⊎_elim (λ asked. inl (subst (IsOneOf (Asks i owner))
+      (sym (deeds_same code c v words' states' latest' es changes' goes spares seen passes leaves span same_party same_state))
+      asked))
+      (λ shown. inr (subst (Has (Sees i))
+      (sym (acts_same code c v words' states' latest' es changes' goes spares seen passes leaves span same_party same_state))
+      shown))
+      (h i below (through_less q (StillToFree q owner i) events es spares.none through))
+
+  lost : (i owner : ℕ) → IsHonestBy v.terms.by (events ++ es) → IsGone owner v → filled_of i (events ++ es) ≡ Some owner → filled_of i events ≡ Some owner
+  lost i owner honest dead filled = stays_lost v.terms.by events es goes.fills i owner honest dead filled
+
+  still_gone : (owner : ℕ) → IsGone owner v → IsGone owner later
+  still_gone owner dead = gone_more v.terms.by owner events es dead
+
+  -- nobody who is gone fills an index, so one that he has lost stays lost to him
+  gone_but : (owner : ℕ) (Here : ℕ → Type 0) → IsGone owner v → GoneBut code c owner Here v → GoneBut code c owner Here later
+  gone_but owner Here dead h honest i told =
+      ⊎_elim (λ gone. inl (λ e. gone (lost i owner honest dead e))) (λ here. inr here)
+      (h (honest_less v.terms.by events es honest) i
+      (⊎_elim (λ yes. inl (subst (IsOneOf (Yes i owner))
+      (deeds_same code c v words' states' latest' es changes' goes spares seen passes leaves span same_party same_state)
+      yes))
+      (λ shown. inr (shown_same i shown)) told))
+
+  recovers_then : (owner k : ℕ) (Here But But' : ℕ → Type 0)
+      → (HasHidden code c q owner But (now v) → HasHidden code c q owner But' (now later))
+      → Recovers code c owner k Here But v → Recovers code c owner k Here But' later
+  recovers_then owner k Here But But' stays h =
+      record {
+        dead = still_gone owner h.dead;
+        was_open = (once code c v words' states' latest' es changes' goes spares seen passes leaves span same_party same_state) IsUnlocked h.was_open;
+        asked = asked_below owner k h.asked;
+        gone = gone_but owner Here h.dead h.gone;
+        hidden = stays h.hidden;
+      }
+
+  recovers_on : (owner k : ℕ) (Here : ℕ → Type 0) → Recovers code c owner k Here no_index v → Recovers code c owner k Here no_index later
+  recovers_on owner k Here h =
+      recovers_then owner k Here no_index no_index (λ g. hidden_later code c q owner no_index (now v) words' latest' es spares passes g) h
+
+  covers_on : (owner index count : ℕ) → index < c → IsGone owner v → RecoverCovers code c owner index count (now v)
+      → RecoverCovers code c owner index count (now later)
+  covers_on owner index count below dead h = recover_covers code c q owner index count (now v) words' latest' es goes spares passes leaves below dead h
+
+  recovered : (owner : ℕ) → IsGone owner v → HasRecoveredBy v.terms.by q owner events → HasRecoveredBy v.terms.by q owner (events ++ es)
+  recovered owner dead h =
+      record {
+        gone = λ honest i told e.
+            h.gone (honest_less v.terms.by events es honest) i
+            (⊎_elim (λ yes. inl (subst (IsOneOf (Yes i owner))
+            (deeds_same code c v words' states' latest' es changes' goes spares seen passes leaves span same_party same_state)
+            yes))
+            (λ shown. inr (shown_same i shown)) told)
+            (lost i owner honest dead e);
+        asked = λ i through.
+            ⊎_elim (λ asked. inl (subst (IsOneOf (Asks i owner))
+            (sym (deeds_same code c v words' states' latest' es changes' goes spares seen passes leaves span same_party same_state))
+            asked))
+            (λ shown. inr (subst (Has (Sees i))
+            (sym (acts_same code c v words' states' latest' es changes' goes spares seen passes leaves span same_party same_state))
+            shown))
+            (h.asked i (through_less q (StillToFree q owner i) events es spares.none through));
+      }
+
+  recover_says : (owner : ℕ) (mode : ReleaseMode) (state : ReleaseState) → RecoverSays code c owner mode state v → RecoverSays code c owner mode state later
+  recover_says owner mode states.TheVariants.Locked h = shut_later events es h
+  recover_says owner mode states.TheVariants.Unlocked h = (
+    still_gone owner h.0,
+    unlocked_later q owner events es spares.none
+        (deeds_same code c v words' states' latest' es changes' goes spares seen passes leaves span same_party same_state)
+        h.1,
+    recovered owner h.0 h.2,
+    each_later q owner (Worn v) (Worn later)
+        (worn code c v words' states' latest' es changes' goes spares seen passes leaves span same_party same_state)
+        mode events es spares.none
+        (deeds_same code c v words' states' latest' es changes' goes spares seen passes leaves span same_party same_state)
+        h.3,
+  )
+
+  fills : (owner : ℕ) (mode : ReleaseMode) (But : ℕ → Type 0) → FilledBut (Worn v) mode q owner But events
+      → FilledBut (Worn later) mode q owner But (events ++ es)
+  fills owner mode But h =
+      filled_then q owner (Worn v) (Worn later)
+      (worn code c v words' states' latest' es changes' goes spares seen passes leaves span same_party same_state)
+      mode But But events es spares.none
+      (λ i was. inl (subst (IsOneOf (Frees i owner))
+      (deeds_same code c v words' states' latest' es changes' goes spares seen passes leaves span same_party same_state)
+      was))
+      (λ i e. e) (shut_later events es) h
+
+  recover_fills : (owner : ℕ) (mode : ReleaseMode) (stage : RecoverStage) → RecoverFills code c owner mode stage v → RecoverFills code c owner mode stage later
+  recover_fills owner mode recovers.TheVariants.LoadsCounter h = tt
+  recover_fills owner mode (recovers.TheVariants.LoadsCell index) h = fills owner mode NoIndex h
+  recover_fills owner mode (recovers.TheVariants.LoadsCount index) h = fills owner mode NoIndex h
+  recover_fills owner mode (recovers.TheVariants.LoadsWord index count at) h = fills owner mode NoIndex h
+  recover_fills owner mode (recovers.TheVariants.ChecksCount index count) h = fills owner mode NoIndex h
+  recover_fills owner mode (recovers.TheVariants.Asks index count) h = fills owner mode NoIndex h
+  recover_fills owner mode (recovers.TheVariants.EmptiesCell index count) h = fills owner mode NoIndex h
+  recover_fills owner mode (recovers.TheVariants.Hides index count) h = fills owner mode (λ i. i ≡ index) h
+  recover_fills owner mode (recovers.TheVariants.Raises index raise) h = fills owner mode (λ i. i ≡ index) h
+  recover_fills owner mode (recovers.TheVariants.Locks index lock) h = (
+    fills owner mode (λ i. i ≡ index) h.0,
+    says_later q owner c events es spares.none
+        (deeds_same code c v words' states' latest' es changes' goes spares seen passes leaves span same_party same_state)
+        lock h.1,
+  )
+  recover_fills owner mode recovers.TheVariants.LoadsCounterAgain h = fills owner mode NoIndex h
+  recover_fills owner mode (recovers.TheVariants.AddsChange state) h = tt
+
+  abbrev none : ℕ → Type 0
+  none i = ⊥
+
+  recover_knows : (owner : ℕ) (mode : ReleaseMode) (room : buffers.Buffer 128) (stage : RecoverStage)
+      → RecoverKnows code c owner mode room stage v → RecoverKnows code c owner mode room stage later
+  recover_knows owner mode room recovers.TheVariants.LoadsCounter h = (
+    (paid code c v words' states' latest' es changes' goes spares seen passes leaves span same_party same_state) h.0,
+    still_gone owner h.1,
+    gone_but owner none h.1 h.2,
+  )
+  recover_knows owner mode room (recovers.TheVariants.LoadsCell index) h = (
+    (paid code c v words' states' latest' es changes' goes spares seen passes leaves span same_party same_state) h.0,
+    recovers_on owner index none h.1,
+  )
+  recover_knows owner mode room (recovers.TheVariants.LoadsCount index) h = (
+    (paid code c v words' states' latest' es changes' goes spares seen passes leaves span same_party same_state) h.0,
+    recovers_on owner index none h.1,
+    (once code c v words' states' latest' es changes' goes spares seen passes leaves span same_party same_state)
+        (IsFilledWith owner index) h.2,
+  )
+  recover_knows owner mode room (recovers.TheVariants.LoadsWord index count at) h = (
+    (check_paid code c v words' states' latest' es changes' goes spares seen passes leaves span same_party same_state) index count h.0,
+    recovers_on owner index none h.1,
+    (once code c v words' states' latest' es changes' goes spares seen passes leaves span same_party same_state) (IsFilledWith owner index) h.2,
+    (copying code c v words' states' latest' es changes' goes spares seen passes leaves span same_party same_state) index count room.words at h.3,
+    covers_on owner index count h.3.within h.1.dead h.4,
+  )
+  recover_knows owner mode room (recovers.TheVariants.ChecksCount index count) h = (
+    (check_paid code c v words' states' latest' es changes' goes spares seen passes leaves span same_party same_state) index count h.0,
+    recovers_on owner index none h.1,
+    (once code c v words' states' latest' es changes' goes spares seen passes leaves span same_party same_state) (IsFilledWith owner index) h.2,
+    (copying code c v words' states' latest' es changes' goes spares seen passes leaves span same_party same_state) index count room.words code.size h.3,
+    covers_on owner index count h.3.within h.1.dead h.4,
+  )
+  recover_knows owner mode room (recovers.TheVariants.Asks index count) h = (
+    (paid code c v words' states' latest' es changes' goes spares seen passes leaves span same_party same_state) h.0,
+    recovers_on owner (index + 1) none h.1,
+    h.2,
+    (count_below code c v words' states' latest' es changes' goes spares seen passes leaves span same_party same_state) index count h.2 h.3,
+    (has_copied code c v words' states' latest' es changes' goes spares seen passes leaves span same_party same_state) index room h.4,
+    covers_on owner index count h.2 h.1.dead h.5,
+  )
+  recover_knows owner mode room (recovers.TheVariants.EmptiesCell index count) h = (
+    (paid code c v words' states' latest' es changes' goes spares seen passes leaves span same_party same_state) h.0,
+    recovers_on owner (index + 1) (λ i. i ≡ index) h.1,
+    h.2,
+    (count_below code c v words' states' latest' es changes' goes spares seen passes leaves span same_party same_state) index count h.2 h.3,
+    covers_on owner index count h.2 h.1.dead h.4,
+  )
+  recover_knows owner mode room (recovers.TheVariants.Hides index count) h = (
+    (paid code c v words' states' latest' es changes' goes spares seen passes leaves span same_party same_state) h.0,
+    recovers_then owner (index + 1) none (StillStands code c index count (now v))
+        (StillStands code c index count (now later))
+        (λ g. hidden_stands code c q owner index count (now v) words' latest' es goes spares passes leaves h.2.within g)
+        h.1,
+    (has_left code c v words' states' latest' es changes' goes spares seen passes leaves span same_party same_state) index count h.2,
+  )
+  recover_knows owner mode room (recovers.TheVariants.Raises index raise) h = (
+    held_paid v.terms.by v.words words' events es q v.since v.changes changes' v.backs goes spares seen (set.raise_holds raise) h.0,
+    recovers_on owner (index + 1) none h.1,
+  )
+  recover_knows owner mode room (recovers.TheVariants.Locks index lock) h = (
+    held_paid v.terms.by v.words words' events es q v.since v.changes changes' v.backs goes spares seen (set.lock_holds lock) h.0,
+    recovers_on owner (index + 1) none h.1,
+    still_scanned v.terms.by v.words words' events es q v.since v.changes changes' v.backs goes spares seen (set.lock_scan c lock) h.2,
+  )
+  recover_knows owner mode room recovers.TheVariants.LoadsCounterAgain h = (
+    (paid code c v words' states' latest' es changes' goes spares seen passes leaves span same_party same_state) h.0,
+    recovers_on owner c none h.1,
+  )
+  recover_knows owner mode room (recovers.TheVariants.AddsChange state) h = (
+    (paid code c v words' states' latest' es changes' goes spares seen passes leaves span same_party same_state) h.0,
+    recover_says owner mode state h.1,
+    hidden_later code c q owner no_index (now v) words' latest' es spares passes h.2,
+  )
+
+  -- ---- a look
+
+  abbrev m' : Now T
+  m' = record { terms = v.terms; words = words'; latest = latest'; events = events ++ es }
+
+  calls_on : CallsOn q None events (events ++ es)
+  calls_on = calls_same q events (events ++ es) span
+
+  looks_on : (k x : ℕ) → Looks code c k x v → Looks code c k x later
+  looks_on k x h =
+      record {
+        state = h.state;
+        found = same_state ∙ h.found;
+        course = course_later code c (now v) m' es refl passes q h.state calls_on spares.none leaves.alone k x h.course;
+      }
+
+  look_copies : (index count k : ℕ) → LookCopies code c index count k v → LookCopies code c index count k later
+  unfolding looks_on
+  look_copies index count k h =
+      record {
+        looks = looks_on index index h.looks;
+        number = h.number;
+        copying =
+            (copying code c v words' states' latest' es changes' goes spares seen passes leaves span same_party same_state)
+            index count h.looks.state.shown.copy k h.copying;
+      }
+
+  look_rests : LookRests code c v → LookRests code c later
+  look_rests h =
+      record {
+        state = h.state;
+        found = same_state ∙ h.found;
+        rests = rests_later code c (now v) m' es refl passes q h.state h.rests;
+        own = own_later q None events (events ++ es) calls_on h.state c h.own;
+      }
+
+  look_knows : (stage : LookStage) → LookKnows code c stage v → LookKnows code c stage later
+  look_knows looks.TheVariants.LoadsChange h =
+      ((paid code c v words' states' latest' es changes' goes spares seen passes leaves span same_party same_state) h.0, look_rests h.1)
+  look_knows (looks.TheVariants.LoadsCount index) h = (
+    (paid code c v words' states' latest' es changes' goes spares seen passes leaves span same_party same_state) h.0,
+    looks_on index c h.1,
+  )
+  look_knows (looks.TheVariants.LoadsWord index count at) h = (
+    (check_paid code c v words' states' latest' es changes' goes spares seen passes leaves span same_party same_state) index count h.0,
+    look_copies index count at h.1,
+  )
+  look_knows (looks.TheVariants.ChecksCount index count) h = (
+    (check_paid code c v words' states' latest' es changes' goes spares seen passes leaves span same_party same_state) index count h.0,
+    look_copies index count code.size h.1,
+  )
+
+  -- ---- any call
+
+  pub still_knows : (flight : ContainerFlight T) → Knows code c flight v → Knows code c flight later
+  still_knows (Add run) h =
+      (add_knows code c v words' states' latest' es changes' goes spares seen passes leaves span same_party same_state)
+      run.given.value run.given.owner run.call.stage h
+  still_knows (Remove run) h =
+      (remove_knows code c v words' states' latest' es changes' goes spares seen passes leaves span same_party same_state)
+      run.given.index run.given.owner run.given.mode run.call.stage h
+  still_knows (Replace run) h =
+      (replaces_know code c v words' states' latest' es changes' goes spares seen passes leaves span same_party same_state)
+      run.given.index run.given.value run.given.owner run.call.stage h
+  still_knows (Find run) h = (
+    h.0,
+    (find_knows code c v words' states' latest' es changes' goes spares seen passes leaves span same_party same_state)
+        run.given run.room run.call.stage h.1,
+  )
+  still_knows (Recover run) h = (
+    h.0,
+    recover_knows run.given.owner run.given.mode run.room run.call.stage h.1,
+    recover_fills run.given.owner run.given.mode run.call.stage h.2,
+  )
+  still_knows (Look which call) h = look_knows call.stage h
+  still_knows (Count which run) h =
+      (set_knows code c v words' states' latest' es changes' goes spares seen passes leaves span same_party same_state)
+      (borrowed_at c run.call.count) h
+  still_knows (IsLocked run) h = (set_knows code c v words' states' latest' es changes' goes spares seen passes leaves span same_party same_state) looking h

@@ -1,0 +1,134 @@
+-- What the invariant says of the events, in the promise's words.
+use Rattle.std.proofs.Common.{◌≡◌, ◌≢◌, ℕ, ◌<◌, ◌≤◌, ◌==◌, ⊎_elim, Option, Some, None, length, slice_index, sym, ap, subst, ◌∙◌, arith}
+use Rattle.std.proofs.lemmas.Bool.{cases_lt}
+use Rattle.std.proofs.lemmas.Option.{slice_get_past}
+use Rattle.steps.specs.Container.State.{value_if}
+use Rattle.steps.specs.declared.container.state.ContainerState.{ContainerState}
+use Rattle.steps.specs.Indices.Robust.Parts.{cell_word, locked}
+use Rattle.model.specs.declared.families.Registry as registries
+use Rattle.model.specs.declared.party.Party.{Party}
+use Rattle.model.specs.declared.turn.Kind as kinds
+use Rattle.model.specs.Coding.{Coding}
+use Rattle.model.specs.Families.Container.Looks.{state_in, shows, WasCopied, ShowsCopies}
+use Rattle.model.specs.Families.Container.Promises.{HasElements, IsContained, IsContainer, KeepsDead, promise}
+use Rattle.model.specs.Families.Container.Questions.{AsksCopies, question_in}
+use Rattle.model.specs.Families.Container.Reading.{Copies, HasLatest, acts_of}
+use Rattle.model.specs.Families.Container.States.{state_of}
+use Rattle.model.specs.Families.Indices.Reading.{is_locked}
+use Rattle.model.specs.Families.Indices.Robust.Promises.{cell_of}
+use Rattle.model.specs.Families.Indices.Robust.Reading.{filled_of}
+use Rattle.model.specs.Parties.{party_of, doing_of, flight_of}
+use Rattle.model.specs.Promises.{IsKeptBy, IsKept}
+use Rattle.model.specs.Promises.Bounds.{Progresses}
+use Rattle.model.specs.Promises.Families.{promise_of}
+use Rattle.model.specs.Reading.{span_of}
+use Rattle.model.specs.Turns.{IsReached}
+use Rattle.model.specs.World.{Trace, flight_in, progress_in}
+use Rattle.model.proofs.Frame as frame
+use Rattle.laws_robust.proofs.Core.{cell}
+use Rattle.laws_robust.specs.Gone.{Death}
+use Rattle.laws_container.proofs.Answers.{asks_right, recovers_right, answers_right}
+use Rattle.laws_container.proofs.Bounds.{bounds}
+use Rattle.laws_container.proofs.Invariant.{moment, family, family_by}
+use Rattle.laws_container.proofs.WellFormed.{IsWellFormedSoFar, well_formed_so_far}
+use Rattle.laws_container.proofs.Sights.{Rests}
+use Rattle.laws_container.proofs.Sound.{Shown, kept_is, reached_sound}
+use Rattle.laws_container.proofs.Terms.{Terms, dying}
+
+-- ---- what is shown was copied
+
+module _ {T : Type 0} where
+  -- nothing is shown past the elements
+  shown_within : (s : ContainerState T) (i : ℕ) (value : T) → shows s i ≡ Some value → i < length s.shown.elements
+  shown_within s i value e = ⊎_elim (λ within. within) past (cases_lt i (length s.shown.elements))
+    where
+      past : length s.shown.elements ≤ i → i < length s.shown.elements
+      past beyond =
+          let none : shows s i ≡ None = ap value_if (slice_get_past s.shown.elements i beyond) in
+          absurd (cc)
+
+  at_rest : (code : Coding T) (c : ℕ) (m : _) (q i : ℕ) (s : ContainerState T) (value : T) → Rests code c m q s
+      → shows s i ≡ Some value → WasCopied q i value m.events
+  at_rest code c m q i s value h e =
+      let within = shown_within s i value e in
+      let wide = h.sight.wide in
+      let ne : i ≢ c = λ same. absurd (omega arith) in
+      h.sight.copied i value ne e
+
+-- ---- what is promised
+
+module _ {T : Type 0} (terms : Terms) (code : Coding T) (t : Trace T) (s : frame.Sound (family_by terms code t.world.capacity) t) where
+  abbrev c : ℕ
+  c = t.world.capacity
+
+  words_are : t.world.words ≡ s.state.words
+  words_are = (kept_is t.world.kept t.world.words s.state s.fit).1
+
+  kept_are : t.world.kept ≡ registries.TheVariants.Container s.state.dead s.state.states
+  kept_are = (kept_is t.world.kept t.world.words s.state s.fit).0
+
+  -- what a party's call under way knows
+  asked_by : (p index : ℕ) (value : T) (o : Option (Party T))
+      → frame.KnowsParty (family_by terms code c) s.state p t.events t.world.changes o
+      → question_in code (flight_of (doing_of o)) ≡ Some (index, value)
+      → HasLatest (Copies index value) (acts_of p t.events)
+  asked_by p index value o k e = grind arith
+
+  pub questions : AsksCopies t
+  questions p index value e =
+      asked_by p index value (party_of p t.world.latest) (s.inv.knows p) (subst (λ y. question_in y (flight_in t.world p) ≡ Some (index, value)) s.coding e)
+
+  pub states : ShowsCopies t.world t.events
+  states p i state value idle found shown =
+      let here : state_of p s.state.states ≡ Some state = subst (λ kept. state_in kept p ≡ Some state) kept_are found in
+      at_rest code c (moment terms s.state.words t.world.latest t.events) p i state value (s.holds.elements.rests p state idle here) shown
+
+  elements : IsWellFormedSoFar terms t.world.latest t.events → HasElements t
+  elements well_formed index below = grind arith
+
+  pub cells : (index : ℕ) → index < t.world.capacity → slice_index t.world.words (cell_word index) ≡ cell_of (filled_of index t.events)
+  cells index below = ap (λ ws. cell ws index) words_are ∙ s.holds.good.cells index below
+
+  pub lock : (slice_index t.world.words 0 == locked) ≡ is_locked t.events
+  lock = rw words_are s.holds.good.lock
+
+  pub dead : KeepsDead t.world.kept t.events
+  dead = subst (λ kept. KeepsDead kept t.events) (sym kept_are) (λ owner. s.holds.good.died owner)
+
+  pub contained : IsWellFormedSoFar terms t.world.latest t.events → IsContained t
+  contained well_formed = grind arith
+
+-- ---- where owners die
+
+module _ {T : Type 0} (code : Coding T) (t : Trace T) (s : frame.Sound (family code t.world.capacity) t) where
+  container_kept : IsContainer t
+  container_kept =
+      let e = s.holds.elements in
+      record {
+        does = s.holds.good.does;
+        asks = asks_right t.events e.asks;
+        recovers = recovers_right t.events e.recovers;
+        answers = answers_right ⊥ (λ worn. worn) Death t.world.capacity t.events tt e.answers;
+        cells = cells dying code t s;
+        lock = lock dying code t s;
+        dead = dead dying code t s;
+        questions = questions dying code t s;
+        states = states dying code t s;
+        well_formed = λ well_formed. contained dying code t s (well_formed_so_far t well_formed);
+      }
+
+  kept_by : IsKeptBy promise t
+  kept_by =
+      let w = t.world in
+      let size : w.coding.size ≡ code.size = ap (λ (y : Coding T). y.size) s.coding in
+      record {
+        spans = s.inv.spans;
+        progress = λ p. subst (λ n. Progresses promise w.capacity n (span_of p t.events) (progress_in w p)) (sym size)
+            (frame.progresses (family code w.capacity) (bounds code w.capacity) s.state p t.events w.changes
+            (party_of p w.latest) (span_of p t.events) (s.inv.calls p) (s.inv.knows p));
+        promised = container_kept;
+      }
+
+module _ {T : Type 0} (shown : Shown T) where
+  pub kept : (t : Trace T) → t.world.kind ≡ kinds.TheVariants.Container → IsReached t → IsKept t
+  kept t is r = subst (λ P. IsKeptBy P t) (sym (ap (promise_of {T = T}) is)) (kept_by t.world.coding t (reached_sound shown t is r))

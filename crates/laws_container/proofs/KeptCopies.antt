@@ -1,0 +1,119 @@
+-- What a get_state shows, it has itself copied: how that is said, and that it stays so while the call goes on.
+use Rattle.std.proofs.Common.{◌≡◌, ◌≢◌, ℕ, Option, Some, None, List, [], ◌∷◌, ◌++◌, fold, length, refl, sym, ap, subst, ◌∙◌, append-nil, append_assoc, arith}
+use Rattle.std.proofs.lemmas.List.Concat.{flat_map-append}
+use Rattle.std.proofs.lemmas.Option.{slice_get_past}
+use Rattle.steps.specs.Container.State.{value_if}
+use Rattle.steps.specs.declared.container.state.ContainerState.{ContainerState}
+use Rattle.model.specs.declared.event.Answer.{Answer}
+use Rattle.model.specs.declared.event.Event.{Event}
+use Rattle.model.specs.declared.event.Event.TheVariants.{Copied, Finished}
+use Rattle.model.specs.declared.event.Start.{Start}
+use Rattle.model.specs.declared.event.Start.TheVariants.{Container}
+use Rattle.model.specs.declared.families.container.ContainerStart.TheVariants.{GetState}
+use Rattle.model.specs.Families.Container.Looks.{shows}
+use Rattle.model.specs.Families.Container.Reading.{Act, Copies, act, acts, acts_of, Has}
+use Rattle.model.specs.Families.Indices.Robust.Reading.{wrote_in}
+use Rattle.model.specs.Reading.{Span, Never, Open, Ended, own_after, span_of}
+use Rattle.model.specs.Turns.{ending_of}
+use Rattle.model.proofs.Readings.{AreOwn, span_of-own}
+use Rattle.laws_robust.proofs.Effects.{some_none}
+
+module _ {T : Type 0} where
+  -- the name of a party's latest call
+  abbrev pub name_of : Span T → Option (Start T)
+  name_of Never = None
+  name_of (Open start wrote) = Some start
+  name_of (Ended start answer wrote) = Some start
+
+  abbrev pub IsGetting : ℕ → List (Event T) → Type 0
+  IsGetting p events = name_of (span_of p events) ≡ Some (Container GetState)
+
+  -- the party's latest call has copied this
+  abbrev pub HasCopied : ℕ → ℕ → T → List (Event T) → Type 0
+  HasCopied p i value events = Has (Copies i value) (acts_of p events)
+
+  -- what a get_state shows, but for the index that it copies
+  abbrev pub ShowsOwn : ℕ → ContainerState T → ℕ → List (Event T) → Type 0
+  ShowsOwn p s copying events =
+      IsGetting p events → (i : ℕ) (value : T) → i ≢ copying → shows s i ≡ Some value
+      → HasCopied p i value events
+
+  -- what a step of a look writes: a copy, or nothing
+  abbrev pub copies_of : ℕ → Option (ℕ × T) → List (Event T)
+  copies_of p None = []
+  copies_of p (Some copy) = Copied p copy.0 copy.1 ∷ []
+
+  -- the party's call has gone on, and has copied this
+  pub record CallsOn (p : ℕ) (what : Option (ℕ × T)) (events events' : List (Event T)) : Type 0 where
+    pub getting : IsGetting p events' → IsGetting p events
+    pub still : IsGetting p events → IsGetting p events'
+    pub has : (i : ℕ) (value : T) → HasCopied p i value events → HasCopied p i value events'
+    pub now : (i : ℕ) (value : T) → what ≡ Some (i, value) → HasCopied p i value events'
+
+  pub own_later : (p : ℕ) (what : Option (ℕ × T)) (events events' : List (Event T)) → CallsOn p what events events'
+      → (s : ContainerState T) (copying : ℕ) → ShowsOwn p s copying events → ShowsOwn p s copying events'
+  own_later p what events events' on s copying h getting i value ne e = on.has i value (h (on.getting getting) i value ne e)
+
+  -- nothing is shown past the elements
+  not_past : (c : ℕ) (s : ContainerState T) (i : ℕ) (value : T) → length s.shown.elements ≡ c → shows s i ≡ Some value → i ≢ c
+  not_past c s i value wide e past =
+      let none : shows s i ≡ None = ap value_if (slice_get_past s.shown.elements i (omega arith)) in
+      some_none (shows s i) value none e
+
+  -- what a get_state that was under way shows then
+  abbrev pub ShowsCopied : ℕ → ContainerState T → List (Event T) → List (Event T) → Type 0
+  ShowsCopied p s events events' =
+      IsGetting p events → (i : ℕ) (value : T) → shows s i ≡ Some value
+      → HasCopied p i value events'
+
+  pub own_then : (p c : ℕ) (what : Option (ℕ × T)) (events events' : List (Event T)) → CallsOn p what events events'
+      → (s : ContainerState T) → length s.shown.elements ≡ c → ShowsOwn p s c events' → ShowsCopied p s events events'
+  own_then p c what events events' on s wide h getting i value e = h (on.still getting) i value (not_past c s i value wide e) e
+
+  -- where the span is the same
+  pub calls_same : (p : ℕ) (events events' : List (Event T)) → span_of p events' ≡ span_of p events → CallsOn p None events events'
+  calls_same p events events' same = grind arith
+
+  -- ---- a step of the call's own
+
+  has_more : (one : Act T) (all more : List (Act T)) → Has one all → Has one (all ++ more)
+  has_more one all more h = record { before = h.before; after = h.after ++ more; is = ap (λ xs. xs ++ more) h.is ∙ append_assoc h.before (one ∷ h.after) more }
+
+  module _ (p : ℕ) (events : List (Event T)) (start : Start T) (w : List (Event T)) (here : span_of p events ≡ Open start w) where
+    module _ (what : Option (ℕ × T)) (es : List (Event T)) (own : AreOwn p es) (span : Span T)
+        (is : fold own_after (Open start w) es ≡ span) (name : name_of span ≡ Some start)
+        (wrote : wrote_in span ≡ w ++ copies_of p what) where
+      span_then : span_of p (events ++ es) ≡ span
+      span_then = span_of-own p events es own ∙ (ap (λ a. fold own_after a es) here ∙ is)
+
+      acts_then : acts_of p (events ++ es) ≡ acts w ++ acts (copies_of p what)
+      acts_then = ap (λ a. acts (wrote_in a)) span_then ∙ (ap acts wrote ∙ flat_map-append act w (copies_of p what))
+
+      acts_now : acts_of p events ≡ acts w
+      acts_now = ap (λ a. acts (wrote_in a)) here
+
+      calls : CallsOn p what events (events ++ es)
+      calls =
+          record {
+            getting = λ g. ap name_of here ∙ (sym name ∙ (ap name_of (sym span_then) ∙ g));
+            still = λ g. ap name_of span_then ∙ (name ∙ (ap name_of (sym here) ∙ g));
+            has =
+                λ i value h. subst (Has (Copies i value)) (sym acts_then)
+                (has_more (Copies i value) (acts w) (acts (copies_of p what)) (subst (Has (Copies i value)) acts_now h));
+            now = λ i value e. subst (Has (Copies i value)) (sym acts_then) (copied_now what i value e);
+          }
+        where
+          copied_now : (o : Option (ℕ × T)) (i : ℕ) (value : T) → o ≡ Some (i, value) → Has (Copies i value) (acts w ++ acts (copies_of p o))
+          copied_now None i value e = absurd (cc)
+          copied_now (Some copy) i value e =
+              let is : copy ≡ (i, value) = cc in
+              subst (λ (k : ℕ × T). Has (Copies k.0 k.1) (acts w ++ acts (copies_of p (Some copy)))) is (record { before = acts w; after = []; is = refl })
+
+    -- it goes on, or ends
+    pub calls_on : (what : Option (ℕ × T)) (outcome : Option (Answer T)) → CallsOn p what events (events ++ (copies_of p what ++ ending_of p start outcome))
+    calls_on None None = calls None [] tt (Open start w) refl refl (sym (append-nil w))
+    calls_on (Some copy) None = calls (Some copy) (Copied p copy.0 copy.1 ∷ []) (refl, tt) (Open start (w ++ Copied p copy.0 copy.1 ∷ [])) refl refl refl
+    calls_on None (Some answer) = calls None (Finished p start answer ∷ []) (refl, tt) (Ended start answer w) refl refl (sym (append-nil w))
+    calls_on (Some copy) (Some answer) =
+        calls (Some copy) (Copied p copy.0 copy.1 ∷ Finished p start answer ∷ []) (refl, (refl, tt))
+        (Ended start answer (w ++ Copied p copy.0 copy.1 ∷ [])) refl refl refl

@@ -1,0 +1,127 @@
+-- In mode LockIfLastIndex a recovery finds some index filled after each that it frees, or the container locked, or its counter
+-- at its end.
+use Rattle.std.proofs.Common.{◌≡◌, ◌⊎◌, ⊎_elim, inl, inr, ℕ, ◌<◌, true, false, List, [], ◌++◌, sym, subst, ◌∙◌, append-nil, arith}
+use Rattle.steps.specs.declared.indices.enums.ReleaseMode.{ReleaseMode}
+use Rattle.steps.specs.declared.indices.enums.ReleaseMode.TheVariants.{LockIfLastIndex, Default}
+use Rattle.steps.specs.declared.indices.robust.parts.Count as counts
+use Rattle.steps.specs.declared.indices.robust.parts.Lock.{Lock}
+use Rattle.steps.specs.declared.indices.robust.parts.Lock as locks
+use Rattle.model.specs.declared.event.Event.{Event}
+use Rattle.model.specs.Families.Container.Recoveries.{UnlockedAtLast}
+use Rattle.model.specs.Families.Indices.Reading.{is_locked}
+use Rattle.model.specs.Families.Indices.Robust.Promises.{IsFilled, IsUnlocked, FilledSinceFreed}
+use Rattle.model.specs.Families.Indices.Robust.Reading.{Frees, deeds_of, IsOneOf}
+use Rattle.model.specs.Moments.{BeginsNone, HeldSometime}
+use Rattle.model.proofs.Moments.{held_later, held_so}
+use Rattle.model.proofs.Readings.{no_more}
+use Rattle.laws_container.specs.Gone.{FilledSinceEachBy}
+use Rattle.laws_robust.proofs.Knows.{LockSays}
+
+abbrev pub NoIndex : ℕ → Type 0
+NoIndex i = ⊥
+
+module _ {T : Type 0} where
+  -- some index was filled at a moment of the call after all that it did to the set
+  pub record FilledAtLast (p : ℕ) (events : List (Event T)) : Type 0 where
+    pub other : ℕ
+    pub once : HeldSometime p (λ part. IsFilled other part × (deeds_of p part ≡ deeds_of p events)) events
+
+  -- so it was after each index that it has freed, but these, or the container is locked, or its counter worn
+  abbrev pub FilledBut : Type 0 → ReleaseMode → ℕ → ℕ → (ℕ → Type 0) → List (Event T) → Type 0
+  FilledBut worn LockIfLastIndex p owner But events =
+      (i : ℕ) → IsOneOf (Frees i owner) (deeds_of p events)
+      → (FilledSinceFreed p owner i events ⊎ ((is_locked events ≡ true) ⊎ worn)) ⊎ But i
+  FilledBut worn Default p owner But events = Unit {0}
+
+  -- a lock that has found some index filled
+  abbrev pub FoundFilled : ℕ → List (Event T) → ℕ → ℕ → Type 0
+  FoundFilled p events k filled = 0 < filled → FilledAtLast p events
+
+  module _ (p owner : ℕ) where
+    -- once more events are there
+    pub filled_then : (worn worn' : Type 0) → (worn → worn')
+        → (mode : ReleaseMode) (Was But : ℕ → Type 0) (events es : List (Event T)) → BeginsNone p es
+        → ((i : ℕ) → IsOneOf (Frees i owner) (deeds_of p (events ++ es)) → IsOneOf (Frees i owner) (deeds_of p events) ⊎ But i)
+        → ((i : ℕ) → Was i → But i)
+        → (is_locked events ≡ true → is_locked (events ++ es) ≡ true) → FilledBut worn mode p owner Was events → FilledBut worn' mode p owner But (events ++ es)
+    filled_then worn worn' on Default Was But events es none split more shut h = tt
+    filled_then worn worn' on LockIfLastIndex Was But events es none split more shut h =
+        λ i was. ⊎_elim (λ had. ⊎_elim
+        (λ settled. inl (⊎_elim (λ f. inl (later i f)) (λ l. inr (⊎_elim (λ s. inl (shut s)) (λ w. inr (on w)) l)) settled))
+        (λ exempt. inr (more i exempt)) (h i had))
+        (λ now. inr now) (split i was)
+      where
+        later : (i : ℕ) → FilledSinceFreed p owner i events → FilledSinceFreed p owner i (events ++ es)
+        later i f = record { other = f.other; once = held_later p _ events es none f.once }
+
+    pub filled_calm : (worn worn' : Type 0) → (worn → worn')
+        → (mode : ReleaseMode) (But : ℕ → Type 0) (events : List (Event T)) → FilledBut worn mode p owner But events
+        → FilledBut worn' mode p owner But (events ++ [])
+    filled_calm worn worn' on mode But events h =
+        filled_then worn worn' on mode But But events [] tt
+        (λ i was. inl (subst (λ es. IsOneOf (Frees i owner) (deeds_of p es)) (append-nil events) was)) (λ i e. e)
+        (λ shut. subst (λ es. is_locked es ≡ true) (sym (append-nil events)) shut) h
+
+    -- it has freed nothing
+    pub filled_none : (worn : Type 0) (mode : ReleaseMode) (But : ℕ → Type 0) (events : List (Event T))
+        → deeds_of p events ≡ [] → FilledBut worn mode p owner But events
+    filled_none worn Default But events none = tt
+    filled_none worn LockIfLastIndex But events none = λ i was. absurd (no_more was.before (Frees i owner) was.after (sym none ∙ was.is))
+
+    pub filled_locked : (worn : Type 0) (mode : ReleaseMode) (But : ℕ → Type 0) (events : List (Event T))
+        → is_locked events ≡ true → FilledBut worn mode p owner But events
+    filled_locked worn Default But events shut = tt
+    filled_locked worn LockIfLastIndex But events shut = λ i was. inl (inr (inl shut))
+
+    pub filled_worn : (worn : Type 0) (mode : ReleaseMode) (But : ℕ → Type 0) (events : List (Event T)) → worn → FilledBut worn mode p owner But events
+    filled_worn worn Default But events end = tt
+    filled_worn worn LockIfLastIndex But events end = λ i was. inl (inr (inr end))
+
+    pub filled_last : (worn : Type 0) (mode : ReleaseMode) (But : ℕ → Type 0) (events : List (Event T))
+        → FilledAtLast p events → FilledBut worn mode p owner But events
+    filled_last worn mode h events k = grind arith
+
+    -- where the container is not locked
+    pub filled_each : (worn : Type 0) (mode : ReleaseMode) (events : List (Event T)) → is_locked events ≡ false
+        → FilledBut worn mode p owner NoIndex events → FilledSinceEachBy worn mode p owner events
+    filled_each worn mode events free h = grind arith
+
+    pub each_later : (worn worn' : Type 0) → (worn → worn') → (mode : ReleaseMode) (events es : List (Event T))
+        → BeginsNone p es → deeds_of p (events ++ es) ≡ deeds_of p events → FilledSinceEachBy worn mode p owner events
+        → FilledSinceEachBy worn' mode p owner (events ++ es)
+    each_later worn worn' on Default events es none same h = tt
+    each_later worn worn' on LockIfLastIndex events es none same h = λ i was.
+        ⊎_elim (λ end. inl (on end)) (λ (f : FilledSinceFreed p owner i events). inr (record { other = f.other; once = held_later p _ events es none f.once }))
+        (h i (subst (IsOneOf (Frees i owner)) same was))
+
+    pub unlocked_later : (events es : List (Event T)) → BeginsNone p es
+        → deeds_of p (events ++ es) ≡ deeds_of p events → UnlockedAtLast p events → UnlockedAtLast p (events ++ es)
+    unlocked_later events es none same h =
+        held_so p (λ part. IsUnlocked part × (deeds_of p part ≡ deeds_of p events))
+        (λ part. IsUnlocked part × (deeds_of p part ≡ deeds_of p (events ++ es))) (events ++ es)
+        (λ part was. (was.0, was.1 ∙ sym same))
+        (held_later p (λ part. IsUnlocked part × (deeds_of p part ≡ deeds_of p events)) events es none h)
+
+    -- ---- a lock
+
+    last_later : (events es : List (Event T)) → BeginsNone p es → deeds_of p (events ++ es) ≡ deeds_of p events
+        → FilledAtLast p events → FilledAtLast p (events ++ es)
+    last_later events es none same h =
+        record {
+          other = h.other;
+          once =
+              held_so p (λ part. IsFilled h.other part × (deeds_of p part ≡ deeds_of p events))
+              (λ part. IsFilled h.other part × (deeds_of p part ≡ deeds_of p (events ++ es))) (events ++ es)
+              (λ part k. (k.0, k.1 ∙ sym same))
+              (held_later p (λ part. IsFilled h.other part × (deeds_of p part ≡ deeds_of p events)) events es none h.once);
+        }
+
+    pub says_later : (c : ℕ) (events es : List (Event T)) → BeginsNone p es
+        → deeds_of p (events ++ es) ≡ deeds_of p events → (lock : Lock) → LockSays c (FoundFilled p events) lock
+        → LockSays c (FoundFilled p (events ++ es)) lock
+    says_later c events es none same (locks.TheVariants.Counts counts.TheVariants.LoadsCounter) h = tt
+    says_later c events es none same (locks.TheVariants.Counts (counts.TheVariants.LoadsCell number index filled)) h =
+        λ some. last_later events es none same (h some)
+    says_later c events es none same (locks.TheVariants.Counts (counts.TheVariants.ExchangesCounter number filled)) h =
+        λ some. last_later events es none same (h some)
+    says_later c events es none same (locks.TheVariants.ExchangesCounter number) h = tt

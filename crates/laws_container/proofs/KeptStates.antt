@@ -1,0 +1,253 @@
+-- A turn moves a party's state in a look of its own alone, and an update that answers false has taken one step.
+use Rattle.std.proofs.Common.{◌≡◌, ◌≢◌, ◌⊎◌, ⊎_elim, inr, ℕ, ◌==◌, ◌&&◌, ◌≤◌, if◌then◌else◌, Bool, true, false, Option}
+use Rattle.std.proofs.Common.{Some, None, is_some, List, refl, sym, ap, subst, ◌∙◌, arith}
+use Rattle.std.proofs.lemmas.Bool.Decides.{nat_tests}
+use Rattle.steps.specs.declared.container.look.Look.{Look}
+use Rattle.steps.specs.declared.container.look.LookStage.{LookStage}
+use Rattle.steps.specs.declared.container.look.LookStage as stages
+use Rattle.steps.specs.declared.container.state.ContainerState.{ContainerState}
+use Rattle.model.specs.declared.event.Answer.TheVariants.{Truth}
+use Rattle.model.specs.declared.event.Start.{Start}
+use Rattle.model.specs.declared.event.Start.TheVariants.{Container, Loan}
+use Rattle.model.specs.declared.families.Flight.{Flight}
+use Rattle.model.specs.declared.families.Flight as flights
+use Rattle.model.specs.declared.families.Registry.{Registry}
+use Rattle.model.specs.declared.families.Registry as registries
+use Rattle.model.specs.declared.families.container.ContainerStart.{ContainerStart}
+use Rattle.model.specs.declared.families.container.ContainerStart.TheVariants.{GetState, UpdateState}
+use Rattle.model.specs.declared.families.container.calls.ContainerFlight.{ContainerFlight}
+use Rattle.model.specs.declared.families.container.calls.ContainerFlight as calls
+use Rattle.model.specs.declared.families.container.calls.LookOf.{LookOf}
+use Rattle.model.specs.declared.families.loan.LoanStart.{LoanStart}
+use Rattle.model.specs.declared.party.Doing.{Doing}
+use Rattle.model.specs.declared.party.Doing.TheVariants.{Going, Over}
+use Rattle.model.specs.declared.party.Party.{Party}
+use Rattle.model.specs.declared.turn.Turn.{Turn}
+use Rattle.model.specs.declared.turn.Turn.TheVariants.{Begin, Next, Decide, Die}
+use Rattle.model.specs.Coding.{Coding}
+use Rattle.model.specs.Families.{first_of, want_of, is_question, beside_of, step_of, kept_after_begin, kept_after_death}
+use Rattle.model.specs.Families.Container.Calls.{after as goes_after, states_after, writes_state}
+use Rattle.model.specs.Families.Container.Keeping.{is_look_of, MovesInLooks, BeginsWithState, KeepsStates, steps_of}
+use Rattle.model.specs.Families.Container.Looks.{state_in, is_looking, EndsLook}
+use Rattle.model.specs.Families.Container.Opening.{keeps}
+use Rattle.model.specs.Families.Container.States.{state_of, with_state, fresh}
+use Rattle.model.specs.Families.Loan.Opening.{keeps as loan_keeps}
+use Rattle.model.specs.Parties.{party_of, put, doing_of, flight_of, progress_after}
+use Rattle.model.specs.Refusals.{is_due}
+use Rattle.model.specs.Step.{answer_in}
+use Rattle.model.specs.Turns.{old_of, number_of, after_begin, after_next, after_decision, after_answer, ask_of_doing, after_turn}
+use Rattle.model.specs.World.{World, Trace, flight_in, progress_in}
+use Rattle.model.proofs.Frame as frame
+use Rattle.model.proofs.Parties.{party_put_same, found_put_other}
+use Rattle.model.proofs.Scenes.{StandsThere, stands_there}
+use Rattle.laws_robust.proofs.Effects.{both_ways}
+use Rattle.laws_container.proofs.Invariant.{family_by}
+use Rattle.laws_container.proofs.Looks.{looks_as, written_other}
+use Rattle.laws_container.proofs.LooksTell.{LookEnd, ended, looks_right, looks_own, looks_leave}
+use Rattle.laws_container.proofs.Sound.{MayGoOn, Shown, kept_is, kept_now}
+use Rattle.laws_container.proofs.Stages.{any_call}
+use Rattle.laws_container.proofs.Standing.{look_at, look_number}
+use Rattle.laws_container.proofs.Terms.{Terms}
+use Rattle.laws_container.proofs.Allowed.{IsAllowed}
+
+differ : (p q : ℕ) → (p == q) ≡ false → q ≢ p
+differ p q none = grind (arith, nat_tests)
+
+-- ---- what a step makes of the states
+
+module _ {T : Type 0} where
+  -- the step is another party's, or none of a look
+  abbrev IsApart : ℕ → ℕ → Flight T → Type 0
+  IsApart p q flight = (p ≢ q) ⊎ (is_looking (Some flight) ≡ false)
+
+  written : (code : Coding T) (q : ℕ) (call : Look T) (old p : ℕ) → p ≢ q
+      → (states : List (ℕ × ContainerState T)) (o : Option (ContainerState T))
+      → state_of p (writes_state code q call old o states) ≡ state_of p states
+  written code q call old p ne states None = refl
+  written code q call old p ne states (Some state) = written_other p q _ states ne
+
+  stays : (code : Coding T) (q : ℕ) (flight : ContainerFlight T) (n : ℕ) (states : List (ℕ × ContainerState T)) (p : ℕ)
+      → IsApart p q (flights.TheVariants.Container flight)
+      → state_of p (states_after code q flight n states) ≡ state_of p states
+  stays code q (calls.TheVariants.Look which call) n states p apart =
+      ⊎_elim (λ ne. written code q call n p ne states (state_of q states)) (λ none. absurd (cc)) apart
+  stays code q flight n states p apart = refl
+
+  apart_is : (p q : ℕ) (flight : Flight T) → ((q == p) && is_looking (Some flight)) ≡ false → IsApart p q flight
+  apart_is p q flight none = grind arith
+
+  -- a look is not decided
+  no_look : (code : Coding T) (flight : Flight T) → is_question (want_of code flight) ≡ true → is_looking (Some flight) ≡ false
+  no_look code flight asks = grind arith
+
+  -- ---- what a begin and a death make of them
+
+  held_stays : (code : Coding T) (capacity p q : ℕ) (start : ContainerStart T) (kept : Registry T) (w : World T)
+      → is_look_of w q (Begin p (Container start)) ≡ false
+      → state_in (keeps code capacity start p kept) q ≡ state_in kept q
+  held_stays code capacity p q GetState (registries.TheVariants.Container dead states) w none =
+      found_put_other q p (fresh code capacity) states (differ p q none)
+  held_stays code capacity p q UpdateState (registries.TheVariants.Container dead states) w none = go (is_some (state_of p states))
+    where
+      go : (b : Bool) → state_of q (if b then states else with_state p (fresh code capacity) states) ≡ state_of q states
+      go true = refl
+      go false = found_put_other q p (fresh code capacity) states (differ p q none)
+  held_stays code capacity p q start (registries.TheVariants.Container dead states) w none = refl
+  held_stays code capacity p q start kept w none = refl
+
+  loan_stays : (q : ℕ) (start : LoanStart) (kept : Registry T) → state_in (loan_keeps start kept) q ≡ state_in kept q
+  loan_stays q start (registries.TheVariants.Loan book) = refl
+  loan_stays q start kept = refl
+
+  begun_stays : (code : Coding T) (capacity p q : ℕ) (start : Start T) (kept : Registry T) (w : World T)
+      → is_look_of w q (Begin p start) ≡ false
+      → state_in (kept_after_begin code capacity start p kept) q ≡ state_in kept q
+  begun_stays code capacity p q (Container start) kept w none = held_stays code capacity p q start kept w none
+  begun_stays code capacity p q (Loan start) kept w none = loan_stays q start kept
+  begun_stays code capacity p q start kept w none = refl
+
+  died_stays : (kept : Registry T) (owner q : ℕ) → state_in (kept_after_death kept owner) q ≡ state_in kept q
+  died_stays kept owner q = grind arith
+
+  update_keeps : (code : Coding T) (capacity p : ℕ) (kept : Registry T) (state : ContainerState T)
+      → state_in kept p ≡ Some state
+      → state_in (kept_after_begin code capacity (Container UpdateState) p kept) p ≡ Some state
+  update_keeps code capacity p kept state found = grind arith
+
+-- ---- a step of a party's call
+
+module _ {T : Type 0} (shown : Shown T) (terms : Terms) (code : Coding T) (c : ℕ) (t : Trace T)
+    (s : frame.Sound (family_by terms code c) t) (q : ℕ) (x : Party T) (since : ℕ)
+    (found : party_of q t.world.latest ≡ Some x) where
+  abbrev Stays : ℕ → Coding T → Registry T → Start T → Flight T → Type 0
+  Stays n y kept a flight =
+      (p : ℕ) → IsApart p q flight
+      → state_in (step_of y t.world.words (beside_of t.world.words kept t.world.latest q) q a flight n kept).kept p ≡ state_in kept p
+
+  step_stays : (n : ℕ) (a : Start T) (flight : Flight T)
+      → StandsThere (family_by terms code c) t s q x since a flight
+      → Stays n code (kept_now shown terms code c t s) a flight
+  step_stays n (Container a) (flights.TheVariants.Container flight) stands p apart = stays code q flight n s.state.states p apart
+  step_stays n a flight stands p apart = absurd stands.at
+
+  any_stays : (n : ℕ) (flight : Flight T) → x.doing ≡ Going flight since → Stays n t.world.coding t.world.kept x.start flight
+  any_stays n flight doing =
+      let same = kept_is t.world.kept t.world.words s.state s.fit in
+      subst (λ y. Stays n y t.world.kept x.start flight) (sym s.coding)
+      (subst (λ kept. Stays n code kept x.start flight) (sym same.0)
+      (step_stays n x.start flight (stands_there (family_by terms code c) t s q x since flight found doing)))
+
+-- ---- any turn
+
+module _ {T : Type 0} (shown : Shown T) (terms : Terms) (code : Coding T) (t : Trace T) (s : frame.Sound (family_by terms code t.world.capacity) t) where
+  flies : (q : ℕ) (x : Party T) (flight : Flight T) (since : ℕ) → party_of q t.world.latest ≡ Some x
+      → x.doing ≡ Going flight since → flight_in t.world q ≡ Some flight
+  flies q x flight since found d = ap (λ o. flight_of (doing_of o)) found ∙ ap (λ d. flight_of (Some d)) d
+
+  next_moves : (q p : ℕ) → ((q == p) && is_looking (flight_in t.world q)) ≡ false → (o : Option (Party T))
+      → party_of q t.world.latest ≡ o → state_in (after_next t.world q o).kept p ≡ state_in t.world.kept p
+  next_moves q p none None found = refl
+  next_moves q p none (Some x) found = go x.doing refl
+    where
+      go : (doing : Doing T) → x.doing ≡ doing
+          → state_in (after_answer t.world q x (ask_of_doing t.world.coding doing)
+          (old_of t.world.words (ask_of_doing t.world.coding doing)) doing).kept
+          p
+          ≡ state_in t.world.kept p
+      go (Over others) d = refl
+      go (Going flight since) d =
+          let here = flies q x flight since found d in
+          any_stays shown terms code t.world.capacity t s q x since found _ flight d p
+          (apart_is p q flight (subst (λ o. ((q == p) && is_looking o) ≡ false) here none))
+
+  decision_moves : (q p : ℕ) (said : Bool) → is_due t.world.coding (flight_in t.world q) ≡ true
+      → (o : Option (Party T)) → party_of q t.world.latest ≡ o
+      → state_in (after_decision t.world q said o).kept p ≡ state_in t.world.kept p
+  decision_moves q p said due None found = refl
+  decision_moves q p said due (Some x) found = go x.doing refl
+    where
+      go : (doing : Doing T) → x.doing ≡ doing → state_in (after_answer t.world q x None (number_of said) doing).kept p ≡ state_in t.world.kept p
+      go (Over others) d = refl
+      go (Going flight since) d =
+          let here = flies q x flight since found d in
+          let asks : is_question (want_of t.world.coding flight) ≡ true = subst (λ o. is_due t.world.coding o ≡ true) here due in
+          any_stays shown terms code t.world.capacity t s q x since found _ flight d p (inr (no_look t.world.coding flight asks))
+
+  begin_moves : (p q : ℕ) (start : Start T) → is_look_of t.world q (Begin p start) ≡ false → (o : Option (Flight T))
+      → state_in (after_begin t.world p start o).kept q ≡ state_in t.world.kept q
+  begin_moves p q start none None = refl
+  begin_moves p q start none (Some flight) = begun_stays t.world.coding t.world.capacity p q start t.world.kept t.world none
+
+  update_begins : (p : ℕ) (state : ContainerState T) → state_in t.world.kept p ≡ Some state
+      → (o : Option (Flight T)) → state_in (after_begin t.world p (Container UpdateState) o).kept p ≡ Some state
+  update_begins p state found None = found
+  update_begins p state found (Some flight) = update_keeps t.world.coding t.world.capacity p t.world.kept state found
+
+  module _ (turn : Turn T) (r : IsAllowed t.world turn) where
+    moves : MovesInLooks t turn (after_turn t turn)
+    moves q none = by turn r none
+      where
+        by : (u : Turn T) → IsAllowed t.world u → is_look_of t.world q u ≡ false → state_in (after_turn t u).world.kept q ≡ state_in t.world.kept q
+        by (Begin p start) r none = begin_moves p q start none (first_of t.world.kind t.world.capacity start t.world.kept)
+        by (Next p) r none = next_moves p q none (party_of p t.world.latest) refl
+        by (Decide p said) r none = decision_moves p q said r (party_of p t.world.latest) refl
+        by (Die owner) r none = died_stays t.world.kept owner q
+
+    begins : BeginsWithState t turn (after_turn t turn)
+    begins p state is found =
+        subst (λ u. state_in (after_turn t u).world.kept p ≡ Some state) (sym is)
+        (update_begins p state found (first_of t.world.kind t.world.capacity (Container UpdateState) t.world.kept))
+
+-- ---- an update that answers false
+
+module _ {T : Type 0} where
+  abbrev at : ℕ → LookStage → Look T
+  at c stage = record { capacity = c; stage = stage; of = record {} }
+
+  -- it has loaded the number of changes, and nothing else
+  first_step : (code : Coding T) (c : ℕ) (which : LookOf) (stage : LookStage) (o : Option (ContainerState T)) (n : ℕ)
+      → UpdateState ≡ looks_as {T = T} which
+      → answer_in (any_call (goes_after code o (look_at which c stage) n)) ≡ Some (Truth false)
+      → stage ≡ stages.TheVariants.LoadsChange
+  first_step code c which stage o n name e = grind arith
+
+module _ {T : Type 0} (shown : Shown T) (terms : Terms) (code : Coding T) (t : Trace T) (turn : Turn T)
+    (r : IsAllowed t.world turn) (s : frame.Sound (family_by terms code t.world.capacity) t) (may : MayGoOn terms t)
+    (p : ℕ) (ends : EndsLook p UpdateState (Truth false) t (after_turn t turn)) where
+  abbrev end : LookEnd shown terms code t.world.capacity t s may p UpdateState (Truth false) ends.is_look ends.wrote (after_turn t turn)
+  end = ended shown terms code t turn r s may p UpdateState (Truth false) ends
+
+  one_step : steps_of (progress_in (after_turn t turn).world p) ≡ 1
+  one_step =
+      let l = end.turn in
+      let first = first_step code t.world.capacity l.which l.stage _ _ l.name l.done in
+      let few : l.party.steps ≤ 0 = subst (λ stage. l.party.steps ≤ look_number code.size stage l.party.backs) first l.there.steps in
+      let counted = l.steps_then in
+      let latest : party_of p (after_turn t turn).world.latest ≡ Some l.next =
+      ap (party_of p) l.latest_is
+      ∙ (ap (λ n. party_of p (put n l.next t.world.latest)) l.same ∙ party_put_same p l.next t.world.latest) in
+      let one : l.next.steps ≡ 1 = omega arith in
+      ap (λ o. steps_of (progress_after (after_turn t turn).world.changes o)) latest ∙ one
+
+  state_left : state_in (after_turn t turn).world.kept p ≡ state_in t.world.kept p
+  state_left = by (state_in (after_turn t turn).world.kept p) refl (looks_leave shown terms code t turn r s may p UpdateState (Truth false) ends)
+    where
+      by : (o : Option (ContainerState T)) → state_in (after_turn t turn).world.kept p ≡ o
+          → is_some (state_in (after_turn t turn).world.kept p) ≡ true
+          → state_in (after_turn t turn).world.kept p ≡ state_in t.world.kept p
+      by None is some = let none : is_some (state_in (after_turn t turn).world.kept p) ≡ false = ap is_some is in both_ways _ none some
+      by (Some state) is some = is ∙ sym (looks_right shown terms code t turn r s may ⊥ (λ never. absurd never) p UpdateState (Truth false) state ends is).0
+
+-- ---- as the promise says it
+
+module _ {T : Type 0} (shown : Shown T) (terms : Terms) (code : Coding T) (t : Trace T) (turn : Turn T)
+    (r : IsAllowed t.world turn) (s : frame.Sound (family_by terms code t.world.capacity) t)
+    (may : MayGoOn terms t) where
+  pub keeps_states : KeepsStates t turn (after_turn t turn)
+  keeps_states =
+      record {
+        moves = moves shown terms code t s turn r;
+        begins = begins shown terms code t s turn r;
+        at_once = λ p ends. (one_step shown terms code t turn r s may p ends, state_left shown terms code t turn r s may p ends);
+        own = looks_own shown terms code t turn r s may;
+      }

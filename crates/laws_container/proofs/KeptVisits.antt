@@ -1,0 +1,123 @@
+-- A recovery that began after the lock comes to no index.
+use Rattle.std.proofs.Common.{◌≡◌, ◌⊎◌, ⊎_elim, ℕ, Bool, Option, Some, None, List, [], ◌∷◌, ◌++◌, refl, sym, subst, arith}
+use Rattle.std.proofs.lemmas.List.{append_cancel_left}
+use Rattle.std.specs.List.{AllByRecursion}
+use Rattle.model.specs.declared.event.Answer.{Answer}
+use Rattle.model.specs.declared.event.Event.{Event}
+use Rattle.model.specs.declared.event.Start.{Start}
+use Rattle.model.specs.declared.event.Start.TheVariants.{Container}
+use Rattle.model.specs.declared.families.Flight.{Flight}
+use Rattle.model.specs.declared.families.Flight as flights
+use Rattle.model.specs.declared.families.Registry.{Registry}
+use Rattle.model.specs.declared.families.container.ContainerStart.{ContainerStart}
+use Rattle.model.specs.declared.families.container.calls.ContainerFlight.{ContainerFlight}
+use Rattle.model.specs.declared.party.Doing.{Doing}
+use Rattle.model.specs.declared.party.Doing.TheVariants.{Going, Over}
+use Rattle.model.specs.declared.party.Party.{Party}
+use Rattle.model.specs.declared.turn.Turn.{Turn}
+use Rattle.model.specs.declared.turn.Turn.TheVariants.{Begin, Next, Decide, Die}
+use Rattle.model.specs.Coding.{Coding}
+use Rattle.model.specs.Families.{beside_of, step_of}
+use Rattle.model.specs.Families.Container.Calls.{after}
+use Rattle.model.specs.Families.Container.Recoveries.{BeganUnlocked, VisitsRight, VisitsUnlocked}
+use Rattle.model.specs.Families.Container.States.{state_of}
+use Rattle.model.specs.Families.Container.Steps.{effects, questions}
+use Rattle.model.specs.Parties.{party_of}
+use Rattle.model.specs.Promises.Turns.{IsEffectOf}
+use Rattle.model.specs.Step.{answer_in}
+use Rattle.model.specs.Turns.{old_of, number_of, ask_of_doing, events_of_step, events_of_answer, events_of_next}
+use Rattle.model.specs.Turns.{events_of_decision, events_of, ending_of, after_turn}
+use Rattle.model.specs.World.{Trace}
+use Rattle.model.proofs.Frame as frame
+use Rattle.model.proofs.Scenes.{StandsThere, stands_there}
+use Rattle.laws_container.proofs.Invariant.{family_by}
+use Rattle.laws_container.proofs.Sound.{MayGoOn, Shown as AllShown, kept_is, kept_now, IsThere, is_there}
+use Rattle.laws_container.proofs.Stages.{any_call}
+use Rattle.laws_container.proofs.Terms.{Terms}
+use Rattle.laws_container.proofs.Written.{all_effects}
+
+-- ---- what a party writes
+
+module _ {T : Type 0} (q : ℕ) (events : List (Event T)) where
+  abbrev All : List (Event T) → Type 0
+  All es = AllByRecursion (VisitsRight events) es
+
+  abbrev Began : Type 0
+  Began = BeganUnlocked q events
+
+  one_visits : Began → (e : Event T) → IsEffectOf (Next q) e → VisitsRight events e
+  one_visits began e is = grind arith
+
+  all_visit : Began → (es : List (Event T)) → AllByRecursion (IsEffectOf (Next q)) es → All es
+  all_visit began [] are = tt
+  all_visit began (e ∷ es) are = (one_visits began e are.0, all_visit began es are.1)
+
+  with_end : (start : Start T) (outcome : Option (Answer T)) (es : List (Event T)) → All es → All (es ++ ending_of q start outcome)
+  with_end start None [] all = tt
+  with_end start (Some answer) [] all = (tt, tt)
+  with_end start outcome (e ∷ es) all = (all.0, with_end start outcome es all.1)
+
+-- ---- a step of a party's call
+
+module _ {T : Type 0} (shown : AllShown T) (terms : Terms) (code : Coding T) (c : ℕ) (t : Trace T)
+    (s : frame.Sound (family_by terms code c) t) (may : MayGoOn terms t) (q : ℕ) (x : Party T) (since : ℕ)
+    (found : party_of q t.world.latest ≡ Some x) where
+  abbrev wrote : ContainerFlight T → ℕ → List (Event T)
+  wrote flight n = effects code q (state_of q s.state.states) flight n ++ questions q flight n
+
+  -- it writes nothing, or began before the lock if it is a recovery
+  began_by : (start : ContainerStart T) (flight : ContainerFlight T)
+      → IsThere shown terms code c t s q x since found start flight → (n : ℕ)
+      → (wrote flight n ≡ []) ⊎ BeganUnlocked q t.events
+  began_by start flight there n = grind arith
+
+  abbrev Visits : ℕ → Coding T → Registry T → Start T → Flight T → Type 0
+  Visits n y kept a flight =
+      All q t.events (events_of_step q a (step_of y t.world.words (beside_of t.world.words kept t.world.latest q) q a flight n kept))
+
+  step_visits : (n : ℕ) (a : Start T) (flight : Flight T)
+      → StandsThere (family_by terms code c) t s q x since a flight
+      → Visits n code (kept_now shown terms code c t s) a flight
+  step_visits n (Container a) (flights.TheVariants.Container flight) stands =
+      with_end q t.events (Container a) (answer_in (any_call (after code (state_of q s.state.states) flight n))) (wrote flight n)
+      (⊎_elim (λ quiet. subst (All q t.events) (sym quiet) tt)
+      (λ began. all_visit q t.events began (wrote flight n) (all_effects (Next q) q refl code (state_of q s.state.states) flight n))
+      (began_by a flight (is_there shown terms code c t s q x since found a flight stands) n))
+  step_visits n a flight stands = absurd stands.at
+
+  any_visits : (n : ℕ) (flight : Flight T) → x.doing ≡ Going flight since → Visits n t.world.coding t.world.kept x.start flight
+  any_visits n flight doing =
+      let same = kept_is t.world.kept t.world.words s.state s.fit in
+      subst (λ y. Visits n y t.world.kept x.start flight) (sym s.coding)
+      (subst (λ kept. Visits n code kept x.start flight) (sym same.0)
+      (step_visits n x.start flight (stands_there (family_by terms code c) t s q x since flight found doing)))
+
+-- ---- any turn
+
+module _ {T : Type 0} (shown : AllShown T) (terms : Terms) (code : Coding T) (t : Trace T) (turn : Turn T)
+    (s : frame.Sound (family_by terms code t.world.capacity) t) (may : MayGoOn terms t) where
+  next_visits : (q : ℕ) (o : Option (Party T)) → party_of q t.world.latest ≡ o → All q t.events (events_of_next t.world q o)
+  next_visits q None found = tt
+  next_visits q (Some x) found = go x.doing refl
+    where
+      go : (doing : Doing T) → x.doing ≡ doing → All q t.events (events_of_answer t.world q x (old_of t.world.words (ask_of_doing t.world.coding doing)) doing)
+      go (Over others) d = tt
+      go (Going flight since) d = any_visits shown terms code t.world.capacity t s may q x since found _ flight d
+
+  decision_visits : (q : ℕ) (said : Bool) (o : Option (Party T)) → party_of q t.world.latest ≡ o → All q t.events (events_of_decision t.world q said o)
+  decision_visits q said None found = tt
+  decision_visits q said (Some x) found = go x.doing refl
+    where
+      go : (doing : Doing T) → x.doing ≡ doing → All q t.events (events_of_answer t.world q x (number_of said) doing)
+      go (Over others) d = tt
+      go (Going flight since) d = any_visits shown terms code t.world.capacity t s may q x since found _ flight d
+
+  visits : (u : Turn T) → AllByRecursion (VisitsRight t.events) (events_of t.world u)
+  visits (Begin p start) = (tt, tt)
+  visits (Next p) = next_visits p (party_of p t.world.latest) refl
+  visits (Decide p said) = decision_visits p said (party_of p t.world.latest) refl
+  visits (Die owner) = (tt, tt)
+
+  -- as the promise says it
+  pub visits_unlocked : VisitsUnlocked t (after_turn t turn)
+  visits_unlocked wrote is = subst (AllByRecursion (VisitsRight t.events)) (append_cancel_left t.events (events_of t.world turn) wrote is) (visits turn)

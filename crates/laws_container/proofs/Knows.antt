@@ -1,0 +1,420 @@
+-- What a call of the container knows where it stands: of its set, as the calls of a robust set know it; of the element at its
+-- index; of what it has found; and of its party's state.
+use Rattle.std.proofs.Common.{◌≡◌, ◌≢◌, ◌⊎◌, ℕ, ◌+◌, ◌%◌, ◌<◌, ◌≤◌, false, true, Some, is_some, List, [], ◌∷◌, length, get_or}
+use Rattle.steps.specs.declared.container.add.AddStage.{AddStage}
+use Rattle.steps.specs.declared.container.add.AddStage as adds
+use Rattle.steps.specs.declared.container.find.FindStage.{FindStage}
+use Rattle.steps.specs.declared.container.find.FindStage as finds
+use Rattle.steps.specs.declared.container.look.LookStage.{LookStage}
+use Rattle.steps.specs.declared.container.look.LookStage as looks
+use Rattle.steps.specs.declared.container.recover.RecoverStage.{RecoverStage}
+use Rattle.steps.specs.declared.container.recover.RecoverStage as recovers
+use Rattle.steps.specs.declared.container.remove.RemoveStage.{RemoveStage}
+use Rattle.steps.specs.declared.container.remove.RemoveStage as removes
+use Rattle.steps.specs.declared.container.replace.ReplaceStage.{ReplaceStage}
+use Rattle.steps.specs.declared.container.replace.ReplaceStage as replaces
+use Rattle.steps.specs.declared.container.state.ContainerState.{ContainerState}
+use Rattle.steps.specs.declared.copied.Buffer as buffers
+use Rattle.steps.specs.declared.indices.enums.ReleaseMode.{ReleaseMode}
+use Rattle.steps.specs.declared.indices.enums.ReleaseMode.TheVariants.{LockIfLastIndex, Default}
+use Rattle.steps.specs.declared.indices.enums.ReleaseState.{ReleaseState}
+use Rattle.steps.specs.declared.indices.enums.ReleaseState as states
+use Rattle.steps.specs.declared.indices.robust.release.ReleaseStage.{ReleaseStage}
+use Rattle.steps.specs.declared.indices.robust.release.ReleaseStage as releases
+use Rattle.model.specs.declared.event.Event.{Event}
+use Rattle.model.specs.declared.event.Start.TheVariants.{Container}
+use Rattle.model.specs.declared.families.container.ContainerStart as starts
+use Rattle.model.specs.declared.families.container.calls.ContainerFlight.{ContainerFlight}
+use Rattle.model.specs.declared.families.container.calls.ContainerFlight.TheVariants.{Add, Remove, Replace, Find, Recover, Look, Count, IsLocked}
+use Rattle.model.specs.declared.party.Party.{Party}
+use Rattle.model.specs.Coding.{Coding}
+use Rattle.model.specs.Families.Container.Promises.{WasShown}
+use Rattle.model.specs.Families.Container.Reading.{Copies, Has, HasLatest, acts_of, places, contents_of}
+use Rattle.model.specs.Families.Container.Recoveries.{UnlockedAtLast}
+use Rattle.model.specs.Families.Container.States.{state_of}
+use Rattle.model.specs.Families.Indices.Reading.{is_locked}
+use Rattle.model.specs.Families.Indices.Robust.Promises.{IsFilledWith, IsUnlocked, IsCount, HeldThroughout, FilledSinceFreed, StillToFree}
+use Rattle.model.specs.Families.Indices.Robust.Reading.{Asks, Yes, filled_of, deeds_of, IsOneOf}
+use Rattle.model.specs.Families.Queues.Calls.{read_in}
+use Rattle.model.specs.Moments.{HeldSometime}
+use Rattle.model.specs.Parties.{party_of}
+use Rattle.model.specs.Reading.{Open, span_of}
+use Rattle.laws_robust.specs.Gone.{is_gone, IsHonestBy, IsCalm}
+use Rattle.laws_robust.proofs.Invariant.{IsWorn}
+use Rattle.laws_robust.proofs.Knows as set
+use Rattle.laws_robust.proofs.Standing.{acquire_at, release_at, borrowed_at, looking}
+use Rattle.laws_container.specs.Gone.{HasRecoveredBy, FilledSinceEachBy}
+use Rattle.laws_container.proofs.Contents.{Writing}
+use Rattle.laws_container.proofs.HiddenKnows.{RemoveCovers, RecoverCovers, StillStands, HasHidden, no_index}
+use Rattle.laws_container.proofs.Left.{left_of}
+use Rattle.laws_container.proofs.Replaces.{ReplaceOwns}
+use Rattle.laws_container.proofs.KeptCopies.{ShowsOwn}
+use Rattle.laws_container.proofs.KeptLocks.{NoIndex, FilledBut, FoundFilled}
+use Rattle.laws_container.proofs.Sights.{number_at, StoodThere, Rests, Course}
+use Rattle.laws_container.proofs.Terms.{Terms, Keeps}
+use Rattle.laws_container.proofs.Turns.{Now, WellFormed, count_in, datum_in}
+use Rattle.laws_container.proofs.Writers.{Adds}
+
+-- the room for a copy has its words
+abbrev pub IsLong : buffers.Buffer 128 → Type 0
+IsLong room = length room.words ≡ 128
+
+-- ---- what they see of the machine
+
+pub record View (T : Type 0) : Type 0 where
+  pub terms : Terms
+  pub words : List ℕ
+  pub states : List (ℕ × ContainerState T)
+  pub latest : List (ℕ × Party T)
+  pub events : List (Event T)
+  pub party : ℕ
+  pub since : ℕ
+  pub changes : ℕ
+  pub backs : ℕ
+
+module _ {T : Type 0} where
+  -- the same of the set alone
+  abbrev pub of_set : View T → set.View T
+  of_set v =
+      record {
+        by = v.terms.by;
+        words = v.words;
+        events = v.events;
+        party = v.party;
+        since = v.since;
+        changes = v.changes;
+        backs = v.backs;
+      }
+
+  abbrev pub now : View T → Now T
+  now v = record { terms = v.terms; words = v.words; latest = v.latest; events = v.events }
+
+  abbrev pub IsPaid : View T → Type 0
+  IsPaid v = set.IsPaid (of_set v)
+
+  abbrev pub IsGone : ℕ → View T → Type 0
+  IsGone owner v = is_gone v.terms.by owner v.events ≡ true
+
+  abbrev pub Lives : ℕ → View T → Type 0
+  Lives owner v = is_gone v.terms.by owner v.events ≡ false
+
+  -- the counter is at its end
+  abbrev pub Worn : View T → Type 0
+  Worn v = IsWorn v.terms.by v.words
+
+  abbrev pub WasOpen : View T → Type 0
+  WasOpen v = HeldSometime v.party IsUnlocked v.events
+
+  abbrev pub WasFilled : ℕ → ℕ → View T → Type 0
+  WasFilled owner index v = HeldSometime v.party (IsFilledWith owner index) v.events
+
+  -- ---- an add that was granted an index, and a replace that has found its owner
+
+  pub record AddOwns (c owner index : ℕ) (v : View T) : Type 0 where
+    pub paid : IsPaid v
+    pub within : index < c
+    pub owns : IsCalm v.terms.by v.events → Lives owner v → Adds v.party index owner v.events
+
+  -- the party's call is this replace, which has taken a step
+  pub record HasFound (index owner : ℕ) (value : T) (v : View T) : Type 0 where
+    pub party : Party T
+    pub found : party_of v.party v.latest ≡ Some party
+    pub steps : 1 ≤ party.steps
+    pub wrote : List (Event T)
+    pub span : span_of v.party v.events
+        ≡ Open (Container (starts.TheVariants.Replace index value owner)) wrote
+
+  pub record ReplaceKnows (c index owner : ℕ) (value : T) (v : View T) : Type 0 where
+    pub paid : IsPaid v
+    pub within : index < c
+    pub owns : ReplaceOwns v.terms.by v.party index owner v.events
+    pub found : HasFound index owner value v
+    pub filled : WasFilled owner index v
+
+-- ---- a writer
+
+module _ {T : Type 0} (code : Coding T) (c : ℕ) where
+  -- the number that it has loaded is there still, or somebody has hidden what stood there
+  abbrev pub Covers : ℕ → ℕ → ℕ → View T → Type 0
+  Covers owner index count v =
+      WellFormed (now v) → Lives owner v
+      → (count_in code c (now v) index ≡ count) ⊎ (count_in code c (now v) index % 2 ≡ 0)
+
+  -- it has stored so many words of the value
+  pub record Writes (owner index : ℕ) (value : T) (k : ℕ) (v : View T) : Type 0 where
+    pub few : k ≤ code.size
+    pub has : WellFormed (now v) → Lives owner v → Writing code c v.words index value k
+
+  -- it has placed the value
+  abbrev pub HasPlaced : ℕ → T → View T → Type 0
+  HasPlaced index value v =
+      WellFormed (now v) → places (acts_of v.party v.events) ≡ (index, value) ∷ []
+
+  -- and it stands there
+  abbrev pub Stood : ℕ → ℕ → View T → Type 0
+  Stood owner index v =
+      WellFormed (now v) → Lives owner v
+      → (left_of index v.events ≡ false) × (is_some (contents_of index v.events) ≡ true)
+
+  abbrev pub AddKnows : T → ℕ → AddStage → View T → Type 0
+  AddKnows value owner (adds.TheVariants.Acquires stage) v =
+      set.Knows c (acquire_at c owner stage) (of_set v)
+  AddKnows value owner (adds.TheVariants.LoadsCount index) v = AddOwns c owner index v
+  AddKnows value owner (adds.TheVariants.Hides index count) v =
+      AddOwns c owner index v × Covers owner index count v
+  AddKnows value owner (adds.TheVariants.Stores index at) v =
+      AddOwns c owner index v × Writes owner index value at v
+  AddKnows value owner (adds.TheVariants.AddsCount index) v =
+      AddOwns c owner index v × Writes owner index value code.size v
+  AddKnows value owner (adds.TheVariants.AddsChange index) v =
+      AddOwns c owner index v × HasPlaced index value v × Stood owner index v
+
+  abbrev pub ReplacesKnow : ℕ → T → ℕ → ReplaceStage → View T → Type 0
+  ReplacesKnow index value owner replaces.TheVariants.Refuses v = IsPaid v
+  ReplacesKnow index value owner replaces.TheVariants.LoadsCell v =
+      IsPaid v × ReplaceOwns v.terms.by v.party index owner v.events
+  ReplacesKnow index value owner replaces.TheVariants.LoadsCount v =
+      ReplaceKnows c index owner value v
+  ReplacesKnow index value owner (replaces.TheVariants.Hides count) v =
+      ReplaceKnows c index owner value v × Covers owner index count v
+  ReplacesKnow index value owner (replaces.TheVariants.Stores at) v =
+      ReplaceKnows c index owner value v × Writes owner index value at v
+  ReplacesKnow index value owner replaces.TheVariants.AddsCount v =
+      ReplaceKnows c index owner value v × Writes owner index value code.size v
+  ReplacesKnow index value owner replaces.TheVariants.AddsChange v =
+      ReplaceKnows c index owner value v × HasPlaced index value v × Stood owner index v
+
+  -- ---- a remove
+
+  -- what the state says with which it will end
+  abbrev pub RemoveSays : ℕ → ℕ → ReleaseMode → ReleaseState → View T → Type 0
+  RemoveSays index owner mode states.TheVariants.Locked v = is_locked v.events ≡ true
+  RemoveSays index owner LockIfLastIndex states.TheVariants.Unlocked v =
+      WasOpen v × (Worn v ⊎ FilledSinceFreed v.party owner index v.events)
+  RemoveSays index owner Default states.TheVariants.Unlocked v = Unit {0}
+
+  -- the number has come this far
+  abbrev pub HasCome : ℕ → ℕ → View T → Type 0
+  HasCome index count v = Keeps v.terms → count ≤ count_in code c (now v) index
+
+  -- it has freed its index, and under the number that it loaded stands what was left there
+  pub record HasLeft (index count : ℕ) (v : View T) : Type 0 where
+    pub within : index < c
+    pub below : HasCome index count v
+    pub left : WellFormed (now v) → count_in code c (now v) index ≡ count → left_of index v.events ≡ true
+
+  -- a remove that has freed
+  abbrev pub ReleaseLeft : ℕ → ℕ → ReleaseStage → View T → Type 0
+  ReleaseLeft index count releases.TheVariants.EmptiesCell v =
+      (index < c) × HasCome index count v
+  ReleaseLeft index count stage v = HasLeft index count v
+
+  -- and of what stood there
+  abbrev pub ReleaseHides : ℕ → ℕ → ℕ → ReleaseStage → View T → Type 0
+  ReleaseHides index owner count releases.TheVariants.EmptiesCell v =
+      RemoveCovers code c v.party owner index count (now v)
+  ReleaseHides index owner count stage v =
+      HasHidden code c v.party owner (StillStands code c index count (now v)) (now v)
+
+  abbrev pub RemoveKnows : ℕ → ℕ → ReleaseMode → RemoveStage → View T → Type 0
+  RemoveKnows index owner mode removes.TheVariants.Refuses v = IsPaid v
+  RemoveKnows index owner mode removes.TheVariants.LoadsCount v =
+      set.Knows c (release_at c index owner mode releases.TheVariants.EmptiesCell) (of_set v)
+  RemoveKnows index owner mode (removes.TheVariants.Releases count stage) v =
+      set.Knows c (release_at c index owner mode stage) (of_set v) × ReleaseLeft index count stage v
+      × ReleaseHides index owner count stage v
+  RemoveKnows index owner mode (removes.TheVariants.Hides count state) v =
+      IsPaid v × RemoveSays index owner mode state v × HasLeft index count v
+      × HasHidden code c v.party owner (StillStands code c index count (now v)) (now v)
+  RemoveKnows index owner mode (removes.TheVariants.AddsChange state) v =
+      IsPaid v × RemoveSays index owner mode state v
+      × HasHidden code c v.party owner no_index (now v)
+
+  -- ---- a copy
+
+  -- while the number is still the one that was loaded, the words read so far are those that stand
+  pub record Copying (index count : ℕ) (copy : List ℕ) (k : ℕ) (v : View T) : Type 0 where
+    pub within : index < c
+    pub few : k ≤ code.size
+    pub room : length copy ≡ 128
+    pub odd : count % 2 ≡ 1
+    pub below : HasCome index count v
+    pub same : WellFormed (now v) → count_in code c (now v) index ≡ count → (j : ℕ) → j < k → get_or copy j 0 ≡ datum_in code c (now v) index j
+
+  -- the copy is made, as the last that it has done to an element
+  abbrev pub HasCopied : ℕ → buffers.Buffer 128 → View T → Type 0
+  HasCopied index room v =
+      HasLatest (Copies index (read_in code room)) (acts_of v.party v.events)
+
+  -- a failed check is paid by a change of another party
+  abbrev pub CheckPaid : ℕ → ℕ → View T → Type 0
+  CheckPaid index count v =
+      set.PaidUnless (count_in code c (now v) index ≡ count) (of_set v)
+
+  -- ---- a find
+
+  -- so many indices below the bound have the owner, and it has copied those below k of them that stood
+  pub record HasFoundBelow (owner bound k number : ℕ) (v : View T) : Type 0 where
+    pub count : IsCount v.party (IsFilledWith owner) bound number v.events
+    pub copied : (index : ℕ) → index < k → count.chosen index ≡ true → StoodThere v.party index v.events
+        → (value : T) × Has (Copies index value) (acts_of v.party v.events)
+
+  abbrev pub Finds : ℕ → ℕ → ℕ → ℕ → View T → Type 0
+  Finds owner bound k number v =
+      IsPaid v × IsCount v.party (IsFilledWith owner) bound number v.events
+      × (WellFormed (now v) → HasFoundBelow owner bound k number v)
+
+  -- the element at the index, while it stands, has this number
+  abbrev pub Steady : ℕ → ℕ → View T → Type 0
+  Steady index count v =
+      WellFormed (now v) → StoodThere v.party index v.events → count_in code c (now v) index ≡ count
+
+  abbrev pub FindKnows : ℕ → buffers.Buffer 128 → FindStage → View T → Type 0
+  FindKnows owner room (finds.TheVariants.LoadsCell index found) v =
+      Finds owner index index found v
+  FindKnows owner room (finds.TheVariants.LoadsCount index found) v =
+      Finds owner (index + 1) index found v × WasFilled owner index v
+  FindKnows owner room (finds.TheVariants.LoadsWord index found count at) v =
+      Finds owner (index + 1) index found v × Steady index count v
+      × Copying index count room.words at v × WasFilled owner index v
+  FindKnows owner room (finds.TheVariants.ChecksCount index found count) v =
+      Finds owner (index + 1) index found v × Steady index count v
+      × Copying index count room.words code.size v × WasFilled owner index v
+  FindKnows owner room (finds.TheVariants.Asks index found) v =
+      Finds owner (index + 1) (index + 1) found v × HasCopied index room v
+
+  -- ---- a recovery
+
+  -- it has asked about the lower indices that were its owner's throughout, or was shown that nothing stood there
+  abbrev pub AskedBelow : ℕ → ℕ → View T → Type 0
+  AskedBelow owner k v =
+      (i : ℕ) → i < k → HeldThroughout v.party (StillToFree v.party owner i) v.events
+      → IsOneOf (Asks i owner) (deeds_of v.party v.events) ⊎ WasShown v.party i v.events
+
+  -- in an honest run no index that it was told to free, or was shown, has its owner, but the one that it frees now
+  abbrev pub GoneBut : ℕ → (ℕ → Type 0) → View T → Type 0
+  GoneBut owner Now v =
+      IsHonestBy v.terms.by v.events
+      → (i : ℕ) → IsOneOf (Yes i owner) (deeds_of v.party v.events) ⊎ WasShown v.party i v.events
+      → (filled_of i v.events ≢ Some owner) ⊎ Now i
+
+  abbrev pub Gone : ℕ → View T → Type 0
+  Gone owner v = GoneBut owner (λ i. ⊥) v
+
+  pub record Recovers (owner k : ℕ) (Now But : ℕ → Type 0) (v : View T) : Type 0 where
+    pub dead : IsGone owner v
+    pub was_open : WasOpen v
+    pub asked : AskedBelow owner k v
+    pub gone : GoneBut owner Now v
+    pub hidden : HasHidden code c v.party owner But (now v)
+
+  abbrev pub RecoverSays : ℕ → ReleaseMode → ReleaseState → View T → Type 0
+  RecoverSays owner mode states.TheVariants.Locked v = is_locked v.events ≡ true
+  RecoverSays owner mode states.TheVariants.Unlocked v =
+      IsGone owner v × UnlockedAtLast v.party v.events
+      × HasRecoveredBy v.terms.by v.party owner v.events
+      × FilledSinceEachBy (Worn v) mode v.party owner v.events
+
+  abbrev pub RecoverKnows : ℕ → ReleaseMode → buffers.Buffer 128 → RecoverStage → View T → Type 0
+  RecoverKnows owner mode room recovers.TheVariants.LoadsCounter v =
+      IsPaid v × IsGone owner v × Gone owner v
+  RecoverKnows owner mode room (recovers.TheVariants.LoadsCell index) v =
+      IsPaid v × Recovers owner index no_index no_index v
+  RecoverKnows owner mode room (recovers.TheVariants.LoadsCount index) v =
+      IsPaid v × Recovers owner index no_index no_index v × WasFilled owner index v
+  RecoverKnows owner mode room (recovers.TheVariants.LoadsWord index count at) v =
+      CheckPaid index count v × Recovers owner index no_index no_index v × WasFilled owner index v
+      × Copying index count room.words at v
+      × RecoverCovers code c owner index count (now v)
+  RecoverKnows owner mode room (recovers.TheVariants.ChecksCount index count) v =
+      CheckPaid index count v × Recovers owner index no_index no_index v × WasFilled owner index v
+      × Copying index count room.words code.size v
+      × RecoverCovers code c owner index count (now v)
+  RecoverKnows owner mode room (recovers.TheVariants.Asks index count) v =
+      IsPaid v × Recovers owner (index + 1) no_index no_index v
+      × (index < c) × HasCome index count v
+      × HasCopied index room v
+      × RecoverCovers code c owner index count (now v)
+  RecoverKnows owner mode room (recovers.TheVariants.EmptiesCell index count) v =
+      IsPaid v × Recovers owner (index + 1) (λ i. i ≡ index) no_index v
+      × (index < c) × HasCome index count v
+      × RecoverCovers code c owner index count (now v)
+  RecoverKnows owner mode room (recovers.TheVariants.Hides index count) v =
+      IsPaid v × Recovers owner (index + 1) no_index (StillStands code c index count (now v)) v × HasLeft index count v
+  RecoverKnows owner mode room (recovers.TheVariants.Raises index raise) v =
+      set.Paid (set.raise_holds raise) (of_set v) × Recovers owner (index + 1) no_index no_index v
+  RecoverKnows owner mode room (recovers.TheVariants.Locks index lock) v =
+      set.Paid (set.lock_holds lock) (of_set v) × Recovers owner (index + 1) no_index no_index v
+      × set.Scanned (set.lock_scan c lock) (of_set v)
+  RecoverKnows owner mode room recovers.TheVariants.LoadsCounterAgain v =
+      IsPaid v × Recovers owner c no_index no_index v
+  RecoverKnows owner mode room (recovers.TheVariants.AddsChange state) v =
+      IsPaid v × RecoverSays owner mode state v × HasHidden code c v.party owner no_index (now v)
+
+  -- and what it knows of its locks, where it is at an index that it has freed from its Hides on
+  abbrev pub RecoverFills : ℕ → ReleaseMode → RecoverStage → View T → Type 0
+  RecoverFills owner mode recovers.TheVariants.LoadsCounter v = Unit {0}
+  RecoverFills owner mode (recovers.TheVariants.LoadsCell index) v =
+      FilledBut (Worn v) mode v.party owner NoIndex v.events
+  RecoverFills owner mode (recovers.TheVariants.LoadsCount index) v =
+      FilledBut (Worn v) mode v.party owner NoIndex v.events
+  RecoverFills owner mode (recovers.TheVariants.LoadsWord index count at) v =
+      FilledBut (Worn v) mode v.party owner NoIndex v.events
+  RecoverFills owner mode (recovers.TheVariants.ChecksCount index count) v =
+      FilledBut (Worn v) mode v.party owner NoIndex v.events
+  RecoverFills owner mode (recovers.TheVariants.Asks index count) v =
+      FilledBut (Worn v) mode v.party owner NoIndex v.events
+  RecoverFills owner mode (recovers.TheVariants.EmptiesCell index count) v =
+      FilledBut (Worn v) mode v.party owner NoIndex v.events
+  RecoverFills owner mode (recovers.TheVariants.Hides index count) v =
+      FilledBut (Worn v) mode v.party owner (λ i. i ≡ index) v.events
+  RecoverFills owner mode (recovers.TheVariants.Raises index raise) v =
+      FilledBut (Worn v) mode v.party owner (λ i. i ≡ index) v.events
+  RecoverFills owner mode (recovers.TheVariants.Locks index lock) v =
+      FilledBut (Worn v) mode v.party owner (λ i. i ≡ index) v.events
+      × set.LockSays c (FoundFilled v.party v.events) lock
+  RecoverFills owner mode recovers.TheVariants.LoadsCounterAgain v =
+      FilledBut (Worn v) mode v.party owner NoIndex v.events
+  RecoverFills owner mode (recovers.TheVariants.AddsChange state) v = Unit {0}
+
+  -- ---- a look
+
+  -- its party's state, which it has gone over below k
+  pub record Looks (k copying : ℕ) (v : View T) : Type 0 where
+    pub state : ContainerState T
+    pub found : state_of v.party v.states ≡ Some state
+    pub course : Course code c (now v) v.party state k copying
+
+  -- it copies the element at the index into the state
+  pub record LookCopies (index count k : ℕ) (v : View T) : Type 0 where
+    pub looks : Looks index index v
+    pub number : number_at looks.state index ≡ count
+    pub copying : Copying index count looks.state.shown.copy k v
+
+  pub record LookRests (v : View T) : Type 0 where
+    pub state : ContainerState T
+    pub found : state_of v.party v.states ≡ Some state
+    pub rests : Rests code c (now v) v.party state
+    pub own : ShowsOwn v.party state c v.events
+
+  abbrev pub LookKnows : LookStage → View T → Type 0
+  LookKnows looks.TheVariants.LoadsChange v = IsPaid v × LookRests v
+  LookKnows (looks.TheVariants.LoadsCount index) v = IsPaid v × Looks index c v
+  LookKnows (looks.TheVariants.LoadsWord index count at) v =
+      CheckPaid index count v × LookCopies index count at v
+  LookKnows (looks.TheVariants.ChecksCount index count) v =
+      CheckPaid index count v × LookCopies index count code.size v
+
+  -- ---- any call
+
+  abbrev pub Knows : ContainerFlight T → View T → Type 0
+  Knows (Add run) v = AddKnows run.given.value run.given.owner run.call.stage v
+  Knows (Remove run) v = RemoveKnows run.given.index run.given.owner run.given.mode run.call.stage v
+  Knows (Replace run) v = ReplacesKnow run.given.index run.given.value run.given.owner run.call.stage v
+  Knows (Find run) v = IsLong run.room × FindKnows run.given run.room run.call.stage v
+  Knows (Recover run) v =
+      IsLong run.room × RecoverKnows run.given.owner run.given.mode run.room run.call.stage v
+      × RecoverFills run.given.owner run.given.mode run.call.stage v
+  Knows (Look which call) v = LookKnows call.stage v
+  Knows (Count which run) v = set.Knows c (borrowed_at c run.call.count) (of_set v)
+  Knows (IsLocked run) v = set.Knows c looking (of_set v)

@@ -1,0 +1,90 @@
+-- No owner dies in an open run, so none of the container's calls is refused for a dead owner.
+use Rattle.std.proofs.Common.{◌≡◌, ℕ, true, false, Some, None, List, [], ◌∷◌, ◌++◌, refl, sym, subst, ◌∙◌, arith}
+use Rattle.std.specs.List.{AllByRecursion}
+use Rattle.model.specs.declared.event.Event.{Event}
+use Rattle.model.specs.declared.event.Event.TheVariants.{Died}
+use Rattle.model.specs.declared.event.Start.{Start}
+use Rattle.model.specs.declared.event.Start.TheVariants.{Container}
+use Rattle.model.specs.declared.families.Flight.{Flight}
+use Rattle.model.specs.declared.families.Flight as flights
+use Rattle.model.specs.declared.families.Registry.{Registry}
+use Rattle.model.specs.declared.families.Registry as registries
+use Rattle.model.specs.declared.families.container.ContainerStart.{ContainerStart}
+use Rattle.model.specs.declared.families.container.calls.ContainerFlight.{ContainerFlight}
+use Rattle.model.specs.declared.turn.Turn.TheVariants.{Begin, Next}
+use Rattle.model.specs.Coding.{Coding}
+use Rattle.model.specs.Families.{beside_of, step_of, going_rows}
+use Rattle.model.specs.Families.Container.Calls.{after}
+use Rattle.model.specs.Families.Container.Opening.{names_owner}
+use Rattle.model.specs.Families.Container.States.{state_of}
+use Rattle.model.specs.Families.Container.Steps.{effects, questions}
+use Rattle.model.specs.Families.Indices.Robust.Dead.{has_died}
+use Rattle.model.specs.Promises.Turns.{IsEffectOf}
+use Rattle.model.specs.Refusals.{is_due}
+use Rattle.model.specs.Rows.{first_row}
+use Rattle.model.specs.Step.{answer_in}
+use Rattle.model.specs.Turns.{events_of_step}
+use Rattle.model.specs.World.{Trace, flight_in}
+use Rattle.model.proofs.Frame as frame
+use Rattle.model.proofs.Scenes.{stands_there}
+use Rattle.laws_robust.specs.Open.{open_refusal}
+use Rattle.laws_robust.proofs.Alive.{Leaves, AllLive, StepsLeave, end_leaves}
+use Rattle.laws_robust.proofs.Told.{joined}
+use Rattle.laws_container.proofs.Invariant.{family_by}
+use Rattle.laws_container.proofs.Sound.{kept_is}
+use Rattle.laws_container.proofs.Stages.{any_call}
+use Rattle.laws_container.proofs.Terms.{Terms}
+use Rattle.laws_container.proofs.Written.{all_effects}
+
+module _ {T : Type 0} (p : ℕ) where
+  -- what a step does to the container is no death
+  effect_leaves : (e : Event T) → IsEffectOf (Next p) e → Leaves e
+  effect_leaves (Died o) its = absurd its
+  effect_leaves e its = λ owner dead. refl
+
+  effects_leave : (es : List (Event T)) → AllByRecursion (IsEffectOf (Next p)) es → AllByRecursion Leaves es
+  effects_leave [] h = tt
+  effects_leave (e ∷ es) h = (effect_leaves e h.0, effects_leave es h.1)
+
+module _ {T : Type 0} (terms : Terms) (code : Coding T) (c : ℕ) (t : Trace T) (s : frame.Sound (family_by terms code c) t) where
+  -- ---- what a step writes
+
+  module _ (p answer : ℕ) where
+    abbrev writes : Registry T → Start T → Flight T → List (Event T)
+    writes kept start flight =
+        events_of_step p start (step_of t.world.coding t.world.words (beside_of t.world.words kept t.world.latest p) p start flight answer kept)
+
+    step_leaves : (start : Start T) (flight : Flight T) → (family_by terms code c).At s.state p start flight
+        → AllByRecursion Leaves (writes (registries.TheVariants.Container s.state.dead s.state.states) start flight)
+    step_leaves (Container start) (flights.TheVariants.Container flight) at =
+        let state = state_of p s.state.states in
+        let did : List (Event T) = effects t.world.coding p state flight answer ++ questions p flight answer in
+        joined Leaves did _ (effects_leave p did (all_effects (Next p) p refl t.world.coding state flight answer))
+        (end_leaves p (Container start) (answer_in (any_call (after t.world.coding state flight answer))))
+    step_leaves start flight at = absurd at
+
+  pub steps_leave : StepsLeave t
+  steps_leave p x since flight answer found doing =
+      let there = stands_there (family_by terms code c) t s p x since flight found doing in
+      subst (λ kept. AllByRecursion Leaves (writes p answer kept x.start flight)) (sym (kept_is t.world.kept t.world.words s.state s.fit).0)
+      (step_leaves p answer x.start flight there.at)
+
+  -- ---- what is not refused
+
+  module _ (all : AllLive t.events) where
+    pub has_not_died : (owner : ℕ) → has_died owner s.state.dead ≡ false
+    has_not_died owner = s.holds.good.died owner ∙ all owner
+
+    pub step_is_free : (flight : ContainerFlight T)
+        → first_row (going_rows t.world.coding t.world.kept (Some (flights.TheVariants.Container flight)) None) ≡ None
+    step_is_free flight = grind arith
+
+    -- a step of a call that waits for no answer
+    pub next_is_free : (p : ℕ) (flight : ContainerFlight T) → flight_in t.world p ≡ Some (flights.TheVariants.Container flight)
+        → is_due t.world.coding (Some (flights.TheVariants.Container flight)) ≡ false → open_refusal t.world (Next p) ≡ None
+    next_is_free p flight here due = grind arith
+
+    -- a call of the container, for an owner that is none of an empty cell
+    pub begin_is_free : (p : ℕ) (start : ContainerStart T) → flight_in t.world p ≡ None → names_owner start ≡ true
+        → open_refusal t.world (Begin p (Container start)) ≡ None
+    begin_is_free p start free named = grind arith

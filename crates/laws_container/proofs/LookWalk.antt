@@ -1,0 +1,453 @@
+-- How a look goes over the indices, one step after another: what it makes of its party's state, and what is so then. What each
+-- step leads to is what the caller makes of it.
+use Rattle.std.proofs.Common.{◌≡◌, ◌≢◌, ⊎_elim, inl, inr, ℕ, ◌+◌, ◌*◌, ◌%◌, ◌<◌, ◌≤◌, ◌==◌, if◌then◌else◌, nat_lt}
+use Rattle.std.proofs.Common.{Bool, true, false, not, Option, Some, None, List, [], ◌∷◌, ◌++◌, length, set}
+use Rattle.std.proofs.Common.{slice_index_or, refl, sym, ap, subst, ◌∙◌, append-nil, arith, ne_eqb}
+use Rattle.std.proofs.lemmas.Bool.Decides.{nat_tests}
+use Rattle.std.proofs.lemmas.List.{set-get_or}
+use Rattle.std.proofs.lemmas.List.Concat.{flat_map-append}
+use Rattle.steps.specs.declared.ask.Ask.{Ask}
+use Rattle.steps.specs.declared.ask.After.{After}
+use Rattle.steps.specs.declared.ask.After.TheVariants.{GoOn, Done}
+use Rattle.steps.specs.declared.container.look.Look.{Look}
+use Rattle.steps.specs.declared.container.look.LookStage.{LookStage}
+use Rattle.steps.specs.declared.container.look.LookStage as stages
+use Rattle.steps.specs.declared.container.state.ContainerState.{ContainerState}
+use Rattle.steps.specs.Container.Layout.{change_word, count_word, element_word, is_even}
+use Rattle.steps.specs.Container.Look.{look_asks, look_goes_back, look_comes_to, look_finds, look_after}
+use Rattle.steps.specs.Container.State.{with_change, with_word}
+use Rattle.steps.specs.Picks.{by_test, by_eq}
+use Rattle.model.specs.declared.event.Event.{Event}
+use Rattle.model.specs.declared.event.Event.TheVariants.{Copied}
+use Rattle.model.specs.declared.party.Party.{Party}
+use Rattle.model.specs.Coding.{Coding}
+use Rattle.model.specs.Families.{ask_of}
+use Rattle.model.specs.Families.Container.Calls.{look_shows}
+use Rattle.model.specs.Families.Container.Looks.{shows, WasCopied}
+use Rattle.model.specs.Families.Container.Reading.{Act, Copies, index_seen, seen_in, acts, contents_of}
+use Rattle.model.specs.Families.Container.States.{state_of}
+use Rattle.model.specs.Families.Container.Steps.{look_effects, copy_in}
+use Rattle.model.specs.Families.Indices.Robust.Reading.{deeds}
+use Rattle.model.specs.Turns.{old_of, words_after, step_count}
+use Rattle.laws_robust.proofs.Effects.{some_none}
+use Rattle.laws_robust.proofs.Stages.{loads, exchanges, loads_same, fails_same, exchange_sets}
+use Rattle.laws_container.proofs.Contents.{Stands}
+use Rattle.laws_container.proofs.Copies.{copying_first, copying_more, copied_value}
+use Rattle.laws_container.proofs.Core.{count_at, change_at}
+use Rattle.laws_container.proofs.Glances.{counting, count_put, counted_number, counted_none, counted_same, showing}
+use Rattle.laws_container.proofs.Glances.{value_put, value_number, value_here, course_first, course_copying}
+use Rattle.laws_container.proofs.Glances.{course_passed, course_word}
+use Rattle.laws_container.proofs.Invariant.{Scene, Inv, before, view}
+use Rattle.laws_container.proofs.KeptCopies.{HasCopied, ShowsOwn, copies_of, CallsOn, own_later}
+use Rattle.laws_container.proofs.Knows.{IsPaid, Copying, CheckPaid, LookKnows}
+use Rattle.laws_container.proofs.Sights.{number_at, Rests, Course}
+use Rattle.laws_container.proofs.Stages.{all, done, sees_now, since_then, changes_then, backs_then}
+use Rattle.laws_container.proofs.Standing.{AreBelow, LookAt, look_number}
+use Rattle.laws_container.proofs.Turns.{Now, WellFormed, count_in, datum_in, change_in}
+use Rattle.laws_container.proofs.Writing.{even_is, odd_is}
+
+-- ---- the indices that it has come to
+
+below_more : (b d : ℕ) → b ≤ d → (xs : List ℕ) → AreBelow b xs → AreBelow d xs
+below_more b d more [] h = tt
+below_more b d more (x ∷ xs) h = (let first = h.0 in omega arith, below_more b d more xs h.1)
+
+below_both : (b : ℕ) (xs ys : List ℕ) → AreBelow b xs → AreBelow b ys → AreBelow b (xs ++ ys)
+below_both b [] ys h g = g
+below_both b (x ∷ xs) ys h g = (h.0, below_both b xs ys h.1 g)
+
+pub not_even : (n : ℕ) → n % 2 ≡ 1 → is_even n ≡ false
+not_even n odd = ne_eqb (n % 2) 0 (λ e. absurd (omega arith))
+
+module _ {T : Type 0} where
+  pub seen_copied : (index : ℕ) (value : T) (did : List (Act T)) → AreBelow index (seen_in did)
+      → AreBelow (index + 1) (seen_in (did ++ Copies index value ∷ []))
+  seen_copied index value did h =
+      subst (AreBelow (index + 1)) (sym (flat_map-append index_seen did (Copies index value ∷ [])))
+      (below_both (index + 1) (seen_in did) (index ∷ []) (below_more index (index + 1) (omega arith) (seen_in did) h) (omega arith, tt))
+
+  pub seen_passed : (index : ℕ) (did : List (Act T)) → AreBelow index (seen_in did) → AreBelow (index + 1) (seen_in (did ++ []))
+  seen_passed index did h = subst (λ a. AreBelow (index + 1) (seen_in a)) (sym (append-nil did)) (below_more index (index + 1) (omega arith) (seen_in did) h)
+
+  pub seen_still : (index : ℕ) (did : List (Act T)) → AreBelow index (seen_in did) → AreBelow index (seen_in (did ++ []))
+  seen_still index did h = subst (λ a. AreBelow index (seen_in a)) (sym (append-nil did)) h
+
+  -- under an even number nothing stands
+  pub nothing_stands : (code : Coding T) (c : ℕ) (words : List ℕ) (i : ℕ) (o : Option T) → Stands code c words i o → count_at c words i % 2 ≡ 0 → o ≡ None
+  nothing_stands code c words i None h even = refl
+  nothing_stands code c words i (Some value) h even = let odd = h.0 in absurd (omega arith)
+
+module _ {T : Type 0} (scene : Scene T) (inv : Inv scene) where
+  open scene use {coding as code, capacity as c, party as p, steps as steps, backs as backs, latest as latest, events as events}
+
+  abbrev ws : List ℕ
+  ws = scene.words
+
+  abbrev m : Now T
+  m = before scene
+
+  -- the machine after a step of the look that writes this
+  pub record Comes (m' : Now T) (what : Option (ℕ × T)) : Type 0 where
+    pub well_formed : WellFormed m' → WellFormed m
+    pub words : m'.words ≡ ws
+    pub contents : (i : ℕ) → contents_of i m'.events ≡ contents_of i events
+    pub later : (s : ContainerState T) (k x : ℕ) → Course code c m p s k x → Course code c m' p s k x
+    pub rests : (s : ContainerState T) → Rests code c m p s → Rests code c m' p s
+    pub copied : (i : ℕ) (value : T) → what ≡ Some (i, value) → WasCopied p i value m'.events
+    pub on : CallsOn p what events m'.events
+
+  -- what it writes is right
+  abbrev pub IsRight : Option (ℕ × T) → Type 0
+  IsRight None = Unit {0}
+  IsRight (Some copy) =
+      AreBelow copy.0 (seen_in (done scene)) × (WellFormed m → contents_of copy.0 events ≡ Some copy.1)
+
+  abbrev pub call_at : LookStage → Look T
+  call_at stage = record { capacity = c; stage = stage; of = record {} }
+
+  -- ---- what the caller shows
+
+  pub record Walker (s : ContainerState T) (ask : Option Ask) (Lead : Bool → List (Event T) → ContainerState T → After (Look T) Bool → Type 0) : Type 0 where
+    pub goes : (next : LookStage) (back : Bool) (what : Option (ℕ × T)) (s' : ContainerState T) → IsRight what → words_after ws ask ≡ ws
+        → LookAt c code.size (all scene ++ deeds (copies_of p what)) (done scene ++ acts (copies_of p what)) next
+        → steps + step_count ask ≤ look_number code.size next (backs_then scene back)
+        → ((words' : List ℕ) (states' : List (ℕ × ContainerState T)) (latest' : List (ℕ × Party T)) (es' : List (Event T))
+        → Comes (record { terms = scene.terms; words = words'; latest = latest'; events = es' }) what
+        → state_of p states' ≡ Some s'
+        → LookKnows code c next (view scene.terms words' states' latest' es' p (since_then scene ask) (changes_then scene ask) (backs_then scene back)))
+        → Lead back (copies_of p what) s' (GoOn (call_at next))
+    -- it has gone over all of them
+    pub ends : (back : Bool) (what : Option (ℕ × T)) (s' : ContainerState T) → IsRight what → words_after ws ask ≡ ws → all scene ≡ []
+        → steps + step_count ask ≤ 1 + c * (code.size + 2) + backs_then scene back * (code.size + 1)
+        → backs_then scene back + since_then scene ask ≤ changes_then scene ask
+        → ((m' : Now T) → Comes m' what → Course code c m' p s' c c)
+        → Lead back (copies_of p what) s' (Done true)
+    -- nothing has changed
+    pub stays : words_after ws ask ≡ ws → all scene ≡ [] → steps + step_count ask ≤ 1
+        → backs_then scene false + since_then scene ask ≤ changes_then scene ask → Rests code c m p s
+        → ShowsOwn p s c events → s.shown.change ≡ change_in code c m → Lead false [] s (Done false)
+
+  module _ (s : ContainerState T) (Lead : Bool → List (Event T) → ContainerState T → After (Look T) Bool → Type 0) where
+    -- the step of a look that stands there
+    abbrev pub WalkOf : LookStage → Option Ask → ℕ → Type 0
+    WalkOf stage ask old =
+        Lead (look_goes_back stage old) (look_effects p (copy_in code s) stage old)
+        (look_shows code (call_at stage) s old) (look_after code.size (call_at stage) s.seen old)
+
+    abbrev pub WalkAt : LookStage → Type 0
+    WalkAt stage = WalkOf stage (ask_of (look_asks code.size c stage)) (old_of ws (ask_of (look_asks code.size c stage)))
+
+    module _ (none : all scene ≡ []) where
+      -- ---- an index is done with
+
+      module _ (stage : LookStage) (ask : Option Ask) (walker : Walker s ask Lead) (back : Bool)
+          (same : words_after ws ask ≡ ws)
+          (paid : backs_then scene back + since_then scene ask ≤ changes_then scene ask)
+          (index : ℕ) (below : index < c) where
+        none_more : (what : Option (ℕ × T)) → all scene ++ deeds (copies_of p what) ≡ []
+        none_more None = ap (λ d. d ++ []) none
+        none_more (Some copy) = ap (λ d. d ++ []) none
+
+        comes_to : (what : Option (ℕ × T)) (s' : ContainerState T) → IsRight what
+            → AreBelow (index + 1) (seen_in (done scene ++ acts (copies_of p what)))
+            → steps + step_count ask ≤ 1 + (index + 1) * (code.size + 2) + backs_then scene back * (code.size + 1)
+            → ((m' : Now T) → Comes m' what → Course code c m' p s' (index + 1) c) → Lead back (copies_of p what) s' (look_comes_to (call_at stage) (index + 1))
+        comes_to what s' right seen few course =
+            by_test (Lead back (copies_of p what) s') (nat_lt (index + 1) c) (GoOn (call_at (stages.TheVariants.LoadsCount (index + 1)))) (Done true)
+            (λ t.
+            let more : index + 1 < c = grind (arith, nat_tests) in
+            walker.goes (stages.TheVariants.LoadsCount (index + 1)) back what s' right same (none_more what, more, seen) few
+            (λ words' states' latest' es' comes found. (
+              paid,
+              record {
+                state = s';
+                found = found;
+                course = course (record { terms = scene.terms; words = words'; latest = latest'; events = es' }) comes;
+              },
+            )))
+            (λ t.
+            let last : index + 1 ≡ c = grind (arith, nat_tests) in
+            let total : (index + 1) * (code.size + 2) ≡ c * (code.size + 2) = ap (λ n. n * (code.size + 2)) last in
+            walker.ends back what s' right same none (omega arith) paid (λ m' comes. subst (λ n. Course code c m' p s' n c) last (course m' comes)))
+
+        -- ---- a number is found that is not the one seen
+
+        module _ (x : ℕ) (apart : (i : ℕ) → i ≢ index → i ≢ c → i ≢ x) (course : Course code c m p s index x)
+            (seen : AreBelow index (seen_in (done scene)))
+            (few : steps + step_count ask ≤ 2 + index * (code.size + 2) + backs_then scene back * (code.size + 1)) where
+          abbrev n : ℕ
+          n = count_in code c m index
+
+          low : index < length s.shown.elements
+          low = let wide = course.sight.wide in omega arith
+
+          abbrev s' : ContainerState T
+          s' = counting s index low n
+
+          count_same : (m' : Now T) (what : Option (ℕ × T)) → Comes m' what → count_in code c m' index ≡ n
+          count_same m' what comes = ap (λ w. count_at c w index) comes.words
+
+          number_is : (m' : Now T) (what : Option (ℕ × T)) → Comes m' what → number_at s' index ≡ count_in code c m' index
+          number_is m' what comes = counted_number s index low n ∙ sym (count_same m' what comes)
+
+          passed_even : is_even n ≡ true → (m' : Now T) → Comes m' None → Course code c m' p s' (index + 1) c
+          passed_even even m' comes =
+              course_passed code c m' p s s' index x below (comes.later s index x course) (count_put s index low n) (number_is m' None comes) apart
+              (λ value is. some_none (shows s' index) value (counted_none s index low n even) is)
+              (λ well_formed.
+              counted_none s index low n even
+              ∙ sym (comes.contents index ∙ nothing_stands code c ws index (contents_of index events)
+              (inv.elements.whole (comes.well_formed well_formed) index below) (even_is n even)))
+              (λ getting value is. some_none (shows s' index) value (counted_none s index low n even) is)
+
+          finds : Lead back [] s' (look_finds (call_at stage) index n)
+          finds = go (is_even n) refl
+            where
+              go : (b : Bool) → is_even n ≡ b
+                  → Lead back [] s'
+                  (if b then look_comes_to (call_at stage) (index + 1) else GoOn (call_at (stages.TheVariants.LoadsWord index n 0)))
+              go true t =
+                  comes_to None s' tt (seen_passed index (done scene) seen) (omega arith) (passed_even t)
+              go false t =
+                  let some = inv.elements.coded.some in
+                  let odd = odd_is n t in
+                  walker.goes (stages.TheVariants.LoadsWord index n 0) back None s' tt same
+                  (none_more None, (below, seen_still index (done scene) seen, odd), omega arith) (omega arith)
+                  (λ words' states' latest' es' comes found.
+                  let m' : Now T = record { terms = scene.terms; words = words'; latest = latest'; events = es' } in
+                  let is = count_same m' None comes in (
+                    inl (is, paid),
+                    record {
+                      looks =
+                          record {
+                            state = s';
+                            found = found;
+                            course =
+                                course_copying code c m' p s s' index x below (comes.later s index x course)
+                                (count_put s index low n) (number_is m' None comes)
+                                (λ i less ne. apart i ne (λ e. absurd (omega arith)));
+                          };
+                      number = counted_number s index low n;
+                      copying =
+                          copying_first code c
+                          (view scene.terms words' states' latest' es' p (since_then scene ask) (changes_then scene ask)
+                          (backs_then scene back))
+                          index n s'.shown.copy below course.room odd (λ kept. omega arith);
+                    },
+                  ))
+
+          -- the number that was seen: the index is as it was
+          module _ (was : n ≡ number_at s index) (other : index ≢ x) where
+            passed_same : (m' : Now T) → Comes m' None → Course code c m' p s' (index + 1) c
+            passed_same m' comes =
+                let h = comes.later s index x course in
+                course_passed code c m' p s s' index x below h (count_put s index low n) (number_is m' None comes) apart
+                (λ value is. h.sight.copied index value other (sym (counted_same s index low n was) ∙ is))
+                (λ well_formed. counted_same s index low n was ∙ h.sight.same well_formed index below other (sym was ∙ sym (count_same m' None comes)))
+                (λ getting value is. h.own getting index value other (sym (counted_same s index low n was) ∙ is))
+
+            passes : Lead back [] s' (look_comes_to (call_at stage) (index + 1))
+            passes = comes_to None s' tt (seen_passed index (done scene) seen) (omega arith) passed_same
+
+      -- ---- the number of changes is loaded
+
+      pub walks_change : Walker s (Some (loads (change_word c))) Lead → steps ≤ 0 → IsPaid (sees_now scene)
+          → done scene ≡ [] → Rests code c m p s → ShowsOwn p s c events → WalkAt stages.TheVariants.LoadsChange
+      walks_change walker few paid nothing rests own =
+          by_eq (Lead false [] (record s { shown = with_change s.shown (change_in code c m) })) (change_in code c m)
+          s.seen.change (Done false) (look_comes_to (call_at stages.TheVariants.LoadsChange) 0)
+          (λ is.
+          let same : change_in code c m ≡ s.shown.change = is ∙ rests.seen in
+          subst (λ n. Lead false [] (record s { shown = with_change s.shown n }) (Done false)) (sym same)
+          (walker.stays (loads_same ws (change_word c)) none (omega arith) (omega arith) rests own (sym same)))
+          (λ other.
+          by_test (Lead false [] (record s { shown = with_change s.shown (change_in code c m) })) (nat_lt 0 c)
+          (GoOn (call_at (stages.TheVariants.LoadsCount 0))) (Done true)
+          (λ t.
+          let some = inv.good.some in
+          walker.goes (stages.TheVariants.LoadsCount 0) false None
+          (record s { shown = with_change s.shown (change_in code c m) }) tt (loads_same ws (change_word c))
+          (ap (λ d. d ++ []) none, omega arith, ap_below nothing) (omega arith)
+          (λ words' states' latest' es' comes found. (
+            omega arith,
+            record {
+              state = record s { shown = with_change s.shown (change_in code c m) };
+              found = found;
+              course =
+                  course_first code c (record { terms = scene.terms; words = words'; latest = latest'; events = es' }) p
+                  s (change_in code c m) (sym (ap (change_at c) comes.words)) (comes.rests s rests)
+                  (own_later p None events es' comes.on s c own);
+            },
+          )))
+          (λ t. let some = inv.good.some in let less : c ≤ 0 = grind (arith, nat_tests) in absurd (omega arith)))
+        where
+          ap_below : done scene ≡ [] → AreBelow 0 (seen_in (done scene ++ []))
+          ap_below e = subst (λ a. AreBelow 0 (seen_in (a ++ []))) (sym e) tt
+
+      -- ---- the number of an element is loaded
+
+      pub walks_count : (index : ℕ) → index < c → Walker s (Some (loads (count_word c index))) Lead
+          → steps ≤ 1 + index * (code.size + 2) + backs * (code.size + 1) → IsPaid (sees_now scene)
+          → AreBelow index (seen_in (done scene)) → Course code c m p s index c
+          → WalkAt (stages.TheVariants.LoadsCount index)
+      walks_count index below walker few paid seen course =
+          let stage = stages.TheVariants.LoadsCount index in
+          let ask = Some (loads (count_word c index)) in
+          let same = loads_same ws (count_word c index) in
+          let unseen = course.unseen index (omega arith) below (λ e. absurd (omega arith)) in
+          by_eq (Lead false [] (look_shows code (call_at stage) s (count_in code c m index)))
+          (count_in code c m index) (slice_index_or s.seen.counts index 0)
+          (look_comes_to (call_at stage) (index + 1)) (look_finds (call_at stage) index (count_in code c m index))
+          (λ is. passes stage ask walker false same (omega arith) index below c (λ i ne other. other) course seen
+          (omega arith) (is ∙ unseen) (λ e. absurd (omega arith)))
+          (λ other. finds stage ask walker false same (omega arith) index below c (λ i ne other. other) course seen (omega arith))
+
+      -- ---- a word of the element is loaded
+
+      module _ (index count at : ℕ) (below : index < c) (ats : at < code.size) (odd : count % 2 ≡ 1)
+          (few : steps ≤ 2 + at + index * (code.size + 2) + backs * (code.size + 1))
+          (paid : CheckPaid code c index count (sees_now scene)) (seen : AreBelow index (seen_in (done scene)))
+          (course : Course code c m p s index index) (number : number_at s index ≡ count)
+          (copying : Copying code c index count s.shown.copy at (sees_now scene)) where
+        abbrev word_ask : Option Ask
+        word_ask = Some (loads (element_word c code.size index at))
+
+        same_words : words_after ws word_ask ≡ ws
+        same_words = loads_same ws (element_word c code.size index at)
+
+        abbrev with_it : ContainerState T
+        with_it = record s { shown = with_word s.shown at (datum_in code c m index at) }
+
+        paid_then : (words' : List ℕ) (states' : List (ℕ × ContainerState T)) (latest' : List (ℕ × Party T)) (es' : List (Event T))
+            → Comes (record { terms = scene.terms; words = words'; latest = latest'; events = es' }) None
+            → CheckPaid code c index count
+            (view scene.terms words' states' latest' es' p (since_then scene word_ask) (changes_then scene word_ask)
+            (backs_then scene false))
+        paid_then words' states' latest' es' comes =
+            ⊎_elim (λ k. let was = k.1 in inl (ap (λ w. count_at c w index) comes.words ∙ k.0, omega arith)) (λ more. inr (omega arith)) paid
+
+        pub walks_word : Walker s (Some (loads (element_word c code.size index at))) Lead → WalkAt (stages.TheVariants.LoadsWord index count at)
+        walks_word walker =
+            by_test (Lead false [] with_it) (nat_lt (at + 1) code.size)
+            (GoOn (call_at (stages.TheVariants.LoadsWord index count (at + 1))))
+            (GoOn (call_at (stages.TheVariants.ChecksCount index count)))
+            (λ t.
+            let more : at + 1 < code.size = grind (arith, nat_tests) in
+            walker.goes (stages.TheVariants.LoadsWord index count (at + 1)) false None with_it tt same_words
+            (ap (λ d. d ++ []) none, (below, seen_still index (done scene) seen, odd), more) (omega arith)
+            (λ words' states' latest' es' comes found. (
+              paid_then words' states' latest' es' comes,
+              record {
+                looks =
+                    record {
+                      state = with_it;
+                      found = found;
+                      course =
+                          course_word code c (record { terms = scene.terms; words = words'; latest = latest'; events = es' })
+                          p s index index at (datum_in code c m index at) (comes.later s index index course);
+                    };
+                number = number;
+                copying =
+                    copying_more code c (sees_now scene)
+                    (view scene.terms words' states' latest' es' p (since_then scene word_ask)
+                    (changes_then scene word_ask) (backs_then scene false))
+                    index count s.shown.copy at ats inv.elements.coded.few comes.words (λ kept. kept) comes.well_formed
+                    copying;
+              },
+            )))
+            (λ t.
+            let last : code.size ≤ at + 1 = grind (arith, nat_tests) in
+            let is : at + 1 ≡ code.size = omega arith in
+            walker.goes (stages.TheVariants.ChecksCount index count) false None with_it tt same_words
+            (ap (λ d. d ++ []) none, (below, seen_still index (done scene) seen, odd)) (omega arith)
+            (λ words' states' latest' es' comes found. (
+              paid_then words' states' latest' es' comes,
+              record {
+                looks =
+                    record {
+                      state = with_it;
+                      found = found;
+                      course =
+                          course_word code c (record { terms = scene.terms; words = words'; latest = latest'; events = es' })
+                          p s index index at (datum_in code c m index at) (comes.later s index index course);
+                    };
+                number = number;
+                copying =
+                    subst (λ k. Copying code c index count with_it.shown.copy k
+                    (view scene.terms words' states' latest' es' p (since_then scene word_ask)
+                    (changes_then scene word_ask) (backs_then scene false)))
+                    is
+                    (copying_more code c (sees_now scene)
+                    (view scene.terms words' states' latest' es' p (since_then scene word_ask)
+                    (changes_then scene word_ask) (backs_then scene false))
+                    index count s.shown.copy at ats inv.elements.coded.few comes.words (λ kept. kept)
+                    comes.well_formed copying);
+              },
+            )))
+
+      -- ---- the number is exchanged for itself
+
+      module _ (index count : ℕ) (below : index < c) (odd : count % 2 ≡ 1)
+          (few : steps ≤ 2 + code.size + index * (code.size + 2) + backs * (code.size + 1))
+          (paid : CheckPaid code c index count (sees_now scene)) (seen : AreBelow index (seen_in (done scene)))
+          (course : Course code c m p s index index) (copying : Copying code c index count s.shown.copy code.size (sees_now scene)) where
+        abbrev check_ask : Option Ask
+        check_ask = Some (exchanges (count_word c index) count count)
+
+        abbrev value : T
+        value = copy_in code s
+
+        within : index < length s.shown.elements
+        within = let wide = course.sight.wide in omega arith
+
+        abbrev shown_now : ContainerState T
+        shown_now = showing s index within code.value_of code.size count
+
+        module _ (is : count_in code c m index ≡ count) where
+          stands_now : WellFormed m → contents_of index events ≡ Some value
+          stands_now well_formed = copied_value code c (sees_now scene) index count s.shown.copy inv.elements.coded inv.elements.whole copying is well_formed
+
+          same_count : words_after ws check_ask ≡ ws
+          same_count = exchange_sets ws (count_word c index) count count is ∙ (ap (set ws (count_word c index)) (sym is) ∙ set-get_or ws (count_word c index) 0)
+
+          passed_copied : (m' : Now T) → Comes m' (Some (index, value)) → Course code c m' p shown_now (index + 1) c
+          passed_copied m' comes =
+              course_passed code c m' p s shown_now index index below (comes.later s index index course)
+              (value_put s index within code.value_of code.size count)
+              (value_number s index within code.value_of code.size count ∙ sym (ap (λ w. count_at c w index) comes.words ∙ is)) (λ i ne other. ne)
+              (λ shown e. let same : Some value ≡ Some shown =
+              sym (value_here s index within code.value_of code.size count (not_even count odd)) ∙ e in
+              let eq : value ≡ shown = cc in
+              subst (λ v. WasCopied p index v m'.events) eq (comes.copied index value refl))
+              (λ well_formed. value_here s index within code.value_of code.size count (not_even count odd)
+              ∙ sym (comes.contents index ∙ stands_now (comes.well_formed well_formed)))
+              (λ getting shown e. let same : Some value ≡ Some shown =
+              sym (value_here s index within code.value_of code.size count (not_even count odd)) ∙ e in
+              let eq : value ≡ shown = cc in
+              subst (λ v. HasCopied p index v m'.events) eq (comes.on.now index value refl))
+
+        pub walks_check : Walker s (Some (exchanges (count_word c index) count count)) Lead → WalkAt (stages.TheVariants.ChecksCount index count)
+        walks_check walker = go (count_in code c m index == count) refl
+          where
+            go : (b : Bool) → (count_in code c m index == count) ≡ b → Lead (not b) (if b then Copied p index (copy_in code s) ∷ [] else [])
+                (record s {
+                  shown =
+                      if b then shown_now.shown else
+                      (look_shows code (call_at (stages.TheVariants.LoadsCount index)) s (count_in code c m index)).shown;
+                })
+                (if b then look_comes_to (call_at (stages.TheVariants.ChecksCount index count)) (index + 1) else
+                look_finds (call_at (stages.TheVariants.ChecksCount index count)) index (count_in code c m index))
+            go true t =
+                let is : count_in code c m index ≡ count = grind (arith, nat_tests) in
+                let paid_now : backs + scene.since ≤ scene.changes = ⊎_elim (λ k. k.1) (λ more. omega arith) paid in
+                comes_to (stages.TheVariants.ChecksCount index count)
+                (Some (exchanges (count_word c index) count count)) walker false (same_count is) (omega arith) index
+                below (Some (index, value)) shown_now (seen, stands_now is)
+                (seen_copied index value (done scene) seen) (omega arith) (passed_copied is)
+            go false t =
+                let other : count_in code c m index ≢ count = grind (arith, nat_tests) in
+                let paid_now : backs + scene.since + 1 ≤ scene.changes = ⊎_elim (λ k. absurd (other k.0)) (λ more. more) paid in
+                finds (stages.TheVariants.ChecksCount index count)
+                (Some (exchanges (count_word c index) count count)) walker true
+                (fails_same ws (count_word c index) count count other) (omega arith) index below index
+                (λ i ne out. ne) course seen (omega arith)

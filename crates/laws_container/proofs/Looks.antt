@@ -1,0 +1,382 @@
+-- The steps of the calls that bring a party's state up to date.
+use Rattle.std.proofs.Common.{◌≡◌, ◌≢◌, ⊎_elim, ℕ, ◌+◌, ◌*◌, ◌≤◌, cond, Bool, true, false, Option, Some, None, List}
+use Rattle.std.proofs.Common.{[], ◌∷◌, ◌++◌, refl, sym, ap, subst, ◌∙◌, arith}
+use Rattle.std.specs.BTreeMap.{is_at}
+use Rattle.std.specs.Ordering.{nat_cmp, is_eq}
+use Rattle.std.specs.Map.{lookup, set_value}
+use Rattle.std.specs.List.{AllByRecursion}
+use Rattle.std.proofs.lemmas.Bool.{cases_eq}
+use Rattle.std.proofs.lemmas.List.Concat.{flat_map-append}
+use Rattle.std.proofs.lemmas.List.Sums.{fold-append}
+use Rattle.steps.specs.declared.ask.Ask.{Ask}
+use Rattle.steps.specs.declared.ask.After.{After}
+use Rattle.steps.specs.declared.ask.After.TheVariants.{GoOn, Done}
+use Rattle.steps.specs.declared.container.look.Look.{Look}
+use Rattle.steps.specs.declared.container.look.LookStage.{LookStage}
+use Rattle.steps.specs.declared.container.look.LookStage as stages
+use Rattle.steps.specs.declared.container.state.ContainerState.{ContainerState}
+use Rattle.steps.specs.Container.Look.{look_asks, look_goes_back}
+use Rattle.model.specs.declared.event.Answer.{Answer}
+use Rattle.model.specs.declared.event.Event.{Event}
+use Rattle.model.specs.declared.event.Event.TheVariants.{Copied, Finished}
+use Rattle.model.specs.declared.event.Start.TheVariants.{Container}
+use Rattle.model.specs.declared.families.container.ContainerStart.{ContainerStart}
+use Rattle.model.specs.declared.families.container.ContainerStart as starts
+use Rattle.model.specs.declared.families.container.calls.LookOf.{LookOf}
+use Rattle.model.specs.declared.families.container.calls.LookOf as kinds
+use Rattle.model.specs.declared.party.Party.{Party}
+use Rattle.model.specs.Families.{ask_of}
+use Rattle.model.specs.Families.Container.Bounds.{most_steps}
+use Rattle.model.specs.Families.Container.Calls.{looked, look_came, look_goes, settled_if, writes_state}
+use Rattle.model.specs.Families.Container.Looks.{is_looking, WasCopied}
+use Rattle.model.specs.Families.Container.Reading.{Act, acts, seen_in, contents_after, contents_of}
+use Rattle.model.specs.Families.Container.Spans.{may_stand, HasDone}
+use Rattle.model.specs.Families.Container.States.{state_of, set_state, settled}
+use Rattle.model.specs.Families.Container.Steps.{look_effects_of}
+use Rattle.model.specs.Families.Indices.Robust.Reading.{Deed, deed, deeds}
+use Rattle.model.specs.Moments.{BeginsNone}
+use Rattle.model.specs.Parties.{put, flight_of}
+use Rattle.model.specs.Reading.{Open}
+use Rattle.model.specs.Turns.{old_of, words_after, step_count, ending_of}
+use Rattle.model.proofs.Parties.{apart, itself}
+use Rattle.model.proofs.Readings.{AreOwn}
+use Rattle.laws_robust.specs.Gone.{GoneBy}
+use Rattle.laws_robust.proofs.Invariant.{IsWorn}
+use Rattle.laws_container.specs.Gone.{AnswersBy}
+use Rattle.laws_container.proofs.Core.{count_at}
+use Rattle.laws_container.proofs.Effects.{OwesStill}
+use Rattle.laws_container.proofs.Glances.{rests_settled}
+use Rattle.laws_container.proofs.HiddenKnows.{EndsRight}
+use Rattle.laws_container.proofs.Invariant.{Scene, Inv, AreAllRight, Does, before, after, wrote_of, view}
+use Rattle.laws_container.proofs.KeptCopies.{ShowsOwn, copies_of, CallsOn, calls_on}
+use Rattle.laws_container.proofs.Knows.{LookKnows, Knows}
+use Rattle.laws_container.proofs.LookWalk.{Comes, IsRight, call_at, Walker, WalkAt, walks_change, walks_count, walks_word, walks_check}
+use Rattle.laws_container.proofs.Sights.{Rests, Course, rests_later, course_later}
+use Rattle.laws_container.proofs.Silent.{Silent, EndsSilently, silent_set, silent_changes}
+use Rattle.laws_container.proofs.Stages.{NoReplace, IsHere, none_lengthens, all, done, sees_now, StepOf, Leads}
+use Rattle.laws_container.proofs.Stages.{party_then, backs_then, since_then, changes_then, goes_on, ends, owes_none}
+use Rattle.laws_container.proofs.Stages.{was_well_formed}
+use Rattle.laws_container.proofs.Standing.{look_at, look_number, LookAt, At, AreBelow}
+use Rattle.laws_container.proofs.Turns.{Now, WellFormed, Passes, change_in}
+
+-- ---- a party's state is written
+
+module _ {X : Type 0} where
+  abbrev found_at : ℕ → List (ℕ × X) → Option X
+  found_at p es = lookup (is_at (nat_cmp p)) es
+
+  same_by : (p : ℕ) (x y : X) (e : ℕ × X) (es : List (ℕ × X)) (b : Bool) → is_eq (nat_cmp p e.0) ≡ b
+      → found_at p (e ∷ es) ≡ Some y
+      → (found_at p es ≡ Some y → found_at p (set_value (is_at (nat_cmp p)) es x) ≡ Some x)
+      → found_at p (set_value (is_at (nat_cmp p)) (e ∷ es) x) ≡ Some x
+  same_by p x y e es true t found behind = rw (t, t) refl
+  same_by p x y e es false t found behind = rw (t, t) (behind (rw t at found))
+
+  pub written_same : (p : ℕ) (x y : X) (es : List (ℕ × X)) → found_at p es ≡ Some y → found_at p (set_value (is_at (nat_cmp p)) es x) ≡ Some x
+  written_same p x y [] found = absurd (cc)
+  written_same p x y (e ∷ es) found = same_by p x y e es (is_eq (nat_cmp p e.0)) refl found (written_same p x y es)
+
+  pub written_other : (q p : ℕ) (x : X) (es : List (ℕ × X)) → q ≢ p → found_at q (set_value (is_at (nat_cmp p)) es x) ≡ found_at q es
+  written_other q p x [] ne = refl
+  written_other q p x (e ∷ es) ne =
+      let behind : found_at q (set_value (is_at (nat_cmp p)) es x) ≡ found_at q es = written_other q p x es ne in
+      ⊎_elim here (there behind) (cases_eq p e.0)
+    where
+      here : p ≡ e.0 → found_at q (set_value (is_at (nat_cmp p)) (e ∷ es) x) ≡ found_at q (e ∷ es)
+      here same =
+          let t : is_eq (nat_cmp p e.0) ≡ true = subst (λ n. is_eq (nat_cmp p n) ≡ true) same (itself p) in
+          let o : is_eq (nat_cmp q e.0) ≡ false = apart q e.0 (λ h. ne (h ∙ sym same)) in
+          rw (t, o) refl
+
+      there : found_at q (set_value (is_at (nat_cmp p)) es x) ≡ found_at q es → p ≢ e.0
+          → found_at q (set_value (is_at (nat_cmp p)) (e ∷ es) x) ≡ found_at q (e ∷ es)
+      there behind other =
+          let t : is_eq (nat_cmp p e.0) ≡ false = apart p e.0 other in
+          rw t (ap (cond (is_eq (nat_cmp q e.0)) (Some e.1)) behind)
+
+-- ---- the call of each kind of look
+
+abbrev pub looks_as : {T : Type 0} → LookOf → ContainerStart T
+looks_as kinds.TheVariants.GetState = starts.TheVariants.GetState
+looks_as kinds.TheVariants.UpdateState = starts.TheVariants.UpdateState
+
+module _ (T : Type 0) where
+  pub no_replace : (which : LookOf) → NoReplace (looks_as {T = T} which)
+  no_replace kinds.TheVariants.GetState = tt
+  no_replace kinds.TheVariants.UpdateState = tt
+
+  pub silent_end : (which : LookOf) → EndsSilently (looks_as {T = T} which)
+  silent_end kinds.TheVariants.GetState = tt
+  silent_end kinds.TheVariants.UpdateState = tt
+
+  at_look : (which : LookOf) (c z : ℕ) (made : List Deed) (did : List (Act T)) (stage : LookStage)
+      → LookAt c z made did stage → At c z made did (looks_as which) (look_at which c stage)
+  at_look kinds.TheVariants.GetState c z made did stage at = (refl, refl, at)
+  at_look kinds.TheVariants.UpdateState c z made did stage at = (refl, refl, at)
+
+  few_look : (which : LookOf) (c z n backs : ℕ) → n ≤ 1 + c * (z + 2) + backs * (z + 1) → n ≤ most_steps c z (looks_as {T = T} which) backs
+  few_look kinds.TheVariants.GetState c z n backs few = few
+  few_look kinds.TheVariants.UpdateState c z n backs few = few
+
+  answers_look : (by : GoneBy) (worn : Type 0) (which : LookOf) (c p : ℕ) (s : ContainerState T) (changed : Bool)
+      (events : List (Event T))
+      → AnswersBy by worn c events (Finished p (Container (looks_as which)) (looked which s changed))
+  answers_look by worn kinds.TheVariants.GetState c p s changed events = tt
+  answers_look by worn kinds.TheVariants.UpdateState c p s changed events = tt
+
+  places_look : (which : LookOf) (p : ℕ) (s : ContainerState T) (changed : Bool) (events : List (Event T))
+      → EndsRight events (Finished p (Container (looks_as which)) (looked which s changed))
+  places_look kinds.TheVariants.GetState p s changed events = tt
+  places_look kinds.TheVariants.UpdateState p s changed events = tt
+
+  does_look : (which : LookOf) (s : ContainerState T) (changed : Bool) (made : List Deed) (acts : List (Act T))
+      → made ≡ [] → HasDone (looks_as which) (looked which s changed) made acts
+  does_look kinds.TheVariants.GetState s changed made acts none = none
+  does_look kinds.TheVariants.UpdateState s changed made acts none = none
+
+  copy_stands : (which : LookOf) (p index : ℕ) (value : T) (w : List (Event T)) → AreBelow index (seen_in (acts w))
+      → may_stand (Copied p index value) (Open (Container (looks_as which)) w)
+  copy_stands kinds.TheVariants.GetState p index value w h = h
+  copy_stands kinds.TheVariants.UpdateState p index value w h = h
+
+-- ---- a step
+
+module _ {T : Type 0} (scene : Scene T) (inv : Inv scene) (which : LookOf) (stage : LookStage)
+    (here : IsHere scene (looks_as which) (look_at which scene.capacity stage)) (s : ContainerState T)
+    (found : state_of scene.party scene.states ≡ Some s) where
+  open scene use {coding as code, capacity as c, party as p, steps as steps, backs as backs, latest as latest, events as events}
+
+  abbrev ws : List ℕ
+  ws = scene.words
+
+  abbrev start : ContainerStart T
+  start = looks_as which
+
+  abbrev m : Now T
+  m = before scene
+
+  well_formed_of : (words' : List ℕ) (y : Party T) (es : List (Event T)) → AreOwn p es → WellFormed (after scene words' y es) → WellFormed m
+  well_formed_of words' y es own = was_well_formed scene start (no_replace T which) here.span words' y es own
+
+  still : (words' : List ℕ) (y : Party T) (es : List (Event T)) (well_formed : WellFormed (after scene words' y es) → WellFormed m)
+      → OwesStill scene inv words' y es well_formed
+  still words' y es well_formed = owes_none scene start (look_at which c stage) y here refl
+
+  -- the machine after a step that writes this, and then that
+  module _ (words' : List ℕ) (same : words' ≡ ws) (y : Party T) (what : Option (ℕ × T)) (rest : List (Event T))
+      (silent : AllByRecursion Silent (copies_of p what ++ rest)) (own : AreOwn p (copies_of p what ++ rest))
+      (none : BeginsNone p (copies_of p what ++ rest))
+      (contents : (i : ℕ) → contents_of i (events ++ (copies_of p what ++ rest)) ≡ contents_of i events)
+      (on : CallsOn p what events (events ++ (copies_of p what ++ rest))) where
+    abbrev es : List (Event T)
+    es = copies_of p what ++ rest
+
+    passes : Passes code c m (after scene words' y es)
+    passes = (silent_changes scene inv words' same y es silent own (well_formed_of words' y es own) (still words' y es (well_formed_of words' y es own))).passes
+
+    copied_now : (o : Option (ℕ × T)) (i : ℕ) (value : T) → o ≡ Some (i, value) → WasCopied p i value (events ++ (copies_of p o ++ rest))
+    copied_now o i value e = grind arith
+
+    pub comes : Comes scene inv (after scene words' y es) what
+    comes =
+        record {
+          well_formed = well_formed_of words' y es own;
+          words = same;
+          contents = contents;
+          later = λ st k x h. course_later code c m (after scene words' y es) es refl passes p st on none (λ alone i low. ap (λ w. count_at c w i) same) k x h;
+          rests = λ st h. rests_later code c m (after scene words' y es) es refl passes p st h;
+          copied = λ i value e. copied_now what i value e;
+          on = on;
+        }
+
+    -- what the turn does, that leaves this state
+    does : (st : ContainerState T) → AreAllRight scene words' y es
+        → (is_looking (flight_of (Some y.doing)) ≡ false → Rests code c (after scene words' y es) p st)
+        → Does scene words' (set_state p st scene.states) y es
+    does st right rests =
+        record {
+          set = silent_set scene inv words' same y es silent own;
+          changes = silent_changes scene inv words' same y es silent own (well_formed_of words' y es own) (still words' y es (well_formed_of words' y es own));
+          right = right;
+          others = λ q ne. written_other q p st scene.states ne;
+          rests = λ other idle is.
+              let eq : Some st ≡ Some other = sym (written_same p st s scene.states found) ∙ is in
+              let one : st ≡ other = cc in
+              subst (Rests code c (after scene words' y es) p) one (rests idle);
+        }
+
+  on_now : (what : Option (ℕ × T)) (outcome : Option (Answer T)) → CallsOn p what events (events ++ (copies_of p what ++ ending_of p (Container start) outcome))
+  on_now what outcome = calls_on p events (Container start) (wrote_of p events) here.span what outcome
+
+  -- ---- it goes on, or ends
+
+  abbrev Lead : Option Ask → Bool → List (Event T) → ContainerState T → After (Look T) Bool → Type 0
+  Lead ask back did st a =
+      Leads scene (looks_as which) ask back (set_state p (settled_if a st) scene.states) (did ++ []) (look_came which st a)
+
+  module _ (ask : Option Ask) where
+    goes_with : (next : LookStage) (back : Bool) (what : Option (ℕ × T)) (st : ContainerState T) → IsRight scene inv what → words_after ws ask ≡ ws
+        → LookAt c code.size (all scene ++ deeds (copies_of p what)) (done scene ++ acts (copies_of p what)) next
+        → steps + step_count ask ≤ look_number code.size next (backs_then scene back)
+        → ((words' : List ℕ) (states' : List (ℕ × ContainerState T)) (latest' : List (ℕ × Party T)) (es' : List (Event T))
+        → Comes scene inv (record { terms = scene.terms; words = words'; latest = latest'; events = es' }) what
+        → state_of p states' ≡ Some st
+        → LookKnows code c next (view scene.terms words' states' latest' es' p (since_then scene ask) (changes_then scene ask) (backs_then scene back)))
+        → Lead ask back (copies_of p what) st (GoOn (call_at scene inv next))
+    goes_with next back None st right same at few known =
+        let y = party_then scene start ask back (GoOn (look_at which c next)) in
+        let words' = words_after ws ask in
+        let contents : (i : ℕ) → contents_of i (events ++ []) ≡ contents_of i events = λ i. fold-append (contents_after i) None events [] in
+        goes_on scene start (look_at which c next) ask back (set_state p st scene.states) [] here.span none_lengthens
+        (does words' same y None [] tt tt tt contents (on_now None None) st
+        (record { asks = tt; recovers = tt; answers = tt; contains = λ holds. tt; places = λ holds. tt })
+        (λ idle. absurd (cc)))
+        tt few (at_look T which c code.size _ _ next at)
+        (known words' (set_state p st scene.states) (put p y latest) (events ++ [])
+        (comes words' same y None [] tt tt tt contents (on_now None None)) (written_same p st s scene.states found))
+    goes_with next back (Some copy) st right same at few known =
+        let y = party_then scene start ask back (GoOn (look_at which c next)) in
+        let words' = words_after ws ask in
+        let es = Copied p copy.0 copy.1 ∷ [] in
+        let contents : (i : ℕ) → contents_of i (events ++ es) ≡ contents_of i events = λ i. fold-append (contents_after i) None events es in
+        goes_on scene start (look_at which c next) ask back (set_state p st scene.states) es here.span (λ start w. refl)
+        (does words' same y (Some copy) [] (tt, tt) (refl, tt) tt contents (on_now (Some copy) None) st
+        (record {
+          asks = (tt, tt);
+          recovers = (tt, tt);
+          answers = (tt, tt);
+          contains = λ holds. (right.1 (well_formed_of words' y es (refl, tt) holds), tt);
+          places = λ holds. (tt, tt);
+        }) (λ idle. absurd (cc)))
+        (copy_stands T which p copy.0 copy.1 (wrote_of p events) right.0, tt) few (at_look T which c code.size _ _ next at)
+        (known words' (set_state p st scene.states) (put p y latest) (events ++ es)
+        (comes words' same y (Some copy) [] (tt, tt) (refl, tt) tt contents (on_now (Some copy) None))
+        (written_same p st s scene.states found))
+
+    ends_with : (back : Bool) (what : Option (ℕ × T)) (st : ContainerState T) → IsRight scene inv what → words_after ws ask ≡ ws → all scene ≡ []
+        → steps + step_count ask ≤ 1 + c * (code.size + 2) + backs_then scene back * (code.size + 1)
+        → backs_then scene back + since_then scene ask ≤ changes_then scene ask
+        → ((m' : Now T) → Comes scene inv m' what → Course code c m' p st c c)
+        → Lead ask back (copies_of p what) st (Done true)
+    ends_with back None st right same none few paid course =
+        let answer = looked which st true in
+        let y = party_then scene start ask back (Done answer) in
+        let words' = words_after ws ask in
+        let es = Finished p (Container start) answer ∷ [] in
+        let contents : (i : ℕ) → contents_of i (events ++ es) ≡ contents_of i events = λ i. fold-append (contents_after i) None events es in
+        let m' = after scene words' y es in
+        ends scene start answer ask back (set_state p (settled st) scene.states) [] here.span none_lengthens
+        (does words' same y None es (silent_end T which, tt) (refl, tt) tt contents (on_now None (Some answer)) (settled st)
+        (record {
+          asks = (tt, tt);
+          recovers = (tt, tt);
+          answers = (answers_look T scene.terms.by (IsWorn scene.terms.by words') which c p st true events, tt);
+          contains = λ holds. (tt, tt);
+          places = λ holds. (places_look T which p st true events, tt);
+        })
+        (λ idle. rests_settled code c m' p st
+        (course m' (comes words' same y None es (silent_end T which, tt) (refl, tt) tt contents (on_now None (Some answer))))))
+        ((refl, does_look T which st true (all scene) (done scene) none), tt) (few_look T which c code.size _ (backs_then scene back) few) (omega arith)
+    ends_with back (Some copy) st right same none few paid course =
+        let answer = looked which st true in
+        let y = party_then scene start ask back (Done answer) in
+        let words' = words_after ws ask in
+        let did = Copied p copy.0 copy.1 ∷ [] in
+        let finish = Finished p (Container start) answer ∷ [] in
+        let es = Copied p copy.0 copy.1 ∷ Finished p (Container start) answer ∷ [] in
+        let contents : (i : ℕ) → contents_of i (events ++ es) ≡ contents_of i events = λ i. fold-append (contents_after i) None events es in
+        let m' = after scene words' y es in
+        ends scene start answer ask back (set_state p (settled st) scene.states) did here.span (λ start w. refl)
+        (does words' same y (Some copy) finish (tt, (silent_end T which, tt)) (refl, (refl, tt)) tt contents (on_now (Some copy) (Some answer)) (settled st)
+        (record {
+          asks = (tt, (tt, tt));
+          recovers = (tt, (tt, tt));
+          answers = (tt, (answers_look T scene.terms.by (IsWorn scene.terms.by words') which c p st true (events ++ did), tt));
+          contains = λ holds. (right.1 (well_formed_of words' y es (refl, (refl, tt)) holds), (tt, tt));
+          places = λ holds. (tt, (places_look T which p st true (events ++ did), tt));
+        })
+        (λ idle. rests_settled code c m' p st
+        (course m' (comes words' same y (Some copy) finish (tt, (silent_end T which, tt)) (refl, (refl, tt)) tt contents
+        (on_now (Some copy) (Some answer))))))
+        (copy_stands T which p copy.0 copy.1 (wrote_of p events) right.0, ((refl, does_look T which st true _ _ (deeds_one copy none)), tt))
+        (few_look T which c code.size _ (backs_then scene back) few) (omega arith)
+      where
+        deeds_one : (copy : ℕ × T) → all scene ≡ [] → deeds (wrote_of p events ++ Copied p copy.0 copy.1 ∷ []) ≡ []
+        deeds_one copy none = flat_map-append deed (wrote_of p events) (Copied p copy.0 copy.1 ∷ []) ∙ ap (λ (d : List Deed). d ++ []) none
+
+    stays_with : words_after ws ask ≡ ws → all scene ≡ [] → steps + step_count ask ≤ 1
+        → backs_then scene false + since_then scene ask ≤ changes_then scene ask → Rests code c m p s
+        → ShowsOwn p s c events → s.shown.change ≡ change_in code c m → Lead ask false [] s (Done false)
+    stays_with same none few paid rests own is =
+        let answer = looked which s false in
+        let y = party_then scene start ask false (Done answer) in
+        let words' = words_after ws ask in
+        let es = Finished p (Container start) answer ∷ [] in
+        let contents : (i : ℕ) → contents_of i (events ++ es) ≡ contents_of i events = λ i. fold-append (contents_after i) None events es in
+        ends scene start answer ask false (set_state p s scene.states) [] here.span none_lengthens
+        (does words' same y None es (silent_end T which, tt) (refl, tt) tt contents (on_now None (Some answer)) s
+        (record {
+          asks = (tt, tt);
+          recovers = (tt, tt);
+          answers = (answers_look T scene.terms.by (IsWorn scene.terms.by words') which c p s false events, tt);
+          contains = λ holds. (tt, tt);
+          places = λ holds. (places_look T which p s false events, tt);
+        })
+        (λ idle. (comes words' same y None es (silent_end T which, tt) (refl, tt) tt contents (on_now None (Some answer))).rests s rests))
+        ((refl, does_look T which s false (all scene) (done scene) none), tt)
+        (few_look T which c code.size _ (backs_then scene false) (omega arith)) (omega arith)
+
+    walker : Walker scene inv s ask (Lead ask)
+    walker = record { goes = goes_with; ends = ends_with; stays = stays_with }
+
+  -- the step from the state that the party has
+  abbrev StepFrom : Option (ContainerState T) → Type 0
+  StepFrom o =
+      Leads scene (looks_as which) (ask_of (look_asks code.size c stage)) (look_goes_back stage (old_of ws (ask_of (look_asks code.size c stage))))
+      (writes_state code p (call_at scene inv stage) (old_of ws (ask_of (look_asks code.size c stage))) o scene.states)
+      (look_effects_of code p stage (old_of ws (ask_of (look_asks code.size c stage))) o ++ [])
+      (look_goes code which (call_at scene inv stage) o (old_of ws (ask_of (look_asks code.size c stage))))
+
+  pub step_from : WalkAt scene inv s (Lead (ask_of (look_asks code.size c stage))) stage → StepOf scene (looks_as which) (look_at which c stage)
+  step_from h = subst StepFrom (sym found) h
+
+-- ---- any stage
+
+module _ {T : Type 0} (scene : Scene T) (inv : Inv scene) where
+  open scene use {coding as code, capacity as c, party as p, steps as steps, backs as backs, events as events}
+
+  -- the state that a look has
+  pub record HasState : Type 0 where
+    pub state : ContainerState T
+    pub found : state_of p scene.states ≡ Some state
+
+  pub state_known : (stage : LookStage) → LookKnows code c stage (sees_now scene) → HasState
+  state_known stages.TheVariants.LoadsChange k = let h = k.1 in record { state = h.state; found = h.found }
+  state_known (stages.TheVariants.LoadsCount index) k = let h = k.1 in record { state = h.state; found = h.found }
+  state_known (stages.TheVariants.LoadsWord index count word) k = let h = k.1 in record { state = h.looks.state; found = h.looks.found }
+  state_known (stages.TheVariants.ChecksCount index count) k = let h = k.1 in record { state = h.looks.state; found = h.looks.found }
+
+  pub walks : (stage : LookStage) → LookAt c code.size (all scene) (done scene) stage
+      → (k : LookKnows code c stage (sees_now scene)) → steps ≤ look_number code.size stage backs
+      → (Leads_to : Option Ask → Bool → List (Event T) → ContainerState T → After (Look T) Bool → Type 0)
+      → ((ask : Option Ask) → Walker scene inv (state_known stage k).state ask (Leads_to ask))
+      → WalkAt scene inv (state_known stage k).state (Leads_to (ask_of (look_asks code.size c stage))) stage
+  unfolding state_known
+  walks stages.TheVariants.LoadsChange at k few Leads_to walks_to = let h = k.1 in walks_change scene inv h.state _ at.0 (walks_to _) few k.0 at.1 h.rests h.own
+  walks (stages.TheVariants.LoadsCount index) at k few Leads_to walks_to = let h = k.1 in
+      walks_count scene inv h.state _ at.0 index at.1 (walks_to _) few k.0 at.2 h.course
+  walks (stages.TheVariants.LoadsWord index count word) at k few Leads_to walks_to =
+      let h = k.1 in
+      walks_word scene inv h.looks.state _ at.0 index count word at.1.0 at.2 at.1.2 few k.0 at.1.1 h.looks.course h.number h.copying (walks_to _)
+  walks (stages.TheVariants.ChecksCount index count) at k few Leads_to walks_to =
+      let h = k.1 in
+      walks_check scene inv h.looks.state _ at.0 index count at.1.0 at.1.2 few k.0 at.1.1 h.looks.course h.copying (walks_to _)
+
+  pub look_step : (which : LookOf) (stage : LookStage) → IsHere scene (looks_as which) (look_at which c stage)
+      → LookAt c code.size (all scene) (done scene) stage → Knows code c (look_at which c stage) (sees_now scene)
+      → steps ≤ look_number code.size stage backs
+      → StepOf scene (looks_as which) (look_at which c stage)
+  look_step which stage here at k few =
+      let h = state_known stage k in
+      step_from scene inv which stage here h.state h.found
+      (walks stage at k few (Lead scene inv which stage here h.state h.found) (walker scene inv which stage here h.state h.found))

@@ -1,0 +1,325 @@
+-- What a look has made of its party's state in the step in which it ends.
+use Rattle.std.proofs.Common.{◌≡◌, ◌≢◌, ⊎_elim, ℕ, ◌≤◌, Bool, true, false, Option, Some, None, is_some, List, [], ◌∷◌}
+use Rattle.std.proofs.Common.{◌++◌, refl, sym, ap, subst, ◌∙◌, append-nil, arith}
+use Rattle.std.proofs.lemmas.Bool.{cases_eq}
+use Rattle.std.proofs.lemmas.List.Sums.{fold-append}
+use Rattle.steps.specs.declared.ask.Ask.{Ask}
+use Rattle.steps.specs.declared.ask.After.{After}
+use Rattle.steps.specs.declared.ask.After.TheVariants.{GoOn, Done}
+use Rattle.steps.specs.declared.container.look.Look.{Look}
+use Rattle.steps.specs.declared.container.look.LookStage.{LookStage}
+use Rattle.steps.specs.declared.container.state.ContainerState.{ContainerState}
+use Rattle.steps.specs.Container.Look.{look_asks, look_goes_back, look_after}
+use Rattle.model.specs.declared.event.Answer.{Answer}
+use Rattle.model.specs.declared.event.Event.{Event}
+use Rattle.model.specs.declared.event.Event.TheVariants.{Copied, Finished}
+use Rattle.model.specs.declared.event.Start.TheVariants.{Container}
+use Rattle.model.specs.declared.families.container.ContainerStart.{ContainerStart}
+use Rattle.model.specs.declared.families.container.calls.LookOf.{LookOf}
+use Rattle.model.specs.declared.families.container.calls.LookOf as kinds
+use Rattle.model.specs.declared.party.Party.{Party}
+use Rattle.model.specs.Families.{ask_of}
+use Rattle.model.specs.Families.Container.Calls.{after as goes_after, looked, look_came, look_goes, look_shows, settled_if, states_after, writes_state}
+use Rattle.model.specs.Families.Container.Looks.{WasAlone, IsCurrent, ShowsMoments, AnswersOfState, MomentsOfState}
+use Rattle.model.specs.Families.Container.Reading.{contents_after, contents_of, announced_of}
+use Rattle.model.specs.Families.Container.States.{state_of, set_state, settled}
+use Rattle.model.specs.Families.Container.Steps.{look_effects, look_effects_of, copy_in, effects, questions}
+use Rattle.model.specs.Parties.{party_of, put, doing_of, flight_of}
+use Rattle.model.specs.Reading.{span_of}
+use Rattle.model.specs.Shape.{IsShut}
+use Rattle.model.specs.Step.{answer_in}
+use Rattle.model.specs.Turns.{old_of, words_after}
+use Rattle.laws_robust.proofs.Effects.{both_ways}
+use Rattle.laws_robust.proofs.Past.{through_less, through_now, through_so, since_less}
+use Rattle.laws_container.proofs.Alone.{alone_less, others_shut}
+use Rattle.laws_container.proofs.Announced.{announced_through}
+use Rattle.laws_container.proofs.Invariant.{Scene, Inv, before, after, wrote_of}
+use Rattle.laws_container.proofs.KeptCopies.{ShowsOwn, ShowsCopied, copies_of, own_later, own_then, calls_on}
+use Rattle.laws_container.proofs.Knows.{LookKnows}
+use Rattle.laws_container.proofs.LookWalk.{Comes, call_at}
+use Rattle.laws_container.proofs.Looks.{looks_as, no_replace, silent_end, written_same, comes, HasState, state_known, walks}
+use Rattle.laws_container.proofs.WellFormed.{IsWellFormedSoFar}
+use Rattle.laws_container.proofs.Sights.{StoodThere, Rests, Course}
+use Rattle.laws_container.proofs.Stages.{IsHere, all, done, sees_now, any_call, owes_is, was_well_formed}
+use Rattle.laws_container.proofs.Standing.{look_at, look_number, LookAt}
+use Rattle.laws_container.proofs.Turns.{Owing, owes, Now, WellFormed, change_in}
+
+-- ---- what its answer says
+
+module _ {T : Type 0} where
+  answers_passed : (which : LookOf) (st : ContainerState T) (o : Option (ContainerState T))
+      → AnswersOfState (looks_as which) (looked which st true) o (settled st)
+  answers_passed kinds.TheVariants.GetState st o = refl
+  answers_passed kinds.TheVariants.UpdateState st o = tt
+
+  answers_same : (which : LookOf) (st s : ContainerState T) → st ≡ s → AnswersOfState (looks_as which) (looked which st false) (Some s) st
+  answers_same kinds.TheVariants.GetState st s is = refl
+  answers_same kinds.TheVariants.UpdateState st s is = ap Some (sym is)
+
+  moments_passed : (which : LookOf) (p c : ℕ) (st : ContainerState T) (es : List (Event T))
+      → ShowsMoments p c (settled st) es → MomentsOfState p c (looks_as which) (looked which st true) (settled st) es
+  moments_passed kinds.TheVariants.GetState p c st es h = tt
+  moments_passed kinds.TheVariants.UpdateState p c st es h = h
+
+  moments_same : (which : LookOf) (p c : ℕ) (st : ContainerState T) (es : List (Event T)) → MomentsOfState p c (looks_as which) (looked which st false) st es
+  moments_same kinds.TheVariants.GetState p c st es = tt
+  moments_same kinds.TheVariants.UpdateState p c st es = tt
+
+module _ {T : Type 0} (scene : Scene T) (inv : Inv scene) (which : LookOf) (stage : LookStage)
+    (here : IsHere scene (looks_as which) (look_at which scene.capacity stage))
+    (at : LookAt scene.capacity scene.coding.size (all scene) (done scene) stage)
+    (k : LookKnows scene.coding scene.capacity stage (sees_now scene))
+    (few : scene.steps ≤ look_number scene.coding.size stage scene.backs)
+    (alone_now : (q : ℕ) → owes (flight_of (doing_of (party_of q scene.latest))) ≡ true → IsShut (span_of q scene.events) → ⊥) where
+  open scene use {coding as code, capacity as c, party as p, latest as latest, events as events}
+
+  abbrev ws : List ℕ
+  ws = scene.words
+
+  abbrev m : Now T
+  m = before scene
+
+  abbrev h : HasState scene inv
+  h = state_known scene inv stage k
+
+  abbrev ask_now : Option Ask
+  ask_now = ask_of (look_asks code.size c stage)
+
+  abbrev old : ℕ
+  old = old_of ws (ask_of (look_asks code.size c stage))
+
+  abbrev start : ContainerStart T
+  start = looks_as which
+
+  -- ---- how it may end
+
+  -- it has gone over all indices
+  record HasPassed (ask : Option Ask) (did : List (Event T)) (st : ContainerState T) : Type 0 where
+    pub what : Option (ℕ × T)
+    pub is : did ≡ copies_of p what
+    pub same : words_after ws ask ≡ ws
+    pub course : (m' : Now T) → Comes scene inv m' what → Course code c m' p st c c
+
+  -- nothing had changed
+  record IsSame (did : List (Event T)) (st : ContainerState T) : Type 0 where
+    pub nothing : did ≡ []
+    pub is : st ≡ h.state
+    pub rests : Rests code c m p st
+    pub change : st.shown.change ≡ change_in code c m
+    pub own : ShowsOwn p st c events
+
+  abbrev EndsSo : Option Ask → Bool → List (Event T) → ContainerState T → After (Look T) Bool → Type 0
+  EndsSo ask back did st (GoOn call) = Unit {0}
+  EndsSo ask back did st (Done true) = HasPassed ask did st
+  EndsSo ask back did st (Done false) = IsSame did st
+
+  ends_so : EndsSo ask_now (look_goes_back stage old) (look_effects p (copy_in code h.state) stage old)
+      (look_shows code (call_at scene inv stage) h.state old)
+      (look_after code.size (call_at scene inv stage) h.state.seen old)
+  ends_so =
+      walks scene inv stage at k few EndsSo
+      (λ ask.
+      record {
+        goes = λ next back what st right same stands low known. tt;
+        ends = λ back what st right same none low paid course. record { what = what; is = refl; same = same; course = course };
+        stays = λ same none low paid rests own change. record { nothing = refl; is = refl; rests = rests; change = change; own = own };
+      })
+
+  -- ---- what it shows then
+
+  module _ (did : List (Event T)) (st : ContainerState T) (y : Party T) where
+    -- it has gone over them
+    module _ (answer : Answer T) (passed : HasPassed ask_now did st) where
+      abbrev finish : List (Event T)
+      finish = Finished p (Container start) answer ∷ []
+
+      module _ (m' : Now T) (comes' : Comes scene inv m' passed.what) (holds : WellFormed m') where
+        course : Course code c m' p st c c
+        course = passed.course m' comes'
+
+        all_current : IsCurrent p c (settled st) m'.events
+        all_current =
+            record {
+              stood = λ i value announced through.
+                  let now = through_now p (λ part. contents_of i part ≡ Some value) m'.events through in
+                  let low = inv.elements.within i value (sym (comes'.contents i) ∙ now) in
+                  let stays : StoodThere p i m'.events =
+                  through_so p (λ part. contents_of i part ≡ Some value)
+                  (λ part. is_some (contents_of i part) ≡ true) m'.events (λ part e. ap is_some e) through in
+                  course.sight.same holds i low (λ e. absurd (omega arith)) (course.fresh holds i low low stays) ∙ now;
+              alone = λ was i low. course.sight.same holds i low (λ e. absurd (omega arith)) (course.alone was i low low);
+            }
+
+        all_moments : ShowsMoments p c (settled st) m'.events
+        all_moments = λ i low. course.once holds i low low
+
+      comes_end : (what : Option (ℕ × T))
+          → Comes scene inv (after scene (words_after ws ask_now) y (copies_of p what ++ Finished p (Container start) answer ∷ [])) what
+      comes_end None =
+          let es : List (Event T) = Finished p (Container start) answer ∷ [] in
+          comes scene inv which stage here h.state h.found (words_after ws ask_now) passed.same y None es
+          (silent_end T which, tt) (refl, tt) tt (λ i. fold-append (contents_after i) None events es)
+          (calls_on p events (Container start) (wrote_of p events) here.span None (Some answer))
+      comes_end (Some copy) =
+          let es : List (Event T) = Copied p copy.0 copy.1 ∷ Finished p (Container start) answer ∷ [] in
+          comes scene inv which stage here h.state h.found (words_after ws ask_now) passed.same y (Some copy)
+          (Finished p (Container start) answer ∷ []) (tt, (silent_end T which, tt)) (refl, (refl, tt)) tt
+          (λ i. fold-append (contents_after i) None events es)
+          (calls_on p events (Container start) (wrote_of p events) here.span (Some copy) (Some answer))
+
+      abbrev Current : List (Event T) → Type 0
+      Current es =
+          IsWellFormedSoFar scene.terms (put p y latest) (events ++ es)
+          → IsCurrent p c (settled st) (events ++ es) × ShowsMoments p c (settled st) (events ++ es)
+
+      passed_current : Current (did ++ Finished p (Container start) answer ∷ [])
+      passed_current =
+          subst (λ d. Current (d ++ Finished p (Container start) answer ∷ [])) (sym passed.is)
+          (λ holds.
+          let m' : Now T = after scene (words_after ws ask_now) y (copies_of p passed.what ++ Finished p (Container start) answer ∷ []) in
+          let comes' = comes_end passed.what in
+          (all_current m' comes' holds, all_moments m' comes' holds))
+
+      abbrev Own : List (Event T) → Type 0
+      Own es = ShowsCopied p (settled st) events (events ++ es)
+
+      passed_own : Own (did ++ Finished p (Container start) answer ∷ [])
+      passed_own =
+          subst (λ d. Own (d ++ Finished p (Container start) answer ∷ [])) (sym passed.is)
+          (let m' : Now T = after scene (words_after ws ask_now) y (copies_of p passed.what ++ Finished p (Container start) answer ∷ []) in
+          let comes' = comes_end passed.what in
+          let course' = passed.course m' comes' in
+          own_then p c passed.what events m'.events comes'.on (settled st) course'.sight.wide course'.own)
+
+    -- nothing had changed
+    same_own : (answer : Answer T) → IsSame did st → ShowsCopied p st events (events ++ (did ++ Finished p (Container start) answer ∷ []))
+    same_own answer same =
+        let on = calls_on p events (Container start) (wrote_of p events) here.span None (Some answer) in
+        subst (λ d. ShowsCopied p st events (events ++ (d ++ Finished p (Container start) answer ∷ []))) (sym same.nothing)
+        (own_then p c None events _ on st same.rests.sight.wide (own_later p None events _ on st c same.own))
+
+    module _ (answer : Answer T) (same : IsSame did st)
+        (was : IsWellFormedSoFar scene.terms (put p y latest) (events ++ (did ++ Finished p (Container start) answer ∷ []))
+        → WellFormed m) where
+      abbrev Right : List (Event T) → Type 0
+      Right es =
+          (IsWellFormedSoFar scene.terms (put p y latest) (events ++ es) → WellFormed m)
+          → IsWellFormedSoFar scene.terms (put p y latest) (events ++ es) → IsCurrent p c st (events ++ es)
+
+      module _ (holds : WellFormed m) where
+        abbrev es : List (Event T)
+        es = Finished p (Container start) answer ∷ []
+
+        still : (i : ℕ) → contents_of i (events ++ es) ≡ contents_of i events
+        still i = fold-append (contents_after i) None events es
+
+        nobody : {A : Type 0} → WasAlone p events → Owing latest → A
+        nobody {A = A} was o = ⊎_elim mine theirs (cases_eq o.party p)
+          where
+            mine : o.party ≡ p → A
+            mine e =
+                both_ways (owes (flight_of (doing_of (party_of p latest))))
+                (owes_is scene start (look_at which c stage) here)
+                (subst (λ n. owes (flight_of (doing_of (party_of n latest))) ≡ true) e o.is)
+
+            theirs : o.party ≢ p → A
+            theirs ne = absurd (alone_now o.party o.is (others_shut p o.party events ne was))
+
+        same_current : IsCurrent p c st (events ++ es)
+        same_current =
+            record {
+              stood = λ i value announced through.
+                  let less = through_less p (λ part. contents_of i part ≡ Some value) events es tt through in
+                  let said = announced_through p i value events (since_less p (λ part. announced_of i part ≡ true) events es tt announced) less in
+                  let now = through_now p (λ part. contents_of i part ≡ Some value) events less in
+                  let low = inv.elements.within i value now in
+                  same.rests.sight.same holds i low (λ e. absurd (omega arith)) (same.rests.sight.caught holds same.change i low low said) ∙ now;
+              alone = λ was i low.
+                  let less = alone_less p events es tt was in
+                  ⊎_elim (λ e. same.rests.sight.same holds i low (λ e. absurd (omega arith)) e ∙ sym (still i))
+                  (λ o. nobody less o) (same.rests.sight.owed holds.kept same.change i low low);
+            }
+
+      unchanged_current : IsWellFormedSoFar scene.terms (put p y latest) (events ++ (did ++ Finished p (Container start) answer ∷ []))
+          → IsCurrent p c st (events ++ (did ++ Finished p (Container start) answer ∷ []))
+      unchanged_current = subst (λ d. Right (d ++ Finished p (Container start) answer ∷ [])) (sym same.nothing) (λ was holds. same_current (was holds)) was
+
+  -- ---- the step in which it ends
+
+  -- what it tells then, whose state was this
+  pub record Tells (answer : Answer T) (did : List (Event T)) (left : ContainerState T) (o : Option (ContainerState T)) : Type 0 where
+    pub answers : AnswersOfState (looks_as which) answer o left
+    pub current : (y : Party T) → IsWellFormedSoFar scene.terms (put p y latest) (events ++ (did ++ Finished p (Container (looks_as which)) answer ∷ []))
+        → IsCurrent p c left (events ++ (did ++ Finished p (Container (looks_as which)) answer ∷ []))
+        × MomentsOfState p c (looks_as which) answer left (events ++ (did ++ Finished p (Container (looks_as which)) answer ∷ []))
+    pub own : ShowsCopied p left events (events ++ (did ++ Finished p (Container (looks_as which)) answer ∷ []))
+
+  module _ (did : List (Event T)) (st : ContainerState T) (answer : Answer T) (left : ContainerState T) where
+    -- the state that it wrote
+    is_left : (wrote : ContainerState T) → state_of p (set_state p wrote scene.states) ≡ Some left → wrote ≡ left
+    is_left wrote found = let same : Some wrote ≡ Some left = sym (written_same p wrote h.state scene.states h.found) ∙ found in cc
+
+    by_after : (r : After (Look T) Bool) → EndsSo ask_now (look_goes_back stage old) did st r
+        → answer_in (any_call (look_came which st r)) ≡ Some answer
+        → state_of p (set_state p (settled_if r st) scene.states) ≡ Some left → Tells answer did left (Some h.state)
+    by_after (GoOn call) so e found = absurd (cc)
+    by_after (Done true) so e found =
+        let is : looked which st true ≡ answer = cc in
+        subst (λ a. Tells a did left (Some h.state)) is
+        (subst (λ l. Tells (looked which st true) did l (Some h.state)) (is_left (settled st) found)
+        (record {
+          answers = answers_passed which st (Some h.state);
+          own = passed_own did st here.party (looked which st true) so;
+          current = λ y holds.
+              let now = passed_current did st y (looked which st true) so holds in
+              (now.0, moments_passed which p c st (events ++ (did ++ Finished p (Container start) (looked which st true) ∷ [])) now.1);
+        }))
+    by_after (Done false) so e found =
+        let is : looked which st false ≡ answer = cc in
+        subst (λ a. Tells a did left (Some h.state)) is
+        (subst (λ l. Tells (looked which st false) did l (Some h.state)) (is_left st found)
+        (record {
+          answers = answers_same which st h.state so.is;
+          own = same_own did st here.party (looked which st false) so;
+          current = λ y holds. (
+            unchanged_current did st y (looked which st false) so (was y) holds,
+            moments_same which p c st (events ++ (did ++ Finished p (Container start) (looked which st false) ∷ [])),
+          );
+        }))
+      where
+        was : (y : Party T)
+            → IsWellFormedSoFar scene.terms (put p y latest) (events ++ (did ++ Finished p (Container start) (looked which st false) ∷ []))
+            → WellFormed m
+        was y =
+            subst (λ d. IsWellFormedSoFar scene.terms (put p y latest)
+            (events ++ (d ++ Finished p (Container start) (looked which st false) ∷ []))
+            → WellFormed m)
+            (sym so.nothing)
+            (was_well_formed scene start (no_replace T which) here.span ws y (Finished p (Container start) (looked which st false) ∷ []) (refl, tt))
+
+  abbrev From : Option (ContainerState T) → Type 0
+  From o =
+      (answer : Answer T) (left : ContainerState T)
+      → answer_in (any_call (look_goes code which (call_at scene inv stage) o old)) ≡ Some answer
+      → state_of p (writes_state code p (call_at scene inv stage) old o scene.states) ≡ Some left
+      → Tells answer (look_effects_of code p stage old o ++ []) left o
+
+  pub look_tells : (answer : Answer T) (left : ContainerState T)
+      → answer_in (any_call (goes_after code (state_of p scene.states) (look_at which c stage) old)) ≡ Some answer
+      → state_of p (states_after code p (look_at which c stage) old scene.states) ≡ Some left
+      → Tells answer (effects code p (state_of p scene.states) (look_at which c stage) old ++ questions p (look_at which c stage) old)
+      left (state_of p scene.states)
+  look_tells =
+      subst From (sym h.found)
+      (λ answer left e found.
+      let did = look_effects p (copy_in code h.state) stage old in
+      let st = look_shows code (call_at scene inv stage) h.state old in
+      subst (λ d. Tells answer d left (Some h.state)) (sym (append-nil did))
+      (by_after did st answer left (look_after code.size (call_at scene inv stage) h.state.seen old) ends_so e found))
+
+  -- its party has a state then
+  abbrev LeavesFrom : Option (ContainerState T) → Type 0
+  LeavesFrom o = is_some (state_of p (writes_state code p (call_at scene inv stage) old o scene.states)) ≡ true
+
+  pub look_leaves : is_some (state_of p (states_after code p (look_at which c stage) old scene.states)) ≡ true
+  look_leaves = subst LeavesFrom (sym h.found) (ap is_some (written_same p _ h.state scene.states h.found))

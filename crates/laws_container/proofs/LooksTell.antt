@@ -1,0 +1,421 @@
+-- A look that ends leaves a state, as its answer says; and in a well-formed run the state shows what stands.
+use Rattle.std.proofs.Common.{◌≡◌, ◌≢◌, ℕ, ◌+◌, Bool, true, false, Option, Some, None, is_some, List, [], ◌∷◌, ◌++◌, refl, sym, ap, subst, ◌∙◌, arith}
+use Rattle.std.proofs.lemmas.List.{append_cancel_left}
+use Rattle.std.specs.List.{AllByRecursion}
+use Rattle.steps.specs.declared.container.look.LookStage.{LookStage}
+use Rattle.steps.specs.declared.container.state.ContainerState.{ContainerState}
+use Rattle.steps.specs.Container.Look.{look_asks}
+use Rattle.model.specs.declared.event.Answer.{Answer}
+use Rattle.model.specs.declared.event.Event.{Event}
+use Rattle.model.specs.declared.event.Event.TheVariants.{Begun, Died, Finished}
+use Rattle.model.specs.declared.event.Start.{Start}
+use Rattle.model.specs.declared.event.Start.TheVariants.{Container}
+use Rattle.model.specs.declared.families.Flight.{Flight}
+use Rattle.model.specs.declared.families.Flight as flights
+use Rattle.model.specs.declared.families.Registry.{Registry}
+use Rattle.model.specs.declared.families.Registry as registries
+use Rattle.model.specs.declared.families.container.ContainerStart.{ContainerStart}
+use Rattle.model.specs.declared.families.container.ContainerStart as starts
+use Rattle.model.specs.declared.families.container.calls.ContainerFlight.{ContainerFlight}
+use Rattle.model.specs.declared.families.container.calls.ContainerFlight as calls
+use Rattle.model.specs.declared.families.container.calls.LookOf.{LookOf}
+use Rattle.model.specs.declared.families.container.calls.LookOf as kinds
+use Rattle.model.specs.declared.party.Doing.{Doing}
+use Rattle.model.specs.declared.party.Doing.TheVariants.{Going, Over}
+use Rattle.model.specs.declared.party.Party.{Party}
+use Rattle.model.specs.declared.turn.Turn.{Turn}
+use Rattle.model.specs.declared.turn.Turn.TheVariants.{Begin, Next, Decide, Die}
+use Rattle.model.specs.Coding.{Coding}
+use Rattle.model.specs.Families.{want_of, ask_of, is_question, beside_of, step_of}
+use Rattle.model.specs.Families.Container.Calls.{after as goes_after, states_after}
+use Rattle.model.specs.Families.Container.Keeping.{ShowsOwnCopies}
+use Rattle.model.specs.Families.Container.Looks.{state_in, shows, IsLook, EndsLook, IsCurrent, AnswersOfState, MomentsOfState}
+use Rattle.model.specs.Families.Container.Promises.{LeavesState}
+use Rattle.model.specs.Families.Container.Reading.{Act}
+use Rattle.model.specs.Families.Container.States.{state_of}
+use Rattle.model.specs.Families.Container.Steps.{effects, questions}
+use Rattle.model.specs.Families.Indices.Robust.Reading.{Deed}
+use Rattle.model.specs.Parties.{party_of, put, doing_of, flight_of}
+use Rattle.model.specs.Promises.Turns.{IsParty, IsEffectOf}
+use Rattle.model.specs.Reading.{Span, span_of}
+use Rattle.model.specs.Refusals.{is_due}
+use Rattle.model.specs.Shape.{IsShut}
+use Rattle.model.specs.Step.{Step, answer_in}
+use Rattle.model.specs.Turns.{old_of, number_of, step_count, after_next, after_decision, after_answer, events_of_step}
+use Rattle.model.specs.Turns.{events_of_answer, events_of_next, events_of_decision, events_of, ending_of, ask_of_doing}
+use Rattle.model.specs.Turns.{after_turn}
+use Rattle.model.specs.World.{Trace, flight_in}
+use Rattle.model.proofs.Frame as frame
+use Rattle.model.proofs.Readings.{no_more}
+use Rattle.model.proofs.Scenes.{StandsThere, stands_there}
+use Rattle.laws_robust.proofs.Effects.{both_ways}
+use Rattle.laws_container.proofs.Invariant.{Scene, Inv, family_by}
+use Rattle.laws_container.proofs.KeptCopies.{name_of, IsGetting, HasCopied}
+use Rattle.laws_container.proofs.Looks.{looks_as}
+use Rattle.laws_container.proofs.LooksEnd.{look_tells, look_leaves}
+use Rattle.laws_container.proofs.WellFormed.{IsWellFormedSoFar}
+use Rattle.laws_container.proofs.Sound.{MayGoOn, Shown, kept_is, kept_now, scene_of, inv_with, IsThere, is_there}
+use Rattle.laws_container.proofs.Stages.{all, done, any_call}
+use Rattle.laws_container.proofs.Standing.{look_at, LookAt, At}
+use Rattle.laws_container.proofs.Terms.{Terms}
+use Rattle.laws_container.proofs.Turns.{owes}
+use Rattle.laws_container.proofs.Written.{all_effects}
+use Rattle.laws_container.specs.Tells.{LooksRightIf}
+use Rattle.laws_container.proofs.Allowed.{IsAllowed}
+
+-- ---- a turn that ends a call writes its end last
+
+module _ {T : Type 0} where
+  pub record IsLast (q p : ℕ) (a b : Start T) (outcome : Option (Answer T)) (answer : Answer T) : Type 0 where
+    pub party : q ≡ p
+    pub name : a ≡ b
+    pub done : outcome ≡ Some answer
+
+  pub ends_last : (turn : Turn T) (q p : ℕ) (es : List (Event T)) (a b : Start T) (outcome : Option (Answer T))
+      (answer : Answer T) (wrote : List (Event T))
+      → AllByRecursion (IsEffectOf turn) es
+      → es ++ ending_of q a outcome ≡ wrote ++ Finished p b answer ∷ [] → IsLast q p a b outcome answer
+  ends_last turn q p [] a b None answer wrote are e = absurd (no_more wrote (Finished p b answer) [] e)
+  ends_last turn q p [] a b (Some one) answer [] are e =
+      let party : q ≡ p = cc in
+      let name : a ≡ b = cc in
+      let same : one ≡ answer = cc in
+      record { party = party; name = name; done = ap Some same }
+  ends_last turn q p [] a b (Some one) answer (w ∷ ws) are e =
+      let none : [] ≡ ws ++ Finished p b answer ∷ [] = cc in
+      absurd (no_more ws (Finished p b answer) [] none)
+  ends_last turn q p (x ∷ xs) a b outcome answer [] are e =
+      let is : x ≡ Finished p b answer = cc in
+      absurd (subst (IsEffectOf turn) is are.0)
+  ends_last turn q p (x ∷ xs) a b outcome answer (w ∷ ws) are e =
+      let behind : xs ++ ending_of q a outcome ≡ ws ++ Finished p b answer ∷ [] = cc in
+      ends_last turn q p xs a b outcome answer ws are.1 behind
+
+  -- no look has this event alone
+  pub no_end : (e : Event T) (p : ℕ) (b : Start T) (answer : Answer T) (wrote : List (Event T))
+      → e ≢ Finished p b answer → e ∷ [] ≡ wrote ++ Finished p b answer ∷ [] → ⊥
+  no_end e p b answer [] other is = let same : e ≡ Finished p b answer = cc in other same
+  no_end e p b answer (w ∷ ws) other is = let none : [] ≡ ws ++ Finished p b answer ∷ [] = cc in no_more ws (Finished p b answer) [] none
+
+  pub container_is : (a b : ContainerStart T) → ◌≡◌ {A = Start T} (Container a) (Container b) → a ≡ b
+  container_is a b e = cc
+
+  -- ---- the call that stands there is a look
+
+  record IsLookFlight (c z : ℕ) (made : List Deed) (did : List (Act T)) (a : ContainerStart T) (flight : ContainerFlight T) : Type 0 where
+    pub which : LookOf
+    pub stage : LookStage
+    pub name : a ≡ looks_as which
+    pub is : flight ≡ look_at which c stage
+
+  look_flight : (c z : ℕ) (made : List Deed) (did : List (Act T)) (a : ContainerStart T) (flight : ContainerFlight T)
+      → IsLook a → At c z made did a flight → IsLookFlight c z made did a flight
+  look_flight c z made did starts.TheVariants.GetState (calls.TheVariants.Look which call) look at =
+      record {
+        which = kinds.TheVariants.GetState;
+        stage = call.stage;
+        name = refl;
+        is = ap (λ n. look_at which n call.stage) at.0 ∙ ap (λ w. look_at w c call.stage) at.1;
+      }
+  look_flight c z made did starts.TheVariants.GetState flight look at = absurd at
+  look_flight c z made did starts.TheVariants.UpdateState (calls.TheVariants.Look which call) look at =
+      record {
+        which = kinds.TheVariants.UpdateState;
+        stage = call.stage;
+        name = refl;
+        is = ap (λ n. look_at which n call.stage) at.0 ∙ ap (λ w. look_at w c call.stage) at.1;
+      }
+  look_flight c z made did starts.TheVariants.UpdateState flight look at = absurd at
+  look_flight c z made did a flight look at = absurd look
+
+  look_stands : (which : LookOf) (c z : ℕ) (made : List Deed) (did : List (Act T)) (stage : LookStage)
+      → At c z made did (looks_as which) (look_at which c stage) → LookAt c z made did stage
+  look_stands kinds.TheVariants.GetState c z made did stage at = at.2
+  look_stands kinds.TheVariants.UpdateState c z made did stage at = at.2
+
+pub look_asks_none : (size c : ℕ) (stage : LookStage) → is_question (look_asks size c stage) ≡ false
+look_asks_none size c stage = grind arith
+
+look_counts : (size c : ℕ) (stage : LookStage) → step_count (ask_of (look_asks size c stage)) ≡ 1
+look_counts size c stage = grind arith
+
+-- ---- a step in which a look ends
+
+module _ {T : Type 0} (shown : Shown T) (terms : Terms) (code : Coding T) (c : ℕ) (t : Trace T)
+    (s : frame.Sound (family_by terms code c) t) (may : MayGoOn terms t) (p : ℕ) (start : ContainerStart T)
+    (answer : Answer T) (look : IsLook start) (wrote : List (Event T)) where
+  abbrev Ended : List (Event T) → Type 0
+  Ended es = es ≡ wrote ++ Finished p (Container start) answer ∷ []
+
+  abbrev old : LookStage → ℕ
+  old stage = old_of s.state.words (ask_of (look_asks code.size c stage))
+
+  pub record LookTurn (q : ℕ) (kept : Registry T) (latest : List (ℕ × Party T)) (es : List (Event T)) : Type 0 where
+    pub same : q ≡ p
+    pub party : Party T
+    pub since : ℕ
+    pub found : party_of q t.world.latest ≡ Some party
+    pub which : LookOf
+    pub stage : LookStage
+    pub name : start ≡ looks_as which
+    pub there : IsThere shown terms code c t s q party since found (looks_as which) (look_at which c stage)
+    pub next : Party T
+    pub latest_is : latest ≡ put q next t.world.latest
+    pub steps_then : next.steps ≡ party.steps + 1
+    pub kept_then : kept ≡ registries.TheVariants.Container s.state.dead (states_after code q (look_at which c stage) (old stage) s.state.states)
+    pub events_are : es ≡ (effects code q (state_of q s.state.states) (look_at which c stage) (old stage)
+        ++ questions q (look_at which c stage) (old stage))
+        ++ Finished q (Container (looks_as which)) answer ∷ []
+    pub done : answer_in (any_call (goes_after code (state_of q s.state.states) (look_at which c stage) (old stage))) ≡ Some answer
+
+  module _ (q : ℕ) (x : Party T) (since : ℕ) (found : party_of q t.world.latest ≡ Some x) (turn : Turn T) (mine : IsParty turn q) where
+    abbrev stepping : ℕ → Coding T → Registry T → Start T → Flight T → Step (Flight T) (Registry T) T
+    stepping n y kept a flight = step_of y t.world.words (beside_of t.world.words kept t.world.latest q) q a flight n kept
+
+    abbrev StepFrom : ℕ → Coding T → Registry T → Start T → Flight T → Type 0
+    StepFrom n y kept a flight =
+        (next : Party T) → (is_question (want_of y flight) ≡ false → next.steps ≡ x.steps + step_count (ask_of (want_of y flight)))
+        → Ended (events_of_step q a (stepping n y kept a flight))
+        → LookTurn q (stepping n y kept a flight).kept (put q next t.world.latest) (events_of_step q a (stepping n y kept a flight))
+
+    abbrev Case : ContainerStart T → ContainerFlight T → Type 0
+    Case a flight =
+        (n : ℕ) → StandsThere (family_by terms code c) t s q x since (Container a) (flights.TheVariants.Container flight)
+        → (is_question (want_of code (flights.TheVariants.Container flight)) ≡ false
+        → n ≡ old_of s.state.words (ask_of (want_of code (flights.TheVariants.Container flight))))
+        → StepFrom n code (kept_now shown terms code c t s) (Container a) (flights.TheVariants.Container flight)
+
+    -- what a step writes of which the last is this end
+    last_of : (n : ℕ) (a : ContainerStart T) (flight : ContainerFlight T)
+        → Ended (events_of_step q (Container a)
+        (stepping n code (kept_now shown terms code c t s) (Container a) (flights.TheVariants.Container flight)))
+        → IsLast q p (Container a) (Container start) (answer_in (any_call (goes_after code (state_of q s.state.states) flight n))) answer
+    last_of n a flight e =
+        ends_last turn q p (effects code q (state_of q s.state.states) flight n ++ questions q flight n)
+        (Container a) (Container start)
+        (answer_in (any_call (goes_after code (state_of q s.state.states) flight n))) answer wrote
+        (all_effects turn q mine code (state_of q s.state.states) flight n) e
+
+    look_case : (which : LookOf) (stage : LookStage) → Case (looks_as which) (look_at which c stage)
+    look_case which stage n stands is =
+        subst (λ k. StepFrom k code (kept_now shown terms code c t s) (Container (looks_as which))
+        (flights.TheVariants.Container (look_at which c stage)))
+        (sym (is (look_asks_none code.size c stage)))
+        (λ next counts e.
+        let end = last_of (old stage) (looks_as which) (look_at which c stage) e in
+        record {
+          same = end.party;
+          party = x;
+          since = since;
+          found = found;
+          which = which;
+          stage = stage;
+          name = sym (container_is (looks_as which) start end.name);
+          there = is_there shown terms code c t s q x since found (looks_as which) (look_at which c stage) stands;
+          next = next;
+          latest_is = refl;
+          steps_then = counts (look_asks_none code.size c stage) ∙ ap (λ n. x.steps + n) (look_counts code.size c stage);
+          kept_then = refl;
+          events_are =
+              ap (λ o. (effects code q (state_of q s.state.states) (look_at which c stage) (old stage)
+              ++ questions q (look_at which c stage) (old stage))
+              ++ ending_of q (Container (looks_as which)) o)
+              end.done;
+          done = end.done;
+        })
+
+    step_look : (n : ℕ) (a : Start T) (flight : Flight T)
+        → StandsThere (family_by terms code c) t s q x since a flight
+        → (is_question (want_of code flight) ≡ false → n ≡ old_of s.state.words (ask_of (want_of code flight)))
+        → StepFrom n code (kept_now shown terms code c t s) a flight
+    step_look n (Container a) (flights.TheVariants.Container flight) stands is next counts e =
+        let end = last_of n a flight e in
+        let name = container_is a start end.name in
+        let there = is_there shown terms code c t s q x since found a flight stands in
+        let one =
+        look_flight c code.size (all (scene_of shown terms code c t s q x since))
+        (done (scene_of shown terms code c t s q x since)) a flight (subst IsLook (sym name) look) there.at in
+        subst (λ b. Case b flight) (sym one.name)
+        (subst (λ f. Case (looks_as one.which) f) (sym one.is) (look_case one.which one.stage)) n stands is next
+        counts e
+    step_look n a flight stands is next counts e = absurd stands.at
+
+    -- by the words, and what is kept beside them
+    pub any_look : (n : ℕ) (flight : Flight T) → x.doing ≡ Going flight since
+        → (is_question (want_of t.world.coding flight) ≡ false → n ≡ old_of t.world.words (ask_of (want_of t.world.coding flight)))
+        → StepFrom n t.world.coding t.world.kept x.start flight
+    any_look n flight doing is =
+        let same = kept_is t.world.kept t.world.words s.state s.fit in
+        subst (λ y. StepFrom n y t.world.kept x.start flight) (sym s.coding)
+        (subst (λ kept. StepFrom n code kept x.start flight) (sym same.0)
+        (step_look n x.start flight (stands_there (family_by terms code c) t s q x since flight found doing)
+        (λ no.
+        is (subst (λ y. is_question (want_of y flight) ≡ false) (sym s.coding) no)
+        ∙ (ap (λ ws. old_of ws (ask_of (want_of t.world.coding flight))) same.1 ∙ ap (λ y. old_of s.state.words (ask_of (want_of y flight))) s.coding))))
+
+  -- ---- any turn
+
+  next_look : (q : ℕ) → (o : Option (Party T)) → party_of q t.world.latest ≡ o → Ended (events_of_next t.world q o)
+      → LookTurn q (after_next t.world q o).kept (after_next t.world q o).latest (events_of_next t.world q o)
+  next_look q None found e = absurd (no_more wrote (Finished p (Container start) answer) [] e)
+  next_look q (Some x) found e = go x.doing refl e
+    where
+      go : (doing : Doing T) → x.doing ≡ doing → Ended (events_of_answer t.world q x (old_of t.world.words (ask_of_doing t.world.coding doing)) doing)
+          → LookTurn q (after_answer t.world q x (ask_of_doing t.world.coding doing) (old_of t.world.words (ask_of_doing t.world.coding doing)) doing).kept
+          (after_answer t.world q x (ask_of_doing t.world.coding doing) (old_of t.world.words (ask_of_doing t.world.coding doing)) doing).latest
+          (events_of_answer t.world q x (old_of t.world.words (ask_of_doing t.world.coding doing)) doing)
+      go (Over others) d e = absurd (no_more wrote (Finished p (Container start) answer) [] e)
+      go (Going flight since) d e =
+          any_look q x since found (Next q) refl (old_of t.world.words (ask_of (want_of t.world.coding flight))) flight
+          d (λ no. refl) _ (λ no. refl) e
+
+  decision_look : (q : ℕ) (said : Bool) → is_due t.world.coding (flight_in t.world q) ≡ true
+      → (o : Option (Party T)) → party_of q t.world.latest ≡ o → Ended (events_of_decision t.world q said o)
+      → LookTurn q (after_decision t.world q said o).kept (after_decision t.world q said o).latest (events_of_decision t.world q said o)
+  decision_look q said due None found e = absurd (no_more wrote (Finished p (Container start) answer) [] e)
+  decision_look q said due (Some x) found e = go x.doing refl e
+    where
+      go : (doing : Doing T) → x.doing ≡ doing → Ended (events_of_answer t.world q x (number_of said) doing)
+          → LookTurn q (after_answer t.world q x None (number_of said) doing).kept
+          (after_answer t.world q x None (number_of said) doing).latest
+          (events_of_answer t.world q x (number_of said) doing)
+      go (Over others) d e = absurd (no_more wrote (Finished p (Container start) answer) [] e)
+      go (Going flight since) d e =
+          let here : flight_in t.world q ≡ Some flight = ap (λ o. flight_of (doing_of o)) found ∙ ap (λ d. flight_of (Some d)) d in
+          let asks : is_question (want_of t.world.coding flight) ≡ true = rw here at due in
+          any_look q x since found (Decide q said) refl (number_of said) flight d
+          (λ no. both_ways (is_question (want_of t.world.coding flight)) no asks) _
+          (λ no. both_ways (is_question (want_of t.world.coding flight)) no asks) e
+
+  -- the turn of a look that ends
+  pub record LookEnd (new : Trace T) : Type 0 where
+    pub party : ℕ
+    pub events : List (Event T)
+    pub is : new.events ≡ t.events ++ events
+    pub turn : LookTurn party new.world.kept new.world.latest events
+
+  pub look_end : (turn : Turn T) → IsAllowed t.world turn → Ended (events_of t.world turn) → LookEnd (after_turn t turn)
+  look_end (Begin q a) r e = absurd (no_end (Begun q a) p (Container start) answer wrote (λ h. cc) e)
+  look_end (Next q) r e = record { party = q; events = events_of t.world (Next q); is = refl; turn = next_look q (party_of q t.world.latest) refl e }
+  look_end (Decide q said) r e =
+      record {
+        party = q;
+        events = events_of t.world (Decide q said);
+        is = refl;
+        turn = decision_look q said r (party_of q t.world.latest) refl e;
+      }
+  look_end (Die o) r e = absurd (no_end (Died o) p (Container start) answer wrote (λ h. cc) e)
+
+  -- ---- what it tells
+
+  -- a call that owes is under way
+  alone_now : (q : ℕ) → owes (flight_of (doing_of (party_of q t.world.latest))) ≡ true → IsShut (span_of q t.events) → ⊥
+  alone_now q = by (party_of q t.world.latest) (span_of q t.events) (s.inv.calls q)
+    where
+      by_doing : (x : Party T) (doing : Doing T) (span : Span T)
+          → frame.FitsDoing (family_by terms code c) s.state q x doing span → owes (flight_of (Some doing)) ≡ true
+          → IsShut span → ⊥
+      by_doing x (Going flight since) span fits is shut = subst IsShut fits.span shut
+      by_doing x (Over others) span fits is shut = absurd (cc)
+
+      by : (o : Option (Party T)) (span : Span T) → frame.Fits (family_by terms code c) s.state q o span
+          → owes (flight_of (doing_of o)) ≡ true → IsShut span → ⊥
+      by None span fits is shut = absurd (cc)
+      by (Some x) span fits is shut = by_doing x x.doing span fits is shut
+
+  module _ (new : Trace T) (end : LookEnd new) (well_formed : Type 0) (so_far : well_formed → IsWellFormedSoFar terms new.world.latest new.events) where
+    abbrev l : LookTurn end.party new.world.kept new.world.latest end.events
+    l = end.turn
+
+    abbrev scene : Scene T
+    scene = scene_of shown terms code c t s end.party l.party l.since
+
+    inv : Inv scene
+    inv = inv_with shown terms code c t s end.party l.party l.since l.found may
+
+    stands : LookAt c code.size (all scene) (done scene) l.stage
+    stands = look_stands l.which c code.size (all scene) (done scene) l.stage l.there.at
+
+    -- what is to be told of it
+    abbrev Right : ℕ → ContainerStart T → Type 0
+    Right n a =
+        (state : ContainerState T) → state_in new.world.kept n ≡ Some state
+        → AnswersOfState a answer (state_in t.world.kept n) state
+        × (well_formed → IsCurrent n c state new.events × MomentsOfState n c a answer state new.events)
+
+    here_right : Right end.party (looks_as l.which)
+    here_right state is =
+        let left : state_of end.party (states_after code end.party (look_at l.which c l.stage) (old l.stage) s.state.states)
+        ≡ Some state =
+        ap (λ kept. state_in kept end.party) (sym l.kept_then) ∙ is in
+        let told = look_tells scene inv l.which l.stage l.there.here stands l.there.knows l.there.steps alone_now answer state l.done left in
+        let was : state_in t.world.kept end.party ≡ state_of end.party s.state.states =
+        ap (λ kept. state_in kept end.party) (kept_is t.world.kept t.world.words s.state s.fit).0 in
+        let events_new : new.events
+        ≡ t.events ++ ((effects code end.party (state_of end.party s.state.states) (look_at l.which c l.stage) (old l.stage)
+        ++ questions end.party (look_at l.which c l.stage) (old l.stage))
+        ++ Finished end.party (Container (looks_as l.which)) answer ∷ []) =
+        end.is ∙ ap (λ es. t.events ++ es) l.events_are
+        in (
+          subst (λ o. AnswersOfState (looks_as l.which) answer o state) (sym was) told.answers,
+          λ h.
+              subst (λ es. IsCurrent end.party c state es × MomentsOfState end.party c (looks_as l.which) answer state es) (sym events_new)
+              (told.current l.next (subst (λ es. IsWellFormedSoFar terms (put end.party l.next t.world.latest) es) events_new
+              (subst (λ ps. IsWellFormedSoFar terms ps new.events) l.latest_is (so_far h)))),
+        )
+
+    -- what a get_state shows it has copied itself
+    abbrev Own : ℕ → ContainerStart T → Type 0
+    Own n a =
+        (state : ContainerState T) → state_in new.world.kept n ≡ Some state → a ≡ starts.TheVariants.GetState
+        → (i : ℕ) (value : T) → shows state i ≡ Some value → HasCopied n i value new.events
+
+    here_own : Own end.party (looks_as l.which)
+    here_own state is gets i value shown_there =
+        let left : state_of end.party (states_after code end.party (look_at l.which c l.stage) (old l.stage) s.state.states)
+        ≡ Some state =
+        ap (λ kept. state_in kept end.party) (sym l.kept_then) ∙ is in
+        let told = look_tells scene inv l.which l.stage l.there.here stands l.there.knows l.there.steps alone_now answer state l.done left in
+        let name : IsGetting end.party t.events = ap name_of l.there.here.span ∙ ap (λ (a : ContainerStart T). Some (Container a)) gets in
+        subst (HasCopied end.party i value) (sym (end.is ∙ ap (λ es. t.events ++ es) l.events_are)) (told.own name i value shown_there)
+
+    pub told_own : Own p start
+    told_own = subst (λ n. Own n start) l.same (subst (Own end.party) (sym l.name) here_own)
+
+    pub told_right : Right p start
+    told_right = subst (λ n. Right n start) l.same (subst (Right end.party) (sym l.name) here_right)
+
+    pub told_leaves : is_some (state_in new.world.kept p) ≡ true
+    told_leaves =
+        subst (λ n. is_some (state_in new.world.kept n) ≡ true) l.same
+        (ap (λ kept. is_some (state_in kept end.party)) l.kept_then
+        ∙ look_leaves scene inv l.which l.stage l.there.here stands l.there.knows l.there.steps alone_now)
+
+-- ---- as the promise says it
+
+module _ {T : Type 0} (shown : Shown T) (terms : Terms) (code : Coding T) (t : Trace T) (turn : Turn T)
+    (r : IsAllowed t.world turn) (s : frame.Sound (family_by terms code t.world.capacity) t)
+    (may : MayGoOn terms t) where
+  pub ended : (p : ℕ) (start : ContainerStart T) (answer : Answer T) (ends : EndsLook p start answer t (after_turn t turn))
+      → LookEnd shown terms code t.world.capacity t s may p start answer ends.is_look ends.wrote (after_turn t turn)
+  ended p start answer ends =
+      look_end shown terms code t.world.capacity t s may p start answer ends.is_look ends.wrote turn r
+      (append_cancel_left t.events (events_of t.world turn) _ ends.is)
+
+  pub looks_right : (well_formed : Type 0)
+      (so_far : well_formed → IsWellFormedSoFar terms (after_turn t turn).world.latest (after_turn t turn).events)
+      → LooksRightIf well_formed t turn (after_turn t turn)
+  looks_right well_formed so_far p start answer state ends found =
+      told_right shown terms code t.world.capacity t s may p start answer ends.is_look ends.wrote (after_turn t turn)
+      (ended p start answer ends) well_formed so_far state found
+
+  pub looks_own : ShowsOwnCopies t (after_turn t turn)
+  looks_own p i answer state value ends found shown_there =
+      told_own shown terms code t.world.capacity t s may p starts.TheVariants.GetState answer ends.is_look
+      ends.wrote (after_turn t turn) (ended p starts.TheVariants.GetState answer ends) ⊥ (λ never. absurd never)
+      state found refl i value shown_there
+
+  pub looks_leave : LeavesState t turn (after_turn t turn)
+  looks_leave p start answer ends =
+      told_leaves shown terms code t.world.capacity t s may p start answer ends.is_look ends.wrote (after_turn t turn)
+      (ended p start answer ends) ⊥ (λ never. absurd never)

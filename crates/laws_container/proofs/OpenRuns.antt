@@ -1,0 +1,360 @@
+-- What holds of the machine of a container keeps to every turn of an open run, so it holds wherever such a run leads.
+use Rattle.std.proofs.Common.{◌≡◌, ℕ, ◌+◌, ◌-◌, ◌^◌, ◌<◌, ◌≤◌, ◌&&◌, nat_lt, Bool, true, false, not, Option, Some}
+use Rattle.std.proofs.Common.{None, is_some, is_none, List, [], ◌∷◌, ◌++◌, length, refl, sym, ap, subst, ◌∙◌}
+use Rattle.std.proofs.Common.{append-nil, arith}
+use Rattle.std.proofs.lemmas.Bool.Decides.{nat_tests}
+use Rattle.steps.specs.declared.ask.Ask.{Ask}
+use Rattle.steps.specs.Container.Layout.{total_words}
+use Rattle.steps.specs.Indices.Robust.Parts.{greatest}
+use Rattle.model.specs.declared.event.Event.TheVariants.{Begun}
+use Rattle.model.specs.declared.event.Start.{Start}
+use Rattle.model.specs.declared.event.Start.TheVariants.{Container}
+use Rattle.model.specs.declared.families.Flight.{Flight}
+use Rattle.model.specs.declared.families.Flight as flights
+use Rattle.model.specs.declared.families.container.ContainerStart.TheVariants.{Recover}
+use Rattle.model.specs.declared.party.Doing.{Doing}
+use Rattle.model.specs.declared.party.Doing.TheVariants.{Going, Over}
+use Rattle.model.specs.declared.party.Party.{Party}
+use Rattle.model.specs.declared.turn.Kind as kinds
+use Rattle.model.specs.declared.turn.Refusal.{Refusal}
+use Rattle.model.specs.declared.turn.Refusal.TheVariants.{WrongCall, Busy, Idle, Undecided}
+use Rattle.model.specs.declared.turn.Turn.{Turn}
+use Rattle.model.specs.declared.turn.Turn.TheVariants.{Begin, Next, Decide, Die}
+use Rattle.model.specs.Coding.{Coding}
+use Rattle.model.specs.Families.Container.Promises.{IsWellFormedRun}
+use Rattle.model.specs.Families.{first_of, want_of, ask_of, is_question, going_rows}
+use Rattle.model.specs.Parties.{party_of, doing_of, flight_of}
+use Rattle.model.specs.Reading.{Each}
+use Rattle.model.specs.Refusals.{is_due, call_refusal}
+use Rattle.model.specs.Rows.{first_row}
+use Rattle.model.specs.Turns.{old_of, number_of, party_at_begin, after_begin, after_step, step_in, party_after}
+use Rattle.model.specs.Turns.{change_of, step_count, ask_of_doing, after_next, after_decision, after_answer}
+use Rattle.model.specs.Turns.{events_of_step, events_of_answer, events_of_next, events_of_decision, after_turn}
+use Rattle.model.specs.Turns.{unless_refused}
+use Rattle.model.specs.World.{Trace, opening, capacity_error, flight_in}
+use Rattle.model.proofs.Frame as frame
+use Rattle.model.proofs.Readings.{Each-nil}
+use Rattle.model.proofs.Rows.{row_passed, may_begin, next_passes}
+use Rattle.laws_robust.specs.Gone.{Word, IsHonest}
+use Rattle.laws_robust.specs.Open.{open_refusal, attempt_open, run_open, IsReachedOpen}
+use Rattle.laws_robust.proofs.Alive.{AllLive, all_live_on}
+use Rattle.laws_robust.proofs.Core.{counter_of}
+use Rattle.laws_robust.proofs.Opening.{admitted_is}
+use Rattle.laws_robust.proofs.OpenTurns.{reached_keeps}
+use Rattle.laws_container.specs.Gone.{AnswersBy}
+use Rattle.laws_container.specs.Open.{is_for_gone, steps_for_gone, is_faithful, IsFaithful, IsFaithfulRun, IsOpenContainer}
+use Rattle.laws_container.specs.Tells.{TellsIf}
+use Rattle.laws_container.proofs.Allowed.{allowed_open}
+use Rattle.laws_container.proofs.Everything.{shown}
+use Rattle.laws_container.proofs.Honest.{turn_honest}
+use Rattle.laws_container.proofs.Invariant.{family_by}
+use Rattle.laws_container.proofs.Kept.{cells, lock, dead, questions, states, contained}
+use Rattle.laws_container.proofs.Living.{steps_leave}
+use Rattle.laws_container.proofs.WellFormed.{well_formed_on}
+use Rattle.laws_container.proofs.Sound.{MayGoOn, IsRightly, MayRecoverIn, kept_is, recovers_by, step_comes, decision_comes, begin_comes, opening_sound}
+use Rattle.laws_container.proofs.Terms.{Terms}
+use Rattle.laws_container.proofs.TurnTells.{tells_if}
+
+-- ---- one turn
+
+module _ {T : Type 0} (kept : Bool) (code : Coding T) (c : ℕ) where
+  -- the terms of an open run
+  abbrev pub terms : Terms
+  terms = record { by = Word; kept = kept }
+
+  abbrev Sound : Trace T → Type 0
+  Sound t = frame.Sound (family_by terms code c) t
+
+  same : (t : Trace T) → Sound t → Sound record { world = t.world; events = t.events ++ [] }
+  same t s = subst (λ es. Sound record { world = t.world; events = es }) (sym (append-nil t.events)) s
+
+  stepped : (t : Trace T) (p : ℕ) (x : Party T) (flight : Flight T) (since : ℕ) (ask : Option Ask) (answer : ℕ)
+      → Sound t → frame.ComesByStep (family_by terms code c) t p x flight since ask answer
+      → Sound record {
+        world = after_step t.world p x since ask (step_in t.world p x flight answer);
+        events = t.events ++ events_of_step p x.start (step_in t.world p x flight answer);
+      }
+  stepped t p x flight since ask answer s comes =
+      let w = t.world in
+      let y = party_after x since w.changes (step_count ask) (change_of w.words ask) (step_in w p x flight answer) in
+      record {
+        coding = s.coding;
+        kind = s.kind;
+        capacity = s.capacity;
+        state = comes.state;
+        fit = comes.fit;
+        holds = comes.holds;
+        inv =
+            frame.advance (family_by terms code c) s.state comes.state p y w.latest t.events
+            (events_of_step p x.start (step_in w p x flight answer)) w.changes (w.changes + change_of w.words ask) s.inv
+            comes.owes;
+      }
+
+  module _ (t : Trace T) (s : Sound t) (few : kept ≡ true → t.world.turns < 2 ^ 64 - 2) where
+    may : MayGoOn terms t
+    may = record { room = tt; few = few }
+
+    -- a step
+    rightly : (p : ℕ) (x : Party T) (since : ℕ) (found : party_of p t.world.latest ≡ Some x) (flight : Flight T)
+        → (kept ≡ true → is_for_gone t.events (Some flight) ≡ false)
+        → IsRightly shown terms code c t s p x since found flight
+    rightly p x since found (flights.TheVariants.Container flight) h = h
+    rightly p x since found flight h = tt
+
+    nexts : (p : ℕ) → first_row (going_rows t.world.coding t.world.kept (flight_in t.world p) None) ≡ None
+        → (kept ≡ true → is_for_gone t.events (flight_in t.world p) ≡ false) → (o : Option (Party T))
+        → party_of p t.world.latest ≡ o
+        → Sound record { world = after_next t.world p o; events = t.events ++ events_of_next t.world p o }
+    nexts p rows faithful None e = same t s
+    nexts p rows faithful (Some x) e = go x.doing refl
+      where
+        go : (doing : Doing T) → x.doing ≡ doing
+            → Sound record {
+              world =
+                  after_answer t.world p x (ask_of_doing t.world.coding doing)
+                  (old_of t.world.words (ask_of_doing t.world.coding doing)) doing;
+              events = t.events ++ events_of_answer t.world p x (old_of t.world.words (ask_of_doing t.world.coding doing)) doing;
+            }
+        go (Over others) d = same t s
+        go (Going flight since) d =
+            let here : flight_in t.world p ≡ Some flight = ap (λ o. flight_of (doing_of o)) e ∙ ap (λ d. flight_of (Some d)) d in
+            stepped t p x flight since (ask_of (want_of t.world.coding flight)) (old_of t.world.words (ask_of (want_of t.world.coding flight))) s
+            (step_comes shown terms code c t s p x since e may flight
+            (rightly p x since e flight (λ keeps. subst (λ o. is_for_gone t.events o ≡ false) here (faithful keeps)))
+            (subst (λ o. first_row (going_rows t.world.coding t.world.kept o None) ≡ None) here rows) d)
+
+    -- a decision, whoever lives
+    decided : (p : ℕ) (said : Bool) → is_due t.world.coding (flight_in t.world p) ≡ true → (o : Option (Party T)) → party_of p t.world.latest ≡ o
+        → Sound record { world = after_decision t.world p said o; events = t.events ++ events_of_decision t.world p said o }
+    decided p said due None e = same t s
+    decided p said due (Some x) e = go x.doing refl
+      where
+        go : (doing : Doing T) → x.doing ≡ doing → Sound record {
+          world = after_answer t.world p x None (number_of said) doing;
+          events = t.events ++ events_of_answer t.world p x (number_of said) doing;
+        }
+        go (Over others) d = same t s
+        go (Going flight since) d =
+            let here : flight_in t.world p ≡ Some flight = ap (λ o. flight_of (doing_of o)) e ∙ ap (λ d. flight_of (Some d)) d in
+            let asks : is_question (want_of t.world.coding flight) ≡ true = rw here at due in
+            stepped t p x flight since None (number_of said) s (decision_comes shown terms code c t s p x since e may flight said asks d)
+
+    -- a begin
+    begins : (p : ℕ) (start : Start T) → MayRecoverIn shown terms code c t s p start → flight_in t.world p ≡ None
+        → is_none (first_of t.world.kind t.world.capacity start t.world.kept) ≡ false → (o : Option (Flight T))
+        → first_of t.world.kind t.world.capacity start t.world.kept ≡ o
+        → Sound record { world = after_begin t.world p start o; events = t.events ++ Begun p start ∷ [] }
+    begins p start recovers free call None e =
+        let none = rw e at call in
+        absurd (cc)
+    begins p start recovers free call (Some flight) e =
+        let w = t.world in
+        let comes = begin_comes shown terms code c t s p start flight recovers free e in
+        record {
+          coding = s.coding;
+          kind = s.kind;
+          capacity = s.capacity;
+          state = comes.state;
+          fit = comes.fit;
+          holds = comes.holds;
+          inv =
+              frame.advance (family_by terms code c) s.state comes.state p (party_at_begin start flight w.changes)
+              w.latest t.events (Begun p start ∷ []) w.changes w.changes s.inv comes.owes;
+        }
+
+    begins_by_rows : (p : ℕ) (start : Start T) → call_refusal t.world (Begin p start) ≡ None → Sound (after_turn t (Begin p start))
+    begins_by_rows p start e =
+        let b = may_begin t.world p start e in
+        begins p start (recovers_by shown terms code c t s p start b) b.free b.call (first_of t.world.kind t.world.capacity start t.world.kept) refl
+
+    free_by : (o : Option (Flight T)) → is_some o ≡ false → o ≡ None
+    free_by None e = refl
+    free_by (Some flight) e = absurd (cc)
+
+    pub open_turn_sound : (turn : Turn T) → open_refusal t.world turn ≡ None → (kept ≡ true → steps_for_gone t turn ≡ false) → Sound (after_turn t turn)
+    open_turn_sound (Begin p (Container (Recover owner mode))) e faithful =
+        let start : Start T = Container (Recover owner mode) in
+        let b = row_passed (is_some (flight_in t.world p)) Busy _ e in
+        let d = row_passed (is_none (first_of t.world.kind t.world.capacity start t.world.kept)) WrongCall None b.1 in
+        begins p start tt (free_by (flight_in t.world p) b.0) d.0 (first_of t.world.kind t.world.capacity start t.world.kept) refl
+    open_turn_sound (Begin p start) e faithful = begins_by_rows p start e
+    open_turn_sound (Next p) e faithful = nexts p (next_passes t.world p e) faithful (party_of p t.world.latest) refl
+    open_turn_sound (Die owner) e faithful = absurd (cc)
+    open_turn_sound (Decide p said) e faithful =
+        let b = row_passed (is_none (flight_in t.world p)) Idle _ e in
+        let d = row_passed (not (is_due t.world.coding (flight_in t.world p))) Undecided None b.1 in
+        decided p said (frame.is_true (is_due t.world.coding (flight_in t.world p)) d.0) (party_of p t.world.latest) refl
+
+-- ---- turns are counted
+
+module _ {T : Type 0} where
+  turn_grows : (t : Trace T) (turn : Turn T) → t.world.turns ≤ (after_turn t turn).world.turns
+  turn_grows t turn = grind arith
+
+  attempt_grows : (t : Trace T) (turn : Turn T) (o : Option Refusal) → t.world.turns ≤ (unless_refused t (after_turn t turn) o).world.turns
+  attempt_grows t turn None = turn_grows t turn
+  attempt_grows t turn (Some refusal) = omega arith
+
+  run_grows : (turns : List (Turn T)) (t : Trace T) → t.world.turns ≤ (run_open turns t).world.turns
+  run_grows [] t = omega arith
+  run_grows (turn ∷ turns) t =
+      let first = attempt_grows t turn (open_refusal t.world turn) in
+      let rest = run_grows turns (attempt_open t turn) in
+      omega arith
+
+-- ---- whole runs
+
+both_true : (a b : Bool) → (a && b) ≡ true → (a ≡ true) × (b ≡ true)
+both_true true b e = (refl, e)
+both_true false b e = absurd (cc)
+
+not_true : (b : Bool) → not b ≡ true → b ≡ false
+not_true true e = absurd (cc)
+not_true false e = refl
+
+module _ {T : Type 0} (kept : Bool) (code : Coding T) (c : ℕ) where
+  abbrev Holds : Trace T → Type 0
+  Holds t = frame.Sound (family_by (terms kept code c) code c) t
+
+  attempted : (t : Trace T) (turn : Turn T) (o : Option Refusal) → open_refusal t.world turn ≡ o → Holds t
+      → (kept ≡ true → t.world.turns < 2 ^ 64 - 2) → (kept ≡ true → steps_for_gone t turn ≡ false)
+      → Holds (unless_refused t (after_turn t turn) o)
+  attempted t turn None e s few faithful = open_turn_sound kept code c t s few turn e faithful
+  attempted t turn (Some refusal) e s few faithful = s
+
+  run_sound : (turns : List (Turn T)) (t : Trace T) → Holds t → (kept ≡ true → is_faithful turns t ≡ true)
+      → (kept ≡ true → (run_open turns t).world.turns < 2 ^ 64 - 2) → Holds (run_open turns t)
+  run_sound [] t s faithful few = s
+  run_sound (turn ∷ turns) t s faithful few =
+      run_sound turns (attempt_open t turn)
+      (attempted t turn (open_refusal t.world turn) refl s
+      (λ keeps. let grows = run_grows (turn ∷ turns) t in let end = few keeps in omega arith)
+      (λ keeps. not_true (steps_for_gone t turn)
+      (both_true (not (steps_for_gone t turn)) (is_faithful turns (attempt_open t turn)) (faithful keeps)).0))
+      (λ keeps. (both_true (not (steps_for_gone t turn)) (is_faithful turns (attempt_open t turn)) (faithful keeps)).1) few
+
+module _ {T : Type 0} (code : Coding T) (c : ℕ) where
+  abbrev Any : Trace T → Type 0
+  Any t = Holds false code c t
+
+  attempt_honest : (t : Trace T) (turn : Turn T) (o : Option Refusal) → open_refusal t.world turn ≡ o → Any t → IsHonest t.events
+      → steps_for_gone t turn ≡ false → Any (unless_refused t (after_turn t turn) o) × IsHonest (unless_refused t (after_turn t turn) o).events
+  attempt_honest t turn None e s honest steps =
+      let next : Any (after_turn t turn) = open_turn_sound false code c t s (λ keeps. absurd (cc)) turn e (λ keeps. absurd (cc)) in
+      (next, turn_honest (terms false code c) code c t s honest turn e steps next)
+  attempt_honest t turn (Some refusal) e s honest steps = (s, honest)
+
+  run_honest : (turns : List (Turn T)) (t : Trace T) → Any t → IsHonest t.events → is_faithful turns t ≡ true → IsHonest (run_open turns t).events
+  run_honest [] t s honest faithful = honest
+  run_honest (turn ∷ turns) t s honest faithful =
+      let both = both_true (not (steps_for_gone t turn)) (is_faithful turns (attempt_open t turn)) faithful in
+      let next = attempt_honest t turn (open_refusal t.world turn) refl s honest (not_true (steps_for_gone t turn) both.0) in
+      run_honest turns (attempt_open t turn) next.0 next.1 both.1
+
+module _ {T : Type 0} (t : Trace T) (is : t.world.kind ≡ kinds.TheVariants.Container) (r : IsReachedOpen t) where
+  abbrev first : Trace T
+  first = opening t.world.coding t.world.kind t.world.capacity t.world.parties
+
+  open_at_first : (kept : Bool) → Holds kept t.world.coding t.world.capacity first
+  open_at_first kept =
+      let w = t.world in
+      let may = admitted_is w.capacity (subst (λ kind. capacity_error kind w.capacity ≡ None) is r.admitted) in
+      subst (λ kind. Holds kept w.coding w.capacity (opening w.coding kind w.capacity w.parties)) (sym is)
+      (opening_sound shown (terms kept w.coding w.capacity) w.coding w.capacity w.parties r.coded may.0 may.1)
+
+  reached_sound : (kept : Bool) → (kept ≡ true → is_faithful r.turns first ≡ true) → (kept ≡ true → t.world.turns < 2 ^ 64 - 2)
+      → Holds kept t.world.coding t.world.capacity t
+  reached_sound kept faithful few =
+      let w = t.world in
+      subst (Holds kept w.coding w.capacity) (sym r.is)
+      (run_sound kept w.coding w.capacity r.turns first (open_at_first kept) faithful
+      (λ keeps. subst (λ (u : Trace T). u.world.turns < 2 ^ 64 - 2) r.is (few keeps)))
+
+  -- of any run
+  abbrev pub any : Terms
+  any = terms false t.world.coding t.world.capacity
+
+  pub reached_open_sound : frame.Sound (family_by any t.world.coding t.world.capacity) t
+  reached_open_sound = reached_sound false (λ keeps. absurd (cc)) (λ keeps. absurd (cc))
+
+  -- a faithful run is honest
+  reached_open_honest : IsFaithful t r → IsHonest t.events
+  reached_open_honest faithful =
+      subst (λ (u : Trace T). IsHonest u.events) (sym r.is)
+      (run_honest t.world.coding t.world.capacity r.turns first (open_at_first false) (Each-nil _) faithful)
+
+  -- nobody dies in it
+  pub reached_open_lives : AllLive t.events
+  reached_open_lives =
+      let code = t.world.coding in
+      let c = t.world.capacity in
+      (reached_keeps (λ u. Holds false code c u × AllLive u.events)
+      (λ u turn e h.
+      (open_turn_sound false code c u h.0 (λ keeps. absurd (cc)) turn e (λ keeps. absurd (cc)), all_live_on u (steps_leave any code c u h.0) turn e h.1))
+      t r (open_at_first false, λ owner. refl)).1
+
+  -- no turn changes how many words it has
+  pub reached_open_wide : length t.world.words ≡ total_words t.world.capacity t.world.coding.size
+  reached_open_wide =
+      let s = reached_open_sound in
+      ap length (kept_is t.world.kept t.world.words s.state s.fit).1 ∙ s.holds.elements.wide
+
+  pub reached_open_kept : IsOpenContainer t r
+  reached_open_kept =
+      let w = t.world in
+      let s = reached_open_sound in
+      record {
+        does = s.holds.good.does;
+        asks = s.holds.elements.asks;
+        recovers = s.holds.elements.recovers;
+        answers =
+            subst (λ ws. Each (AnswersBy Word (counter_of ws ≡ greatest) w.capacity) t.events)
+            (sym (kept_is w.kept w.words s.state s.fit).1) s.holds.elements.answers;
+        cells = cells any w.coding t s;
+        lock = lock any w.coding t s;
+        lives = reached_open_lives;
+        dead = dead any w.coding t s;
+        questions = questions any w.coding t s;
+        states = states any w.coding t s;
+        holds = λ well_formed honest. s.holds.good.holds (well_formed, honest);
+        honest = reached_open_honest;
+        contained = λ well_formed run.
+            let keeping = terms true w.coding w.capacity in
+            contained keeping w.coding t (reached_sound true (λ keeps. run.faithful) (λ keeps. run.few))
+            (well_formed_on keeping t refl (reached_open_honest run.faithful) well_formed);
+      }
+
+  -- ---- what a turn tells
+
+  and_true : (a b : Bool) → a ≡ true → b ≡ true → (a && b) ≡ true
+  and_true true b h k = k
+  and_true false b h k = absurd (cc)
+
+  few_is : (n : ℕ) → nat_lt n (2 ^ 64 - 2) ≡ true → n < 2 ^ 64 - 2
+  few_is n e = grind (arith, nat_tests)
+
+  is_few : (n : ℕ) → n < 2 ^ 64 - 2 → nat_lt n (2 ^ 64 - 2) ≡ true
+  is_few n less = grind (arith, nat_tests)
+
+  pub reached_open_tells : (turn : Turn T) → open_refusal t.world turn ≡ None
+      → TellsIf (IsFaithfulRun t r × IsWellFormedRun (after_turn t turn) × IsHonest (after_turn t turn).events) t turn (after_turn t turn)
+  reached_open_tells turn e =
+      let w = t.world in
+      let new = after_turn t turn in
+      let faithful : Bool = is_faithful r.turns first in
+      let few : Bool = nat_lt w.turns (2 ^ 64 - 2) in
+      let on = terms (faithful && few) w.coding w.capacity in
+      let are_few : (faithful && few) ≡ true → w.turns < 2 ^ 64 - 2 = λ keeps. few_is w.turns (both_true faithful few keeps).1 in
+      let s = reached_sound (faithful && few) (λ keeps. (both_true faithful few keeps).0) are_few in
+      tells_if shown on w.coding t s (record { room = tt; few = are_few }) turn (allowed_open w turn e)
+      (IsFaithfulRun t r × IsWellFormedRun new × IsHonest new.events)
+      (λ run. well_formed_on on new (and_true faithful few run.0.faithful (is_few w.turns run.0.few)) run.2 run.1)
+
+  -- where the turn is faithful too, the run with it is honest
+  pub reached_turn_honest : (turn : Turn T) → open_refusal t.world turn ≡ None → IsFaithful t r → steps_for_gone t turn ≡ false
+      → IsHonest (after_turn t turn).events
+  reached_turn_honest turn e faithful steps =
+      let w = t.world in
+      let s = reached_open_sound in
+      turn_honest any w.coding w.capacity t s (reached_open_honest faithful) turn e steps
+      (open_turn_sound false w.coding w.capacity t s (λ keeps. absurd (cc)) turn e (λ keeps. absurd (cc)))

@@ -1,0 +1,151 @@
+-- The container as it opens: nothing stands in it, and nobody has died.
+use Rattle.std.proofs.Common.{◌≡◌, ℕ, zero, suc, ◌+◌, ◌*◌, ◌%◌, ◌^◌, ◌<◌, ◌≤◌, inl, Some, None, List, [], length}
+use Rattle.std.proofs.Common.{replicate, get_or, slice_get, refl, sym, ap, ◌∙◌, length-append, arith}
+use Rattle.std.proofs.Math.ListN.{get_or-append}
+use Rattle.std.proofs.lemmas.List.{length-replicate, get_or-replicate, get_or-append-add}
+use Rattle.steps.specs.Container.Layout.{change_word, count_word}
+use Rattle.steps.specs.Container.State.{no_element, value_if}
+use Rattle.steps.specs.declared.container.state.Element.{Element}
+use Rattle.steps.specs.Indices.Robust.Parts.{empty}
+use Rattle.model.specs.Coding.{Coding, IsCoding}
+use Rattle.model.specs.Families.Container.Looks.{shows}
+use Rattle.model.specs.Families.Container.Opening.{opening_words}
+use Rattle.model.specs.Families.Container.States.{fresh}
+use Rattle.model.specs.Families.Indices.Robust.Opening as set_opening
+use Rattle.model.proofs.Readings.{Each-nil}
+use Rattle.laws_robust.specs.Gone.{GoneBy}
+use Rattle.laws_robust.proofs.Core.{cell}
+use Rattle.laws_robust.proofs.Invariant as set
+use Rattle.laws_robust.proofs.Opening.{opening_cell}
+use Rattle.laws_container.proofs.Core.{count_at, change_at}
+use Rattle.laws_container.proofs.Invariant.{moment}
+use Rattle.laws_container.proofs.Sights.{Sight, Rests, number_in, number_at}
+use Rattle.laws_container.proofs.Sound.{Opens}
+use Rattle.laws_container.proofs.Terms.{Terms}
+use Rattle.laws_container.proofs.Turns.{Now}
+
+-- ---- the words
+
+module _ (z c : ℕ) where
+  abbrev first : List ℕ
+  first = set_opening.opening_words c
+
+  abbrev rest : ℕ
+  rest = 1 + c + z * c
+
+  first_long : length first ≡ c + 1
+  first_long = let long = length-replicate {A = ℕ} c empty in omega arith
+
+  rest_long : length (opening_words z c) ≡ length first + rest
+  rest_long = let both = length-append first (replicate rest 0) in let long = length-replicate {A = ℕ} rest 0 in omega arith
+
+  behind : (n : ℕ) → n < rest → get_or (opening_words z c) (length first + n) 0 ≡ 0
+  behind n below = get_or-append-add first (replicate rest 0) n 0 ∙ get_or-replicate rest n 0 0 below
+
+  no_count : (i : ℕ) → i < c → count_at c (opening_words z c) i ≡ 0
+  no_count i below =
+      let long = first_long in
+      let place : count_word c i ≡ length first + (1 + i) = omega arith in
+      ap (λ n. get_or (opening_words z c) n 0) place ∙ behind (1 + i) (omega arith)
+
+  no_change : change_at c (opening_words z c) ≡ 0
+  no_change =
+      let long = first_long in
+      let place : change_word c ≡ length first + 0 = omega arith in
+      ap (λ n. get_or (opening_words z c) n 0) place ∙ behind 0 (omega arith)
+
+  no_owner : (i : ℕ) → i < c → cell (opening_words z c) i ≡ empty
+  no_owner i below =
+      let long = first_long in
+      get_or-append first (replicate rest 0) 0 (1 + i) (omega arith) ∙ opening_cell c i below
+
+  words_good : {T : Type 0} (by : GoneBy) → 1 ≤ c → c < 2 ^ 32 → set.Good {T = T} by c (opening_words z c) [] [] 0
+  words_good by some few =
+      let long = first_long in
+      let all_long = rest_long in
+      record {
+        some = some;
+        few = few;
+        wide = omega arith;
+        cells = no_owner;
+        filled = λ i owner e. absurd (cc);
+        lock = refl;
+        low = λ t. omega arith;
+        bound = omega arith;
+        died = λ owner. refl;
+        does = Each-nil _;
+        answers = Each-nil _;
+        owned = λ calm. record { held = λ i owner e. absurd (cc); settled = λ i owner e. absurd (cc) };
+        holds = λ calm. Each-nil _;
+      }
+
+-- ---- a new state
+
+module _ {T : Type 0} (e : Element T) (zero_is : e.count ≡ 0) where
+  number_same : (n i : ℕ) → number_in (slice_get (replicate n e) i) ≡ 0
+  number_same zero i = refl
+  number_same (suc n) zero = zero_is
+  number_same (suc n) (suc i) = number_same n i
+
+module _ {T : Type 0} (value : T) where
+  pub shows_same : (n i : ℕ) → value_if (slice_get (replicate n (record { count = 0; value = value })) i) ≡ None
+  shows_same zero i = refl
+  shows_same (suc n) zero = refl
+  shows_same (suc n) (suc i) = shows_same n i
+
+module _ {T : Type 0} (terms : Terms) (code : Coding T) (c : ℕ) (coded : IsCoding code) (some : 1 ≤ c) (few : c < 2 ^ 32) where
+  abbrev m : Now T
+  m = moment terms (opening_words code.size c) [] []
+
+  number_is : (i : ℕ) → number_at (fresh code c) i ≡ 0
+  number_is i = number_same (no_element code.value_of code.size) refl c i
+
+  shows_is : (i : ℕ) → shows (fresh code c) i ≡ None
+  shows_is i = shows_same _ c i
+
+  sight : (q : ℕ) → Sight code c m q (fresh code c) c c
+  sight q =
+      record {
+        wide = length-replicate c (no_element code.value_of code.size);
+        below = λ kept i below. let zero_is = number_is i in omega arith;
+        change = λ kept. omega arith;
+        copied = λ i value ne e. let none : None ≡ Some value = sym (shows_is i) ∙ e in absurd (cc);
+        same = λ well_formed i below ne e. shows_is i;
+        caught = λ well_formed same i ks below e. absurd (cc);
+        owed = λ kept same i ks below. inl (number_is i ∙ sym (no_count code.size c i below));
+      }
+
+  rests : (q : ℕ) → Rests code c m q (fresh code c)
+  rests q =
+      record {
+        sight = sight q;
+        known = length-replicate {A = ℕ} c 0;
+        seen = refl;
+        counts = λ i below. get_or-replicate c i 0 0 below ∙ sym (number_is i);
+        room = length-replicate {A = ℕ} 128 0;
+      }
+
+  pub opens : Opens terms code c
+  opens =
+      let long = first_long code.size c in
+      let all_long = rest_long code.size c in
+      record {
+        good = words_good code.size c terms.by some few;
+        elements =
+            record {
+              coded = coded;
+              wide = omega arith;
+              counts = λ kept i below. let none = no_count code.size c i below in omega arith;
+              change = λ kept. let none = no_change code.size c in omega arith;
+              within = λ i value e. absurd (cc);
+              announced = λ well_formed i e. absurd (cc);
+              whole = λ well_formed i below. ap (λ n. n % 2) (no_count code.size c i below);
+              asks = Each-nil _;
+              recovers = Each-nil _;
+              answers = Each-nil _;
+              contains = λ well_formed. Each-nil _;
+              places = λ well_formed. Each-nil _;
+              rests = λ q s idle found. absurd (cc);
+              fresh = rests;
+            };
+      }

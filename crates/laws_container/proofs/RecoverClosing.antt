@@ -1,0 +1,252 @@
+-- How a recovery of a container ends: the second look at the counter, and the count of the change.
+use Rattle.std.proofs.Common.{◌≡◌, ◌≢◌, ⊎_elim, ℕ, ◌+◌, ◌*◌, ◌<◌, ◌≤◌, ◌==◌, if◌then◌else◌, Bool, false}
+use Rattle.std.proofs.Common.{true, Option, Some, None, List, [], ◌∷◌, refl, sym, subst}
+use Rattle.std.proofs.Common.{append-nil, arith}
+use Rattle.std.proofs.lemmas.Bool.{cases_lt}
+use Rattle.std.proofs.lemmas.Bool.Decides.{nat_tests}
+use Rattle.steps.specs.declared.ask.Ask.{Ask}
+use Rattle.steps.specs.declared.ask.After.{After}
+use Rattle.steps.specs.declared.ask.After.TheVariants.{Done}
+use Rattle.steps.specs.declared.container.recover.RecoverStage.{RecoverStage}
+use Rattle.steps.specs.declared.container.recover.RecoverStage as recovers
+use Rattle.steps.specs.declared.copied.Buffer as buffers
+use Rattle.steps.specs.declared.indices.enums.ReleaseMode.{ReleaseMode}
+use Rattle.steps.specs.declared.indices.enums.ReleaseState.{ReleaseState}
+use Rattle.steps.specs.declared.indices.enums.ReleaseState as states
+use Rattle.steps.specs.declared.indices.robust.parts.Count as counts
+use Rattle.steps.specs.declared.indices.robust.parts.Lock.{Lock}
+use Rattle.steps.specs.declared.indices.robust.parts.Lock as parts
+use Rattle.steps.specs.declared.indices.robust.parts.Raise.{Raise}
+use Rattle.steps.specs.declared.indices.robust.parts.Raise as raises
+use Rattle.steps.specs.Container.Layout.{change_word}
+use Rattle.steps.specs.Container.Recover.{recover_ends}
+use Rattle.steps.specs.Indices.Robust.Parts.{empty, locked, greatest}
+use Rattle.model.specs.declared.event.Answer.TheVariants as answers
+use Rattle.model.specs.declared.event.Event.{Event}
+use Rattle.model.specs.declared.event.Event.TheVariants.{Locked, Finished}
+use Rattle.model.specs.declared.event.Start.TheVariants.{Container}
+use Rattle.model.specs.declared.families.container.ContainerStart.TheVariants.{Recover}
+use Rattle.model.specs.Families.Container.Recoveries.{UnlockedAtLast}
+use Rattle.model.specs.Families.Indices.Reading.{is_locked}
+use Rattle.model.specs.Families.Indices.Robust.Promises.{IsUnlocked, StillToFree}
+use Rattle.model.specs.Families.Indices.Robust.Reading.{Locks, filled_of, deeds_of}
+use Rattle.model.specs.Turns.{words_after}
+use Rattle.model.proofs.Moments.{held_now}
+use Rattle.laws_robust.specs.Gone.{is_gone}
+use Rattle.laws_robust.proofs.Core.{counter_of}
+use Rattle.laws_robust.proofs.Effects.{some_none, is_shut, unlocked}
+use Rattle.laws_robust.proofs.Effects as set_effects
+use Rattle.laws_robust.proofs.Invariant.{IsWorn, worn_on}
+use Rattle.laws_robust.proofs.Parts.{none_beyond}
+use Rattle.laws_robust.proofs.Past.{through_now}
+use Rattle.laws_robust.proofs.Stages.{loads_same}
+use Rattle.laws_robust.proofs.Stages as set_stages
+use Rattle.laws_container.specs.Gone.{HasRecoveredBy, FilledSinceEachBy, AnswersBy}
+use Rattle.laws_container.proofs.Answers.{each_on}
+use Rattle.laws_container.proofs.HiddenKnows.{HasHidden}
+use Rattle.laws_container.proofs.Invariant.{Scene, Inv, after, of_set, inv_of_set}
+use Rattle.laws_container.proofs.Keeping.{shut_later}
+use Rattle.laws_container.proofs.KeptLocks.{NoIndex, FilledBut, filled_each}
+use Rattle.laws_container.proofs.Knows.{RecoverSays, RecoverKnows, IsLong, Knows}
+use Rattle.laws_container.proofs.RecoverParts.{none, hidden_still, first, then_at}
+use Rattle.laws_container.proofs.RecoverEnds.{empties_step, hides_step}
+use Rattle.laws_container.proofs.RecoverReads.{Here, Becomes, calm_on}
+use Rattle.laws_container.proofs.RecoverReads.{counter_step, cell_step, count_step}
+use Rattle.laws_container.proofs.RecoverWords.{word_step}
+use Rattle.laws_container.proofs.RecoverWords.{check_step, decided}
+use Rattle.laws_container.proofs.Sets.{leaves_behind, quiet_end}
+use Rattle.laws_container.proofs.Stages.{all, done, sees_now, StepOf, AnswerOf, none_lengthens, party_then}
+use Rattle.laws_container.proofs.Stages.{backs_then, since_then, changes_then, ends, was_well_formed}
+use Rattle.laws_container.proofs.Standing.{recover_at, recover_number, for_back, for_index, RecoverAt}
+use Rattle.laws_container.proofs.Steps.{ends_counted}
+use Rattle.laws_container.proofs.Writing.{adds_one, adds_to_change}
+use Rattle.laws_container.proofs.Recovers.{locks_step, most_is, raises_step}
+
+module _ {T : Type 0} (scene : Scene T) (inv : Inv scene) (owner : ℕ) (mode : ReleaseMode) (fits : owner < empty) where
+  open scene use {
+    coding as code,
+    capacity as c,
+    party as p,
+    steps as steps,
+    backs as backs,
+    since as since,
+    changes as changes,
+    events as events,
+    latest as latest,
+  }
+
+  abbrev ws : List ℕ
+  ws = scene.words
+
+  abbrev z : ℕ
+  z = code.size
+
+  -- ---- the second look at the counter
+
+  module _ (room : buffers.Buffer 128)
+      (here : Here scene inv owner mode fits room recovers.TheVariants.LoadsCounterAgain) (long : IsLong room)
+      (freed : RecoverAt c z (all scene) (done scene) owner mode recovers.TheVariants.LoadsCounterAgain)
+      (k : RecoverKnows code c owner mode room recovers.TheVariants.LoadsCounterAgain (sees_now scene))
+      (s : steps ≤ 1 + c * for_index c z mode + backs * for_back c z mode)
+      (f : FilledBut (IsWorn scene.terms.by ws) mode p owner NoIndex events) where
+    abbrev load_again : Option Ask
+    load_again = Some (set_stages.loads 0)
+
+    paid_again : backs_then scene false + since_then scene load_again ≤ changes_then scene load_again
+    paid_again = let paid = k.0 in omega arith
+
+    recovered : HasRecoveredBy scene.terms.by p owner events
+    recovered =
+        record {
+          gone = λ honest i told. ⊎_elim (λ gone. gone) (λ never. absurd never) (k.1.gone honest i told);
+          asked = λ i through.
+              ⊎_elim (λ below. k.1.asked i below through)
+              (λ beyond. ⊎_elim
+              (λ filled. some_none (filled_of i events) owner (none_beyond (of_set scene) (inv_of_set scene inv) i beyond) filled)
+              (λ was_freed. freed i was_freed) (through_now p (StillToFree p owner i) events through))
+              (cases_lt i c);
+        }
+
+    -- the load leaves the counter
+    each_again : FilledSinceEachBy (IsWorn scene.terms.by ws) mode p owner events
+        → FilledSinceEachBy (IsWorn scene.terms.by (words_after ws load_again)) mode p owner events
+    each_again h =
+        each_on (IsWorn scene.terms.by ws) (IsWorn scene.terms.by (words_after ws load_again))
+        (λ end. subst (IsWorn scene.terms.by) (sym (loads_same ws 0)) end) mode p owner events h
+
+    hidden_again : (state : ReleaseState)
+        → HasHidden code c p owner none
+        (after scene (words_after ws load_again)
+        (then_at scene inv owner mode fits room recovers.TheVariants.LoadsCounterAgain here room
+        (recovers.TheVariants.AddsChange state) load_again false)
+        [])
+    hidden_again state =
+        hidden_still scene inv owner mode fits room recovers.TheVariants.LoadsCounterAgain here load_again
+        (then_at scene inv owner mode fits room recovers.TheVariants.LoadsCounterAgain here room
+        (recovers.TheVariants.AddsChange state) load_again false)
+        k.1.hidden
+
+    again_step : StepOf scene (Recover owner mode) (recover_at c owner mode room recovers.TheVariants.LoadsCounterAgain)
+    again_step = go (counter_of ws == locked) refl
+      where
+        go : (b : Bool) → (counter_of ws == locked) ≡ b
+            → Becomes scene inv owner mode fits (Some (set_stages.loads 0)) false [] room
+            (recover_ends (first scene inv owner mode fits) (if b then states.TheVariants.Locked else states.TheVariants.Unlocked))
+        go true t =
+            let shut : counter_of ws ≡ locked = grind (arith, nat_tests) in
+            calm_on scene inv owner mode fits room recovers.TheVariants.LoadsCounterAgain here long load_again
+            (loads_same ws 0) false paid_again room (recovers.TheVariants.AddsChange states.TheVariants.Locked)
+            (omega arith) tt
+            (long, (paid_again, shut_later events [] (is_shut (of_set scene) (inv_of_set scene inv) shut), hidden_again states.TheVariants.Locked), tt)
+        go false t =
+            let open_now : counter_of ws ≢ locked = grind (arith, nat_tests) in
+            let free : is_locked events ≡ false = unlocked (of_set scene) (inv_of_set scene inv) open_now in
+            let now : UnlockedAtLast p events = held_now p (λ part. IsUnlocked part × (deeds_of p part ≡ deeds_of p events)) events (free, refl) in
+            calm_on scene inv owner mode fits room recovers.TheVariants.LoadsCounterAgain here long load_again
+            (loads_same ws 0) false paid_again room (recovers.TheVariants.AddsChange states.TheVariants.Unlocked)
+            (omega arith) tt (
+              long,
+              (
+                paid_again,
+                subst (λ es. (is_gone scene.terms.by owner es ≡ true) × UnlockedAtLast p es
+                    × HasRecoveredBy scene.terms.by p owner es
+                    × FilledSinceEachBy (IsWorn scene.terms.by (words_after ws load_again)) mode p owner es)
+                    (sym (append-nil events))
+                    (k.1.dead, now, recovered, each_again (filled_each p owner (IsWorn scene.terms.by ws) mode events free f)),
+                hidden_again states.TheVariants.Unlocked,
+              ),
+              tt,
+            )
+
+  -- ---- the change is counted, and the call ends
+
+  module _ (room : buffers.Buffer 128) (state : ReleaseState)
+      (here : Here scene inv owner mode fits room (recovers.TheVariants.AddsChange state))
+      (k : RecoverKnows code c owner mode room (recovers.TheVariants.AddsChange state) (sees_now scene))
+      (s : steps ≤ 2 + c * for_index c z mode + backs * for_back c z mode) where
+    abbrev end_it : Option Ask
+    end_it = Some (adds_one (change_word c))
+
+    counter_stays : counter_of ws ≡ greatest → counter_of (words_after ws end_it) ≡ greatest
+    counter_stays end =
+        (leaves_behind (of_set scene) (inv_of_set scene inv) (words_after ws end_it) (change_word c) _ (omega arith)
+        (adds_to_change scene inv)).stuck
+        end
+
+    answers_right : (state : ReleaseState) → RecoverSays code c owner mode state (sees_now scene)
+        → AnswersBy scene.terms.by (IsWorn scene.terms.by (words_after ws end_it)) c events
+        (Finished p (Container (Recover owner mode)) (answers.State state))
+    answers_right states.TheVariants.Locked h = h
+    answers_right states.TheVariants.Unlocked h = (
+      h.1,
+      h.2,
+      each_on (IsWorn scene.terms.by ws) (IsWorn scene.terms.by (words_after ws end_it))
+          (worn_on scene.terms.by ws (words_after ws end_it) counter_stays) mode p owner events h.3,
+    )
+
+    end_step : StepOf scene (Recover owner mode) (recover_at c owner mode room (recovers.TheVariants.AddsChange state))
+    end_step =
+        let y = party_then scene (Recover owner mode) end_it false (Done (answers.State state)) in
+        let es = Finished p (Container (Recover owner mode)) (answers.State state) ∷ [] in
+        let well_formed = was_well_formed scene (Recover owner mode) tt here.span (words_after ws end_it) y es (refl, tt) in
+        let new = adds_to_change scene inv in
+        let most = most_is c z owner (backs_then scene false) T mode in
+        ends scene (Recover owner mode) (answers.State state) end_it false scene.states [] here.span none_lengthens
+        (ends_counted scene inv (Recover owner mode)
+        (recover_at c owner mode room (recovers.TheVariants.AddsChange state)) tt here y (words_after ws end_it)
+        (answers.State state)
+        (set_effects.quietly (of_set scene) (inv_of_set scene inv) (words_after ws end_it) es
+        (leaves_behind (of_set scene) (inv_of_set scene inv) (words_after ws end_it) (change_word c) _ (omega arith) new)
+        (quiet_end (of_set scene) (inv_of_set scene inv) (Recover owner mode) (answers.State state) (λ i o. refl) (λ i r. refl))
+        (refl, tt) (tt, tt) (tt, tt))
+        (answers_right state k.1) well_formed
+        (λ holds i was. ⊎_elim (λ empty. empty) (λ never. absurd never) (k.2 (well_formed holds) i was)) new
+        (λ holds i said. inv.elements.announced holds i said))
+        ((refl, tt), tt) (omega arith) (let paid = k.0 in omega arith)
+
+  -- ---- any step
+
+  abbrev Moves : buffers.Buffer 128 → RecoverStage → Type 0
+  Moves room stage =
+      RecoverAt c z (all scene) (done scene) owner mode stage → Here scene inv owner mode fits room stage
+      → Knows code c (recover_at c owner mode room stage) (sees_now scene)
+      → steps ≤ recover_number c z mode stage backs
+      → StepOf scene (Recover owner mode) (recover_at c owner mode room stage)
+
+  pub recover_step : (room : buffers.Buffer 128) (stage : RecoverStage) → Moves room stage
+  recover_step room recovers.TheVariants.LoadsCounter at here k s = counter_step scene inv owner mode fits room here k.0 at k.1 s
+  recover_step room (recovers.TheVariants.LoadsCell index) at here k s = cell_step scene inv owner mode fits room index here k.0 at k.1 s k.2
+  recover_step room (recovers.TheVariants.LoadsCount index) at here k s = count_step scene inv owner mode fits room index here k.0 at k.1 s k.2
+  recover_step room (recovers.TheVariants.LoadsWord index count word) at here k s =
+      word_step scene inv owner mode fits room index count word here k.0 at k.1 s k.2
+  recover_step room (recovers.TheVariants.ChecksCount index count) at here k s = check_step scene inv owner mode fits room index count here k.0 at k.1 s k.2
+  recover_step room (recovers.TheVariants.Asks index count) at here k s = decided scene inv owner mode fits room index count at here k.0 k.1 s k.2 0
+  recover_step room (recovers.TheVariants.EmptiesCell index count) at here k s = empties_step scene inv owner mode fits room index count here k.0 at k.1 s k.2
+  recover_step room (recovers.TheVariants.Hides index count) at here k s = hides_step scene inv owner mode fits room index count here k.0 at k.1 s k.2
+  recover_step room (recovers.TheVariants.Raises index raises.TheVariants.LoadsCounter) at here k s =
+      (raises_step scene inv owner mode fits) room index raises.TheVariants.LoadsCounter here k.0 at.0 at.1 k.1 s k.2
+  recover_step room (recovers.TheVariants.Raises index (raises.TheVariants.ExchangesCounter number)) at here k s =
+      (raises_step scene inv owner mode fits) room index (raises.TheVariants.ExchangesCounter number) here k.0 at.0 at.1 k.1 s k.2
+  recover_step room (recovers.TheVariants.Locks index (parts.TheVariants.Counts counts.TheVariants.LoadsCounter)) at here k s =
+      (locks_step scene inv owner mode fits) room index (parts.TheVariants.Counts counts.TheVariants.LoadsCounter) here k.0 at.0 at.1 at.2 at.3 k.1 s k.2
+  recover_step room (recovers.TheVariants.Locks index (parts.TheVariants.Counts (counts.TheVariants.LoadsCell number i filled)))
+      at here k s =
+      (locks_step scene inv owner mode fits) room index
+      (parts.TheVariants.Counts (counts.TheVariants.LoadsCell number i filled)) here k.0 at.0 at.1 at.2 at.3 k.1 s
+      k.2
+  recover_step room (recovers.TheVariants.Locks index (parts.TheVariants.Counts (counts.TheVariants.ExchangesCounter number filled)))
+      at here k s =
+      (locks_step scene inv owner mode fits) room index (parts.TheVariants.Counts (counts.TheVariants.ExchangesCounter number filled)) here k.0 at.0
+      at.1 at.2 at.3 k.1 s k.2
+  recover_step room (recovers.TheVariants.Locks index (parts.TheVariants.ExchangesCounter number)) at here k s =
+      (locks_step scene inv owner mode fits) room index (parts.TheVariants.ExchangesCounter number) here k.0 at.0 at.1 at.2 at.3 k.1 s k.2
+  recover_step room recovers.TheVariants.LoadsCounterAgain at here k s = again_step room here k.0 at k.1 s k.2
+  recover_step room (recovers.TheVariants.AddsChange state) at here k s = end_step room state here k.1 s
+
+  pub recover_decided : (room : buffers.Buffer 128) (index count : ℕ)
+      → RecoverAt c z (all scene) (done scene) owner mode (recovers.TheVariants.Asks index count)
+      → Here scene inv owner mode fits room (recovers.TheVariants.Asks index count)
+      → Knows code c (recover_at c owner mode room (recovers.TheVariants.Asks index count)) (sees_now scene)
+      → steps ≤ recover_number c z mode (recovers.TheVariants.Asks index count) backs → (answer : ℕ)
+      → AnswerOf scene (Recover owner mode) (recover_at c owner mode room (recovers.TheVariants.Asks index count)) None answer
+  recover_decided room index count at here k s answer = decided scene inv owner mode fits room index count at here k.0 k.1 s k.2 answer

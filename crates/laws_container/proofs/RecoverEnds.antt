@@ -1,0 +1,380 @@
+-- The steps of a recovery behind its question: it empties the cell, and hides what stands there.
+use Rattle.std.proofs.Common.{◌≡◌, ◌≢◌, ◌⊎◌, ⊎_elim, inl, inr, ℕ, ◌+◌, ◌*◌, ◌%◌, ◌<◌, ◌≤◌, ◌==◌, if◌then◌else◌, Bool}
+use Rattle.std.proofs.Common.{false, true, Option, Some, None, List, [], ◌∷◌, ◌++◌, set, refl, sym, ap, subst, ◌∙◌}
+use Rattle.std.proofs.Common.{append-nil, arith}
+use Rattle.std.proofs.lemmas.Bool.Decides.{nat_tests}
+use Rattle.std.proofs.lemmas.List.Sums.{fold-append}
+use Rattle.steps.specs.declared.ask.Ask.{Ask}
+use Rattle.steps.specs.declared.ask.After.TheVariants.{GoOn}
+use Rattle.steps.specs.declared.container.recover.RecoverStage.{RecoverStage}
+use Rattle.steps.specs.declared.container.recover.RecoverStage as recovers
+use Rattle.steps.specs.declared.copied.Buffer as buffers
+use Rattle.steps.specs.declared.indices.enums.ReleaseMode.{ReleaseMode}
+use Rattle.steps.specs.declared.indices.robust.parts.Raise as raises
+use Rattle.steps.specs.Container.Layout.{count_word, is_even}
+use Rattle.steps.specs.Container.Recover.{recover_comes_to, recover_raises}
+use Rattle.steps.specs.Indices.Robust.Parts.{cell_word, empty, one_more}
+use Rattle.model.specs.declared.event.Event.{Event}
+use Rattle.model.specs.declared.event.Event.TheVariants.{FreedOf, Hidden}
+use Rattle.model.specs.declared.families.container.ContainerStart.TheVariants.{Recover}
+use Rattle.model.specs.declared.party.Party.{Party}
+use Rattle.model.specs.Families.Container.Promises.{WasShown}
+use Rattle.model.specs.Families.Container.Reading.{Sees, Hides as HidesOne, acts}
+use Rattle.model.specs.Families.Indices.Robust.Promises.{cell_of, LivesToRelease}
+use Rattle.model.specs.Families.Indices.Robust.Reading.{Frees, Yes, filled_after, filled_of, IsOneOf}
+use Rattle.model.specs.Families.Indices.Robust.Spans.{HasJustFreed}
+use Rattle.model.specs.Parties.{flight_of}
+use Rattle.model.specs.Turns.{words_after, step_count}
+use Rattle.laws_robust.specs.Gone.{is_gone}
+use Rattle.laws_robust.proofs.Core.{cell}
+use Rattle.laws_robust.proofs.Deeds.{was_one, by_latest}
+use Rattle.laws_robust.proofs.Effects.{at_same, some_none, one_owner, both_ways, filled_by}
+use Rattle.laws_robust.proofs.Effects as set_effects
+use Rattle.laws_robust.proofs.Frees as set_frees
+use Rattle.laws_robust.proofs.Gone.{calm_less}
+use Rattle.laws_robust.proofs.Invariant as set_invariant
+use Rattle.laws_robust.proofs.Invariant.{IsWorn}
+use Rattle.laws_robust.proofs.Stages.{exchanges, exchange_sets, fails_same}
+use Rattle.laws_container.specs.Gone.{FreedBy}
+use Rattle.laws_container.proofs.Core.{count_at}
+use Rattle.laws_container.proofs.HiddenKnows.{StillStands}
+use Rattle.laws_container.proofs.HiddenOn.{hidden_even, hidden_other, hidden_freed, hides_it}
+use Rattle.laws_container.proofs.Invariant.{Scene, Inv, Does, before, after, of_set, inv_of_set}
+use Rattle.laws_container.proofs.KeptLocks.{NoIndex, FilledBut}
+use Rattle.laws_container.proofs.Knows.{Recovers, RecoverKnows, IsLong, Knows}
+use Rattle.laws_container.proofs.Left.{left_after, left_of}
+use Rattle.laws_container.proofs.RecoverParts.{fill_same, none, hidden_still, as_recover, first, Few, then_at}
+use Rattle.laws_container.proofs.RecoverParts.{stays_does, go_on, recs, fills_on, asked_on, told_none, comes_to_next}
+use Rattle.laws_container.proofs.RecoverReads.{Here, Becomes, Goes, Course, course_calm, calm_recs, calm_on, index_at_least}
+use Rattle.laws_container.proofs.Recoveries.{rehidden, one_of_none, has_of_none, has_latest, was_act, course_then}
+use Rattle.laws_container.proofs.SetSteps.{rest_set, wide_set, frees}
+use Rattle.laws_container.proofs.Stages.{all, done, sees_now, then_sees, StepOf, Leads, none_lengthens, backs_then, since_then, changes_then, was_well_formed}
+use Rattle.laws_container.proofs.Standing.{recover_at, recover_number, for_back, for_index, AskedOrShown, IsInCourse, RecoverAt}
+use Rattle.laws_container.proofs.Steps.{hides}
+use Rattle.laws_container.proofs.Turns.{owes, count_in}
+use Rattle.laws_container.proofs.Writing.{even_is, odd_is, hides_count}
+
+module _ {T : Type 0} (scene : Scene T) (inv : Inv scene) (owner : ℕ) (mode : ReleaseMode) (fits : owner < empty) where
+  open scene use {
+    coding as code,
+    capacity as c,
+    party as p,
+    steps as steps,
+    backs as backs,
+    since as since,
+    changes as changes,
+    events as events,
+    latest as latest,
+  }
+
+  abbrev ws : List ℕ
+  ws = scene.words
+
+  abbrev z : ℕ
+  z = code.size
+
+  -- ---- a step on the counter
+
+  module _ (room : buffers.Buffer 128) (stage : RecoverStage) (here : Here scene inv owner mode fits room stage)
+      (long : IsLong room) (ask : Option Ask) (back : Bool)
+      (stays : set_effects.Stays (of_set scene) (words_after ws ask))
+      (paid : backs_then scene back + since_then scene ask ≤ changes_then scene ask) (index : ℕ)
+      (rec : Recovers code c owner (index + 1) none none (sees_now scene)) where
+    pub stays_recs : (y : Party T) → Recovers code c owner (index + 1) none none (then_sees scene ask back scene.states y [])
+    stays_recs y =
+        let goes = (set_effects.quietly (of_set scene) (inv_of_set scene inv) (words_after ws ask) [] stays.leaves set_effects.quiet_none tt tt tt).goes in
+        recs scene inv owner mode fits room stage here ask back y [] tt tt none_lengthens goes (index + 1)
+        (index + 1) none none none none none rec
+        (asked_on scene inv owner mode fits room stage here ask back y [] tt tt none_lengthens goes (index + 1) rec.asked)
+        (told_none scene inv owner mode fits room stage here) (λ i e. absurd e) (λ i e. absurd e)
+        (hidden_still scene inv owner mode fits room stage here ask y rec.hidden)
+
+    pub stays_on : (next : RecoverStage)
+        → steps + step_count ask ≤ recover_number c z mode next (backs_then scene back)
+        → RecoverAt c z (all scene ++ []) (done scene ++ []) owner mode next
+        → Knows code c (recover_at c owner mode room next)
+        (then_sees scene ask back scene.states (then_at scene inv owner mode fits room stage here room next ask back) [])
+        → Goes scene inv owner mode fits ask back [] room next
+    stays_on next few at known =
+        go_on scene inv owner mode fits room stage here room next ask back [] none_lengthens
+        (stays_does scene inv owner mode fits room stage here (words_after ws ask) stays
+        (then_at scene inv owner mode fits room stage here room next ask back) refl)
+        tt few at known
+
+    pub stays_next : Few scene inv owner mode fits ask back 1 (index + 1)
+        → Course scene inv owner mode fits index (index + 1)
+        → FilledBut (IsWorn scene.terms.by (words_after ws ask)) mode p owner NoIndex (events ++ [])
+        → Becomes scene inv owner mode fits ask back [] room (recover_comes_to (first scene inv owner mode fits) (index + 1))
+    stays_next few course fill =
+        comes_to_next scene inv owner mode fits room stage here long ask back [] none_lengthens tt
+        (λ y owe. stays_does scene inv owner mode fits room stage here (words_after ws ask) stays y owe) index few
+        course.within
+        (λ i low. course_calm scene inv owner mode fits index (index + 1) i (index + 1) course low (omega arith)) paid stays_recs fill
+
+  pub just_on : HasJustFreed (all scene) → HasJustFreed (all scene ++ [])
+  just_on h = subst HasJustFreed (sym (append-nil (all scene))) h
+
+  -- ---- the exchange of a cell
+
+  module _ (room : buffers.Buffer 128) (index count : ℕ)
+      (here : Here scene inv owner mode fits room (recovers.TheVariants.EmptiesCell index count)) (long : IsLong room)
+      (stands : RecoverAt c z (all scene) (done scene) owner mode (recovers.TheVariants.EmptiesCell index count))
+      (k : RecoverKnows code c owner mode room (recovers.TheVariants.EmptiesCell index count) (sees_now scene))
+      (s : steps ≤ 4 + z + index * for_index c z mode + backs * for_back c z mode)
+      (f : FilledBut (IsWorn scene.terms.by ws) mode p owner NoIndex events) where
+    abbrev empty_it : Option Ask
+    empty_it = Some (exchanges (cell_word index) owner empty)
+
+    abbrev freeing : List (Event T)
+    freeing = FreedOf p index owner ∷ []
+
+    paid_now : backs_then scene false + since_then scene empty_it ≤ changes_then scene empty_it
+    paid_now = let paid = k.0 in omega arith
+
+    -- the cell has another owner by now, or none
+    misses : cell ws index ≢ owner → Becomes scene inv owner mode fits empty_it false [] room (recover_comes_to (first scene inv owner mode fits) (index + 1))
+    misses other =
+        let same = fails_same ws (cell_word index) owner empty other in
+        let wide = index_at_least c z mode in
+        let stage = recovers.TheVariants.EmptiesCell index count in
+        let stays = set_effects.stays_same (of_set scene) (inv_of_set scene inv) (words_after ws empty_it) same in
+        let goes = (set_effects.quietly (of_set scene) (inv_of_set scene inv) (words_after ws empty_it) [] stays.leaves set_effects.quiet_none tt tt tt).goes in
+        comes_to_next scene inv owner mode fits room stage here long empty_it false [] none_lengthens tt
+        (λ y owe. stays_does scene inv owner mode fits room stage here (words_after ws empty_it) stays y owe) index
+        (omega arith) stands.0.within
+        (λ i low. course_calm scene inv owner mode fits index (index + 1) i (index + 1) stands.0 low (omega arith)) paid_now
+        (λ y. recs scene inv owner mode fits room stage here empty_it false y [] tt tt none_lengthens goes
+        (index + 1) (index + 1) (λ i. i ≡ index) none none none none k.1
+        (asked_on scene inv owner mode fits room stage here empty_it false y [] tt tt none_lengthens goes (index + 1) k.1.asked)
+        (told_none scene inv owner mode fits room stage here)
+        (λ i e. inl (λ filled. other (inv.good.cells index stands.0.within
+        ∙ ap cell_of
+        (subst (λ n. filled_of n events ≡ Some owner) e (subst (λ es. filled_of i es ≡ Some owner) (append-nil events) filled)))))
+        (λ i e. absurd e) (hidden_still scene inv owner mode fits room stage here empty_it y k.1.hidden))
+        (fill_same scene inv owner mode fits empty_it same NoIndex f)
+
+    module _ (is : cell ws index ≡ owner) where
+      new : words_after ws empty_it ≡ set ws (cell_word index) empty
+      new = exchange_sets ws (cell_word index) owner empty is
+
+      stays_count : count_at c (words_after ws empty_it) index ≡ count_in code c (before scene) index
+      stays_count =
+          rest_set scene inv (Recover owner mode)
+          (recover_at c owner mode room (recovers.TheVariants.EmptiesCell index count)) tt here
+          (then_at scene inv owner mode fits room (recovers.TheVariants.EmptiesCell index count) here room
+          (recovers.TheVariants.Hides index count) empty_it false)
+          (words_after ws empty_it) (cell_word index) empty (let below = stands.0.within in omega arith) new
+          (count_word c index) (omega arith)
+
+      filled : filled_of index events ≡ Some owner
+      filled = filled_by (of_set scene) (inv_of_set scene inv) index stands.0.within owner fits is
+
+      set_does : set_invariant.Does (of_set scene) (words_after ws empty_it) freeing
+      set_does =
+          set_frees.frees (of_set scene) (inv_of_set scene inv) (words_after ws empty_it) index owner
+          stands.0.within filled (subst (LivesToRelease owner events) (sym here.span) tt)
+          (λ calm q ne o alive h. let same : owner ≡ o = one_owner (filled_of index events) owner o filled h.filled in
+          both_ways (is_gone scene.terms.by o events) alive (subst (λ n. is_gone scene.terms.by n events ≡ true) same k.1.dead))
+          (λ calm o alive h.
+          let theirs = ((inv.good.owned (calm_less scene.terms.by events freeing calm)).settled index o h).0 in
+          let same : owner ≡ o = one_owner (filled_of index events) owner o filled theirs in
+          both_ways (is_gone scene.terms.by o events) alive (subst (λ n. is_gone scene.terms.by n events ≡ true) same k.1.dead))
+          new
+
+      was_known : IsOneOf (Yes index owner) (all scene) ⊎ WasShown p index events
+      was_known = ⊎_elim (λ yes. inl (by_latest (Yes index owner) (all scene) yes.0)) (λ shown. inr (has_latest (Sees index) (done scene) shown)) stands.1
+
+      does : (y : Party T) → owes (flight_of (Some y.doing)) ≡ true → Does scene (words_after ws empty_it) scene.states y freeing
+      does y owe =
+          frees scene inv (Recover owner mode) (recover_at c owner mode room (recovers.TheVariants.EmptiesCell index count)) tt here y (words_after ws empty_it)
+          (rest_set scene inv (Recover owner mode)
+          (recover_at c owner mode room (recovers.TheVariants.EmptiesCell index count)) tt here y
+          (words_after ws empty_it) (cell_word index) empty (let below = stands.0.within in omega arith) new)
+          (wide_set scene inv (Recover owner mode)
+          (recover_at c owner mode room (recovers.TheVariants.EmptiesCell index count)) tt here y
+          (words_after ws empty_it) (cell_word index) empty new)
+          index owner set_does (was_well_formed scene (Recover owner mode) tt here.span (words_after ws empty_it) y freeing (refl, tt)) (λ was. owe)
+          (subst (FreedBy scene.terms.by p index owner events) (sym here.span) (refl, k.1.dead, was_known))
+
+      recs_freed : (y : Party T)
+          → Recovers code c owner (index + 1) none
+          (StillStands code c index count (after scene (words_after ws empty_it) y freeing))
+          (then_sees scene empty_it false scene.states y freeing)
+      recs_freed y =
+          recs scene inv owner mode fits room (recovers.TheVariants.EmptiesCell index count) here empty_it false y
+          freeing (refl, tt) tt (λ start w. refl) set_does.goes (index + 1) (index + 1) (λ i. i ≡ index) none none
+          none (StillStands code c index count (after scene (words_after ws empty_it) y freeing)) k.1
+          (asked_on scene inv owner mode fits room (recovers.TheVariants.EmptiesCell index count) here empty_it
+          false y freeing (refl, tt) tt (λ start w. refl) set_does.goes (index + 1) k.1.asked)
+          (λ i said. inl
+          (⊎_elim (λ yes. ⊎_elim (λ had. inl had) (λ e. absurd (cc)) (was_one (Yes i owner) (Frees index owner) (all scene) yes))
+          (λ seen. inr (has_of_none (Sees i) (done scene) seen)) said))
+          (λ i e. inl (λ now. some_none (filled_of i (events ++ freeing)) owner
+          (fold-append (filled_after i) None events freeing ∙ at_same index i None (filled_of i events) e) now))
+          (λ i e. absurd e)
+          (hidden_freed scene (Recover owner mode) tt here.span owner inv index count stands.0.within
+          (words_after ws empty_it) y stays_count k.1.hidden (λ earlier holds. k.4 earlier filled))
+
+      -- nothing stands there under an even number
+      recs_empty : is_even count ≡ true → (y : Party T) → owes (flight_of (Some y.doing)) ≡ true
+          → Recovers code c owner (index + 1) none none (then_sees scene empty_it false scene.states y freeing)
+      recs_empty t y owe =
+          rehidden code c owner (index + 1) none
+          (StillStands code c index count (after scene (words_after ws empty_it) y freeing)) none
+          (then_sees scene empty_it false scene.states y freeing) (recs_freed y)
+          (hidden_even code c p owner index count (after scene (words_after ws empty_it) y freeing)
+          (does y owe).changes.whole stands.0.within (even_is count t) (recs_freed y).hidden)
+
+      fills_freed : (y : Party T) → FilledBut (IsWorn scene.terms.by (words_after ws empty_it)) mode p owner (λ i. i ≡ index) (events ++ freeing)
+      fills_freed y =
+          fills_on scene inv owner mode fits room (recovers.TheVariants.EmptiesCell index count) here empty_it false
+          y freeing (refl, tt) tt (λ start w. refl) set_does.goes NoIndex (λ i. i ≡ index)
+          (λ i was. ⊎_elim (λ had. inl had) (λ e. let same : index ≡ i = cc in inr (sym same))
+          (was_one (Frees i owner) (Frees index owner) (all scene) was))
+          (λ i e. absurd e) f
+
+      course_freed : IsInCourse c z (all scene ++ Frees index owner ∷ []) (done scene ++ []) owner index (index + 1)
+      course_freed =
+          course_then c z (all scene) (Frees index owner ∷ []) (done scene) [] owner index (index + 1) index
+          (index + 1) stands.0 stands.0.within (omega arith) tt tt
+          (λ j was. ⊎_elim (λ had. inl had)
+          (λ e. inr (let same : index ≡ j = cc in
+          subst (λ n. AskedOrShown c z (all scene) (done scene) owner n) same
+          (⊎_elim (λ yes. inl yes.1) (λ shown. inr (has_latest (Sees index) (done scene) shown)) stands.1)))
+          (was_one (Frees j owner) (Frees index owner) (all scene) was))
+
+      empties : (b : Bool) → is_even count ≡ b
+          → Leads scene (Recover owner mode) empty_it false scene.states freeing
+          (as_recover scene inv owner mode fits room
+          (if b then recover_raises (first scene inv owner mode fits) index else GoOn
+          (record (first scene inv owner mode fits) { stage = recovers.TheVariants.Hides index count })))
+      empties true t =
+          let y =
+          then_at scene inv owner mode fits room (recovers.TheVariants.EmptiesCell index count) here room
+          (recovers.TheVariants.Raises index raises.TheVariants.LoadsCounter) empty_it false in
+          go_on scene inv owner mode fits room (recovers.TheVariants.EmptiesCell index count) here room
+          (recovers.TheVariants.Raises index raises.TheVariants.LoadsCounter) empty_it false freeing
+          (λ start w. refl) (does y refl)
+          ((refl, ⊎_elim (λ yes. inl yes.0) (λ shown. inr shown) stands.1), tt) (omega arith)
+          (course_freed, record { index = index; owner = owner; latest = record { before = all scene; is = refl } })
+          (long, (paid_now, recs_empty t y refl), fills_freed y)
+      empties false t =
+          let y =
+          then_at scene inv owner mode fits room (recovers.TheVariants.EmptiesCell index count) here room
+          (recovers.TheVariants.Hides index count) empty_it false in
+          go_on scene inv owner mode fits room (recovers.TheVariants.EmptiesCell index count) here room
+          (recovers.TheVariants.Hides index count) empty_it false freeing (λ start w. refl) (does y refl)
+          ((refl, ⊎_elim (λ yes. inl yes.0) (λ shown. inr shown) stands.1), tt) (omega arith)
+          (course_freed, odd_is count t, record { before = all scene; is = refl }) (
+            long,
+            (
+              paid_now,
+              recs_freed y,
+              record {
+                within = stands.0.within;
+                below = λ kept. let low = k.3 kept in let same = stays_count in omega arith;
+                left = λ well_formed eq. fold-append (left_after index) true events freeing ∙ at_same index index true (left_of index events) refl;
+              },
+            ),
+            fills_freed y,
+          )
+
+    pub empties_step : StepOf scene (Recover owner mode) (recover_at c owner mode room (recovers.TheVariants.EmptiesCell index count))
+    empties_step = go (cell ws index == owner) refl
+      where
+        go : (b : Bool) → (cell ws index == owner) ≡ b
+            → Leads scene (Recover owner mode) (Some (exchanges (cell_word index) owner empty)) false scene.states
+            ((if b then FreedOf p index owner ∷ [] else []) ++ [])
+            (as_recover scene inv owner mode fits room
+            (if b then (if is_even count then recover_raises (first scene inv owner mode fits) index else GoOn
+            (record (first scene inv owner mode fits) { stage = recovers.TheVariants.Hides index count }))
+            else recover_comes_to (first scene inv owner mode fits) (index + 1)))
+        go true t = let is : cell ws index ≡ owner = grind (arith, nat_tests) in empties is (is_even count) refl
+        go false t = let other : cell ws index ≢ owner = grind (arith, nat_tests) in misses other
+
+  -- ---- what stands there is hidden
+
+  module _ (room : buffers.Buffer 128) (index count : ℕ)
+      (here : Here scene inv owner mode fits room (recovers.TheVariants.Hides index count)) (long : IsLong room)
+      (stands : RecoverAt c z (all scene) (done scene) owner mode (recovers.TheVariants.Hides index count))
+      (k : RecoverKnows code c owner mode room (recovers.TheVariants.Hides index count) (sees_now scene))
+      (s : steps ≤ 5 + z + index * for_index c z mode + backs * for_back c z mode)
+      (f : FilledBut (IsWorn scene.terms.by ws) mode p owner (λ i. i ≡ index) events) where
+    abbrev hide_it : Option Ask
+    hide_it = Some (exchanges (count_word c index) count (one_more count))
+
+    abbrev count_now : ℕ
+    count_now = count_in code c (before scene) index
+
+    abbrev hiding : List (Event T)
+    hiding = Hidden p index ∷ []
+
+    abbrev next : RecoverStage
+    next = recovers.TheVariants.Raises index raises.TheVariants.LoadsCounter
+
+    paid_hide : backs_then scene false + since_then scene hide_it ≤ changes_then scene hide_it
+    paid_hide = let paid = k.0 in omega arith
+
+    just : HasJustFreed (all scene)
+    just = record { index = index; owner = owner; latest = stands.2 }
+
+    pub hides_step : StepOf scene (Recover owner mode) (recover_at c owner mode room (recovers.TheVariants.Hides index count))
+    hides_step = go (count_now == count) refl
+      where
+        go : (b : Bool) → (count_now == count) ≡ b
+            → Leads scene (Recover owner mode) (Some (exchanges (count_word c index) count (one_more count))) false
+            scene.states ((if b then Hidden p index ∷ [] else []) ++ [])
+            (as_recover scene inv owner mode fits room (recover_raises (first scene inv owner mode fits) index))
+        go true t =
+            let is : count_now ≡ count = grind (arith, nat_tests) in
+            let y = then_at scene inv owner mode fits room (recovers.TheVariants.Hides index count) here room next hide_it false in
+            let odd : count_now % 2 ≡ 1 = ap (λ n. n % 2) is ∙ stands.1 in
+            let does =
+            hides scene inv (Recover owner mode)
+            (recover_at c owner mode room (recovers.TheVariants.Hides index count)) tt here y
+            (words_after ws hide_it) index stands.0.within (hides_count scene inv index count stands.0.within is)
+            refl odd
+            (λ holds q ne o theirs fresh. both_ways (left_of index events) fresh (k.2.left holds is))
+            (was_well_formed scene (Recover owner mode) tt here.span (words_after ws hide_it) y hiding (refl, tt)) in
+            go_on scene inv owner mode fits room (recovers.TheVariants.Hides index count) here room next hide_it
+            false hiding (λ start w. refl) does (stands.2, tt) (omega arith) (
+              course_then c z (all scene) [] (done scene) (acts hiding) owner index (index + 1) index (index + 1)
+                  stands.0 stands.0.within (omega arith) tt tt
+                  (λ j was. inl (one_of_none (Frees j owner) (all scene) was)),
+              just_on just,
+            ) (
+              long,
+              (
+                paid_hide,
+                recs scene inv owner mode fits room (recovers.TheVariants.Hides index count) here hide_it false y
+                    hiding (refl, tt) tt (λ start w. refl) does.set.goes (index + 1) (index + 1) none none none
+                    (StillStands code c index count (before scene)) none k.1
+                    (asked_on scene inv owner mode fits room (recovers.TheVariants.Hides index count) here hide_it
+                    false y hiding (refl, tt) tt (λ start w. refl) does.set.goes (index + 1) k.1.asked)
+                    (λ i said. inl (⊎_elim (λ yes. inl (one_of_none (Yes i owner) (all scene) yes))
+                    (λ seen. ⊎_elim (λ had. inr had) (λ e. absurd (cc)) (was_act (Sees i) (HidesOne index) (done scene) seen))
+                    said))
+                    (λ i e. absurd e) (λ i e. absurd e)
+                    (hides_it scene (Recover owner mode) tt here.span owner (words_after ws hide_it) y index count k.1.hidden),
+              ),
+              fills_on scene inv owner mode fits room (recovers.TheVariants.Hides index count) here hide_it false y
+                  hiding (refl, tt) tt (λ start w. refl) does.set.goes (λ i. i ≡ index) (λ i. i ≡ index)
+                  (λ i was. inl (one_of_none (Frees i owner) (all scene) was)) (λ i e. e) f,
+            )
+        go false t =
+            let other : count_now ≢ count = grind (arith, nat_tests) in
+            let same = fails_same ws (count_word c index) count (one_more count) other in
+            calm_on scene inv owner mode fits room (recovers.TheVariants.Hides index count) here long hide_it same false paid_hide room next (omega arith)
+            (course_calm scene inv owner mode fits index (index + 1) index (index + 1) stands.0 stands.0.within (omega arith), just_on just) (
+              long,
+              (
+                paid_hide,
+                calm_recs scene inv owner mode fits room (recovers.TheVariants.Hides index count) here long hide_it same
+                    false paid_hide
+                    (then_at scene inv owner mode fits room (recovers.TheVariants.Hides index count) here room next hide_it false)
+                    (index + 1)
+                    (rehidden code c owner (index + 1) none (StillStands code c index count (before scene)) none
+                    (sees_now scene) k.1 (hidden_other code c p owner index count (before scene) other k.1.hidden)),
+              ),
+              fill_same scene inv owner mode fits hide_it same (λ i. i ≡ index) f,
+            )

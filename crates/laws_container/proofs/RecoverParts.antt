@@ -1,0 +1,247 @@
+-- What the steps of a recovery have in common: how it goes on, and how it comes to the next index.
+use Rattle.std.proofs.Common.{◌≡◌, ◌≢◌, ◌⊎◌, ⊎_elim, inl, inr, ℕ, ◌+◌, ◌*◌, ◌<◌, ◌≤◌, if◌then◌else◌, nat_lt, Bool}
+use Rattle.std.proofs.Common.{false, true, Option, Some, List, [], ◌++◌, refl, sym, ap, subst, arith}
+use Rattle.std.specs.List.{AllByRecursion}
+use Rattle.std.proofs.lemmas.Bool.Decides.{nat_tests}
+use Rattle.steps.specs.declared.ask.Ask.{Ask}
+use Rattle.steps.specs.declared.ask.After.{After}
+use Rattle.steps.specs.declared.ask.After.TheVariants.{GoOn}
+use Rattle.steps.specs.declared.container.recover.Recover as recover_calls
+use Rattle.steps.specs.declared.container.recover.RecoverStage.{RecoverStage}
+use Rattle.steps.specs.declared.container.recover.RecoverStage as recovers
+use Rattle.steps.specs.declared.copied.Buffer as buffers
+use Rattle.steps.specs.declared.indices.enums.ReleaseMode.{ReleaseMode}
+use Rattle.steps.specs.declared.indices.enums.ReleaseState.{ReleaseState}
+use Rattle.steps.specs.Container.Recover.{recover_comes_to}
+use Rattle.steps.specs.Indices.Robust.Parts.{empty}
+use Rattle.steps.specs.Routine.{went_on}
+use Rattle.model.specs.declared.event.Answer.{Answer}
+use Rattle.model.specs.declared.event.Answer.TheVariants as answers
+use Rattle.model.specs.declared.event.Event.{Event}
+use Rattle.model.specs.declared.event.Start.TheVariants.{Container}
+use Rattle.model.specs.declared.families.container.ContainerStart.{ContainerStart}
+use Rattle.model.specs.declared.families.container.ContainerStart.TheVariants.{Recover}
+use Rattle.model.specs.declared.families.container.calls.ContainerFlight.{ContainerFlight}
+use Rattle.model.specs.declared.families.container.calls.ContainerFlight as calls
+use Rattle.model.specs.declared.party.Party.{Party}
+use Rattle.model.specs.Families.Container.Promises.{WasShown, promise}
+use Rattle.model.specs.Families.Container.Reading.{Sees, Has, acts, acts_of}
+use Rattle.model.specs.Families.Indices.Robust.Promises.{HeldThroughout, StillToFree}
+use Rattle.model.specs.Families.Indices.Robust.Reading.{Frees, Asks, Yes, deeds, deeds_of, filled_of, IsOneOf}
+use Rattle.model.specs.Families.Queues.Calls.{as_it_is}
+use Rattle.model.specs.Moments.{BeginsNone}
+use Rattle.model.specs.Parties.{put, flight_of}
+use Rattle.model.specs.Promises.Spans.{Stands}
+use Rattle.model.specs.Reading.{Open}
+use Rattle.model.specs.Step.{as_call}
+use Rattle.model.specs.Turns.{words_after, step_count}
+use Rattle.model.proofs.Readings.{AreOwn, AllFollow}
+use Rattle.laws_robust.proofs.Effects as set_effects
+use Rattle.laws_robust.proofs.Invariant.{IsWorn, worn_on}
+use Rattle.laws_robust.proofs.Knows.{Goes}
+use Rattle.laws_container.proofs.Effects.{calmly}
+use Rattle.laws_container.proofs.HiddenKnows.{HasHidden}
+use Rattle.laws_container.proofs.HiddenOn.{hidden_on}
+use Rattle.laws_container.proofs.Invariant.{Scene, Inv, before, after, AreAllRight, Does, of_set, inv_of_set, wrote_of}
+use Rattle.laws_container.proofs.Keeping.{shut_later}
+use Rattle.laws_container.proofs.KeptLocks.{NoIndex, FilledBut, filled_then, filled_calm}
+use Rattle.laws_container.proofs.Knows.{AskedBelow, Recovers, IsLong, Knows}
+use Rattle.laws_container.proofs.Recoveries.{one_of_none, has_of_none}
+use Rattle.laws_container.proofs.Recoveries as knowing
+use Rattle.laws_container.proofs.Silent.{Silent, silently}
+use Rattle.laws_container.proofs.Stages.{IsHere, Lengthens, none_lengthens, all, done, sees_now, then_sees, ShowsThen}
+use Rattle.laws_container.proofs.Stages.{party_then, since_then, changes_then, backs_then, deeds_more, acts_more}
+use Rattle.laws_container.proofs.Stages.{goes_on, was_well_formed, does_with}
+use Rattle.laws_container.proofs.Standing.{recover_at, recover_number, for_back, for_index, IsInCourse, RecoverAt}
+use Rattle.laws_container.proofs.Steps.{calm_none, right_none}
+use Rattle.laws_container.proofs.Turns.{owes}
+
+-- no index is exempt
+abbrev pub none : ℕ → Type 0
+none i = ⊥
+
+module _ {T : Type 0} (scene : Scene T) (inv : Inv scene) (owner : ℕ) (mode : ReleaseMode) (fits : owner < empty) where
+  open scene use {
+    coding as code,
+    capacity as c,
+    party as p,
+    steps as steps,
+    backs as backs,
+    since as since,
+    changes as changes,
+    events as events,
+    latest as latest,
+  }
+
+  abbrev ws : List ℕ
+  ws = scene.words
+
+  abbrev z : ℕ
+  z = code.size
+
+  abbrev start : ContainerStart T
+  start = Recover owner mode
+
+  -- how the call goes on, as a recovery of the kind
+  abbrev pub as_recover : buffers.Buffer 128 → After (recover_calls.Recover T (buffers.Buffer 128)) ReleaseState → After (ContainerFlight T) (Answer T)
+  as_recover room a =
+      as_call calls.TheVariants.Recover answers.State
+      (went_on as_it_is (record { owner = owner; mode = mode }) room a)
+
+  abbrev pub first : recover_calls.Recover T (buffers.Buffer 128)
+  first = record { capacity = c; stage = recovers.TheVariants.LoadsCounter; of = record {} }
+
+  -- the steps up to this index
+  abbrev pub Few : Option Ask → Bool → ℕ → ℕ → Type 0
+  Few ask back n index =
+      steps + step_count ask ≤ n + index * for_index c z mode + backs_then scene back * for_back c z mode
+
+  -- a step that writes nothing leaves what it knows of its locks
+  pub fill_same : (ask : Option Ask) → words_after ws ask ≡ ws → (But : ℕ → Type 0)
+      → FilledBut (IsWorn scene.terms.by ws) mode p owner But events
+      → FilledBut (IsWorn scene.terms.by (words_after ws ask)) mode p owner But (events ++ [])
+  fill_same ask same But f =
+      filled_calm p owner (IsWorn scene.terms.by ws) (IsWorn scene.terms.by (words_after ws ask))
+      (λ end. subst (IsWorn scene.terms.by) (sym same) end) mode But events f
+
+  pub fill_stays : (ask : Option Ask) → set_effects.Stays (of_set scene) (words_after ws ask) → (But : ℕ → Type 0)
+      → FilledBut (IsWorn scene.terms.by ws) mode p owner But events
+      → FilledBut (IsWorn scene.terms.by (words_after ws ask)) mode p owner But (events ++ [])
+  fill_stays ask stays But f =
+      filled_calm p owner (IsWorn scene.terms.by ws) (IsWorn scene.terms.by (words_after ws ask))
+      (worn_on scene.terms.by ws (words_after ws ask) stays.leaves.stuck) mode But events f
+
+  module _ (room : buffers.Buffer 128) (stage : RecoverStage) (here : IsHere scene (Recover owner mode) (recover_at c owner mode room stage)) where
+    abbrev pub then_at : buffers.Buffer 128 → RecoverStage → Option Ask → Bool → Party T
+    then_at room' next ask back =
+        party_then scene start ask back (GoOn (recover_at c owner mode room' next))
+
+    -- ---- what a step does
+
+    pub reads_does : (words' : List ℕ) → words' ≡ ws → (y : Party T) (es : List (Event T))
+        → AllByRecursion Silent es → AreOwn p es → AreAllRight scene words' y es
+        → owes (flight_of (Some y.doing)) ≡ true → Does scene words' scene.states y es
+    reads_does words' same y es silent own right owe =
+        silently scene inv words' same y es silent own start (recover_at c owner mode room stage) tt here
+        (was_well_formed scene start tt here.span words' y es own) (λ was. owe) right
+
+    -- a step on the counter that writes nothing
+    pub stays_does : (words' : List ℕ) → set_effects.Stays (of_set scene) words' → (y : Party T)
+        → owes (flight_of (Some y.doing)) ≡ true → Does scene words' scene.states y []
+    stays_does words' stays y owe =
+        let well_formed = was_well_formed scene start tt here.span words' y [] tt in
+        does_with scene inv start (recover_at c owner mode room stage) tt here words' y []
+        (calmly scene inv words' y [] well_formed (λ n behind. stays.others n (omega arith)) stays.leaves.wide
+        (calm_none scene inv start (recover_at c owner mode room stage) tt here y words' well_formed) (λ was. owe))
+        (set_effects.quietly (of_set scene) (inv_of_set scene inv) words' [] stays.leaves set_effects.quiet_none tt tt tt)
+        (right_none scene inv start (recover_at c owner mode room stage) tt here y words')
+
+    -- ---- it goes on
+
+    pub go_on :
+        (room' : buffers.Buffer 128) (next : RecoverStage) (ask : Option Ask) (back : Bool) (es : List (Event T))
+        → Lengthens es → Does scene (words_after ws ask) scene.states (then_at room' next ask back) es
+        → AllFollow (Stands promise c) (Open (Container (Recover owner mode)) (wrote_of p events)) es
+        → steps + step_count ask ≤ recover_number c z mode next (backs_then scene back)
+        → RecoverAt c z (all scene ++ deeds es) (done scene ++ acts es) owner mode next
+        → Knows code c (recover_at c owner mode room' next) (then_sees scene ask back scene.states (then_at room' next ask back) es)
+        → ShowsThen scene start ask back scene.states es (GoOn (recover_at c owner mode room' next))
+    go_on room' next ask back es longer does stands few at known =
+        goes_on scene start (recover_at c owner mode room' next) ask back scene.states es here.span longer does stands few (refl, refl, fits, at) known
+
+    -- ---- what it knows then
+
+    module _ (ask : Option Ask) (back : Bool) (y : Party T) (es : List (Event T)) (own : AreOwn p es)
+        (fresh : BeginsNone p es) (longer : Lengthens es) (goes : Goes ws (words_after ws ask) events es) where
+      abbrev pub Told : (ℕ → Type 0) → Type 0
+      Told New =
+          (i : ℕ) → IsOneOf (Yes i owner) (deeds_of p events ++ deeds es) ⊎ Has (Sees i) (acts_of p events ++ acts es)
+          → (IsOneOf (Yes i owner) (deeds_of p events) ⊎ WasShown p i events) ⊎ New i
+
+      pub recs : (k k' : ℕ) (Was Now New But But' : ℕ → Type 0) → Recovers code c owner k Was But (sees_now scene)
+          → AskedBelow code c owner k' (then_sees scene ask back scene.states y es) → Told New
+          → ((i : ℕ) → Was i → (filled_of i (events ++ es) ≢ Some owner) ⊎ Now i)
+          → ((i : ℕ) → New i → (filled_of i (events ++ es) ≢ Some owner) ⊎ Now i)
+          → HasHidden code c p owner But' (after scene (words_after ws ask) y es)
+          → Recovers code c owner k' Now But' (then_sees scene ask back scene.states y es)
+      recs k k' Was Now New But But' h asked told was new hidden =
+          knowing.recovers_then code c owner (sees_now scene) (words_after ws ask) scene.states (put p y latest)
+          (since_then scene ask) (changes_then scene ask) (backs_then scene back) es fresh
+          (deeds_more scene start here.span es own longer) (acts_more scene start here.span es own longer) goes
+          k k' Was Now New But But' h asked told was new hidden
+
+      -- of its locks
+      pub fills_on : (Was But : ℕ → Type 0)
+          → ((i : ℕ) → IsOneOf (Frees i owner) (deeds_of p events ++ deeds es) → IsOneOf (Frees i owner) (deeds_of p events) ⊎ But i)
+          → ((i : ℕ) → Was i → But i) → FilledBut (IsWorn scene.terms.by ws) mode p owner Was events
+          → FilledBut (IsWorn scene.terms.by (words_after ws ask)) mode p owner But (events ++ es)
+      fills_on Was But split more h =
+          filled_then p owner (IsWorn scene.terms.by ws) (IsWorn scene.terms.by (words_after ws ask))
+          (worn_on scene.terms.by ws (words_after ws ask) goes.stuck) mode Was But events es fresh
+          (λ i was. split i (subst (IsOneOf (Frees i owner)) (deeds_more scene start here.span es own longer) was))
+          more (shut_later events es) h
+
+      pub asked_on : (k : ℕ) → AskedBelow code c owner k (sees_now scene) → AskedBelow code c owner k (then_sees scene ask back scene.states y es)
+      asked_on k h =
+          knowing.asked_then code c owner (sees_now scene) (words_after ws ask) scene.states (put p y latest)
+          (since_then scene ask) (changes_then scene ask) (backs_then scene back) es fresh
+          (deeds_more scene start here.span es own longer) (acts_more scene start here.span es own longer) goes k h
+
+      pub asked_more : (k : ℕ) → AskedBelow code c owner k (sees_now scene)
+          → (HeldThroughout p (StillToFree p owner k) (events ++ es)
+          → IsOneOf (Asks k owner) (deeds_of p (events ++ es)) ⊎ WasShown p k (events ++ es))
+          → AskedBelow code c owner (k + 1) (then_sees scene ask back scene.states y es)
+      asked_more k h now =
+          knowing.asked_next code c owner (sees_now scene) (words_after ws ask) scene.states (put p y latest)
+          (since_then scene ask) (changes_then scene ask) (backs_then scene back) es fresh
+          (deeds_more scene start here.span es own longer) (acts_more scene start here.span es own longer) goes k h
+          now
+
+    -- by events that tell and show nothing
+    pub told_none : (i : ℕ) → IsOneOf (Yes i owner) (deeds_of p events ++ []) ⊎ Has (Sees i) (acts_of p events ++ [])
+        → (IsOneOf (Yes i owner) (deeds_of p events) ⊎ WasShown p i events) ⊎ none i
+    told_none i said =
+        inl (⊎_elim (λ yes. inl (one_of_none (Yes i owner) (deeds_of p events) yes))
+        (λ shown. inr (has_of_none (Sees i) (acts_of p events) shown)) said)
+
+    none_freed : (i : ℕ) → IsOneOf (Frees i owner) (deeds_of p events ++ []) → IsOneOf (Frees i owner) (deeds_of p events)
+    none_freed i was = one_of_none (Frees i owner) (deeds_of p events) was
+
+    -- what it has freed is hidden still, over a step that writes nothing
+    pub hidden_still : (ask : Option Ask) (y : Party T) → HasHidden code c p owner none (before scene)
+        → HasHidden code c p owner none (after scene (words_after ws ask) y [])
+    hidden_still ask y h = hidden_on scene start tt here.span owner (words_after ws ask) y [] tt tt none_lengthens none_freed h
+
+    -- ---- it comes to the next index, or to the counter
+
+    module _ (long : IsLong room) (ask : Option Ask) (back : Bool) (es : List (Event T)) (longer : Lengthens es)
+        (stands : AllFollow (Stands promise c) (Open (Container (Recover owner mode)) (wrote_of p events)) es)
+        (does : (y : Party T) → owes (flight_of (Some y.doing)) ≡ true → Does scene (words_after ws ask) scene.states y es)
+        (index : ℕ) (few : Few ask back 1 (index + 1)) (below : index < c)
+        (course : (i : ℕ) → i < c → IsInCourse c z (all scene ++ deeds es) (done scene ++ acts es) owner i (index + 1))
+        (paid : backs_then scene back + since_then scene ask ≤ changes_then scene ask)
+        (rec : (y : Party T) → Recovers code c owner (index + 1) none none (then_sees scene ask back scene.states y es))
+        (fill : FilledBut (IsWorn scene.terms.by (words_after ws ask)) mode p owner NoIndex (events ++ es)) where
+      pub comes_to_next : ShowsThen scene start ask back scene.states es (as_recover room (recover_comes_to first (index + 1)))
+      comes_to_next = go (nat_lt (index + 1) c) refl
+        where
+          go : (b : Bool) → nat_lt (index + 1) c ≡ b
+              → ShowsThen scene start ask back scene.states es
+              (as_recover room (GoOn
+              (record first { stage = if b then recovers.TheVariants.LoadsCell (index + 1) else recovers.TheVariants.LoadsCounterAgain })))
+          go true t =
+              let more : index + 1 < c = grind (arith, nat_tests) in
+              let y = then_at room (recovers.TheVariants.LoadsCell (index + 1)) ask back in
+              go_on room (recovers.TheVariants.LoadsCell (index + 1)) ask back es longer (does y refl) stands few
+              (course (index + 1) more) (long, (paid, rec y), fill)
+          go false t =
+              let last : c ≤ index + 1 = grind (arith, nat_tests) in
+              let is : index + 1 ≡ c = omega arith in
+              let times : (index + 1) * for_index c z mode ≡ c * for_index c z mode = ap (λ n. n * for_index c z mode) is in
+              let y = then_at room recovers.TheVariants.LoadsCounterAgain ask back in
+              go_on room recovers.TheVariants.LoadsCounterAgain ask back es longer (does y refl) stands
+              (omega arith) ((course index below).freed) (
+                long,
+                (paid, subst (λ n. Recovers code c owner n none none (then_sees scene ask back scene.states y es)) is (rec y)),
+                fill,
+              )

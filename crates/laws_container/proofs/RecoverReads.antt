@@ -1,0 +1,407 @@
+-- The steps of a recovery up to its question: the counter, a cell, the number of an element, its copy, and the answer.
+use Rattle.std.proofs.Common.{◌≡◌, ◌≢◌, ◌⊎◌, ⊎_elim, inl, inr, ℕ, ◌+◌, ◌*◌, ◌<◌, ◌≤◌, ◌==◌, if◌then◌else◌, nat_lt}
+use Rattle.std.proofs.Common.{Bool, false, true, Option, Some, None, is_some, List, [], ◌∷◌, ◌++◌}
+use Rattle.std.proofs.Common.{refl, sym, ap, subst, ◌∙◌, append-nil, arith}
+use Rattle.std.proofs.lemmas.Bool.Decides.{nat_tests}
+use Rattle.steps.specs.declared.ask.Ask.{Ask}
+use Rattle.steps.specs.declared.ask.After.{After}
+use Rattle.steps.specs.declared.ask.After.TheVariants.{GoOn}
+use Rattle.steps.specs.declared.container.recover.Recover as recover_calls
+use Rattle.steps.specs.declared.indices.enums.ReleaseState.{ReleaseState}
+use Rattle.steps.specs.declared.container.recover.RecoverStage.{RecoverStage}
+use Rattle.steps.specs.declared.container.recover.RecoverStage as recovers
+use Rattle.steps.specs.declared.copied.Buffer as buffers
+use Rattle.steps.specs.declared.indices.enums.ReleaseMode.{ReleaseMode}
+use Rattle.steps.specs.declared.indices.enums.ReleaseMode.TheVariants.{LockIfLastIndex, Default}
+use Rattle.steps.specs.declared.indices.enums.ReleaseState as states
+use Rattle.steps.specs.Container.Layout.{count_word, is_even}
+use Rattle.steps.specs.Container.Recover.{recover_comes_to, recover_ends, recover_sees}
+use Rattle.steps.specs.Indices.Robust.Parts.{cell_word, empty, locked}
+use Rattle.model.specs.declared.event.Event.{Event}
+use Rattle.model.specs.declared.event.Event.TheVariants.{Shown}
+use Rattle.model.specs.declared.event.Start.TheVariants.{Container}
+use Rattle.model.specs.declared.families.container.ContainerStart.{ContainerStart}
+use Rattle.model.specs.declared.families.container.ContainerStart.TheVariants.{Recover}
+use Rattle.model.specs.declared.party.Party.{Party}
+use Rattle.model.specs.Families.Container.Promises.{WasShown}
+use Rattle.model.specs.Families.Container.Reading.{Act, Copies, Sees, Has, acts_of, seen_in, contents_of}
+use Rattle.model.specs.Families.Indices.Robust.Promises.{cell_of, IsFilledWith, IsUnlocked, HeldThroughout, StillToFree}
+use Rattle.model.specs.Families.Indices.Robust.Reading.{Deed, Frees, Asks, Yes, deeds_of, IsOneOf, asked_in}
+use Rattle.model.specs.Turns.{words_after, step_count}
+use Rattle.model.proofs.Moments.{held_now, held_later}
+use Rattle.model.proofs.Readings.{no_more}
+use Rattle.laws_robust.proofs.Invariant.{IsWorn}
+use Rattle.laws_robust.proofs.Core.{counter_of, cell}
+use Rattle.laws_robust.proofs.Effects.{filled_by, is_shut, unlocked}
+use Rattle.laws_robust.proofs.Past.{through_now}
+use Rattle.laws_robust.proofs.Stages.{loads_same}
+use Rattle.laws_robust.proofs.Stages as set_stages
+use Rattle.laws_container.proofs.Copies.{copying_first}
+use Rattle.laws_container.proofs.Core.{count_at}
+use Rattle.laws_container.proofs.Finds.{has_last, nothing_stands}
+use Rattle.laws_container.proofs.HiddenKnows.{HasHidden}
+use Rattle.laws_container.proofs.HiddenOn.{hidden_on}
+use Rattle.laws_container.proofs.Invariant.{Scene, Inv, AreAllRight, before, after, of_set, inv_of_set}
+use Rattle.laws_container.proofs.Keeping.{shut_later}
+use Rattle.laws_container.proofs.KeptLocks.{NoIndex, FilledBut, filled_none}
+use Rattle.laws_container.proofs.Knows.{WasFilled, Recovers, RecoverKnows, IsLong, Knows}
+use Rattle.laws_container.proofs.RecoverParts.{fill_same, none, hidden_still, as_recover, first, then_at, reads_does}
+use Rattle.laws_container.proofs.RecoverParts.{go_on, recs, fills_on, asked_on, asked_more, told_none, comes_to_next}
+use Rattle.laws_container.proofs.Recoveries.{one_of_none, was_act, course_then}
+use Rattle.laws_container.proofs.Silent.{silent_set}
+use Rattle.laws_container.proofs.Stages.{IsHere, all, done, sees_now, then_sees, ShowsThen, StepOf, Leads}
+use Rattle.laws_container.proofs.Stages.{none_lengthens, backs_then, since_then, changes_then, acts_more}
+use Rattle.laws_container.proofs.Stages.{was_well_formed}
+use Rattle.laws_container.proofs.Standing.{recover_at, recover_number, for_back, for_index, AreBelow, IsInCourse, RecoverAt}
+use Rattle.laws_container.proofs.Turns.{count_in}
+use Rattle.laws_container.proofs.Writing.{even_is, odd_is}
+
+pub none_is : {T : Type 0} (o : Option T) → is_some o ≡ false → o ≡ None
+none_is None e = refl
+none_is (Some x) e = absurd (cc)
+
+pub back_at_least : (c z : ℕ) (mode : ReleaseMode) → z + 1 ≤ for_back c z mode
+back_at_least c z Default = omega arith
+back_at_least c z LockIfLastIndex = omega arith
+
+pub index_at_least : (c z : ℕ) (mode : ReleaseMode) → z + 7 ≤ for_index c z mode
+index_at_least c z Default = omega arith
+index_at_least c z LockIfLastIndex = omega arith
+
+module _ {T : Type 0} (scene : Scene T) (inv : Inv scene) (owner : ℕ) (mode : ReleaseMode) (fits : owner < empty) where
+  open scene use {
+    coding as code,
+    capacity as c,
+    party as p,
+    steps as steps,
+    backs as backs,
+    since as since,
+    changes as changes,
+    events as events,
+    latest as latest,
+  }
+
+  abbrev ws : List ℕ
+  ws = scene.words
+
+  abbrev z : ℕ
+  z = code.size
+
+  abbrev pub Here : buffers.Buffer 128 → RecoverStage → Type 0
+  Here room stage = IsHere scene (Recover owner mode) (recover_at c owner mode room stage)
+
+  abbrev pub Goes : Option Ask → Bool → List (Event T) → buffers.Buffer 128 → RecoverStage → Type 0
+  Goes ask back es room next =
+      ShowsThen scene (Recover owner mode) ask back scene.states es (GoOn (recover_at c owner mode room next))
+
+  abbrev pub Becomes : Option Ask → Bool → List (Event T) → buffers.Buffer 128 → After (recover_calls.Recover T (buffers.Buffer 128)) ReleaseState → Type 0
+  Becomes ask back es room a =
+      ShowsThen scene (Recover owner mode) ask back scene.states es (as_recover scene inv owner mode fits room a)
+
+  abbrev pub Course : ℕ → ℕ → Type 0
+  Course index bound = IsInCourse c z (all scene) (done scene) owner index bound
+
+  right_none : (words' : List ℕ) (y : Party T) → AreAllRight scene words' y []
+  right_none words' y = record { asks = tt; recovers = tt; answers = tt; contains = λ h. tt; places = λ h. tt }
+
+  -- its course, over a step that writes nothing
+  pub course_calm : (index bound index' bound' : ℕ) → Course index bound → index' < c → bound ≤ bound'
+      → IsInCourse c z (all scene ++ []) (done scene ++ []) owner index' bound'
+  course_calm index bound index' bound' h low more =
+      course_then c z (all scene) [] (done scene) [] owner index bound index' bound' h low more tt tt
+      (λ j was. inl (one_of_none (Frees j owner) (all scene) was))
+
+  -- ---- any step that changes and writes nothing
+
+  module _ (room : buffers.Buffer 128) (stage : RecoverStage) (here : Here room stage) (long : IsLong room)
+      (ask : Option Ask) (same : words_after ws ask ≡ ws) (back : Bool)
+      (paid : backs_then scene back + since_then scene ask ≤ changes_then scene ask) where
+    -- what it knows of what it has lost and asked about
+    pub calm_recs : (y : Party T) (k : ℕ) → Recovers code c owner k none none (sees_now scene)
+        → Recovers code c owner k none none (then_sees scene ask back scene.states y [])
+    calm_recs y k h =
+        let goes = (silent_set scene inv (words_after ws ask) same y [] tt tt).goes in
+        recs scene inv owner mode fits room stage here ask back y [] tt tt none_lengthens goes k k none none none
+        none none h
+        (asked_on scene inv owner mode fits room stage here ask back y [] tt tt none_lengthens goes k h.asked)
+        (told_none scene inv owner mode fits room stage here) (λ i e. absurd e) (λ i e. absurd e)
+        (hidden_still scene inv owner mode fits room stage here ask y h.hidden)
+
+    calm_recs_more : (y : Party T) (k : ℕ) → Recovers code c owner k none none (sees_now scene)
+        → (HeldThroughout p (StillToFree p owner k) (events ++ [])
+        → IsOneOf (Asks k owner) (deeds_of p (events ++ [])) ⊎ WasShown p k (events ++ []))
+        → Recovers code c owner (k + 1) none none (then_sees scene ask back scene.states y [])
+    calm_recs_more y k h now =
+        let goes = (silent_set scene inv (words_after ws ask) same y [] tt tt).goes in
+        recs scene inv owner mode fits room stage here ask back y [] tt tt none_lengthens goes k (k + 1) none none
+        none none none h
+        (asked_more scene inv owner mode fits room stage here ask back y [] tt tt none_lengthens goes k h.asked now)
+        (told_none scene inv owner mode fits room stage here) (λ i e. absurd e) (λ i e. absurd e)
+        (hidden_still scene inv owner mode fits room stage here ask y h.hidden)
+
+    pub calm_on : (room' : buffers.Buffer 128) (next : RecoverStage)
+        → steps + step_count ask ≤ recover_number c z mode next (backs_then scene back)
+        → RecoverAt c z (all scene ++ []) (done scene ++ []) owner mode next
+        → Knows code c (recover_at c owner mode room' next)
+        (then_sees scene ask back scene.states (then_at scene inv owner mode fits room stage here room' next ask back) [])
+        → Goes ask back [] room' next
+    calm_on room' next few at known =
+        let y = then_at scene inv owner mode fits room stage here room' next ask back in
+        go_on scene inv owner mode fits room stage here room' next ask back [] none_lengthens
+        (reads_does scene inv owner mode fits room stage here (words_after ws ask) same y [] tt tt
+        (right_none (words_after ws ask) y) refl)
+        tt few at known
+
+    pub calm_next : (index : ℕ)
+        → steps + step_count ask ≤ 1 + (index + 1) * for_index c z mode + backs_then scene back * for_back c z mode
+        → Course index index ⊎ Course index (index + 1)
+        → ((y : Party T) → Recovers code c owner (index + 1) none none (then_sees scene ask back scene.states y []))
+        → FilledBut (IsWorn scene.terms.by ws) mode p owner NoIndex events
+        → Becomes ask back [] room (recover_comes_to (first scene inv owner mode fits) (index + 1))
+    calm_next index few course rec f =
+        comes_to_next scene inv owner mode fits room stage here long ask back [] none_lengthens tt
+        (λ y owe. reads_does scene inv owner mode fits room stage here (words_after ws ask) same y [] tt tt (right_none (words_after ws ask) y) owe)
+        index few (⊎_elim (λ h. h.within) (λ h. h.within) course)
+        (λ i low. ⊎_elim (λ h. course_calm index index i (index + 1) h low (omega arith))
+        (λ h. course_calm index (index + 1) i (index + 1) h low (omega arith)) course)
+        paid rec (fill_same scene inv owner mode fits ask same NoIndex f)
+
+  -- ---- the counter
+
+  module _ (room : buffers.Buffer 128) (here : Here room recovers.TheVariants.LoadsCounter) (long : IsLong room)
+      (at : RecoverAt c z (all scene) (done scene) owner mode recovers.TheVariants.LoadsCounter)
+      (k : RecoverKnows code c owner mode room recovers.TheVariants.LoadsCounter (sees_now scene)) (s : steps ≤ 0) where
+    abbrev load_counter : Option Ask
+    load_counter = Some (set_stages.loads 0)
+
+    -- it has freed nothing yet
+    nothing_freed : HasHidden code c p owner none (before scene)
+    nothing_freed holds i was = absurd (no_more was.before (Frees i owner) was.after (sym at.0 ∙ was.is))
+
+    pub counter_step : StepOf scene (Recover owner mode) (recover_at c owner mode room recovers.TheVariants.LoadsCounter)
+    counter_step = go (counter_of ws == locked) refl
+      where
+        paid_on : backs_then scene false + since_then scene (Some (set_stages.loads 0)) ≤ changes_then scene (Some (set_stages.loads 0))
+        paid_on = let paid = k.0 in omega arith
+
+        next : counter_of ws ≢ locked → (b : Bool) → nat_lt 0 c ≡ b
+            → Becomes (Some (set_stages.loads 0)) false [] room (GoOn (record (first scene inv owner mode fits) {
+              stage = if b then recovers.TheVariants.LoadsCell 0 else recovers.TheVariants.LoadsCounterAgain;
+            }))
+        next open_now true t =
+            let some = inv.good.some in
+            let y = then_at scene inv owner mode fits room recovers.TheVariants.LoadsCounter here room (recovers.TheVariants.LoadsCell 0) load_counter false in
+            let now : Recovers code c owner 0 none none (sees_now scene) =
+            record {
+              dead = k.1;
+              was_open = held_now p IsUnlocked events (unlocked (of_set scene) (inv_of_set scene inv) open_now);
+              asked = λ i below. absurd (omega arith);
+              gone = k.2;
+              hidden = nothing_freed;
+            } in
+            calm_on room recovers.TheVariants.LoadsCounter here long load_counter (loads_same ws 0) false paid_on
+            room (recovers.TheVariants.LoadsCell 0) (omega arith)
+            (record {
+              within = omega arith;
+              seen = subst (λ (d : List (Act T)). AreBelow 0 (seen_in (d ++ []))) (sym at.1) tt;
+              asked = subst (λ (d : List Deed). AreBelow 0 (asked_in (d ++ []))) (sym at.0) tt;
+              freed = λ i was. let h = one_of_none (Frees i owner) (all scene) was in absurd (no_more h.before (Frees i owner) h.after (sym at.0 ∙ h.is));
+            }) (
+              long,
+              (paid_on, calm_recs room recovers.TheVariants.LoadsCounter here long load_counter (loads_same ws 0) false paid_on y 0 now),
+              fill_same scene inv owner mode fits load_counter (loads_same ws 0) NoIndex
+                  (filled_none p owner (IsWorn scene.terms.by ws) mode NoIndex events at.0),
+            )
+        next open_now false t = let some = inv.good.some in let nothing : c ≤ 0 = grind (arith, nat_tests) in absurd (omega arith)
+
+        go : (b : Bool) → (counter_of ws == locked) ≡ b
+            → Leads scene (Recover owner mode) (Some (set_stages.loads 0)) false scene.states []
+            (as_recover scene inv owner mode fits room
+            (if b then recover_ends (first scene inv owner mode fits) states.TheVariants.Locked else recover_comes_to
+            (first scene inv owner mode fits) 0))
+        go true t =
+            let shut : counter_of ws ≡ locked = grind (arith, nat_tests) in
+            calm_on room recovers.TheVariants.LoadsCounter here long load_counter (loads_same ws 0) false paid_on
+            room (recovers.TheVariants.AddsChange states.TheVariants.Locked) (omega arith) tt (
+              long,
+              (
+                paid_on,
+                shut_later events [] (is_shut (of_set scene) (inv_of_set scene inv) shut),
+                hidden_still scene inv owner mode fits room recovers.TheVariants.LoadsCounter here load_counter
+                    (then_at scene inv owner mode fits room recovers.TheVariants.LoadsCounter here room
+                    (recovers.TheVariants.AddsChange states.TheVariants.Locked) load_counter false)
+                    nothing_freed,
+              ),
+              tt,
+            )
+        go false t =
+            let open_now : counter_of ws ≢ locked = grind (arith, nat_tests) in
+            next open_now (nat_lt 0 c) refl
+
+  -- ---- a cell
+
+  module _ (room : buffers.Buffer 128) (index : ℕ) (here : Here room (recovers.TheVariants.LoadsCell index))
+      (long : IsLong room) (course : Course index index)
+      (k : RecoverKnows code c owner mode room (recovers.TheVariants.LoadsCell index) (sees_now scene))
+      (s : steps ≤ 1 + index * for_index c z mode + backs * for_back c z mode) (f : FilledBut (IsWorn scene.terms.by ws) mode p owner NoIndex events) where
+    abbrev load_cell : Option Ask
+    load_cell = Some (set_stages.loads (cell_word index))
+
+    paid_cell : backs_then scene false + since_then scene load_cell ≤ changes_then scene load_cell
+    paid_cell = let paid = k.0 in omega arith
+
+    -- an index of another owner is none to free
+    not_to_free : cell ws index ≢ owner → HeldThroughout p (StillToFree p owner index) (events ++ [])
+        → IsOneOf (Asks index owner) (deeds_of p (events ++ [])) ⊎ WasShown p index (events ++ [])
+    not_to_free other through =
+        subst (λ es. IsOneOf (Asks index owner) (deeds_of p es) ⊎ WasShown p index es) (sym (append-nil events))
+        (⊎_elim (λ filled. absurd (other (inv.good.cells index course.within ∙ ap cell_of filled))) (λ freed. course.freed index freed)
+        (through_now p (StillToFree p owner index) events (subst (λ es. HeldThroughout p (StillToFree p owner index) es) (append-nil events) through)))
+
+    pub cell_step : StepOf scene (Recover owner mode) (recover_at c owner mode room (recovers.TheVariants.LoadsCell index))
+    cell_step = go (cell ws index == owner) refl
+      where
+        go : (b : Bool) → (cell ws index == owner) ≡ b → Leads scene (Recover owner mode) (Some (set_stages.loads (cell_word index))) false scene.states []
+            (as_recover scene inv owner mode fits room
+            (if b then GoOn (record (first scene inv owner mode fits) { stage = recovers.TheVariants.LoadsCount index })
+            else recover_comes_to (first scene inv owner mode fits) (index + 1)))
+        go true t =
+            let is : cell ws index ≡ owner = grind (arith, nat_tests) in
+            let y =
+            then_at scene inv owner mode fits room (recovers.TheVariants.LoadsCell index) here room
+            (recovers.TheVariants.LoadsCount index) load_cell false in
+            calm_on room (recovers.TheVariants.LoadsCell index) here long load_cell
+            (loads_same ws (cell_word index)) false paid_cell room (recovers.TheVariants.LoadsCount index)
+            (omega arith) (course_calm index index index index course course.within (omega arith)) (
+              long,
+              (
+                paid_cell,
+                calm_recs room (recovers.TheVariants.LoadsCell index) here long load_cell (loads_same ws (cell_word index)) false paid_cell y index k.1,
+                held_later p (IsFilledWith owner index) events [] tt
+                    (held_now p (IsFilledWith owner index) events
+                    (filled_by (of_set scene) (inv_of_set scene inv) index course.within owner fits is)),
+              ),
+              fill_same scene inv owner mode fits load_cell (loads_same ws (cell_word index)) NoIndex f,
+            )
+        go false t =
+            let other : cell ws index ≢ owner = grind (arith, nat_tests) in
+            let wide = index_at_least c z mode in
+            calm_next room (recovers.TheVariants.LoadsCell index) here long load_cell
+            (loads_same ws (cell_word index)) false paid_cell index (omega arith) (inl course)
+            (λ y. calm_recs_more room (recovers.TheVariants.LoadsCell index) here long load_cell
+            (loads_same ws (cell_word index)) false paid_cell y index k.1 (not_to_free other))
+            f
+
+  -- ---- the number of an element, loaded or found at a check
+
+  module _ (room : buffers.Buffer 128) (stage : RecoverStage) (index : ℕ) (here : Here room stage)
+      (long : IsLong room) (course : Course index index) (rec : Recovers code c owner index none none (sees_now scene))
+      (filled : WasFilled owner index (sees_now scene))
+      (ask : Option Ask) (same : words_after ws ask ≡ ws) (back : Bool)
+      (paid : backs_then scene back + since_then scene ask ≤ changes_then scene ask)
+      (few : steps + step_count ask ≤ 3 + index * for_index c z mode + backs_then scene back * for_back c z mode)
+      (f : FilledBut (IsWorn scene.terms.by ws) mode p owner NoIndex events) where
+    abbrev pub number : ℕ
+    number = count_in code c (before scene) index
+
+    same_number : count_at c (words_after ws ask) index ≡ number
+    same_number = ap (λ w. count_at c w index) same
+
+    abbrev showing : List (Event T)
+    showing = Shown p index ∷ []
+
+    -- nothing stands there
+    is_shown : is_even number ≡ true → Goes ask back showing room (recovers.TheVariants.EmptiesCell index number)
+    is_shown even =
+        let y = then_at scene inv owner mode fits room stage here room (recovers.TheVariants.EmptiesCell index number) ask back in
+        let goes = (silent_set scene inv (words_after ws ask) same y showing (tt, tt) (refl, tt)).goes in
+        let acts_then : acts_of p (events ++ showing) ≡ done scene ++ Sees index ∷ [] =
+        acts_more scene (Recover owner mode) here.span showing (refl, tt) (λ start w. refl) in
+        go_on scene inv owner mode fits room stage here room (recovers.TheVariants.EmptiesCell index number) ask back showing (λ start w. refl)
+        (reads_does scene inv owner mode fits room stage here (words_after ws ask) same y showing (tt, tt) (refl, tt)
+        (record {
+          asks = (tt, tt);
+          recovers = (tt, tt);
+          answers = (tt, tt);
+          contains = λ holds.
+              let holds_before = was_well_formed scene (Recover owner mode) tt here.span (words_after ws ask) y showing (refl, tt) holds in (
+                none_is (contents_of index events)
+                    (nothing_stands code c ws index (contents_of index events)
+                    (inv.elements.whole holds_before index course.within) (even_is number even)),
+                tt,
+              );
+          places = λ holds. (tt, tt);
+        })
+        refl)
+        (course.seen, tt) (omega arith) (
+          course_then c z (all scene) [] (done scene) (Sees index ∷ []) owner index index index (index + 1) course
+              course.within (omega arith) (omega arith, tt) tt
+              (λ j was. inl (one_of_none (Frees j owner) (all scene) was)),
+          inr (record { before = done scene; is = refl }),
+        ) (
+          long,
+          (
+            paid,
+            recs scene inv owner mode fits room stage here ask back y showing (refl, tt) tt (λ start w. refl) goes
+                index (index + 1) none (λ i. i ≡ index) (λ i. i ≡ index) none none rec
+                (asked_more scene inv owner mode fits room stage here ask back y showing (refl, tt) tt
+                (λ start w. refl) goes index rec.asked
+                (λ through. inr (subst (Has (Sees index)) (sym acts_then) (has_last (Sees index) (done scene)))))
+                (λ i said. ⊎_elim (λ yes. inl (inl (one_of_none (Yes i owner) (all scene) yes)))
+                (λ seen. ⊎_elim (λ had. inl (inr had)) (λ e. let is : index ≡ i = cc in inr (sym is))
+                (was_act (Sees i) (Sees index) (done scene) seen))
+                said)
+                (λ i e. absurd e) (λ i e. inr e)
+                (hidden_on scene (Recover owner mode) tt here.span owner (words_after ws ask) y showing (refl, tt)
+                tt (λ start w. refl) (λ i was. one_of_none (Frees i owner) (all scene) was) rec.hidden),
+            course.within,
+            λ kept. let eq = same_number in omega arith,
+            λ holds filled. inl same_number,
+          ),
+          fills_on scene inv owner mode fits room stage here ask back y showing (refl, tt) tt (λ start w. refl) goes
+              NoIndex NoIndex (λ i was. inl (one_of_none (Frees i owner) (all scene) was)) (λ i e. e) f,
+        )
+
+    -- it begins a copy
+    is_copied : is_even number ≡ false → Goes ask back [] room (recovers.TheVariants.LoadsWord index number 0)
+    is_copied odd =
+        let some = inv.elements.coded.some in
+        let y = then_at scene inv owner mode fits room stage here room (recovers.TheVariants.LoadsWord index number 0) ask back in
+        calm_on room stage here long ask same back paid room (recovers.TheVariants.LoadsWord index number 0)
+        (omega arith)
+        (course_calm index index index index course course.within (omega arith), odd_is number odd, omega arith) (
+          long,
+          (
+            inl (same_number, paid),
+            calm_recs room stage here long ask same back paid y index rec,
+            held_later p (IsFilledWith owner index) events [] tt filled,
+            copying_first code c (then_sees scene ask back scene.states y []) index number room.words course.within
+                long (odd_is number odd) (λ kept. let eq = same_number in omega arith),
+            λ holds filled. inl same_number,
+          ),
+          fill_same scene inv owner mode fits ask same NoIndex f,
+        )
+
+    -- its step, by the number
+    pub sees_number : Leads scene (Recover owner mode) ask back scene.states
+        ((if is_even number then Shown p index ∷ [] else []) ++ [])
+        (as_recover scene inv owner mode fits room (recover_sees (first scene inv owner mode fits) index number))
+    sees_number = go (is_even number) refl
+      where
+        go : (b : Bool) → is_even number ≡ b → Leads scene (Recover owner mode) ask back scene.states ((if b then Shown p index ∷ [] else []) ++ [])
+            (as_recover scene inv owner mode fits room (GoOn (record (first scene inv owner mode fits) {
+              stage = if b then recovers.TheVariants.EmptiesCell index number else recovers.TheVariants.LoadsWord index number 0;
+            })))
+        go true t = is_shown t
+        go false t = is_copied t
+
+  pub count_step : (room : buffers.Buffer 128) (index : ℕ)
+      (here : Here room (recovers.TheVariants.LoadsCount index)) (long : IsLong room) (course : Course index index)
+      (k : RecoverKnows code c owner mode room (recovers.TheVariants.LoadsCount index) (sees_now scene))
+      (s : steps ≤ 2 + index * for_index c z mode + backs * for_back c z mode)
+      → FilledBut (IsWorn scene.terms.by ws) mode p owner NoIndex events
+      → StepOf scene (Recover owner mode) (recover_at c owner mode room (recovers.TheVariants.LoadsCount index))
+  count_step room index here long course k s f =
+      sees_number room (recovers.TheVariants.LoadsCount index) index here long course k.1 k.2
+      (Some (set_stages.loads (count_word c index))) (loads_same ws (count_word c index)) false
+      (let paid = k.0 in omega arith) (omega arith) f

@@ -1,0 +1,383 @@
+-- A recovery of a container reads the words of an element, checks its number, and is told.
+use Rattle.std.proofs.Common.{◌≡◌, ◌≢◌, ◌⊎◌, ⊎_elim, inl, inr, ℕ, ◌+◌, ◌*◌, ◌<◌, ◌≤◌, ◌==◌, if◌then◌else◌, nat_lt}
+use Rattle.std.proofs.Common.{Bool, false, true, not, Option, Some, None, List, [], ◌∷◌, ◌++◌, set, fold}
+use Rattle.std.proofs.Common.{refl, sym, ap, subst, ◌∙◌, append-nil, append_assoc, arith}
+use Rattle.std.proofs.lemmas.Bool.Decides.{nat_tests}
+use Rattle.std.proofs.lemmas.List.{set-get_or, length-set}
+use Rattle.std.proofs.lemmas.List.Concat.{flat_map-append}
+use Rattle.std.proofs.lemmas.List.Sums.{fold-append}
+use Rattle.steps.specs.declared.ask.Ask.{Ask}
+use Rattle.steps.specs.declared.ask.After.{After}
+use Rattle.steps.specs.declared.ask.After.TheVariants.{GoOn}
+use Rattle.steps.specs.declared.container.recover.Recover as recover_calls
+use Rattle.steps.specs.declared.indices.enums.ReleaseState.{ReleaseState}
+use Rattle.steps.specs.declared.container.recover.RecoverStage.{RecoverStage}
+use Rattle.steps.specs.declared.container.recover.RecoverStage as recovers
+use Rattle.steps.specs.declared.copied.Buffer as buffers
+use Rattle.steps.specs.declared.indices.enums.ReleaseMode.{ReleaseMode}
+use Rattle.steps.specs.Container.Layout.{count_word, element_word, is_even}
+use Rattle.steps.specs.Container.Recover.{recover_comes_to, recover_sees}
+use Rattle.steps.specs.Indices.Robust.Parts.{empty}
+use Rattle.model.specs.declared.event.Event.{Event}
+use Rattle.model.specs.declared.event.Event.TheVariants.{Asked, Told, Copied, Shown}
+use Rattle.model.specs.declared.event.Start.TheVariants.{Container}
+use Rattle.model.specs.declared.families.container.ContainerStart.{ContainerStart}
+use Rattle.model.specs.declared.families.container.ContainerStart.TheVariants.{Recover}
+use Rattle.model.specs.Families.Container.Reading.{Copies, Sees, act, acts, acts_of}
+use Rattle.model.specs.Families.Indices.Robust.Promises.{IsFilledWith, IsUnlocked}
+use Rattle.model.specs.Families.Indices.Robust.Reading.{Frees, Asks, Yes, deed, deeds, deeds_of, filled_after, IsOneOf, asked_in}
+use Rattle.model.specs.Families.Queues.Calls.{read_in, kept_at}
+use Rattle.model.specs.Reading.{Open, own_after}
+use Rattle.model.specs.Turns.{words_after}
+use Rattle.model.proofs.Moments.{held_later}
+use Rattle.laws_robust.proofs.Gone.{gone_more}
+use Rattle.laws_robust.proofs.Invariant.{IsWorn}
+use Rattle.laws_robust.proofs.Deeds.{was_one, last_one}
+use Rattle.laws_robust.proofs.Stages.{loads_same, exchanges, exchange_sets, fails_same}
+use Rattle.laws_robust.proofs.Stages as set_stages
+use Rattle.laws_container.proofs.Copies.{copying_more, copied_value}
+use Rattle.laws_container.proofs.Core.{count_at}
+use Rattle.laws_container.proofs.HiddenKnows.{RecoverCovers}
+use Rattle.laws_container.proofs.HiddenOn.{hidden_on, covers_on}
+use Rattle.laws_container.proofs.Invariant.{Scene, Inv, before, after, wrote_of}
+use Rattle.laws_container.proofs.KeptLocks.{NoIndex, FilledBut}
+use Rattle.laws_container.proofs.Knows.{WasFilled, Copying, CheckPaid, Recovers, RecoverKnows, IsLong}
+use Rattle.laws_container.proofs.RecoverParts.{fill_same, none, as_recover, first, then_at, reads_does}
+use Rattle.laws_container.proofs.RecoverParts.{go_on, recs, fills_on, asked_on, asked_more}
+use Rattle.laws_container.proofs.Recoveries.{one_more_of, has_of_none, was_act, course_then}
+use Rattle.laws_container.proofs.Silent.{silent_set}
+use Rattle.laws_container.proofs.Stages.{IsHere, all, done, sees_now, then_sees, ShowsThen, StepOf, AnswerOf, Leads}
+use Rattle.laws_container.proofs.Stages.{backs_then, since_then, changes_then, deeds_more, acts_more}
+use Rattle.laws_container.proofs.Stages.{was_well_formed}
+use Rattle.laws_container.proofs.Standing.{recover_at, for_back, for_index, AreBelow, RecoverAt}
+use Rattle.laws_container.proofs.Turns.{count_in, datum_in}
+use Rattle.laws_container.proofs.RecoverReads.{back_at_least, calm_next, calm_on, calm_recs, course_calm, index_at_least, sees_number}
+
+module _ {T : Type 0} (scene : Scene T) (inv : Inv scene) (owner : ℕ) (mode : ReleaseMode) (fits : owner < empty) where
+  open scene use {
+    coding as code,
+    capacity as c,
+    party as p,
+    steps as steps,
+    backs as backs,
+    since as since,
+    changes as changes,
+    events as events,
+    latest as latest,
+  }
+
+  abbrev ws : List ℕ
+  ws = scene.words
+
+  abbrev z : ℕ
+  z = code.size
+
+  abbrev pub Here : buffers.Buffer 128 → RecoverStage → Type 0
+  Here room stage = IsHere scene (Recover owner mode) (recover_at c owner mode room stage)
+
+  abbrev pub Goes : Option Ask → Bool → List (Event T) → buffers.Buffer 128 → RecoverStage → Type 0
+  Goes ask back es room next =
+      ShowsThen scene (Recover owner mode) ask back scene.states es (GoOn (recover_at c owner mode room next))
+
+  abbrev pub Becomes : Option Ask → Bool → List (Event T) → buffers.Buffer 128 → After (recover_calls.Recover T (buffers.Buffer 128)) ReleaseState → Type 0
+  Becomes ask back es room a =
+      ShowsThen scene (Recover owner mode) ask back scene.states es (as_recover scene inv owner mode fits room a)
+
+  -- ---- a word of the element
+
+  module _ (room : buffers.Buffer 128) (index count at : ℕ)
+      (here : Here room (recovers.TheVariants.LoadsWord index count at)) (long : IsLong room)
+      (stands : RecoverAt c z (all scene) (done scene) owner mode (recovers.TheVariants.LoadsWord index count at))
+      (k : RecoverKnows code c owner mode room (recovers.TheVariants.LoadsWord index count at) (sees_now scene))
+      (s : steps ≤ 3 + at + index * for_index c z mode + backs * for_back c z mode)
+      (f : FilledBut (IsWorn scene.terms.by ws) mode p owner NoIndex events) where
+    abbrev word : ℕ
+    word = datum_in code c (before scene) index at
+
+    abbrev room' : buffers.Buffer 128
+    room' = kept_at room at word
+
+    abbrev load_word : Option Ask
+    load_word = Some (set_stages.loads (element_word c z index at))
+
+    same_words : words_after ws load_word ≡ ws
+    same_words = loads_same ws (element_word c z index at)
+
+    paid_word : backs_then scene false + since_then scene load_word ≤ changes_then scene load_word
+    paid_word = ⊎_elim (λ h. let paid = h.1 in omega arith) (λ h. omega arith) k.0
+
+    long_word : IsLong room'
+    long_word = length-set room.words at word ∙ long
+
+    -- what it knows of the copy and of the (number scene inv owner mode fits)
+    knows_word : (next : RecoverStage) (n : ℕ) → n ≡ at + 1
+        → CheckPaid code c index count
+        (then_sees scene load_word false scene.states
+        (then_at scene inv owner mode fits room (recovers.TheVariants.LoadsWord index count at) here room' next load_word false)
+        [])
+        × Recovers code c owner index none none
+        (then_sees scene load_word false scene.states
+        (then_at scene inv owner mode fits room (recovers.TheVariants.LoadsWord index count at) here room' next load_word false)
+        [])
+        × WasFilled owner index (then_sees scene load_word false scene.states
+        (then_at scene inv owner mode fits room (recovers.TheVariants.LoadsWord index count at) here room' next load_word false)
+        [])
+        × Copying code c index count room'.words n
+        (then_sees scene load_word false scene.states
+        (then_at scene inv owner mode fits room (recovers.TheVariants.LoadsWord index count at) here room' next load_word false)
+        [])
+        × RecoverCovers code c owner index count
+        (after scene (words_after ws load_word)
+        (then_at scene inv owner mode fits room (recovers.TheVariants.LoadsWord index count at) here room' next load_word false)
+        [])
+    knows_word next n is =
+        let y = then_at scene inv owner mode fits room (recovers.TheVariants.LoadsWord index count at) here room' next load_word false in
+        let v' = then_sees scene load_word false scene.states y [] in (
+          ⊎_elim (λ h. let paid = h.1 in inl (ap (λ w. count_at c w index) same_words ∙ h.0, omega arith)) (λ h. inr (omega arith)) k.0,
+          (calm_recs scene inv owner mode fits) room (recovers.TheVariants.LoadsWord index count at) here long load_word same_words false paid_word y index k.1,
+          held_later p (IsFilledWith owner index) events [] tt k.2,
+          subst (λ m. Copying code c index count room'.words m v') (sym is)
+              (copying_more code c (sees_now scene) v' index count room.words at stands.2 inv.elements.coded.few
+              same_words (λ kept. kept)
+              (was_well_formed scene (Recover owner mode) tt here.span (words_after ws load_word) y [] tt) k.3),
+          covers_on scene (Recover owner mode) tt here.span owner (words_after ws load_word) y [] tt index count
+              (ap (λ w. count_at c w index) same_words) (fold-append (filled_after index) None events []) k.4,
+        )
+
+    pub word_step : StepOf scene (Recover owner mode) (recover_at c owner mode room (recovers.TheVariants.LoadsWord index count at))
+    word_step = go (nat_lt (at + 1) z) refl
+      where
+        go : (b : Bool) → nat_lt (at + 1) z ≡ b → Leads scene (Recover owner mode) (Some (set_stages.loads (element_word c z index at))) false scene.states []
+            (as_recover scene inv owner mode fits room'
+            (if b then GoOn (record (first scene inv owner mode fits) { stage = recovers.TheVariants.LoadsWord index count (at + 1) })
+            else GoOn
+            (record (first scene inv owner mode fits) { stage = recovers.TheVariants.ChecksCount index count })))
+        go true t =
+            let more : at + 1 < z = grind (arith, nat_tests) in
+            (calm_on scene inv owner mode fits) room (recovers.TheVariants.LoadsWord index count at) here long load_word same_words false
+            paid_word room' (recovers.TheVariants.LoadsWord index count (at + 1)) (omega arith)
+            ((course_calm scene inv owner mode fits) index index index index stands.0 stands.0.within (omega arith), stands.1, more) (
+              long_word,
+              knows_word (recovers.TheVariants.LoadsWord index count (at + 1)) (at + 1) refl,
+              fill_same scene inv owner mode fits load_word same_words NoIndex f,
+            )
+        go false t =
+            let last : z ≤ at + 1 = grind (arith, nat_tests) in
+            let ats = stands.2 in
+            (calm_on scene inv owner mode fits) room (recovers.TheVariants.LoadsWord index count at) here long load_word same_words false
+            paid_word room' (recovers.TheVariants.ChecksCount index count) (omega arith)
+            ((course_calm scene inv owner mode fits) index index index index stands.0 stands.0.within (omega arith), stands.1) (
+              long_word,
+              knows_word (recovers.TheVariants.ChecksCount index count) z (omega arith),
+              fill_same scene inv owner mode fits load_word same_words NoIndex f,
+            )
+
+  -- ---- its (number scene inv owner mode fits) is checked
+
+  module _ (room : buffers.Buffer 128) (index count : ℕ)
+      (here : Here room (recovers.TheVariants.ChecksCount index count)) (long : IsLong room)
+      (stands : RecoverAt c z (all scene) (done scene) owner mode (recovers.TheVariants.ChecksCount index count))
+      (k : RecoverKnows code c owner mode room (recovers.TheVariants.ChecksCount index count) (sees_now scene))
+      (s : steps ≤ 3 + z + index * for_index c z mode + backs * for_back c z mode)
+      (f : FilledBut (IsWorn scene.terms.by ws) mode p owner NoIndex events) where
+    abbrev check_it : Option Ask
+    check_it = Some (exchanges (count_word c index) count count)
+
+    abbrev count_now : ℕ
+    count_now = count_in code c (before scene) index
+
+    abbrev value : T
+    value = read_in code room
+
+    abbrev asking : List (Event T)
+    asking = Copied p index value ∷ Asked p index owner ∷ []
+
+    asking_longer : (start : ContainerStart T) (w : List (Event T))
+        → fold own_after (Open (Container start) w) (Copied p index value ∷ Asked p index owner ∷ [])
+        ≡ Open (Container start) (w ++ Copied p index value ∷ Asked p index owner ∷ [])
+    asking_longer start w = ap (λ es. Open (Container start) es) (append_assoc w (Copied p index value ∷ []) (Asked p index owner ∷ []))
+
+    -- the copy is whole, and it asks
+    asks : count_now ≡ count → Goes check_it false asking room (recovers.TheVariants.Asks index count)
+    asks is =
+        let same : words_after ws check_it ≡ ws =
+        exchange_sets ws (count_word c index) count count is
+        ∙ (ap (set ws (count_word c index)) (sym is) ∙ set-get_or ws (count_word c index) 0) in
+        let y =
+        then_at scene inv owner mode fits room (recovers.TheVariants.ChecksCount index count) here room
+        (recovers.TheVariants.Asks index count) check_it false in
+        let goes = (silent_set scene inv (words_after ws check_it) same y asking (tt, (tt, tt)) (refl, (refl, tt))).goes in
+        let deeds_then : deeds_of p (events ++ asking) ≡ all scene ++ Asks index owner ∷ [] =
+        deeds_more scene (Recover owner mode) here.span asking (refl, (refl, tt)) asking_longer in
+        let acts_then : acts_of p (events ++ asking) ≡ done scene ++ Copies index value ∷ [] =
+        acts_more scene (Recover owner mode) here.span asking (refl, (refl, tt)) asking_longer in
+        let copy_acts : acts (wrote_of p events ++ Copied p index value ∷ []) ≡ done scene ++ Copies index value ∷ [] =
+        flat_map-append act (wrote_of p events) (Copied p index value ∷ []) in
+        let copy_deeds : deeds (wrote_of p events ++ Copied p index value ∷ []) ≡ all scene =
+        flat_map-append deed (wrote_of p events) (Copied p index value ∷ []) ∙ append-nil (all scene) in
+        go_on scene inv owner mode fits room (recovers.TheVariants.ChecksCount index count) here room
+        (recovers.TheVariants.Asks index count) check_it false asking asking_longer
+        (reads_does scene inv owner mode fits room (recovers.TheVariants.ChecksCount index count) here
+        (words_after ws check_it) same y asking (tt, (tt, tt)) (refl, (refl, tt))
+        (record {
+          asks = (
+            tt,
+            (
+              (
+                held_later p (IsFilledWith owner index) events (Copied p index value ∷ []) tt k.2,
+                held_later p IsUnlocked events (Copied p index value ∷ []) tt k.1.was_open,
+                gone_more scene.terms.by owner events (Copied p index value ∷ []) k.1.dead,
+              ),
+              tt,
+            ),
+          );
+          recovers = (tt, (tt, tt));
+          answers = (tt, (tt, tt));
+          contains =
+              λ holds. (
+                copied_value code c (sees_now scene) index count room.words inv.elements.coded inv.elements.whole k.3 is
+                    (was_well_formed scene (Recover owner mode) tt here.span (words_after ws check_it) y asking (refl, (refl, tt)) holds),
+                (tt, tt),
+              );
+          places = λ holds. (tt, (tt, tt));
+        })
+        refl) (
+          stands.0.seen,
+          (
+            (
+              refl,
+              record { value = value; latest = record { before = done scene; is = copy_acts } },
+              subst (λ d. AreBelow index (asked_in d)) (sym copy_deeds) stands.0.asked,
+            ),
+            tt,
+          ),
+        ) (omega arith) (
+          course_then c z (all scene) (Asks index owner ∷ []) (done scene) (Copies index value ∷ []) owner index
+              index index (index + 1) stands.0 stands.0.within (omega arith) (omega arith, tt) (omega arith, tt)
+              (λ j was. ⊎_elim (λ had. inl had) (λ e. absurd (cc)) (was_one (Frees j owner) (Asks index owner) (all scene) was)),
+          stands.1,
+          record { before = all scene; is = refl },
+        ) (
+          long,
+          (
+            ⊎_elim (λ h. let paid = h.1 in omega arith) (λ h. omega arith) k.0,
+            recs scene inv owner mode fits room (recovers.TheVariants.ChecksCount index count) here check_it false y
+                asking (refl, (refl, tt)) tt asking_longer goes index (index + 1) none none none none none k.1
+                (asked_more scene inv owner mode fits room (recovers.TheVariants.ChecksCount index count) here
+                check_it false y asking (refl, (refl, tt)) tt asking_longer goes index k.1.asked
+                (λ through. inl (subst (IsOneOf (Asks index owner)) (sym deeds_then) (last_one (Asks index owner) (all scene)))))
+                (λ i said. inl
+                (⊎_elim (λ yes. ⊎_elim (λ had. inl had) (λ e. absurd (cc)) (was_one (Yes i owner) (Asks index owner) (all scene) yes))
+                (λ seen. ⊎_elim (λ had. inr had) (λ e. absurd (cc)) (was_act (Sees i) (Copies index value) (done scene) seen))
+                said))
+                (λ i e. absurd e) (λ i e. absurd e)
+                (hidden_on scene (Recover owner mode) tt here.span owner (words_after ws check_it) y asking
+                (refl, (refl, tt)) tt asking_longer
+                (λ i was. ⊎_elim (λ had. had) (λ e. absurd (cc)) (was_one (Frees i owner) (Asks index owner) (all scene) was))
+                k.1.hidden),
+            stands.0.within,
+            λ kept. let eq = ap (λ w. count_at c w index) same in let low = k.3.below kept in omega arith,
+            record { before = done scene; is = acts_then },
+            covers_on scene (Recover owner mode) tt here.span owner (words_after ws check_it) y asking
+                (refl, (refl, tt)) index count (ap (λ w. count_at c w index) same)
+                (fold-append (filled_after index) None events asking) k.4,
+          ),
+          fills_on scene inv owner mode fits room (recovers.TheVariants.ChecksCount index count) here check_it false
+              y asking (refl, (refl, tt)) tt asking_longer goes NoIndex NoIndex
+              (λ i was. ⊎_elim (λ had. inl had) (λ e. absurd (cc)) (was_one (Frees i owner) (Asks index owner) (all scene) was))
+              (λ i e. e) f,
+        )
+
+    pub check_step : StepOf scene (Recover owner mode) (recover_at c owner mode room (recovers.TheVariants.ChecksCount index count))
+    check_step = go (count_now == count) refl
+      where
+        go : (b : Bool) → (count_now == count) ≡ b → Leads scene (Recover owner mode) (Some (exchanges (count_word c index) count count)) (not b) scene.states
+            ((if b then Copied p index (read_in code room) ∷ [] else (if is_even count_now then Shown p index ∷ [] else []))
+            ++ (if b then Asked p index owner ∷ [] else []))
+            (as_recover scene inv owner mode fits room
+            (if b then GoOn (record (first scene inv owner mode fits) { stage = recovers.TheVariants.Asks index count })
+            else recover_sees (first scene inv owner mode fits) index count_now))
+        go true t = let is : count_now ≡ count = grind (arith, nat_tests) in asks is
+        go false t =
+            let other : count_now ≢ count = grind (arith, nat_tests) in
+            let wide = back_at_least c z mode in
+            (sees_number scene inv owner mode fits) room (recovers.TheVariants.ChecksCount index count) index here long stands.0 k.1 k.2
+            check_it (fails_same ws (count_word c index) count count other) true
+            (⊎_elim (λ h. absurd (other h.0)) (λ h. omega arith) k.0) (omega arith) f
+
+  -- ---- it is told whether to free it
+
+  module _ (room : buffers.Buffer 128) (index count : ℕ)
+      (stands : RecoverAt c z (all scene) (done scene) owner mode (recovers.TheVariants.Asks index count))
+      (here : Here room (recovers.TheVariants.Asks index count)) (long : IsLong room)
+      (k : RecoverKnows code c owner mode room (recovers.TheVariants.Asks index count) (sees_now scene))
+      (s : steps ≤ 4 + z + index * for_index c z mode + backs * for_back c z mode)
+      (f : FilledBut (IsWorn scene.terms.by ws) mode p owner NoIndex events) where
+    abbrev telling : List (Event T)
+    telling = Told p index owner ∷ []
+
+    paid_now : backs_then scene false + since_then scene None ≤ changes_then scene None
+    paid_now = let paid = k.0 in omega arith
+
+    says_yes : Goes None false telling room (recovers.TheVariants.EmptiesCell index count)
+    says_yes =
+        let y =
+        then_at scene inv owner mode fits room (recovers.TheVariants.Asks index count) here room
+        (recovers.TheVariants.EmptiesCell index count) None false in
+        let goes = (silent_set scene inv ws refl y telling (tt, tt) (refl, tt)).goes in
+        go_on scene inv owner mode fits room (recovers.TheVariants.Asks index count) here room
+        (recovers.TheVariants.EmptiesCell index count) None false telling (λ start w. refl)
+        (reads_does scene inv owner mode fits room (recovers.TheVariants.Asks index count) here ws refl y telling (tt, tt) (refl, tt)
+        (record { asks = (k.1.dead, tt); recovers = (tt, tt); answers = (tt, tt); contains = λ holds. (tt, tt); places = λ holds. (tt, tt) }) refl)
+        ((refl, stands.2), tt) (omega arith) (
+          course_then c z (all scene) (Yes index owner ∷ []) (done scene) [] owner index (index + 1) index
+              (index + 1) stands.0 stands.0.within (omega arith) tt tt
+              (λ j was. ⊎_elim (λ had. inl had) (λ e. absurd (cc)) (was_one (Frees j owner) (Yes index owner) (all scene) was)),
+          inl (
+            record { before = all scene; is = refl },
+            one_more_of (Asks index owner) (all scene) (Yes index owner ∷ [])
+                (record { before = stands.2.before; after = []; is = stands.2.is }),
+          ),
+        ) (
+          long,
+          (
+            paid_now,
+            recs scene inv owner mode fits room (recovers.TheVariants.Asks index count) here None false y telling
+                (refl, tt) tt (λ start w. refl) goes (index + 1) (index + 1) none (λ i. i ≡ index) (λ i. i ≡ index) none
+                none k.1
+                (asked_on scene inv owner mode fits room (recovers.TheVariants.Asks index count) here None false y
+                telling (refl, tt) tt (λ start w. refl) goes (index + 1) k.1.asked)
+                (λ i said. ⊎_elim (λ yes. ⊎_elim (λ had. inl (inl had)) (λ e. let is : index ≡ i = cc in inr (sym is))
+                (was_one (Yes i owner) (Yes index owner) (all scene) yes))
+                (λ seen. inl (inr (has_of_none (Sees i) (done scene) seen))) said)
+                (λ i e. absurd e) (λ i e. inr e)
+                (hidden_on scene (Recover owner mode) tt here.span owner ws y telling (refl, tt) tt
+                (λ start w. refl)
+                (λ i was. ⊎_elim (λ had. had) (λ e. absurd (cc)) (was_one (Frees i owner) (Yes index owner) (all scene) was))
+                k.1.hidden),
+            k.2,
+            k.3,
+            covers_on scene (Recover owner mode) tt here.span owner ws y telling (refl, tt) index count refl
+                (fold-append (filled_after index) None events telling) k.5,
+          ),
+          fills_on scene inv owner mode fits room (recovers.TheVariants.Asks index count) here None false y telling
+              (refl, tt) tt (λ start w. refl) goes NoIndex NoIndex
+              (λ i was. ⊎_elim (λ had. inl had) (λ e. absurd (cc)) (was_one (Frees i owner) (Yes index owner) (all scene) was))
+              (λ i e. e) f,
+        )
+
+    says_no : Becomes None false [] room (recover_comes_to (first scene inv owner mode fits) (index + 1))
+    says_no =
+        let wide = index_at_least c z mode in
+        (calm_next scene inv owner mode fits) room (recovers.TheVariants.Asks index count) here long None refl false paid_now index (omega arith) (inr stands.0)
+        (λ y. (calm_recs scene inv owner mode fits) room (recovers.TheVariants.Asks index count) here long None refl false paid_now y (index + 1) k.1) f
+
+    pub decided : (answer : ℕ) → AnswerOf scene (Recover owner mode) (recover_at c owner mode room (recovers.TheVariants.Asks index count)) None answer
+    decided answer = go (answer == 0)
+      where
+        go : (b : Bool) → Leads scene (Recover owner mode) None false scene.states ((if b then [] else Told p index owner ∷ []) ++ [])
+            (as_recover scene inv owner mode fits room
+            (if b then recover_comes_to (first scene inv owner mode fits) (index + 1) else GoOn
+            (record (first scene inv owner mode fits) { stage = recovers.TheVariants.EmptiesCell index count })))
+        go true = says_no
+        go false = says_yes

@@ -1,0 +1,149 @@
+-- What a recovery knows once its party has taken a turn: of moments, of what it has asked about, and of what it has lost.
+use Rattle.std.proofs.Common.{◌≡◌, ◌≢◌, ◌⊎◌, ⊎_elim, inl, inr, ℕ, ◌+◌, ◌<◌, ◌≤◌, Some, List, [], ◌∷◌, ◌++◌, sym, ap}
+use Rattle.std.proofs.Common.{subst, ◌∙◌, append_assoc, append-nil, arith}
+use Rattle.std.proofs.lemmas.Bool.{cases_eq}
+use Rattle.std.proofs.lemmas.List.Concat.{flat_map-append}
+use Rattle.steps.specs.declared.container.state.ContainerState.{ContainerState}
+use Rattle.model.specs.declared.event.Event.{Event}
+use Rattle.model.specs.declared.party.Party.{Party}
+use Rattle.model.specs.Coding.{Coding}
+use Rattle.model.specs.Families.Container.Promises.{WasShown}
+use Rattle.model.specs.Families.Container.Reading.{Act, Sees, Has, HasLatest, acts, acts_of, index_seen, seen_in}
+use Rattle.model.specs.Families.Indices.Robust.Promises.{IsUnlocked, HeldThroughout, StillToFree}
+use Rattle.model.specs.Families.Indices.Robust.Reading.{Deed, Frees, Asks, Yes, index_asked, asked_in, deeds, deeds_of, filled_of, IsOneOf}
+use Rattle.model.specs.Moments.{BeginsNone}
+use Rattle.model.proofs.Moments.{held_later}
+use Rattle.model.proofs.Readings.{SplitAt, Last, Earlier, split_last}
+use Rattle.laws_robust.proofs.Gone.{gone_more, honest_less, stays_lost}
+use Rattle.laws_robust.proofs.Knows.{Goes}
+use Rattle.laws_robust.proofs.Past.{through_less}
+use Rattle.laws_container.proofs.Finds.{all_both, below_more, has_more}
+use Rattle.laws_container.proofs.HiddenKnows.{HasHidden}
+use Rattle.laws_container.proofs.Knows.{View, now, IsGone, AskedBelow, GoneBut, Recovers}
+use Rattle.laws_container.proofs.Standing.{AreBelow, AskedOrShown, IsInCourse}
+
+-- ---- what it has done
+
+pub one_more_of : (one : Deed) (all more : List Deed) → IsOneOf one all → IsOneOf one (all ++ more)
+one_more_of one all more h =
+    record { before = h.before; after = h.after ++ more; is = ap (λ xs. xs ++ more) h.is ∙ append_assoc h.before (one ∷ h.after) more }
+
+-- nothing was done besides
+pub one_of_none : (one : Deed) (all : List Deed) → IsOneOf one (all ++ []) → IsOneOf one all
+one_of_none one all h = subst (IsOneOf one) (append-nil all) h
+
+module _ {T : Type 0} where
+  pub has_of_none : (one : Act T) (all : List (Act T)) → Has one (all ++ []) → Has one all
+  has_of_none one all h = subst (Has one) (append-nil all) h
+
+  -- one of them is one of the earlier ones, or the last
+  pub was_act : (one last : Act T) (all : List (Act T)) → Has one (all ++ last ∷ []) → Has one all ⊎ (last ≡ one)
+  was_act one last all h = go (split_last all last h.before one h.after h.is)
+    where
+      go : SplitAt all last h.before one h.after → Has one all ⊎ (last ≡ one)
+      go (Last p q) = inr q
+      go (Earlier rest p) = inl (record { before = h.before; after = rest; is = p })
+
+  pub has_latest : (one : Act T) (all : List (Act T)) → HasLatest one all → Has one all
+  has_latest one all h = record { before = h.before; after = []; is = h.is }
+
+  -- it is in its course still
+  pub course_then : (c z : ℕ) (all ds : List Deed) (done fresh : List (Act T)) (owner i b i' b' : ℕ)
+      → IsInCourse c z all done owner i b → i' < c → b ≤ b' → AreBelow b' (seen_in fresh) → AreBelow b' (asked_in ds)
+      → ((j : ℕ) → IsOneOf (Frees j owner) (all ++ ds) → IsOneOf (Frees j owner) all ⊎ AskedOrShown c z all done owner j)
+      → IsInCourse c z (all ++ ds) (done ++ fresh) owner i' b'
+  course_then c z all ds done fresh owner i b i' b' h low more seen asked freed =
+      record {
+        within = low;
+        seen =
+            subst (AreBelow b') (sym (flat_map-append index_seen done fresh))
+            (all_both (λ n. n < b') (seen_in done) (seen_in fresh) (below_more b b' (seen_in done) more h.seen) seen);
+        asked =
+            subst (AreBelow b') (sym (flat_map-append index_asked all ds))
+            (all_both (λ n. n < b') (asked_in all) (asked_in ds) (below_more b b' (asked_in all) more h.asked) asked);
+        freed = λ j was. later j (⊎_elim (λ earlier. h.freed j earlier) (λ known. known) (freed j was));
+      }
+    where
+      later : (j : ℕ) → AskedOrShown c z all done owner j → AskedOrShown c z (all ++ ds) (done ++ fresh) owner j
+      later j k = ⊎_elim (λ asked. inl (one_more_of (Asks j owner) all ds asked)) (λ shown. inr (has_more (Sees j) done fresh shown)) k
+
+-- ---- what it knows
+
+module _ {T : Type 0} (code : Coding T) (c owner : ℕ) (v : View T) (words' : List ℕ)
+    (states' : List (ℕ × ContainerState T)) (latest' : List (ℕ × Party T)) (since' changes' backs' : ℕ)
+    (es : List (Event T)) (none : BeginsNone v.party es)
+    (deeds_more : deeds_of v.party (v.events ++ es) ≡ deeds_of v.party v.events ++ deeds es)
+    (acts_more : acts_of v.party (v.events ++ es) ≡ acts_of v.party v.events ++ acts es)
+    (goes : Goes v.words words' v.events es) where
+  abbrev p : ℕ
+  p = v.party
+
+  abbrev events : List (Event T)
+  events = v.events
+
+  abbrev pub then_view : View T
+  then_view =
+      record {
+        terms = v.terms;
+        words = words';
+        states = states';
+        latest = latest';
+        events = v.events ++ es;
+        party = v.party;
+        since = since';
+        changes = changes';
+        backs = backs';
+      }
+
+  -- what it was told or shown by now, it was earlier, or just now
+  abbrev pub SplitsTold : (ℕ → Type 0) → Type 0
+  SplitsTold New =
+      (i : ℕ) → IsOneOf (Yes i owner) (deeds_of v.party v.events ++ deeds es) ⊎ Has (Sees i) (acts_of v.party v.events ++ acts es)
+      → (IsOneOf (Yes i owner) (deeds_of v.party v.events) ⊎ WasShown v.party i v.events) ⊎ New i
+
+  pub asked_then : (k : ℕ) → AskedBelow code c owner k v → AskedBelow code c owner k then_view
+  asked_then k h i below through =
+      ⊎_elim (λ a. inl (subst (IsOneOf (Asks i owner)) (sym deeds_more) (one_more_of (Asks i owner) (deeds_of p events) (deeds es) a)))
+      (λ s. inr (subst (Has (Sees i)) (sym acts_more) (has_more (Sees i) (acts_of p events) (acts es) s)))
+      (h i below (through_less p (StillToFree p owner i) events es none through))
+
+  -- it has come to one index more, which it need not free, or has asked about, or was shown
+  pub asked_next : (k : ℕ) → AskedBelow code c owner k v
+      → (HeldThroughout v.party (StillToFree v.party owner k) (v.events ++ es)
+      → IsOneOf (Asks k owner) (deeds_of v.party (v.events ++ es)) ⊎ WasShown v.party k (v.events ++ es))
+      → AskedBelow code c owner (k + 1) then_view
+  asked_next k h here i below through =
+      ⊎_elim (λ e. subst (λ n. IsOneOf (Asks n owner) (deeds_of p (events ++ es)) ⊎ WasShown p n (events ++ es)) (sym e)
+      (here (subst (λ n. HeldThroughout p (StillToFree p owner n) (events ++ es)) e through)))
+      (λ ne. asked_then k h i (omega arith) through) (cases_eq i k)
+
+  pub gone_then : (Was Now New : ℕ → Type 0) → IsGone owner v → GoneBut code c owner Was v → SplitsTold New
+      → ((i : ℕ) → Was i → (filled_of i (v.events ++ es) ≢ Some owner) ⊎ Now i)
+      → ((i : ℕ) → New i → (filled_of i (v.events ++ es) ≢ Some owner) ⊎ Now i) → GoneBut code c owner Now then_view
+  gone_then Was Now New dead h told was new honest i said =
+      ⊎_elim
+      (λ earlier. ⊎_elim (λ lost. inl (λ e. lost (stays_lost v.terms.by events es goes.fills i owner honest dead e)))
+      (λ exempt. was i exempt) (h (honest_less v.terms.by events es honest) i earlier))
+      (λ fresh. new i fresh)
+      (told i (⊎_elim (λ yes. inl (subst (IsOneOf (Yes i owner)) deeds_more yes)) (λ shown. inr (subst (Has (Sees i)) acts_more shown)) said))
+
+  pub recovers_then : (k k' : ℕ) (Was Now New But But' : ℕ → Type 0) → Recovers code c owner k Was But v
+      → AskedBelow code c owner k' then_view → SplitsTold New
+      → ((i : ℕ) → Was i → (filled_of i (v.events ++ es) ≢ Some owner) ⊎ Now i)
+      → ((i : ℕ) → New i → (filled_of i (v.events ++ es) ≢ Some owner) ⊎ Now i)
+      → HasHidden code c v.party owner But' (now then_view) → Recovers code c owner k' Now But' then_view
+  recovers_then k k' Was Now New But But' h asked told was new hidden =
+      record {
+        dead = gone_more v.terms.by owner events es h.dead;
+        was_open = held_later p IsUnlocked events es none h.was_open;
+        asked = asked;
+        gone = gone_then Was Now New h.dead h.gone told was new;
+        hidden = hidden;
+      }
+
+-- the same, once other indices are exempt
+pub rehidden : {T : Type 0} (code : Coding T) (c owner k : ℕ) (Now But But' : ℕ → Type 0) (v : View T)
+    → Recovers code c owner k Now But v → HasHidden code c v.party owner But' (now v)
+    → Recovers code c owner k Now But' v
+rehidden code c owner k Now But But' v h hidden =
+    record { dead = h.dead; was_open = h.was_open; asked = h.asked; gone = h.gone; hidden = hidden }

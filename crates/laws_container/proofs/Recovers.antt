@@ -1,0 +1,327 @@
+-- The last steps of a recovery: it raises the counter, locks, looks at the counter again, and counts its change.
+use Rattle.std.proofs.Common.{◌≡◌, ⊎_elim, inl, inr, ℕ, ◌+◌, ◌*◌, ◌<◌, ◌≤◌, Bool, false}
+use Rattle.std.proofs.Common.{Option, Some, None, is_some, List, [], ◌∷◌, ◌++◌, set, refl, sym, ap, subst}
+use Rattle.std.proofs.Common.{append-nil, arith}
+use Rattle.std.proofs.lemmas.List.Sums.{fold-append}
+use Rattle.steps.specs.declared.ask.Ask.{Ask}
+use Rattle.steps.specs.declared.ask.After.{After}
+use Rattle.steps.specs.declared.ask.After.TheVariants.{Done}
+use Rattle.steps.specs.declared.container.recover.RecoverStage.{RecoverStage}
+use Rattle.steps.specs.declared.container.recover.RecoverStage as recovers
+use Rattle.steps.specs.declared.copied.Buffer as buffers
+use Rattle.steps.specs.declared.indices.enums.ReleaseMode.{ReleaseMode}
+use Rattle.steps.specs.declared.indices.enums.ReleaseMode.TheVariants.{LockIfLastIndex, Default}
+use Rattle.steps.specs.declared.indices.enums.ReleaseState.{ReleaseState}
+use Rattle.steps.specs.declared.indices.enums.ReleaseState as states
+use Rattle.steps.specs.declared.indices.robust.parts.Lock.{Lock}
+use Rattle.steps.specs.declared.indices.robust.parts.Raise.{Raise}
+use Rattle.steps.specs.declared.indices.robust.parts.Raise as raises
+use Rattle.steps.specs.Container.Recover.{recover_raised, recover_locked}
+use Rattle.steps.specs.Indices.Robust.Parts.{empty, locked, greatest, first_lock, raise_after, raise_goes_back, lock_after, lock_goes_back}
+use Rattle.model.specs.declared.event.Event.{Event}
+use Rattle.model.specs.declared.event.Event.TheVariants.{Locked}
+use Rattle.model.specs.declared.event.Start.TheVariants.{Container}
+use Rattle.model.specs.declared.families.container.ContainerStart.TheVariants.{Recover}
+use Rattle.model.specs.Families.Container.Bounds.{most_steps}
+use Rattle.model.specs.Families.Container.Promises.{promise}
+use Rattle.model.specs.Families.Container.Reading.{Sees}
+use Rattle.model.specs.Families.Indices.Reading.{locked_after}
+use Rattle.model.specs.Families.Indices.Robust.Promises.{IsFilled}
+use Rattle.model.specs.Families.Indices.Robust.Reading.{Frees, Yes, Locks, holder_of, deeds_of}
+use Rattle.model.specs.Families.Indices.Robust.Spans.{HasJustFreed}
+use Rattle.model.specs.Families.Indices.Robust.Steps.{locked_by}
+use Rattle.model.specs.Promises.Spans.{Stands}
+use Rattle.model.specs.Reading.{Open}
+use Rattle.model.specs.Turns.{old_of, words_after}
+use Rattle.model.proofs.Moments.{held_now}
+use Rattle.model.proofs.Readings.{AllFollow}
+use Rattle.laws_robust.specs.Gone.{IsCalm}
+use Rattle.laws_robust.proofs.Core.{counter_of}
+use Rattle.laws_robust.proofs.Counting.{times_below}
+use Rattle.laws_robust.proofs.Deeds.{was_one}
+use Rattle.laws_robust.proofs.Effects.{is_shut}
+use Rattle.laws_robust.proofs.Effects as set_effects
+use Rattle.laws_robust.proofs.Invariant.{IsWorn}
+use Rattle.laws_robust.proofs.Knows as set_knows
+use Rattle.laws_robust.proofs.Locks as set_locks
+use Rattle.laws_robust.proofs.Parts.{raise_ask, lock_ask, raise_step, lock_step, IsSaid}
+use Rattle.laws_robust.proofs.Stages as set_stages
+use Rattle.laws_robust.proofs.Standing.{raise_number, lock_number, LockAt}
+use Rattle.laws_container.proofs.HiddenOn.{hidden_on}
+use Rattle.laws_container.proofs.Invariant.{Scene, Inv, of_set, inv_of_set, wrote_of}
+use Rattle.laws_container.proofs.Keeping.{shut_later}
+use Rattle.laws_container.proofs.KeptLocks.{NoIndex, FilledBut, FoundFilled, filled_locked, filled_worn, filled_last}
+use Rattle.laws_container.proofs.Knows.{RecoverKnows, IsLong, Knows}
+use Rattle.laws_container.proofs.RecoverParts.{fill_same, fill_stays, none, hidden_still, as_recover, first, Few, then_at, recs, asked_on, comes_to_next}
+use Rattle.laws_container.proofs.RecoverEnds.{stays_recs, stays_on, stays_next, just_on}
+use Rattle.laws_container.proofs.RecoverReads.{Here, Course, course_calm, back_at_least}
+use Rattle.laws_container.proofs.RecoverReads.{index_at_least}
+use Rattle.laws_container.proofs.Recoveries.{has_of_none, course_then}
+use Rattle.laws_container.proofs.SetSteps.{rest_set, wide_set, locks}
+use Rattle.laws_container.proofs.Stages.{all, done, sees_now, Leads}
+use Rattle.laws_container.proofs.Stages.{backs_then, since_then, changes_then, was_well_formed}
+use Rattle.laws_container.proofs.Standing.{recover_at, for_back, for_index}
+
+pub most_is : (c z : ℕ) (owner backs : ℕ) (T : Type 0) (mode : ReleaseMode)
+    → 3 + c * for_index c z mode + backs * for_back c z mode ≡ most_steps {T = T} c z (Recover owner mode) backs
+most_is c z owner backs T Default = omega arith
+most_is c z owner backs T LockIfLastIndex = omega arith
+
+module _ {T : Type 0} (scene : Scene T) (inv : Inv scene) (owner : ℕ) (mode : ReleaseMode) (fits : owner < empty) where
+  open scene use {
+    coding as code,
+    capacity as c,
+    party as p,
+    steps as steps,
+    backs as backs,
+    since as since,
+    changes as changes,
+    events as events,
+    latest as latest,
+  }
+
+  abbrev ws : List ℕ
+  ws = scene.words
+
+  abbrev z : ℕ
+  z = code.size
+
+  -- ---- the raise of the counter
+
+  module _ (room : buffers.Buffer 128) (index : ℕ) (raise : Raise)
+      (here : Here scene inv owner mode fits room (recovers.TheVariants.Raises index raise)) (long : IsLong room)
+      (course : Course scene inv owner mode fits index (index + 1)) (just : HasJustFreed (all scene))
+      (k : RecoverKnows code c owner mode room (recovers.TheVariants.Raises index raise) (sees_now scene))
+      (s : steps ≤ 6 + z + raise_number raise + index * for_index c z mode + backs * for_back c z mode)
+      (f : FilledBut (IsWorn scene.terms.by ws) mode p owner (λ i. i ≡ index) events) where
+    abbrev raises_to : Option Ask → Bool → After Raise ReleaseState → Type 0
+    raises_to ask back r =
+        Leads scene (Recover owner mode) ask back scene.states []
+        (as_recover scene inv owner mode fits room (recover_raised (first scene inv owner mode fits) index mode r))
+
+    abbrev this : RecoverStage
+    this = recovers.TheVariants.Raises index raise
+
+    -- it locks in the mode for that alone
+    by_mode : (m : ReleaseMode) → mode ≡ m → (ask : Option Ask) (back : Bool)
+        → set_effects.Stays (of_set scene) (words_after ws ask)
+        → backs_then scene back + since_then scene ask ≤ changes_then scene ask
+        → Few scene inv owner mode fits ask back (8 + z) index
+        → Leads scene (Recover owner mode) ask back scene.states []
+        (as_recover scene inv owner mode fits room
+        (recover_raised (first scene inv owner mode fits) index m (Done states.TheVariants.Unlocked)))
+    by_mode Default is ask back stays paid few =
+        let wide = index_at_least c z mode in
+        stays_next scene inv owner mode fits room this here long ask back stays paid index k.1 (omega arith) course
+        (subst (λ m. FilledBut (IsWorn scene.terms.by (words_after ws ask)) m p owner NoIndex (events ++ [])) (sym is) tt)
+    by_mode LockIfLastIndex is ask back stays paid few =
+        let y = then_at scene inv owner mode fits room this here room (recovers.TheVariants.Locks index first_lock) ask back in
+        stays_on scene inv owner mode fits room this here long ask back stays paid index k.1 (recovers.TheVariants.Locks index first_lock) (omega arith) (
+          course_calm scene inv owner mode fits index (index + 1) index (index + 1) course course.within (omega arith),
+          just_on scene inv owner mode fits just,
+          is,
+          tt,
+        ) (
+          long,
+          (paid, stays_recs scene inv owner mode fits room this here long ask back stays paid index k.1 y, tt),
+          (fill_stays scene inv owner mode fits ask stays (λ i. i ≡ index) f, tt),
+        )
+
+    pub raises_step : raises_to (Some (raise_ask raise)) (raise_goes_back raise (counter_of ws)) (raise_after raise (counter_of ws))
+    raises_step =
+        let one = back_at_least c z mode in
+        raise_step (of_set scene) (inv_of_set scene inv) raises_to raise k.0
+        (λ number ask back same held few.
+        let low = few (6 + z + index * for_index c z mode) (for_back c z mode) (omega arith) (omega arith) in
+        let stays = set_effects.stays_same (of_set scene) (inv_of_set scene inv) (words_after ws ask) same in
+        let paid = held_is ask back number held in
+        let y =
+        then_at scene inv owner mode fits room this here room
+        (recovers.TheVariants.Raises index (raises.TheVariants.ExchangesCounter number)) ask back in
+        stays_on scene inv owner mode fits room this here long ask back stays paid index k.1
+        (recovers.TheVariants.Raises index (raises.TheVariants.ExchangesCounter number)) (omega arith)
+        (course_calm scene inv owner mode fits index (index + 1) index (index + 1) course course.within (omega arith), just_on scene inv owner mode fits just) (
+          long,
+          (
+            subst (λ es. set_knows.Holding number (set_stages.seen (of_set scene) ask back es)) (sym (append-nil events)) held,
+            stays_recs scene inv owner mode fits room this here long ask back stays paid index k.1 y,
+          ),
+          fill_stays scene inv owner mode fits ask stays (λ i. i ≡ index) f,
+        ))
+        (λ ask back same shut paid few.
+        let low = few (6 + z + index * for_index c z mode) (for_back c z mode) (omega arith) (omega arith) in
+        let wide = index_at_least c z mode in
+        let times = times_below c index (for_index c z mode) course.within in
+        let stays = set_effects.stays_same (of_set scene) (inv_of_set scene inv) (words_after ws ask) same in
+        stays_on scene inv owner mode fits room this here long ask back stays paid index k.1
+        (recovers.TheVariants.AddsChange states.TheVariants.Locked) (omega arith) tt (
+          long,
+          (
+            paid,
+            shut_later events [] (is_shut (of_set scene) (inv_of_set scene inv) shut),
+            hidden_still scene inv owner mode fits room this here ask
+                (then_at scene inv owner mode fits room this here room (recovers.TheVariants.AddsChange states.TheVariants.Locked) ask back)
+                k.1.hidden,
+          ),
+          tt,
+        ))
+        (λ ask back same worn end paid few.
+        let low = few (6 + z + index * for_index c z mode) (for_back c z mode) (omega arith) (omega arith) in
+        by_mode mode refl ask back (set_effects.stays_same (of_set scene) (inv_of_set scene inv) (words_after ws ask) same) paid (omega arith))
+        (λ ask less new paid few.
+        let low = few (6 + z + index * for_index c z mode) (for_back c z mode) (omega arith) (omega arith) in
+        by_mode mode refl ask false (set_effects.stays_raised (of_set scene) (inv_of_set scene inv) (words_after ws ask) less new) paid (omega arith))
+      where
+        held_is : (ask : Option Ask) (back : Bool) (number : ℕ)
+            → set_knows.Holding number (set_stages.sees (of_set scene) ask back)
+            → backs_then scene back + since_then scene ask ≤ changes_then scene ask
+        held_is ask back number held = ⊎_elim (λ h. let paid = h.1 in omega arith) (λ h. omega arith) held.paid
+
+  -- ---- the lock
+
+  module _ (room : buffers.Buffer 128) (index : ℕ) (lock : Lock)
+      (here : Here scene inv owner mode fits room (recovers.TheVariants.Locks index lock)) (long : IsLong room)
+      (course : Course scene inv owner mode fits index (index + 1)) (just : HasJustFreed (all scene))
+      (may_lock : mode ≡ LockIfLastIndex) (at : LockAt c lock)
+      (k : RecoverKnows code c owner mode room (recovers.TheVariants.Locks index lock) (sees_now scene))
+      (s : steps ≤ 8 + z + lock_number c lock + index * for_index c z mode + backs * for_back c z mode)
+      (f : FilledBut (IsWorn scene.terms.by ws) mode p owner (λ i. i ≡ index) events
+      × set_knows.LockSays c (FoundFilled p events) lock) where
+    abbrev locks_to : Option Ask → Bool → List (Event T) → After Lock ReleaseState → Type 0
+    locks_to ask back did r =
+        Leads scene (Recover owner mode) ask back scene.states (did ++ [])
+        (as_recover scene inv owner mode fits room (recover_locked (first scene inv owner mode fits) index r))
+
+    abbrev locks_at : RecoverStage
+    locks_at = recovers.TheVariants.Locks index lock
+
+    for_a_back : for_back c z mode ≡ z + c + 4
+    for_a_back = ap (for_back c z) may_lock
+
+    for_an_index : for_index c z mode ≡ z + c + 10
+    for_an_index = ap (for_index c z) may_lock
+
+    abbrev Says : ℕ → ℕ → Type 0
+    Says = FoundFilled p events
+
+    said : IsSaid (of_set scene) (inv_of_set scene inv) Says
+    said =
+        record {
+          none = λ some. absurd (omega arith);
+          empty_next = λ j filled low none h. h;
+          filled_next =
+              λ j filled o low is h some. record {
+                other = j;
+                once = held_now p (λ part. IsFilled j part × (deeds_of p part ≡ deeds_of p events)) events (ap is_some is, refl);
+              };
+        }
+
+    abbrev locking : List (Event T)
+    locking = Locked p ∷ []
+
+    locks_set : (ask : Option Ask) → (IsCalm scene.terms.by events → (i : ℕ) → holder_of i events ≡ None)
+        → counter_of ws < greatest → words_after ws ask ≡ set ws 0 locked
+        → backs_then scene false + since_then scene ask ≤ changes_then scene ask
+        → Few scene inv owner mode fits ask false 1 (index + 1)
+        → locks_to ask false locking (Done states.TheVariants.Locked)
+    locks_set ask nobody less new paid few =
+        let set_does = set_locks.locks (of_set scene) (inv_of_set scene inv) (words_after ws ask) [] set_effects.quiet_none tt tt tt nobody less new in
+        comes_to_next scene inv owner mode fits room locks_at here long ask false locking (λ start w. refl)
+        (subst (λ m. AllFollow (Stands promise c) (Open (Container (Recover owner m)) (wrote_of p events)) locking) (sym may_lock) (just, tt))
+        (λ y owe.
+        locks scene inv (Recover owner mode) (recover_at c owner mode room locks_at) tt here y (words_after ws ask)
+        (rest_set scene inv (Recover owner mode) (recover_at c owner mode room locks_at) tt here y
+        (words_after ws ask) 0 locked (omega arith) new)
+        (wide_set scene inv (Recover owner mode) (recover_at c owner mode room locks_at) tt here y (words_after ws ask) 0 locked new)
+        set_does (was_well_formed scene (Recover owner mode) tt here.span (words_after ws ask) y locking (refl, tt))
+        (λ was. owe))
+        index few course.within
+        (λ i low. course_then c z (all scene) (Locks ∷ []) (done scene) [] owner index (index + 1) i (index + 1)
+        course low (omega arith) tt tt
+        (λ j was. ⊎_elim (λ had. inl had) (λ e. absurd (cc)) (was_one (Frees j owner) Locks (all scene) was)))
+        paid
+        (λ y. recs scene inv owner mode fits room locks_at here ask false y locking (refl, tt) tt (λ start w. refl)
+        set_does.goes (index + 1) (index + 1) none none none none none k.1
+        (asked_on scene inv owner mode fits room locks_at here ask false y locking (refl, tt) tt (λ start w. refl) set_does.goes (index + 1) k.1.asked)
+        (λ i said. inl (⊎_elim (λ yes. ⊎_elim (λ had. inl had) (λ e. absurd (cc)) (was_one (Yes i owner) Locks (all scene) yes))
+        (λ seen. inr (has_of_none (Sees i) (done scene) seen)) said))
+        (λ i e. absurd e) (λ i e. absurd e)
+        (hidden_on scene (Recover owner mode) tt here.span owner (words_after ws ask) y locking (refl, tt) tt
+        (λ start w. refl)
+        (λ i was. ⊎_elim (λ had. had) (λ e. absurd (cc)) (was_one (Frees i owner) Locks (all scene) was))
+        k.1.hidden))
+        (filled_locked p owner (IsWorn scene.terms.by (words_after ws ask)) mode NoIndex (events ++ locking) (fold-append locked_after false events locking))
+
+    pub locks_step : locks_to (Some (lock_ask lock)) (lock_goes_back lock (old_of ws (Some (lock_ask lock))))
+        (locked_by p lock (old_of ws (Some (lock_ask lock)))) (lock_after c lock (old_of ws (Some (lock_ask lock))))
+    locks_step =
+        let wide = for_a_back in
+        let each = for_an_index in
+        lock_step (of_set scene) (inv_of_set scene inv) Says said locks_to lock at k.0 k.2 f.1
+        (λ next ask back stays next_at held scanned says few.
+        let low = few (8 + z + index * for_index c z mode) (for_back c z mode) (omega arith) (omega arith) in
+        let paid = lock_paid next ask back held in
+        let y = then_at scene inv owner mode fits room locks_at here room (recovers.TheVariants.Locks index next) ask back in
+        stays_on scene inv owner mode fits room locks_at here long ask back stays paid index k.1 (recovers.TheVariants.Locks index next) (omega arith) (
+          course_calm scene inv owner mode fits index (index + 1) index (index + 1) course course.within (omega arith),
+          just_on scene inv owner mode fits just,
+          may_lock,
+          next_at,
+        ) (
+          long,
+          (
+            paid_calm next ask back held,
+            stays_recs scene inv owner mode fits room locks_at here long ask back stays paid index k.1 y,
+            scanned_calm next ask back scanned,
+          ),
+          (
+            fill_stays scene inv owner mode fits ask stays (λ i. i ≡ index) f.0,
+            subst (λ es. set_knows.LockSays c (FoundFilled p es) next) (sym (append-nil events)) says,
+          ),
+        ))
+        (λ ask same shut paid few.
+        let low = few (8 + z + index * for_index c z mode) (for_back c z mode) (omega arith) (omega arith) in
+        stays_next scene inv owner mode fits room locks_at here long ask false
+        (set_effects.stays_same (of_set scene) (inv_of_set scene inv) (words_after ws ask) same) paid index k.1
+        (omega arith) course
+        (fill_same scene inv owner mode fits ask same NoIndex
+        (filled_locked p owner (IsWorn scene.terms.by ws) mode NoIndex events (is_shut (of_set scene) (inv_of_set scene inv) shut))))
+        (λ filled ask stays open_now more says paid few.
+        let low = few (8 + z + index * for_index c z mode) (for_back c z mode) (omega arith) (omega arith) in
+        stays_next scene inv owner mode fits room locks_at here long ask false stays paid index k.1 (omega arith)
+        course
+        (fill_stays scene inv owner mode fits ask stays NoIndex
+        (filled_last p owner (IsWorn scene.terms.by ws) mode NoIndex events (says more))))
+        (λ ask stays open_now worn paid few.
+        let low = few (8 + z + index * for_index c z mode) (for_back c z mode) (omega arith) (omega arith) in
+        stays_next scene inv owner mode fits room locks_at here long ask false stays paid index k.1 (omega arith) course
+        (filled_worn p owner (IsWorn scene.terms.by (words_after ws ask)) mode NoIndex (events ++ []) worn))
+        (λ ask nobody less new paid few.
+        let low = few (8 + z + index * for_index c z mode) (for_back c z mode) (omega arith) (omega arith) in
+        locks_set ask nobody less new paid (omega arith))
+      where
+        held_paid : (held : Option ℕ) (ask : Option Ask) (back : Bool)
+            → set_knows.Paid held (set_stages.sees (of_set scene) ask back)
+            → backs_then scene back + since_then scene ask ≤ changes_then scene ask
+        held_paid None ask back h = omega arith
+        held_paid (Some number) ask back h = ⊎_elim (λ k. let paid = k.1 in omega arith) (λ k. omega arith) h.paid
+
+        lock_paid : (next : Lock) (ask : Option Ask) (back : Bool)
+            → set_knows.Paid (set_knows.lock_holds next) (set_stages.sees (of_set scene) ask back)
+            → backs_then scene back + since_then scene ask ≤ changes_then scene ask
+        lock_paid next ask back h = held_paid (set_knows.lock_holds next) ask back h
+
+        -- at the events that it sees
+        paid_calm : (next : Lock) (ask : Option Ask) (back : Bool)
+            → set_knows.Paid (set_knows.lock_holds next) (set_stages.sees (of_set scene) ask back)
+            → set_knows.Paid (set_knows.lock_holds next) (set_stages.seen (of_set scene) ask back (events ++ []))
+        paid_calm next ask back h =
+            subst (λ es. set_knows.Paid (set_knows.lock_holds next) (set_stages.seen (of_set scene) ask back es))
+            (sym (append-nil events)) h
+
+        scanned_calm : (next : Lock) (ask : Option Ask) (back : Bool)
+            → set_knows.Scanned (set_knows.lock_scan c next) (set_stages.sees (of_set scene) ask back)
+            → set_knows.Scanned (set_knows.lock_scan c next) (set_stages.seen (of_set scene) ask back (events ++ []))
+        scanned_calm next ask back h =
+            subst (λ es. set_knows.Scanned (set_knows.lock_scan c next) (set_stages.seen (of_set scene) ask back es))
+            (sym (append-nil events)) h

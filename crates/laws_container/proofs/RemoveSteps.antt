@@ -1,0 +1,130 @@
+-- A remove loads the number that it hides; and any step of one.
+use Rattle.std.proofs.Common.{◌≡◌, inl, ℕ, ◌+◌, ◌<◌, ◌≤◌, false}
+use Rattle.std.proofs.Common.{Option, Some, None, List, [], ◌∷◌, refl, sym, ap, subst, arith}
+use Rattle.steps.specs.declared.ask.Ask.{Ask}
+use Rattle.steps.specs.declared.ask.After.{After}
+use Rattle.steps.specs.declared.ask.After.TheVariants.{Done}
+use Rattle.steps.specs.declared.container.enums.ContainerRemoveError.TheVariants.{ContainerHandleNotOwnedByContainer}
+use Rattle.steps.specs.declared.container.remove.RemoveStage.{RemoveStage}
+use Rattle.steps.specs.declared.container.remove.RemoveStage as removes
+use Rattle.steps.specs.declared.indices.enums.ReleaseMode.{ReleaseMode}
+use Rattle.steps.specs.declared.indices.enums.ReleaseState.{ReleaseState}
+use Rattle.steps.specs.declared.indices.robust.release.ReleaseStage.{ReleaseStage}
+use Rattle.steps.specs.declared.indices.robust.release.ReleaseStage as releases
+use Rattle.steps.specs.Container.Layout.{count_word}
+use Rattle.steps.specs.Indices.Robust.Parts.{empty}
+use Rattle.model.specs.declared.event.Answer.{Answer}
+use Rattle.model.specs.declared.event.Answer.TheVariants as answers
+use Rattle.model.specs.declared.event.Event.{Event}
+use Rattle.model.specs.declared.event.Event.TheVariants.{Finished}
+use Rattle.model.specs.declared.event.Start.TheVariants.{Container}
+use Rattle.model.specs.declared.families.container.ContainerStart.{ContainerStart}
+use Rattle.model.specs.declared.families.container.ContainerStart.TheVariants.{Remove}
+use Rattle.model.specs.declared.families.container.calls.ContainerFlight.{ContainerFlight}
+use Rattle.model.specs.Families.Container.Calls.{place_of}
+use Rattle.model.specs.Families.Indices.Robust.Reading.{Locks}
+use Rattle.model.specs.Turns.{words_after}
+use Rattle.laws_robust.proofs.Effects as set_effects
+use Rattle.laws_robust.proofs.Invariant as set_invariant
+use Rattle.laws_robust.proofs.Knows as set_knows
+use Rattle.laws_robust.proofs.Stages.{loads_same}
+use Rattle.laws_robust.proofs.Stages as set_stages
+use Rattle.laws_robust.proofs.Standing.{release_at}
+use Rattle.laws_container.proofs.Core.{count_at}
+use Rattle.laws_container.proofs.HiddenRemoves.{total_is, hides_step, end_step}
+use Rattle.laws_container.proofs.Invariant.{Scene, Inv, ActsFor, before, of_set, inv_of_set}
+use Rattle.laws_container.proofs.Knows.{RemoveKnows, Knows}
+use Rattle.laws_container.proofs.Silent.{silently}
+use Rattle.laws_container.proofs.Stages.{IsHere, all, done, sees_now, StepOf, none_lengthens}
+use Rattle.laws_container.proofs.Stages.{party_then, ends}
+use Rattle.laws_container.proofs.Stages.{owes_none, was_well_formed}
+use Rattle.laws_container.proofs.Standing.{remove_at, remove_number, RemoveAt, place_is}
+use Rattle.laws_container.proofs.Turns.{count_in}
+use Rattle.laws_container.proofs.Removes.{refused_done, refused_right, release_step, stays_on}
+
+module _ {T : Type 0} (scene : Scene T) (inv : Inv scene) (index owner : ℕ) (mode : ReleaseMode)
+    (fits : owner < empty) (acts : ActsFor scene owner) (below : index < scene.capacity) where
+  open scene use {coding as code, capacity as c, party as p, steps as steps, backs as backs, events as events, latest as latest}
+
+  abbrev ws : List ℕ
+  ws = scene.words
+
+  abbrev start : ContainerStart T
+  start = Remove index owner mode
+
+  abbrev at_stage : RemoveStage → ContainerFlight T
+  at_stage stage = remove_at c index owner mode stage
+
+  abbrev Here : RemoveStage → Type 0
+  Here stage = IsHere scene (Remove index owner mode) (remove_at c index owner mode stage)
+
+  -- ---- the number is loaded
+
+  module _ (here : Here removes.TheVariants.LoadsCount) (none : all scene ≡ []) (nothing : done scene ≡ [])
+      (k : set_knows.Knows c (release_at c index owner mode releases.TheVariants.EmptiesCell) (set_stages.now (of_set scene)))
+      (s : steps ≤ 0) where
+    abbrev load_it : Option Ask
+    load_it = Some (set_stages.loads (count_word c index))
+
+    abbrev number : ℕ
+    number = count_in code c (before scene) index
+
+    loads_step : StepOf scene start (at_stage removes.TheVariants.LoadsCount)
+    loads_step =
+        let next = removes.TheVariants.Releases number releases.TheVariants.EmptiesCell in
+        let same = loads_same ws (count_word c index) in
+        (stays_on scene inv index owner mode fits acts below) removes.TheVariants.LoadsCount next here refl load_it false
+        (set_effects.stays_same (of_set scene) (inv_of_set scene inv) (words_after ws load_it) same) (omega arith)
+        (below, none, nothing) (
+          record { paid = let paid = k.paid in omega arith; scanned = tt; owns = k.owns; says = tt; gone = tt },
+          (below, λ kept. let eq : count_at c (words_after ws load_it) index ≡ number = ap (λ w. count_at c w index) same in omega arith),
+          λ holds lives since. inl (ap (λ w. count_at c w index) same),
+        )
+
+-- ---- any step of a remove
+
+module _ {T : Type 0} (scene : Scene T) (inv : Inv scene) (index owner : ℕ) (mode : ReleaseMode) (fits : owner < empty) (acts : ActsFor scene owner) where
+  open scene use {coding as code, capacity as c, party as p, steps as steps, backs as backs, events as events}
+
+  abbrev Moves : RemoveStage → ℕ → Type 0
+  Moves stage at =
+      IsHere scene (Remove index owner mode) (remove_at c at owner mode stage)
+      → RemoveKnows code c at owner mode stage (sees_now scene) → steps ≤ remove_number c at owner mode stage backs
+      → StepOf scene (Remove index owner mode) (remove_at c at owner mode stage)
+
+  -- an index that is none of the container
+  past : (at : ℕ) → c ≤ index → all scene ≡ [] → Moves removes.TheVariants.Refuses at
+  past at beyond none here paid s =
+      let start = Remove index owner mode in
+      let y = party_then scene start None false (Done (answers.NotRemoved ContainerHandleNotOwnedByContainer)) in
+      let es = Finished p (Container start) (answers.NotRemoved ContainerHandleNotOwnedByContainer) ∷ [] in
+      ends scene start (answers.NotRemoved ContainerHandleNotOwnedByContainer) None false scene.states [] here.span none_lengthens
+      (silently scene inv scene.words refl y es (tt, tt) (refl, tt) start
+      (remove_at c at owner mode removes.TheVariants.Refuses) tt here
+      (was_well_formed scene start tt here.span scene.words y es (refl, tt))
+      (owes_none scene start (remove_at c at owner mode removes.TheVariants.Refuses) y here refl)
+      (record {
+        asks = (tt, tt);
+        recovers = (tt, tt);
+        answers =
+            (refused_right scene.terms.by (set_invariant.IsWorn scene.terms.by scene.words) c p index owner mode events (inl beyond), tt);
+        contains = λ h. (tt, tt);
+        places = λ h. (tt, tt);
+      }))
+      ((refl, refused_done T index owner mode (all scene) (done scene) none), tt)
+      (let most = total_is c code.size index owner mode (backs + 0) T in omega arith) (omega arith)
+
+  pub remove_step : (stage : RemoveStage) → RemoveAt c code.size (all scene) (done scene) index owner mode stage → Moves stage (place_of c index)
+  remove_step removes.TheVariants.Refuses at = past (place_of c index) at.0 at.1
+  remove_step removes.TheVariants.LoadsCount at =
+      subst (Moves removes.TheVariants.LoadsCount) (sym (place_is c index at.0))
+      (λ here k s. loads_step scene inv index owner mode fits acts at.0 here at.1 at.2 k s)
+  remove_step (removes.TheVariants.Releases count stage) at =
+      subst (Moves (removes.TheVariants.Releases count stage)) (sym (place_is c index at.0))
+      (λ here k s. release_step scene inv index owner mode fits acts at.0 count stage here at.1 at.2 k.1 k.2 k.0 s)
+  remove_step (removes.TheVariants.Hides count state) at =
+      subst (Moves (removes.TheVariants.Hides count state)) (sym (place_is c index at.0))
+      (λ here k s. hides_step scene inv index owner mode fits acts at.0 count state here at k s)
+  remove_step (removes.TheVariants.AddsChange state) at =
+      subst (Moves (removes.TheVariants.AddsChange state)) (sym (place_is c index at.0))
+      (λ here k s. end_step scene inv index owner mode fits acts at.0 state here at.1 k s)

@@ -1,0 +1,475 @@
+-- The steps of a remove: what the release of the set leads to, in a call that goes on; then it hides what stood there, unless that
+-- has changed, and counts its change.
+use Rattle.std.proofs.Common.{◌≡◌, ◌≢◌, ◌⊎◌, ⊎_elim, inl, inr, ℕ, ◌+◌, ◌%◌, ◌<◌, ◌≤◌, if◌then◌else◌, Bool, false, true}
+use Rattle.std.proofs.Common.{Option, Some, None, List, [], ◌∷◌, ◌++◌, set, refl, sym, ap, subst, ◌∙◌, arith}
+use Rattle.std.specs.Prelude.{Ok}
+use Rattle.std.proofs.lemmas.List.Sums.{fold-append}
+use Rattle.steps.specs.declared.ask.Ask.{Ask}
+use Rattle.steps.specs.declared.ask.After.{After}
+use Rattle.steps.specs.declared.ask.After.TheVariants.{GoOn, Done}
+use Rattle.steps.specs.declared.container.enums.ContainerRemoveError.TheVariants.{ContainerHandleNotOwnedByContainer}
+use Rattle.steps.specs.declared.container.remove.Remove as remove_calls
+use Rattle.steps.specs.declared.container.remove.RemoveStage.{RemoveStage}
+use Rattle.steps.specs.declared.container.remove.RemoveStage as removes
+use Rattle.steps.specs.declared.indices.enums.ReleaseMode.{ReleaseMode}
+use Rattle.steps.specs.declared.indices.enums.ReleaseMode.TheVariants.{LockIfLastIndex, Default}
+use Rattle.steps.specs.declared.indices.enums.ReleaseState.{ReleaseState}
+use Rattle.steps.specs.declared.indices.enums.ReleaseState as states
+use Rattle.steps.specs.declared.indices.robust.parts.Raise as raises
+use Rattle.steps.specs.declared.indices.robust.release.GiveBack.{GiveBack}
+use Rattle.steps.specs.declared.indices.robust.release.Release as set_calls
+use Rattle.steps.specs.declared.indices.robust.release.ReleaseStage.{ReleaseStage}
+use Rattle.steps.specs.declared.indices.robust.release.ReleaseStage as releases
+use Rattle.steps.specs.Container.Layout.{count_word, is_even}
+use Rattle.steps.specs.Container.Remove.{Removed, at_remove, remove_released}
+use Rattle.steps.specs.Indices.Robust.Parts.{cell_word, empty, locked, greatest}
+use Rattle.steps.specs.Indices.Robust.Release.{Released}
+use Rattle.steps.specs.Routine.{went_on}
+use Rattle.model.specs.declared.event.Answer.{Answer}
+use Rattle.model.specs.declared.event.Answer.TheVariants as answers
+use Rattle.model.specs.declared.event.Event.{Event}
+use Rattle.model.specs.declared.event.Event.TheVariants.{FreedOf, Locked, Finished}
+use Rattle.model.specs.declared.event.Start.TheVariants.{Container}
+use Rattle.model.specs.declared.families.container.ContainerStart.{ContainerStart}
+use Rattle.model.specs.declared.families.container.ContainerStart.TheVariants.{Remove}
+use Rattle.model.specs.declared.families.container.calls.ContainerFlight.{ContainerFlight}
+use Rattle.model.specs.declared.families.container.calls.ContainerFlight as calls
+use Rattle.model.specs.declared.party.Party.{Party}
+use Rattle.model.specs.Families.Container.Calls.{place_of, removed}
+use Rattle.model.specs.Families.Container.Promises.{promise}
+use Rattle.model.specs.Families.Container.Reading.{Act, contents_after}
+use Rattle.model.specs.Families.Container.Spans.{HasDone}
+use Rattle.model.specs.Families.Indices.Reading.{locked_after, is_locked}
+use Rattle.model.specs.Families.Indices.Robust.Promises.{IsUnlocked, LivesToRelease, MayGiveBack}
+use Rattle.model.specs.Families.Indices.Robust.Reading.{Deed, Frees, Locks, deeds, filled_of, holder_of, settled_of, IsOneOf}
+use Rattle.model.specs.Families.Queues.Calls.{as_it_is}
+use Rattle.model.specs.Moments.{SinceBegin}
+use Rattle.model.specs.Parties.{put}
+use Rattle.model.specs.Promises.Spans.{Stands}
+use Rattle.model.specs.Reading.{Open, span_of}
+use Rattle.model.specs.Step.{as_call}
+use Rattle.model.specs.Turns.{words_after, step_count}
+use Rattle.model.proofs.Moments.{held_now}
+use Rattle.model.proofs.Readings.{AllFollow, no_more}
+use Rattle.laws_robust.specs.Gone.{GoneBy, Word, is_gone, GivesBackRight, IsHonest, IsCalm}
+use Rattle.laws_robust.proofs.Gone.{lives_freed}
+use Rattle.laws_robust.proofs.Core.{counter_of}
+use Rattle.laws_robust.proofs.Deeds.{was_one}
+use Rattle.laws_robust.proofs.Effects as set_effects
+use Rattle.laws_robust.proofs.HeldRelease.{Caller, Ends, held_step}
+use Rattle.laws_robust.proofs.Invariant as set_invariant
+use Rattle.laws_robust.proofs.Knows as set_knows
+use Rattle.laws_robust.proofs.Locks as set_locks
+use Rattle.laws_robust.proofs.Stages as set_stages
+use Rattle.laws_robust.proofs.Standing.{release_at, release_number, ReleaseAt}
+use Rattle.laws_container.specs.Gone.{FreedBy, AnswersBy}
+use Rattle.laws_container.proofs.Core.{count_at}
+use Rattle.laws_container.proofs.Effects.{calmly}
+use Rattle.laws_container.proofs.HiddenKnows.{RemoveCovers, StillStands, HasHidden, no_index}
+use Rattle.laws_container.proofs.HiddenRemoves.{total_is}
+use Rattle.laws_container.proofs.HiddenOn.{hidden_even, hidden_calm, stands_calm, hidden_on, stands_on, hidden_freed}
+use Rattle.laws_container.proofs.Invariant.{Scene, Inv, ActsFor, Does, before, after, of_set, inv_of_set, wrote_of, view}
+use Rattle.laws_container.proofs.Knows.{View, HasLeft, ReleaseHides, ReleaseLeft, RemoveSays, IsPaid, Knows}
+use Rattle.laws_container.proofs.Left.{left_after, left_of}
+use Rattle.laws_container.proofs.SetSteps.{rest_set, wide_set, frees, locks}
+use Rattle.laws_container.proofs.Silent.{silently}
+use Rattle.laws_container.proofs.Stages.{IsHere, all, done, sees_now, then_sees, StepOf, Leads, none_lengthens}
+use Rattle.laws_container.proofs.Stages.{party_then, since_then, changes_then, backs_then, goes_on, goes_calmly, ends}
+use Rattle.laws_container.proofs.Stages.{owes_none, was_well_formed, was_well_formed_calmly, does_with}
+use Rattle.laws_container.proofs.Standing.{remove_at, remove_number, release_total, RemoveAt, place_is}
+use Rattle.laws_container.proofs.Steps.{calm_none, right_none}
+use Rattle.laws_container.proofs.Terms.{Keeps}
+use Rattle.laws_container.proofs.Turns.{remove_owes, count_in}
+use Rattle.laws_container.proofs.Writing.{even_is, odd_is}
+
+-- ---- what its answers say, by the mode
+
+pub refused_done : (T : Type 0) (index owner : ℕ) (mode : ReleaseMode) (deeds : List Deed) (acts : List (Act T))
+    → deeds ≡ []
+    → HasDone {T = T} (Remove index owner mode) (answers.NotRemoved ContainerHandleNotOwnedByContainer) deeds acts
+refused_done T index owner Default deeds acts h = h
+refused_done T index owner LockIfLastIndex deeds acts h = h
+
+pub refused_right : {T : Type 0} (by : GoneBy) (worn : Type 0) (c p index owner : ℕ) (mode : ReleaseMode) (events : List (Event T))
+    → (c ≤ index) ⊎ (filled_of index events ≢ Some owner)
+    → AnswersBy by worn c events (Finished p (Container (Remove index owner mode)) (answers.NotRemoved ContainerHandleNotOwnedByContainer))
+refused_right by worn c p index owner Default events h = h
+refused_right by worn c p index owner LockIfLastIndex events h = h
+
+module _ {T : Type 0} (scene : Scene T) (inv : Inv scene) (index owner : ℕ) (mode : ReleaseMode)
+    (fits : owner < empty) (acts : ActsFor scene owner) (below : index < scene.capacity) where
+  open scene use {coding as code, capacity as c, party as p, steps as steps, backs as backs, events as events, latest as latest}
+
+  abbrev ws : List ℕ
+  ws = scene.words
+
+  abbrev z : ℕ
+  z = code.size
+
+  abbrev start : ContainerStart T
+  start = Remove index owner mode
+
+  abbrev at_stage : RemoveStage → ContainerFlight T
+  at_stage stage = remove_at c index owner mode stage
+
+  abbrev as_remove : After remove_calls.Remove Removed → After (ContainerFlight T) (Answer T)
+  as_remove a =
+      as_call calls.TheVariants.Remove removed
+      (went_on as_it_is (record { index = index; owner = owner; mode = mode }) tt a)
+
+  abbrev first : remove_calls.Remove
+  first = record { capacity = c; stage = removes.TheVariants.LoadsCount }
+
+  abbrev Here : RemoveStage → Type 0
+  Here stage = IsHere scene (Remove index owner mode) (remove_at c index owner mode stage)
+
+  abbrev then_at : RemoveStage → Option Ask → Bool → Party T
+  then_at next ask back = party_then scene start ask back (GoOn (at_stage next))
+
+  abbrev SeesCalmly : RemoveStage → Option Ask → Bool → View T
+  SeesCalmly next ask back =
+      view scene.terms (words_after ws ask) scene.states (put p (then_at next ask back) latest) events p
+      (since_then scene ask) (changes_then scene ask) (backs_then scene back)
+
+  given_is : ◌≡◌ {A = GiveBack} (record { index = index; owner = owner; mode = mode }) (record { index = place_of c index; owner = owner; mode = mode })
+  given_is = ap (λ n. record { index = n; owner = owner; mode = mode }) (sym (place_is c index below))
+
+  -- ---- a step on the counter, or none, that writes nothing
+
+  stays_does : (stage : RemoveStage) → Here stage → (words' : List ℕ) → set_effects.Stays (of_set scene) words'
+      → (y : Party T) → remove_owes stage ≡ false → Does scene words' scene.states y []
+  stays_does stage here words' stays y owes =
+      let well_formed = was_well_formed scene start tt here.span words' y [] tt in
+      does_with scene inv start (at_stage stage) tt here words' y []
+      (calmly scene inv words' y [] well_formed (λ n behind. stays.others n (omega arith)) stays.leaves.wide
+      (calm_none scene inv start (at_stage stage) tt here y words' well_formed)
+      (owes_none scene start (at_stage stage) y here owes))
+      (set_effects.quietly (of_set scene) (inv_of_set scene inv) words' [] stays.leaves set_effects.quiet_none tt tt tt)
+      (right_none scene inv start (at_stage stage) tt here y words')
+
+  pub stays_on : (stage next : RemoveStage) → Here stage → remove_owes stage ≡ false → (ask : Option Ask) (back : Bool)
+      → set_effects.Stays (of_set scene) (words_after ws ask)
+      → steps + step_count ask ≤ remove_number c index owner mode next (backs_then scene back)
+      → RemoveAt c z (all scene) (done scene) index owner mode next
+      → Knows code c (at_stage next) (SeesCalmly next ask back) → Leads scene start ask back scene.states [] (GoOn (at_stage next))
+  stays_on stage next here owes ask back stays few at known =
+      goes_calmly scene start (at_stage next) ask back scene.states here.span
+      (stays_does stage here (words_after ws ask) stays (then_at next ask back) owes) few (refl, given_is, fits, at)
+      known
+
+  -- it ends with nothing removed
+  refuses : (stage : RemoveStage) → Here stage → remove_owes stage ≡ false → (ask : Option Ask)
+      → words_after ws ask ≡ ws → filled_of index events ≢ Some owner → all scene ≡ [] → IsPaid (sees_now scene)
+      → steps + step_count ask ≤ 1 + release_total c index owner mode (backs_then scene false)
+      → Leads scene start ask false scene.states [] (Done (answers.NotRemoved ContainerHandleNotOwnedByContainer))
+  refuses stage here owes ask same other none paid few =
+      let y = party_then scene start ask false (Done (answers.NotRemoved ContainerHandleNotOwnedByContainer)) in
+      let es = Finished p (Container start) (answers.NotRemoved ContainerHandleNotOwnedByContainer) ∷ [] in
+      let most = total_is c z index owner mode (backs_then scene false) T in
+      ends scene start (answers.NotRemoved ContainerHandleNotOwnedByContainer) ask false scene.states [] here.span none_lengthens
+      (silently scene inv (words_after ws ask) same y es (tt, tt) (refl, tt) start (at_stage stage) tt here
+      (was_well_formed scene start tt here.span (words_after ws ask) y es (refl, tt))
+      (owes_none scene start (at_stage stage) y here owes)
+      (record {
+        asks = (tt, tt);
+        recovers = (tt, tt);
+        answers = (
+          refused_right scene.terms.by (set_invariant.IsWorn scene.terms.by (words_after ws ask)) c p index owner mode events (inr other),
+          tt,
+        );
+        contains = λ h. (tt, tt);
+        places = λ h. (tt, tt);
+      }))
+      ((refl, refused_done T index owner mode (all scene) (done scene) none), tt) (omega arith) (omega arith)
+
+  -- ---- the release
+
+  module _ (count : ℕ) (stage : ReleaseStage) (here : Here (removes.TheVariants.Releases count stage))
+      (now_at : ReleaseAt c index owner mode (all scene) stage) (nothing : done scene ≡ [])
+      (left : ReleaseLeft code c index count stage (sees_now scene))
+      (hiding : ReleaseHides code c index owner count stage (sees_now scene)) where
+    lives : LivesToRelease owner events (span_of p events)
+    lives = subst (LivesToRelease owner events) (sym here.span) acts.alive
+
+    gives_back : IsHonest (events ++ FreedOf p index owner ∷ []) → is_gone Word owner events ≡ false
+    gives_back honest = subst (GivesBackRight owner events) here.span (honest events [] (FreedOf p index owner) refl)
+
+    began : IsCalm scene.terms.by (events ++ FreedOf p index owner ∷ [])
+        → (is_gone scene.terms.by owner events ≡ false) × SinceBegin p (λ part since. settled_of index part ≡ Some owner) events
+    began calm = (
+      lives_freed scene.terms.by p index owner events acts.alive gives_back calm.1,
+      subst (MayGiveBack p index events) here.span (calm.0 events [] (FreedOf p index owner) refl),
+    )
+
+    abbrev Lead : Option Ask → Bool → List (Event T) → After set_calls.Release Released → Type 0
+    Lead ask back did a =
+        Leads scene start ask back scene.states (did ++ []) (as_remove (remove_released first count a))
+
+    abbrev this : RemoveStage
+    this = removes.TheVariants.Releases count stage
+
+    -- what was left is left still
+    left_calm : (next : RemoveStage) (ask : Option Ask) (back : Bool)
+        → set_effects.Stays (of_set scene) (words_after ws ask) → HasLeft code c index count (sees_now scene)
+        → HasLeft code c index count (SeesCalmly next ask back)
+    left_calm next ask back stays h =
+        let same : count_at c (words_after ws ask) index ≡ count_in code c (before scene) index = stays.others (count_word c index) (omega arith) in
+        record {
+          within = h.within;
+          below = λ kept. let low = h.below kept in omega arith;
+          left = λ holds is. h.left (was_well_formed_calmly scene start tt here.span (then_at next ask back) holds) (sym same ∙ is);
+        }
+
+    -- a release that has freed
+    has_left : all scene ≡ Frees index owner ∷ [] → HasLeft code c index count (sees_now scene)
+    has_left freed = grind arith
+
+    left_next : (next : ReleaseStage) (ask : Option Ask) (back : Bool)
+        → set_effects.Stays (of_set scene) (words_after ws ask) → ReleaseAt c index owner mode (all scene) next
+        → ReleaseLeft code c index count next (SeesCalmly (removes.TheVariants.Releases count next) ask back)
+    left_next releases.TheVariants.EmptiesCell ask back stays at = (below, low stage now_at left)
+      where
+        same : count_at c (words_after ws ask) index ≡ count_in code c (before scene) index
+        same = stays.others (count_word c index) (omega arith)
+
+        low : (s : ReleaseStage) → ReleaseAt c index owner mode (all scene) s
+            → ReleaseLeft code c index count s (sees_now scene) → Keeps scene.terms
+            → count ≤ count_at c (words_after ws ask) index
+        low releases.TheVariants.EmptiesCell at h kept = let was = h.1 kept in let eq = same in omega arith
+        low (releases.TheVariants.Raises raise) at h kept = let was = h.below kept in let eq = same in omega arith
+        low (releases.TheVariants.Locks lock) at h kept = let was = h.below kept in let eq = same in omega arith
+    left_next (releases.TheVariants.Raises raise) ask back stays at =
+        left_calm (removes.TheVariants.Releases count (releases.TheVariants.Raises raise)) ask back stays (has_left at)
+    left_next (releases.TheVariants.Locks lock) ask back stays at =
+        left_calm (removes.TheVariants.Releases count (releases.TheVariants.Locks lock)) ask back stays (has_left at.2)
+
+    -- before it frees, its number is covered
+    covers : all scene ≡ [] → RemoveCovers code c p owner index count (before scene)
+    covers none = grind arith
+
+    -- and then what stood there stands under it, or has been hidden
+    stands_still : all scene ≡ Frees index owner ∷ [] → HasHidden code c p owner (StillStands code c index count (before scene)) (before scene)
+    stands_still freed = grind arith
+
+    hides_next : (next : ReleaseStage) (ask : Option Ask) (back : Bool)
+        → set_effects.Stays (of_set scene) (words_after ws ask) → ReleaseAt c index owner mode (all scene) next
+        → ReleaseHides code c index owner count next (SeesCalmly (removes.TheVariants.Releases count next) ask back)
+    hides_next releases.TheVariants.EmptiesCell ask back stays at =
+        let same : count_at c (words_after ws ask) index ≡ count_in code c (before scene) index = stays.others (count_word c index) (omega arith) in
+        λ well_formed lives since. ⊎_elim (λ is. inl (same ∙ is)) (λ even. inr (ap (λ n. n % 2) same ∙ even))
+        (covers at (was_well_formed_calmly scene start tt here.span
+        (then_at (removes.TheVariants.Releases count releases.TheVariants.EmptiesCell) ask back) well_formed)
+        lives since)
+    hides_next (releases.TheVariants.Raises raise) ask back stays at =
+        stands_calm scene start tt here.span owner (words_after ws ask)
+        (then_at (removes.TheVariants.Releases count (releases.TheVariants.Raises raise)) ask back) index count
+        (stays.others (count_word c index) (omega arith)) (stands_still at)
+    hides_next (releases.TheVariants.Locks lock) ask back stays at =
+        stands_calm scene start tt here.span owner (words_after ws ask)
+        (then_at (removes.TheVariants.Releases count (releases.TheVariants.Locks lock)) ask back) index count
+        (stays.others (count_word c index) (omega arith)) (stands_still at.2)
+
+    -- nothing stands there under an even number
+    none_stands : all scene ≡ Frees index owner ∷ [] → is_even count ≡ true → HasHidden code c p owner no_index (before scene)
+    none_stands freed t = hidden_even code c p owner index count (before scene) inv.elements.whole below (even_is count t) (stands_still freed)
+
+    -- what the end of the release says
+    says_now : (next : RemoveStage) (ask : Option Ask) (back : Bool) (m : ReleaseMode) (state : ReleaseState)
+        → Ends (of_set scene) (inv_of_set scene inv) index owner mode fits below lives began 1 (words_after ws ask) m state
+        → RemoveSays code c index owner m state (SeesCalmly next ask back)
+    says_now next ask back Default states.TheVariants.Locked why = absurd why
+    says_now next ask back Default states.TheVariants.Unlocked why = tt
+    says_now next ask back LockIfLastIndex states.TheVariants.Locked why = why
+    says_now next ask back LockIfLastIndex states.TheVariants.Unlocked why = (held_now p IsUnlocked events why.0, why.1)
+
+    done_now : (words' : List ℕ) (m : ReleaseMode) (state : ReleaseState)
+        → Ends (of_set scene) (inv_of_set scene inv) index owner mode fits below lives began 1 words' m state
+        → all scene ≡ Frees index owner ∷ []
+        → HasDone {T = T} (Remove index owner m) (answers.State state) (all scene) []
+    done_now words' m state why freed = grind arith
+
+    -- the release has ended with this state
+    released : (state : ReleaseState) (ask : Option Ask) (back : Bool)
+        → set_effects.Stays (of_set scene) (words_after ws ask)
+        → Ends (of_set scene) (inv_of_set scene inv) index owner mode fits below lives began 1 (words_after ws ask) mode state
+        → all scene ≡ Frees index owner ∷ []
+        → backs_then scene back + since_then scene ask ≤ changes_then scene ask
+        → steps + step_count ask ≤ 1 + release_total c index owner mode (backs_then scene back)
+        → Lead ask back [] (Done (Ok state))
+    released state ask back stays why freed paid few = go (is_even count) refl
+      where
+        go : (b : Bool) → is_even count ≡ b
+            → Leads scene start ask back scene.states []
+            (as_remove (if b then GoOn (at_remove first (removes.TheVariants.AddsChange state)) else GoOn
+            (at_remove first (removes.TheVariants.Hides count state))))
+        go true t =
+            stays_on this (removes.TheVariants.AddsChange state) here refl ask back stays (omega arith)
+            (below, done_now (words_after ws ask) mode state why freed) (
+              paid,
+              says_now (removes.TheVariants.AddsChange state) ask back mode state why,
+              hidden_calm scene start tt here.span owner (words_after ws ask)
+                  (then_at (removes.TheVariants.AddsChange state) ask back) (none_stands freed t),
+            )
+        go false t =
+            stays_on this (removes.TheVariants.Hides count state) here refl ask back stays (omega arith) (
+              below,
+              done_now (words_after ws ask) mode state why freed,
+              subst (IsOneOf (Frees index owner)) (sym freed) (record { before = []; after = []; is = refl }),
+              nothing,
+              odd_is count t,
+            ) (
+              paid,
+              says_now (removes.TheVariants.Hides count state) ask back mode state why,
+              left_calm (removes.TheVariants.Hides count state) ask back stays (has_left freed),
+              stands_calm scene start tt here.span owner (words_after ws ask)
+                  (then_at (removes.TheVariants.Hides count state) ask back) index count
+                  (stays.others (count_word c index) (omega arith)) (stands_still freed),
+            )
+
+    -- and with the lock
+    locked_by : (ask : Option Ask) → mode ≡ LockIfLastIndex
+        → (IsCalm scene.terms.by events → (i : ℕ) → holder_of i events ≡ None) → counter_of ws < greatest
+        → words_after ws ask ≡ set ws 0 locked → all scene ≡ Frees index owner ∷ []
+        → backs_then scene false + since_then scene ask ≤ changes_then scene ask
+        → steps + step_count ask ≤ 1 + release_total c index owner mode (backs_then scene false)
+        → Lead ask false (Locked p ∷ []) (Done (Ok states.TheVariants.Locked))
+    locked_by ask may_lock nobody less new freed paid few = go (is_even count) refl
+      where
+        set_does : set_invariant.Does (of_set scene) (words_after ws ask) (Locked p ∷ [])
+        set_does = set_locks.locks (of_set scene) (inv_of_set scene inv) (words_after ws ask) [] set_effects.quiet_none tt tt tt nobody less new
+
+        does : (y : Party T) → Does scene (words_after ws ask) scene.states y (Locked p ∷ [])
+        does y =
+            locks scene inv start (at_stage this) tt here y (words_after ws ask)
+            (rest_set scene inv start (at_stage this) tt here y (words_after ws ask) 0 locked (omega arith) new)
+            (wide_set scene inv start (at_stage this) tt here y (words_after ws ask) 0 locked new) set_does
+            (was_well_formed scene start tt here.span (words_after ws ask) y (Locked p ∷ []) (refl, tt)) (owes_none scene start (at_stage this) y here refl)
+
+        stands : AllFollow (Stands promise c) (Open (Container (Remove index owner mode)) (wrote_of p events)) (Locked p ∷ [])
+        stands =
+            subst (λ m. AllFollow (Stands promise c) (Open (Container (Remove index owner m)) (wrote_of p events)) (Locked p ∷ []))
+            (sym may_lock) (freed, tt)
+
+        done_then : HasDone {T = T} (Remove index owner mode) (answers.State states.TheVariants.Locked) (all scene ++ Locks ∷ []) []
+        done_then =
+            subst (λ m. HasDone {T = T} (Remove index owner m) (answers.State states.TheVariants.Locked) (all scene ++ Locks ∷ []) [])
+            (sym may_lock) (inr (ap (λ d. d ++ Locks ∷ []) freed))
+
+        says : is_locked (events ++ Locked p ∷ []) ≡ true
+        says = fold-append locked_after false events (Locked p ∷ [])
+
+        left_then : (y : Party T) → HasLeft code c index count (then_sees scene ask false scene.states y (Locked p ∷ []))
+        left_then y =
+            let h = has_left freed in
+            let same : count_at c (words_after ws ask) index ≡ count_in code c (before scene) index =
+            rest_set scene inv start (at_stage this) tt here y (words_after ws ask) 0 locked (omega arith) new
+            (count_word c index) (omega arith) in
+            record {
+              within = h.within;
+              below = λ kept. let low = h.below kept in omega arith;
+              left =
+                  λ holds is. fold-append (left_after index) true events (Locked p ∷ [])
+                  ∙ h.left (was_well_formed scene start tt here.span (words_after ws ask) y (Locked p ∷ []) (refl, tt) holds)
+                  (sym same ∙ is);
+            }
+
+        -- the lock frees nothing
+        frees_none : (i : ℕ) → IsOneOf (Frees i owner) (all scene ++ Locks ∷ []) → IsOneOf (Frees i owner) (all scene)
+        frees_none i was = ⊎_elim (λ had. had) (λ e. absurd (cc)) (was_one (Frees i owner) Locks (all scene) was)
+
+        stands_then : (y : Party T)
+            → HasHidden code c p owner
+            (StillStands code c index count (after scene (words_after ws ask) y (Locked p ∷ [])))
+            (after scene (words_after ws ask) y (Locked p ∷ []))
+        stands_then y =
+            stands_on scene start tt here.span owner (words_after ws ask) y (Locked p ∷ []) (refl, tt) tt (λ start w. refl) frees_none index count
+            (rest_set scene inv start (at_stage this) tt here y (words_after ws ask) 0 locked (omega arith) new (count_word c index) (omega arith))
+            (fold-append (contents_after index) None events (Locked p ∷ [])) (stands_still freed)
+
+        go : (b : Bool) → is_even count ≡ b
+            → Leads scene start ask false scene.states (Locked p ∷ [])
+            (as_remove (if b then GoOn (at_remove first (removes.TheVariants.AddsChange states.TheVariants.Locked)) else GoOn
+            (at_remove first (removes.TheVariants.Hides count states.TheVariants.Locked))))
+        go true t =
+            goes_on scene start (at_stage (removes.TheVariants.AddsChange states.TheVariants.Locked)) ask false
+            scene.states (Locked p ∷ []) here.span (λ start w. refl)
+            (does (then_at (removes.TheVariants.AddsChange states.TheVariants.Locked) ask false)) stands
+            (omega arith)
+            (refl, given_is, fits, (below, done_then)) (
+              paid,
+              says,
+              hidden_on scene start tt here.span owner (words_after ws ask)
+                  (then_at (removes.TheVariants.AddsChange states.TheVariants.Locked) ask false) (Locked p ∷ [])
+                  (refl, tt) tt (λ start w. refl) frees_none (none_stands freed t),
+            )
+        go false t =
+            goes_on scene start (at_stage (removes.TheVariants.Hides count states.TheVariants.Locked)) ask false
+            scene.states (Locked p ∷ []) here.span (λ start w. refl)
+            (does (then_at (removes.TheVariants.Hides count states.TheVariants.Locked) ask false)) stands
+            (omega arith) (
+              refl,
+              given_is,
+              fits,
+              (
+                below,
+                done_then,
+                subst (λ d. IsOneOf (Frees index owner) (d ++ Locks ∷ [])) (sym freed)
+                    (record { before = []; after = Locks ∷ []; is = refl }),
+                ap (λ (d : List (Act T)). d ++ []) nothing,
+                odd_is count t,
+              ),
+            ) (
+              paid,
+              says,
+              left_then (then_at (removes.TheVariants.Hides count states.TheVariants.Locked) ask false),
+              stands_then (then_at (removes.TheVariants.Hides count states.TheVariants.Locked) ask false),
+            )
+
+    caller : Caller (of_set scene) (inv_of_set scene inv) index owner mode fits below lives began 1 Lead
+    caller =
+        record {
+          quiet = λ next ask back stays at known few.
+              stays_on this (removes.TheVariants.Releases count next) here refl ask back stays (omega arith)
+              (below, at, nothing) (known, left_next next ask back stays at, hides_next next ask back stays at);
+          freed = λ ask new does none known few.
+              let next = removes.TheVariants.Releases count (releases.TheVariants.Raises raises.TheVariants.LoadsCounter) in
+              let y = then_at next ask false in
+              let es : List (Event T) = FreedOf p index owner ∷ [] in
+              let rest = rest_set scene inv start (at_stage this) tt here y (words_after ws ask) (cell_word index) empty (omega arith) new in
+              let same : count_at c (words_after ws ask) index ≡ count_in code c (before scene) index = rest (count_word c index) (omega arith) in
+              goes_on scene start (at_stage next) ask false scene.states es here.span (λ start w. refl)
+              (frees scene inv start (at_stage this) tt here y (words_after ws ask) rest
+              (wide_set scene inv start (at_stage this) tt here y (words_after ws ask) (cell_word index) empty new)
+              index owner does
+              (was_well_formed scene start tt here.span (words_after ws ask) y es (refl, tt))
+              (owes_none scene start (at_stage this) y here refl)
+              (subst (FreedBy scene.terms.by p index owner events) (sym here.span) tt))
+              ((refl, refl, none), tt) (omega arith)
+              (refl, given_is, fits, (below, ap (λ d. d ++ Frees index owner ∷ []) none, ap (λ (d : List (Act T)). d ++ []) nothing)) (
+                known,
+                record {
+                  within = below;
+                  below = low same;
+                  left = λ holds is. fold-append (left_after index) true events es ∙ set_effects.at_same index index true (left_of index events) refl;
+                },
+                hidden_freed scene start tt here.span owner inv index count below (words_after ws ask) y same
+                    (λ holds i was. absurd (no_more was.before (Frees i owner) was.after (sym none ∙ was.is)))
+                    (λ earlier holds. covers none earlier (acts.stays earlier.kept) (began holds.calm).1),
+              );
+          refused = λ ask same other none paid few. refuses this here refl ask same other none (omega arith) few;
+          ended = λ state ask back stays why freed paid few. released state ask back stays why freed paid few;
+          locks = λ ask may_lock nobody less new freed paid few. locked_by ask may_lock nobody less new freed paid few;
+        }
+      where
+        low : {n : ℕ} → n ≡ count_in code c (before scene) index → Keeps scene.terms → count ≤ n
+        low {n} same kept = go stage now_at left
+          where
+            go : (s : ReleaseStage) → ReleaseAt c index owner mode (all scene) s → ReleaseLeft code c index count s (sees_now scene) → count ≤ n
+            go releases.TheVariants.EmptiesCell at h = let was = h.1 kept in omega arith
+            go (releases.TheVariants.Raises raise) at h = let was = h.below kept in omega arith
+            go (releases.TheVariants.Locks lock) at h = let was = h.below kept in omega arith
+
+    pub release_step : set_knows.Knows c (release_at c index owner mode stage) (set_stages.now (of_set scene))
+        → steps ≤ 1 + release_number c mode stage backs
+        → StepOf scene start (at_stage (removes.TheVariants.Releases count stage))
+    release_step k s = held_step (of_set scene) (inv_of_set scene inv) index owner mode fits below lives began 1 Lead caller stage now_at k s

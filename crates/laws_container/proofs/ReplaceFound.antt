@@ -1,0 +1,458 @@
+-- A replace that has found its owner, and any step of one.
+use Rattle.std.proofs.Common.{◌≡◌, ◌≢◌, ⊎_elim, inl, inr, ℕ, ◌+◌, ◌%◌, ◌<◌, ◌≤◌, ◌==◌, if◌then◌else◌, nat_lt, Bool}
+use Rattle.std.proofs.Common.{false, true, Option, Some, None, is_some, List, [], ◌∷◌, ◌++◌, get_or, set, fold, refl}
+use Rattle.std.proofs.Common.{sym, ap, subst, ◌∙◌, append-nil, arith}
+use Rattle.std.proofs.lemmas.Bool.{cases_eq}
+use Rattle.std.proofs.lemmas.Bool.Decides.{nat_tests}
+use Rattle.std.proofs.lemmas.List.Sums.{fold-append}
+use Rattle.steps.specs.declared.ask.Ask.{Ask}
+use Rattle.steps.specs.declared.ask.After.{After}
+use Rattle.steps.specs.declared.ask.After.TheVariants.{GoOn, Done}
+use Rattle.steps.specs.declared.container.enums.ContainerRemoveError.TheVariants.{ContainerHandleNotOwnedByContainer}
+use Rattle.steps.specs.declared.container.replace.Replace as replace_calls
+use Rattle.steps.specs.declared.container.replace.ReplaceStage.{ReplaceStage}
+use Rattle.steps.specs.declared.container.replace.ReplaceStage as replaces
+use Rattle.steps.specs.Container.Layout.{change_word, count_word, element_word, is_even}
+use Rattle.steps.specs.Container.Replace.{Replaced, at_replace}
+use Rattle.steps.specs.Indices.Robust.Parts.{empty, one_more}
+use Rattle.steps.specs.Routine.{went_on}
+use Rattle.model.specs.declared.event.Answer.{Answer}
+use Rattle.model.specs.declared.event.Answer.TheVariants as answers
+use Rattle.model.specs.declared.event.Event.{Event}
+use Rattle.model.specs.declared.event.Event.TheVariants.{Placed, Hidden, Finished}
+use Rattle.model.specs.declared.event.Start.TheVariants.{Container}
+use Rattle.model.specs.declared.families.container.ContainerStart.{ContainerStart}
+use Rattle.model.specs.declared.families.container.ContainerStart.TheVariants.{Replace}
+use Rattle.model.specs.declared.families.container.calls.ContainerFlight.{ContainerFlight}
+use Rattle.model.specs.declared.families.container.calls.ContainerFlight as calls
+use Rattle.model.specs.declared.party.Party.{Party}
+use Rattle.model.specs.Families.Container.Calls.{place_of, replaced}
+use Rattle.model.specs.Families.Container.Promises.{StandsWellFormed}
+use Rattle.model.specs.Families.Container.Reading.{Hides, places, contents_after, contents_of, announced_after, announced_of}
+use Rattle.model.specs.Families.Indices.Robust.Promises.{IsFilledWith}
+use Rattle.model.specs.Families.Indices.Robust.Reading.{Deed, settled_after}
+use Rattle.model.specs.Families.Queues.Calls.{as_it_is}
+use Rattle.model.specs.Moments.{BeginsNone}
+use Rattle.model.specs.Parties.{put}
+use Rattle.model.specs.Step.{as_call}
+use Rattle.model.specs.Turns.{words_after}
+use Rattle.model.proofs.Moments.{held_later}
+use Rattle.model.proofs.Readings.{AreOwn}
+use Rattle.laws_robust.proofs.Effects.{at_same, at_other}
+use Rattle.laws_robust.proofs.Gone.{calm_less, gone_less}
+use Rattle.laws_robust.proofs.Effects as set_effects
+use Rattle.laws_robust.proofs.Stages.{loads_same, exchanges, fails_same}
+use Rattle.laws_robust.proofs.Stages as set_stages
+use Rattle.laws_container.proofs.AddWrites.{placed_once}
+use Rattle.laws_container.proofs.Contents.{store_writes}
+use Rattle.laws_container.proofs.Core.{count_at, count_set}
+use Rattle.laws_container.proofs.Invariant.{Scene, Inv, ActsFor, before, after, of_set, inv_of_set, view}
+use Rattle.laws_container.proofs.Keeping.{replacing}
+use Rattle.laws_container.proofs.Knows.{View, ReplaceKnows, Covers, Writes, HasPlaced, Stood, ReplacesKnow, Knows}
+use Rattle.laws_container.proofs.Left.{left_after, left_of}
+use Rattle.laws_container.proofs.WellFormed.{IsWellFormedSoFar, well_formed_before}
+use Rattle.laws_container.proofs.Replacers.{replacer_after}
+use Rattle.laws_container.proofs.Replaces.{ReplaceOwns, earlier}
+use Rattle.laws_container.proofs.Sets.{leaves_behind, quiet_end}
+use Rattle.laws_container.proofs.Stages.{IsHere, Lengthens, all, done, sees_now, then_sees, StepOf, Leads}
+use Rattle.laws_container.proofs.Stages.{none_lengthens, party_then, since_then, changes_then, backs_then, acts_more}
+use Rattle.laws_container.proofs.Stages.{goes_on, goes_calmly, ends, owes_none}
+use Rattle.laws_container.proofs.Standing.{replace_at, replace_number, ReplaceAt, MayHaveHidden, place_is}
+use Rattle.laws_container.proofs.Steps.{loads, stores_word, hides, places as places_it, misplaces, ends_counted, ends_calmly}
+use Rattle.laws_container.proofs.Turns.{WellFormed, replace_owes, count_in}
+use Rattle.laws_container.proofs.Writers.{IsWriter, one_writer}
+use Rattle.laws_container.proofs.Writing.{even_is, odd_is, adds_one, stores_to, adds_to_count, adds_to_change, hides_count}
+use Rattle.laws_container.proofs.ReplaceSteps.{calm_step, cell_step, found_calm, found_then, given_is, stands_if, was_calm, was_going}
+
+module _ {T : Type 0} (scene : Scene T) (inv : Inv scene) (index : ℕ) (value : T) (owner : ℕ) (fits : owner < empty)
+    (acts : ActsFor scene owner) (below : index < scene.capacity) (none_done : all scene ≡ []) where
+  open scene use {coding as code, capacity as c, party as p, steps as steps, backs as backs, events as events, latest as latest}
+
+  abbrev ws : List ℕ
+  ws = scene.words
+
+  abbrev i : ℕ
+  i = index
+
+  abbrev start : ContainerStart T
+  start = Replace index value owner
+
+  abbrev at_stage : ReplaceStage → ContainerFlight T
+  at_stage stage = replace_at c index value owner stage
+
+  abbrev as_replace : After (replace_calls.Replace T) Replaced → After (ContainerFlight T) (Answer T)
+  as_replace a =
+      as_call calls.TheVariants.Replace replaced
+      (went_on as_it_is (record { index = index; owner = owner; value = value }) tt a)
+
+  abbrev first : replace_calls.Replace T
+  first = record { capacity = c; stage = replaces.TheVariants.LoadsCell; of = record {} }
+
+  abbrev Here : ReplaceStage → Type 0
+  Here stage = IsHere scene (Replace index value owner) (replace_at c index value owner stage)
+
+  abbrev then_at : ReplaceStage → Option Ask → Party T
+  then_at next ask = party_then scene start ask false (GoOn (at_stage next))
+
+  abbrev SeesCalmly : ReplaceStage → Ask → View T
+  SeesCalmly next ask =
+      view scene.terms (words_after ws (Some ask)) scene.states (put p (then_at next (Some ask)) latest) events p
+      (since_then scene (Some ask)) (changes_then scene (Some ask)) (backs_then scene false)
+
+  -- ---- it has found him
+
+  module _ (k : ReplaceKnows c index owner value (sees_now scene)) where
+    mine : WellFormed (before scene) → IsWriter p i owner events
+    mine well_formed = inr (replacing c index owner value (sees_now scene) k well_formed (acts.stays well_formed.kept))
+
+    nobody_else : {A : Type 0} → WellFormed (before scene) → (q : ℕ) → q ≢ p → (o : ℕ) → IsWriter q i o events → A
+    nobody_else holds q ne o theirs = absurd (ne (one_writer q p i o owner events (inv.good.owned holds.calm) theirs (mine holds)))
+
+    knows_calm : (stage next : ReplaceStage) → Here stage → (ask : Ask) → ReplaceKnows c index owner value (SeesCalmly next ask)
+    knows_calm stage next here ask =
+        record {
+          paid = let paid = k.paid in
+              omega arith;
+          within = below;
+          owns = k.owns;
+          found = (found_calm scene inv index value owner fits acts below none_done) stage next here ask;
+          filled = k.filled;
+        }
+
+    -- events that leave the set, and take no replace
+    module _ (es : List (Event T)) (own : AreOwn p es) (none : BeginsNone p es) (longer : Lengthens es)
+        (settled : (o : Option ℕ) → fold (settled_after i) o es ≡ o)
+        (replacer : (o : Option ℕ) → fold (replacer_after i owner) o es ≡ o) where
+      owns_then : ReplaceOwns scene.terms.by p index owner (events ++ es)
+      owns_then calm lives may =
+          let h =
+          k.owns (calm_less scene.terms.by events es calm) (gone_less scene.terms.by owner events es lives)
+          (earlier p index owner events es none may).may in
+          record {
+            settled = fold-append (settled_after i) None events es ∙ (settled _ ∙ h.settled);
+            latest = fold-append (replacer_after i owner) None events es ∙ (replacer _ ∙ h.latest);
+          }
+
+      knows_then : (stage next : ReplaceStage) → Here stage → (ask : Ask)
+          → ReplaceKnows c index owner value (then_sees scene (Some ask) false scene.states (then_at next (Some ask)) es)
+      knows_then stage next here ask =
+          record {
+            paid = let paid = k.paid in
+                omega arith;
+            within = below;
+            owns = owns_then;
+            found = (found_then scene inv index value owner fits acts below none_done) stage next here ask es own longer;
+            filled = held_later p (IsFilledWith owner index) events es none k.filled;
+          }
+
+    first_word : (stage next : ReplaceStage) → Here stage → (ask : Ask) → words_after ws (Some ask) ≡ ws
+        → (WellFormed (before scene) → count_in code c (before scene) i % 2 ≡ 0)
+        → Writes code c owner i value 0 (SeesCalmly next ask)
+    first_word stage next here ask same even =
+        record {
+          few = omega arith;
+          has =
+              λ holds lives. record {
+                even =
+                    ap (λ w. count_at c w i % 2) same
+                    ∙ even ((was_calm scene inv index value owner fits acts below none_done) stage here k.filled
+                    (then_at next (Some ask)) (omega arith) holds);
+                written = λ j js. absurd (omega arith);
+              };
+        }
+
+    -- ---- the number is loaded
+
+    module _ (here : Here replaces.TheVariants.LoadsCount) (nothing : done scene ≡ []) (s : steps ≤ 1) where
+      abbrev load_it : Ask
+      load_it = set_stages.loads (count_word c i)
+
+      abbrev number : ℕ
+      number = count_in code c (before scene) i
+
+      count_step : StepOf scene start (at_stage replaces.TheVariants.LoadsCount)
+      count_step = go (is_even number) refl
+        where
+          go : (b : Bool) → is_even number ≡ b → Leads scene start (Some (set_stages.loads (count_word c i))) false scene.states []
+              (as_replace (if b then GoOn (at_replace first (replaces.TheVariants.Stores 0)) else GoOn (at_replace first (replaces.TheVariants.Hides number))))
+          go true t =
+              let some = inv.elements.coded.some in
+              (calm_step scene inv index value owner fits acts below none_done) replaces.TheVariants.LoadsCount (replaces.TheVariants.Stores 0) load_it
+              (loads_same ws (count_word c i)) here k.filled refl (omega arith)
+              (below, none_done, inl nothing, omega arith) (
+                knows_calm replaces.TheVariants.LoadsCount (replaces.TheVariants.Stores 0) here load_it,
+                first_word replaces.TheVariants.LoadsCount (replaces.TheVariants.Stores 0) here load_it
+                    (loads_same ws (count_word c i)) (λ holds. even_is number t),
+              )
+          go false t =
+              (calm_step scene inv index value owner fits acts below none_done) replaces.TheVariants.LoadsCount (replaces.TheVariants.Hides number) load_it
+              (loads_same ws (count_word c i)) here k.filled refl (omega arith)
+              (below, none_done, nothing, odd_is number t) (
+                knows_calm replaces.TheVariants.LoadsCount (replaces.TheVariants.Hides number) here load_it,
+                (λ holds lives. inl (ap (λ w. count_at c w i) (loads_same ws (count_word c i)))),
+              )
+
+    -- ---- what stands there is hidden
+
+    module _ (count : ℕ) (here : Here (replaces.TheVariants.Hides count)) (nothing : done scene ≡ [])
+        (odd : count % 2 ≡ 1) (covers : Covers code c owner i count (sees_now scene)) (s : steps ≤ 2) where
+      abbrev hide_it : Ask
+      hide_it = exchanges (count_word c i) count (one_more count)
+
+      abbrev now_at : ℕ
+      now_at = count_in code c (before scene) i
+
+      hide_step : StepOf scene start (at_stage (replaces.TheVariants.Hides count))
+      hide_step = go (now_at == count) refl
+        where
+          go : (b : Bool) → (now_at == count) ≡ b
+              → Leads scene start (Some (exchanges (count_word c i) count (one_more count))) false scene.states
+              ((if b then Hidden p i ∷ [] else []) ++ []) (GoOn (at_stage (replaces.TheVariants.Stores 0)))
+          go true t =
+              let is : now_at ≡ count = grind (arith, nat_tests) in
+              let some = inv.elements.coded.some in
+              let wide = inv.elements.wide in
+              let y = then_at (replaces.TheVariants.Stores 0) (Some hide_it) in
+              let es = Hidden p i ∷ [] in
+              let new = hides_count scene inv i count below is in
+              let now_odd : now_at % 2 ≡ 1 = ap (λ n. n % 2) is ∙ odd in
+              let well_formed =
+              (was_going scene inv index value owner fits acts below none_done) (replaces.TheVariants.Hides count)
+              here k.filled (words_after ws (Some hide_it)) y es
+              (refl, tt) tt (λ start w. refl) (omega arith) in
+              let after : count_at c (words_after ws (Some hide_it)) i ≡ one_more now_at =
+              ap (λ w. count_at c w i) new ∙ count_set c code.size ws i (one_more now_at) (omega arith) in
+              goes_on scene start (at_stage (replaces.TheVariants.Stores 0)) (Some hide_it) false scene.states es here.span (λ start w. refl)
+              (hides scene inv start (at_stage (replaces.TheVariants.Hides count)) tt here y
+              (words_after ws (Some hide_it)) i below new refl now_odd
+              (λ holds q ne o theirs fresh. nobody_else holds q ne o theirs) well_formed)
+              ((refl, nothing), tt) (omega arith) (
+                refl,
+                (given_is scene inv index value owner fits acts below none_done),
+                fits,
+                (below, ap (λ (d : List Deed). d ++ []) none_done, inr (ap (λ d. d ++ Hides i ∷ []) nothing), omega arith),
+              ) (
+                knows_then es (refl, tt) tt (λ start w. refl) (λ o. refl) (λ o. refl)
+                    (replaces.TheVariants.Hides count) (replaces.TheVariants.Stores 0) here hide_it,
+                record {
+                  few = omega arith;
+                  has = λ holds lives. record { even = ap (λ n. n % 2) after ∙ omega arith; written = λ j js. absurd (omega arith) };
+                },
+              )
+          go false t =
+              let other : now_at ≢ count = grind (arith, nat_tests) in
+              let some = inv.elements.coded.some in
+              let same = fails_same ws (count_word c i) count (one_more count) other in
+              (calm_step scene inv index value owner fits acts below none_done) (replaces.TheVariants.Hides count)
+              (replaces.TheVariants.Stores 0) hide_it same here
+              k.filled refl (omega arith) (below, none_done, inl nothing, omega arith) (
+                knows_calm (replaces.TheVariants.Hides count) (replaces.TheVariants.Stores 0) here hide_it,
+                first_word (replaces.TheVariants.Hides count) (replaces.TheVariants.Stores 0) here hide_it same
+                    (λ holds. ⊎_elim (λ e. absurd (other e)) (λ even. even) (covers holds (acts.stays holds.kept))),
+              )
+
+    -- ---- a word is stored
+
+    module _ (at : ℕ) (here : Here (replaces.TheVariants.Stores at))
+        (hidden : MayHaveHidden c code.size (all scene) (done scene) i) (ats : at < code.size)
+        (w : Writes code c owner i value at (sees_now scene)) (s : steps ≤ 3 + at) where
+      abbrev store_it : Ask
+      store_it = stores_to (element_word c code.size i at) (get_or (code.words_of value) at 0)
+
+      store_to : (next : ReplaceStage) → replace_owes next ≡ true → steps + 1 ≤ replace_number code.size next
+          → ReplaceAt c code.size (all scene) (done scene) index next
+          → Knows code c (at_stage next) (SeesCalmly next store_it)
+          → Leads scene start (Some store_it) false scene.states [] (GoOn (at_stage next))
+      store_to next owe few stands known =
+          goes_calmly scene start (at_stage next) (Some store_it) false scene.states here.span
+          (stores_word scene inv start (at_stage (replaces.TheVariants.Stores at)) tt here
+          (then_at next (Some store_it)) (words_after ws (Some store_it)) i below at ats value owner mine
+          (λ holds. w.has holds (acts.stays holds.kept)) refl
+          ((was_going scene inv index value owner fits acts below none_done) (replaces.TheVariants.Stores at) here k.filled (words_after ws (Some store_it))
+          (then_at next (Some store_it)) [] tt tt none_lengthens (omega arith))
+          (λ was. owe))
+          few (refl, (given_is scene inv index value owner fits acts below none_done), fits, stands) known
+
+      one_more_word : (next : ReplaceStage) → Writes code c owner i value (at + 1) (SeesCalmly next store_it)
+      one_more_word next =
+          record {
+            few = omega arith;
+            has = λ holds lives.
+                let before_it =
+                (was_calm scene inv index value owner fits acts below none_done) (replaces.TheVariants.Stores at)
+                here k.filled (then_at next (Some store_it)) (omega arith) holds in
+                store_writes code c ws events (inv.elements.whole before_it) inv.elements.wide i below value at ats
+                (w.has before_it (acts.stays before_it.kept));
+          }
+
+      store_step : StepOf scene start (at_stage (replaces.TheVariants.Stores at))
+      store_step = go (nat_lt (at + 1) code.size) refl
+        where
+          go : (b : Bool) → nat_lt (at + 1) code.size ≡ b
+              → Leads scene start (Some (stores_to (element_word c code.size i at) (get_or (code.words_of value) at 0)))
+              false scene.states []
+              (as_replace (if b then GoOn (at_replace first (replaces.TheVariants.Stores (at + 1))) else GoOn
+              (at_replace first replaces.TheVariants.AddsCount)))
+          go true t =
+              let more : at + 1 < code.size = grind (arith, nat_tests) in
+              store_to (replaces.TheVariants.Stores (at + 1)) refl (omega arith) (below, none_done, hidden, more) (
+                knows_calm (replaces.TheVariants.Stores at) (replaces.TheVariants.Stores (at + 1)) here store_it,
+                one_more_word (replaces.TheVariants.Stores (at + 1)),
+              )
+          go false t =
+              let last : code.size ≤ at + 1 = grind (arith, nat_tests) in
+              let is : at + 1 ≡ code.size = omega arith in
+              store_to replaces.TheVariants.AddsCount refl (omega arith) (below, none_done, hidden) (
+                knows_calm (replaces.TheVariants.Stores at) replaces.TheVariants.AddsCount here store_it,
+                subst (λ n. Writes code c owner i value n (SeesCalmly replaces.TheVariants.AddsCount store_it)) is
+                    (one_more_word replaces.TheVariants.AddsCount),
+              )
+
+    -- ---- the value is placed
+
+    module _ (here : Here replaces.TheVariants.AddsCount)
+        (hidden : MayHaveHidden c code.size (all scene) (done scene) i)
+        (w : Writes code c owner i value code.size (sees_now scene)) (s : steps ≤ 3 + code.size) where
+      abbrev add_it : Ask
+      add_it = adds_one (count_word c i)
+
+      abbrev count_now : ℕ
+      count_now = count_in code c (before scene) i
+
+      abbrev y : Party T
+      y = then_at replaces.TheVariants.AddsChange (Some add_it)
+
+      new : words_after ws (Some add_it) ≡ set ws (count_word c i) (one_more count_now)
+      new = adds_to_count scene inv i below
+
+      place_step : StepOf scene start (at_stage replaces.TheVariants.AddsCount)
+      place_step = go (is_even count_now) refl
+        where
+          go : (b : Bool) → is_even count_now ≡ b
+              → Leads scene start (Some (adds_one (count_word c i))) false scene.states
+              ((if b then Placed p i value ∷ [] else []) ++ []) (GoOn (at_stage replaces.TheVariants.AddsChange))
+          go true t =
+              let es = Placed p i value ∷ [] in
+              let well_formed =
+              (was_going scene inv index value owner fits acts below none_done) replaces.TheVariants.AddsCount here
+              k.filled (words_after ws (Some add_it)) y es (refl, tt)
+              tt (λ start w. refl) (omega arith) in
+              goes_on scene start (at_stage replaces.TheVariants.AddsChange) (Some add_it) false scene.states es here.span (λ start w. refl)
+              (places_it scene inv start (at_stage replaces.TheVariants.AddsCount) tt here y
+              (words_after ws (Some add_it)) i below new refl value owner acts mine
+              (λ holds. w.has holds (acts.stays holds.kept)) well_formed)
+              ((refl, refl, hidden), tt) (omega arith)
+              (refl, (given_is scene inv index value owner fits acts below none_done), fits, (below, ap (λ (d : List Deed). d ++ []) none_done)) (
+                knows_then es (refl, tt) tt (λ start w. refl) (λ o. refl) (λ o. refl) replaces.TheVariants.AddsCount
+                    replaces.TheVariants.AddsChange here add_it,
+                (λ holds. ap (λ a. places a) (acts_more scene start here.span es (refl, tt) (λ start w. refl)) ∙ placed_once (done scene) i value hidden),
+                (λ holds lives. (
+                  fold-append (left_after i) true events es ∙ at_same i i false (left_of i events) refl,
+                  ap is_some (fold-append (contents_after i) None events es ∙ at_same i i (Some value) (contents_of i events) refl),
+                )),
+              )
+          go false t =
+              let well_formed =
+              (was_going scene inv index value owner fits acts below none_done) replaces.TheVariants.AddsCount here
+              k.filled (words_after ws (Some add_it)) y [] tt tt none_lengthens (omega arith) in
+              let ill_formed =
+              λ (holds : WellFormed (after scene (words_after ws (Some add_it)) y [])).
+              let even = (w.has (well_formed holds) (acts.stays holds.kept)).even in
+              let odd = odd_is count_now t in
+              absurd {A = ⊥} (omega arith) in
+              goes_calmly scene start (at_stage replaces.TheVariants.AddsChange) (Some add_it) false scene.states here.span
+              (misplaces scene inv start (at_stage replaces.TheVariants.AddsCount) tt here y
+              (words_after ws (Some add_it)) i below new refl well_formed ill_formed)
+              (omega arith) (refl, (given_is scene inv index value owner fits acts below none_done), fits, (below, none_done)) (
+                knows_calm replaces.TheVariants.AddsCount replaces.TheVariants.AddsChange here add_it,
+                (λ holds. absurd
+                    (ill_formed (subst (λ es. IsWellFormedSoFar scene.terms (put p y latest) es) (sym (append-nil events)) holds))),
+                (λ holds lives. absurd
+                    (ill_formed (subst (λ es. IsWellFormedSoFar scene.terms (put p y latest) es) (sym (append-nil events)) holds))),
+              )
+
+    -- ---- the change is counted, and the call ends
+
+    module _ (here : Here replaces.TheVariants.AddsChange) (placed : HasPlaced code c i value (sees_now scene))
+        (stood : Stood code c owner i (sees_now scene)) (s : steps ≤ 4 + code.size) where
+      abbrev end_it : Ask
+      end_it = adds_one (change_word c)
+
+      end_step : StepOf scene start (at_stage replaces.TheVariants.AddsChange)
+      end_step =
+          let y = party_then scene start (Some end_it) false (Done answers.Done) in
+          let es = Finished p (Container start) answers.Done ∷ [] in
+          let well_formed =
+          well_formed_before scene.terms p y latest events es (refl, tt)
+          (λ h. (stands_if scene inv index value owner fits acts below none_done) replaces.TheVariants.AddsChange here
+          (λ few. h.replaced events [] (Finished p (Container start) answers.Done) refl)) in
+          let new = adds_to_change scene inv in
+          ends scene start answers.Done (Some end_it) false scene.states [] here.span none_lengthens
+          (ends_counted scene inv start (at_stage replaces.TheVariants.AddsChange) tt here y (words_after ws (Some end_it)) answers.Done
+          (set_effects.quietly (of_set scene) (inv_of_set scene inv) (words_after ws (Some end_it)) es
+          (leaves_behind (of_set scene) (inv_of_set scene inv) (words_after ws (Some end_it)) (change_word c) _ (omega arith) new)
+          (quiet_end (of_set scene) (inv_of_set scene inv) start answers.Done (λ i o. refl) (λ i r. refl))
+          (refl, tt) (tt, tt) (tt, tt))
+          (below, k.filled) well_formed (λ holds. placed (well_formed holds)) new says)
+          ((refl, none_done), tt) (omega arith) (let paid = k.paid in omega arith)
+        where
+          says : WellFormed (before scene) → (a : ℕ)
+              → announced_after a (announced_of a events) (Finished p (Container (Replace index value owner)) answers.Done) ≡ true
+              → is_some (contents_of a events) ≡ true
+          says holds a said =
+              ⊎_elim (λ e. subst (λ b. is_some (contents_of b events) ≡ true) (sym e) (stood holds (acts.stays holds.kept)).1)
+              (λ ne. inv.elements.announced holds a (sym (at_other i a true (announced_of a events) ne) ∙ said))
+              (cases_eq a i)
+
+-- ---- any step of a replace
+
+module _ {T : Type 0} (scene : Scene T) (inv : Inv scene) (index : ℕ) (value : T) (owner : ℕ) (fits : owner < empty) (acts : ActsFor scene owner) where
+  open scene use {coding as code, capacity as c, party as p, steps as steps, backs as backs, events as events, latest as latest}
+
+  abbrev Moves : ReplaceStage → ℕ → Type 0
+  Moves stage at =
+      IsHere scene (Replace index value owner) (replace_at c at value owner stage)
+      → ReplacesKnow code c at value owner stage (sees_now scene) → steps ≤ replace_number code.size stage
+      → StepOf scene (Replace index value owner) (replace_at c at value owner stage)
+
+  -- an index that is none of the container
+  refuses : (at : ℕ) → c ≤ index → all scene ≡ [] → done scene ≡ [] → Moves replaces.TheVariants.Refuses at
+  refuses at past none_done nothing here paid s =
+      let start = Replace index value owner in
+      let y = party_then scene start None false (Done (answers.NotRemoved ContainerHandleNotOwnedByContainer)) in
+      let es = Finished p (Container start) (answers.NotRemoved ContainerHandleNotOwnedByContainer) ∷ [] in
+      let well_formed =
+      well_formed_before scene.terms p y latest events es (refl, tt)
+      (λ h. subst (λ o. StandsWellFormed p o events) (sym here.found)
+      (λ index' owner' value' wrote' span few found. let taken = here.taken in absurd (omega arith))) in
+      ends scene start (answers.NotRemoved ContainerHandleNotOwnedByContainer) None false scene.states [] here.span none_lengthens
+      (ends_calmly scene inv start (replace_at c at value owner replaces.TheVariants.Refuses) tt here y scene.words
+      (answers.NotRemoved ContainerHandleNotOwnedByContainer)
+      (set_effects.quietly (of_set scene) (inv_of_set scene inv) scene.words es
+      (set_effects.stays_same (of_set scene) (inv_of_set scene inv) scene.words refl).leaves
+      (quiet_end (of_set scene) (inv_of_set scene inv) start (answers.NotRemoved ContainerHandleNotOwnedByContainer)
+      (λ i o. refl) (λ i r. refl))
+      (refl, tt) (tt, tt) (tt, tt))
+      (inl past) well_formed (λ holds. tt) refl (λ i b. refl) (owes_none scene start (replace_at c at value owner replaces.TheVariants.Refuses) y here refl))
+      ((refl, (none_done, nothing)), tt) (omega arith) (omega arith)
+
+  pub replace_step : (stage : ReplaceStage) → ReplaceAt c code.size (all scene) (done scene) index stage → Moves stage (place_of c index)
+  replace_step replaces.TheVariants.Refuses at = refuses (place_of c index) at.0 at.1 at.2
+  replace_step replaces.TheVariants.LoadsCell at =
+      subst (Moves replaces.TheVariants.LoadsCell) (sym (place_is c index at.0))
+      (λ here k s. cell_step scene inv index value owner fits acts at.0 at.1 here at.2 k.0 k.1 s)
+  replace_step replaces.TheVariants.LoadsCount at =
+      subst (Moves replaces.TheVariants.LoadsCount) (sym (place_is c index at.0))
+      (λ here k s. count_step scene inv index value owner fits acts at.0 at.1 k here at.2 s)
+  replace_step (replaces.TheVariants.Hides count) at =
+      subst (Moves (replaces.TheVariants.Hides count)) (sym (place_is c index at.0))
+      (λ here k s. hide_step scene inv index value owner fits acts at.0 at.1 k.0 count here at.2 at.3 k.1 s)
+  replace_step (replaces.TheVariants.Stores word) at =
+      subst (Moves (replaces.TheVariants.Stores word)) (sym (place_is c index at.0))
+      (λ here k s. store_step scene inv index value owner fits acts at.0 at.1 k.0 word here at.2 at.3 k.1 s)
+  replace_step replaces.TheVariants.AddsCount at =
+      subst (Moves replaces.TheVariants.AddsCount) (sym (place_is c index at.0))
+      (λ here k s. place_step scene inv index value owner fits acts at.0 at.1 k.0 here at.2 k.1 s)
+  replace_step replaces.TheVariants.AddsChange at =
+      subst (Moves replaces.TheVariants.AddsChange) (sym (place_is c index at.0))
+      (λ here k s. end_step scene inv index value owner fits acts at.0 at.1 k.0 here k.1 k.2 s)

@@ -1,0 +1,214 @@
+-- The steps of a replace. Once it has found its owner in the cell it may write at its index, in a well-formed run, until it ends.
+use Rattle.std.proofs.Common.{◌≡◌, ◌≢◌, inr, ℕ, ◌+◌, ◌<◌, ◌≤◌, ◌==◌, if◌then◌else◌, Bool}
+use Rattle.std.proofs.Common.{false, true, Option, Some, List, [], ◌∷◌, ◌++◌, fold, refl}
+use Rattle.std.proofs.Common.{sym, ap, subst, ◌∙◌, append-nil, arith}
+use Rattle.std.specs.Prelude.{Err}
+use Rattle.std.proofs.lemmas.Bool.Decides.{nat_tests}
+use Rattle.steps.specs.declared.ask.Ask.{Ask}
+use Rattle.steps.specs.declared.ask.After.{After}
+use Rattle.steps.specs.declared.ask.After.TheVariants.{GoOn, Done}
+use Rattle.steps.specs.declared.container.enums.ContainerRemoveError.TheVariants.{ContainerHandleNotOwnedByContainer}
+use Rattle.steps.specs.declared.container.replace.Replace as replace_calls
+use Rattle.steps.specs.declared.container.replace.Replacement.{Replacement}
+use Rattle.steps.specs.declared.container.replace.ReplaceStage.{ReplaceStage}
+use Rattle.steps.specs.declared.container.replace.ReplaceStage as replaces
+use Rattle.steps.specs.Container.Replace.{Replaced, at_replace}
+use Rattle.steps.specs.Indices.Robust.Parts.{cell_word, empty}
+use Rattle.steps.specs.Routine.{went_on}
+use Rattle.model.specs.declared.event.Answer.{Answer}
+use Rattle.model.specs.declared.event.Answer.TheVariants as answers
+use Rattle.model.specs.declared.event.Event.{Event}
+use Rattle.model.specs.declared.event.Event.TheVariants.{Finished}
+use Rattle.model.specs.declared.event.Start.TheVariants.{Container}
+use Rattle.model.specs.declared.families.container.ContainerStart.{ContainerStart}
+use Rattle.model.specs.declared.families.container.ContainerStart.TheVariants.{Replace}
+use Rattle.model.specs.declared.families.container.calls.ContainerFlight.{ContainerFlight}
+use Rattle.model.specs.declared.families.container.calls.ContainerFlight as calls
+use Rattle.model.specs.declared.party.Party.{Party}
+use Rattle.model.specs.Families.Container.Calls.{place_of, replaced}
+use Rattle.model.specs.Families.Container.Promises.{StandsWellFormed}
+use Rattle.model.specs.Families.Container.Reading.{places, MayReplace}
+use Rattle.model.specs.Families.Indices.Robust.Promises.{cell_of, IsFilledWith}
+use Rattle.model.specs.Families.Queues.Calls.{as_it_is}
+use Rattle.model.specs.Moments.{BeginsNone, HeldSometime}
+use Rattle.model.specs.Parties.{party_of, put}
+use Rattle.model.specs.Reading.{Open, own_after, span_of}
+use Rattle.model.specs.Step.{as_call}
+use Rattle.model.specs.Turns.{words_after}
+use Rattle.model.proofs.Moments.{held_now, held_later}
+use Rattle.model.proofs.Parties.{party_put_same}
+use Rattle.model.proofs.Readings.{AreOwn, span_of-own}
+use Rattle.laws_robust.proofs.Core.{cell}
+use Rattle.laws_robust.proofs.Effects.{filled_by}
+use Rattle.laws_robust.proofs.Effects as set_effects
+use Rattle.laws_robust.proofs.Stages.{loads_same}
+use Rattle.laws_robust.proofs.Stages as set_stages
+use Rattle.laws_container.proofs.Invariant.{Scene, Inv, ActsFor, before, after, of_set, inv_of_set, view, wrote_of}
+use Rattle.laws_container.proofs.Knows.{View, HasFound, IsPaid, Knows}
+use Rattle.laws_container.proofs.WellFormed.{IsWellFormedSoFar, well_formed_before}
+use Rattle.laws_container.proofs.Replaces.{ReplaceOwns, earlier}
+use Rattle.laws_container.proofs.Sets.{quiet_end}
+use Rattle.laws_container.proofs.Stages.{IsHere, Lengthens, all, done, sees_now, then_sees, StepOf, Leads}
+use Rattle.laws_container.proofs.Stages.{none_lengthens, party_then, since_then, changes_then, backs_then}
+use Rattle.laws_container.proofs.Stages.{goes_calmly, ends, owes_none}
+use Rattle.laws_container.proofs.Standing.{replace_at, replace_number, ReplaceAt, place_is}
+use Rattle.laws_container.proofs.Steps.{loads, ends_calmly}
+use Rattle.laws_container.proofs.Turns.{WellFormed, replace_owes}
+
+module _ {T : Type 0} (scene : Scene T) (inv : Inv scene) (index : ℕ) (value : T) (owner : ℕ) (fits : owner < empty)
+    (acts : ActsFor scene owner) (below : index < scene.capacity) (none_done : all scene ≡ []) where
+  open scene use {coding as code, capacity as c, party as p, steps as steps, backs as backs, events as events, latest as latest}
+
+  abbrev ws : List ℕ
+  ws = scene.words
+
+  abbrev i : ℕ
+  i = index
+
+  abbrev start : ContainerStart T
+  start = Replace index value owner
+
+  abbrev at_stage : ReplaceStage → ContainerFlight T
+  at_stage stage = replace_at c index value owner stage
+
+  -- how the call goes on, as a replace of the kind
+  abbrev as_replace : After (replace_calls.Replace T) Replaced → After (ContainerFlight T) (Answer T)
+  as_replace a =
+      as_call calls.TheVariants.Replace replaced
+      (went_on as_it_is (record { index = index; owner = owner; value = value }) tt a)
+
+  abbrev first : replace_calls.Replace T
+  first = record { capacity = c; stage = replaces.TheVariants.LoadsCell; of = record {} }
+
+  abbrev Here : ReplaceStage → Type 0
+  Here stage = IsHere scene (Replace index value owner) (replace_at c index value owner stage)
+
+  abbrev then_at : ReplaceStage → Option Ask → Party T
+  then_at next ask = party_then scene start ask false (GoOn (at_stage next))
+
+  pub given_is : ◌≡◌ {A = Replacement T} (record { index = index; owner = owner; value = value })
+      (record { index = place_of c index; owner = owner; value = value })
+  given_is = ap (λ n. record { index = n; owner = owner; value = value }) (sym (place_is c index below))
+
+  -- ---- a turn ago
+
+  -- what is so of a run that is well-formed, of this replace
+  pub stands_if : (stage : ReplaceStage) → Here stage → (1 ≤ steps → MayReplace p index owner events) → StandsWellFormed p (party_of p latest) events
+  stands_if stage here may = grind arith
+
+  -- a turn that goes on, in a well-formed run, was of a replace that had been begun rightly
+  may_before : (stage : ReplaceStage) → Here stage → HeldSometime p (IsFilledWith owner index) events
+      → (y : Party T) (es : List (Event T)) → AreOwn p es → BeginsNone p es → Lengthens es → 1 ≤ y.steps
+      → IsWellFormedSoFar scene.terms (put p y latest) (events ++ es) → MayReplace p index owner events
+  may_before stage here filled y es own none longer few h =
+      let span : span_of p (events ++ es) ≡ Open (Container (Replace index value owner)) (wrote_of p events ++ es) =
+      span_of-own p events es own ∙ (ap (λ s. fold own_after s es) here.span ∙ longer start (wrote_of p events)) in
+      let stands : StandsWellFormed p (Some y) (events ++ es) = subst (λ o. StandsWellFormed p o (events ++ es)) (party_put_same p y latest) (h.replaces p) in
+      (earlier p index owner events es none
+      (stands index owner value (wrote_of p events ++ es) span few (held_later p (IsFilledWith owner index) events es none filled))).may
+
+  pub was_going : (stage : ReplaceStage) → Here stage → HeldSometime p (IsFilledWith owner index) events
+      → (words' : List ℕ) (y : Party T) (es : List (Event T)) → AreOwn p es → BeginsNone p es → Lengthens es
+      → 1 ≤ y.steps → WellFormed (after scene words' y es) → WellFormed (before scene)
+  was_going stage here filled words' y es own none longer few =
+      well_formed_before scene.terms p y latest events es own (λ h. stands_if stage here (λ s. may_before stage here filled y es own none longer few h))
+
+  pub was_calm : (stage : ReplaceStage) → Here stage → HeldSometime p (IsFilledWith owner index) events → (y : Party T)
+      → 1 ≤ y.steps → IsWellFormedSoFar scene.terms (put p y latest) events → WellFormed (before scene)
+  was_calm stage here filled y few h =
+      was_going stage here filled ws y [] tt tt none_lengthens few (subst (λ es. IsWellFormedSoFar scene.terms (put p y latest) es) (sym (append-nil events)) h)
+
+  -- it is there still, one step further
+  pub found_then : (stage next : ReplaceStage) → Here stage → (ask : Ask) (es : List (Event T)) → AreOwn p es
+      → Lengthens es
+      → HasFound index owner value (then_sees scene (Some ask) false scene.states (then_at next (Some ask)) es)
+  found_then stage next here ask es own longer =
+      record {
+        party = then_at next (Some ask);
+        found = party_put_same p (then_at next (Some ask)) latest;
+        steps = omega arith;
+        wrote = wrote_of p events ++ es;
+        span = span_of-own p events es own ∙ (ap (λ s. fold own_after s es) here.span ∙ longer start (wrote_of p events));
+      }
+
+  pub found_calm : (stage next : ReplaceStage) → Here stage → (ask : Ask)
+      → HasFound index owner value
+      (view scene.terms (words_after ws (Some ask)) scene.states (put p (then_at next (Some ask)) latest) events p
+      (since_then scene (Some ask)) (changes_then scene (Some ask)) (backs_then scene false))
+  found_calm stage next here ask =
+      record {
+        party = then_at next (Some ask);
+        found = party_put_same p (then_at next (Some ask)) latest;
+        steps = omega arith;
+        wrote = wrote_of p events;
+        span = here.span;
+      }
+
+  -- ---- a step that changes nothing and writes nothing
+
+  abbrev SeesCalmly : ReplaceStage → Ask → View T
+  SeesCalmly next ask =
+      view scene.terms (words_after ws (Some ask)) scene.states (put p (then_at next (Some ask)) latest) events p
+      (since_then scene (Some ask)) (changes_then scene (Some ask)) (backs_then scene false)
+
+  pub calm_step : (stage next : ReplaceStage) (ask : Ask) → words_after ws (Some ask) ≡ ws → Here stage
+      → HeldSometime p (IsFilledWith owner index) events → replace_owes next ≡ true
+      → steps + 1 ≤ replace_number code.size next → ReplaceAt c code.size (all scene) (done scene) index next
+      → Knows code c (at_stage next) (SeesCalmly next ask)
+      → Leads scene start (Some ask) false scene.states [] (GoOn (at_stage next))
+  calm_step stage next ask same here filled owe few at known =
+      goes_calmly scene start (at_stage next) (Some ask) false scene.states here.span
+      (loads scene inv start (at_stage stage) tt here (then_at next (Some ask)) (words_after ws (Some ask)) same
+      (was_going stage here filled (words_after ws (Some ask)) (then_at next (Some ask)) [] tt tt none_lengthens (omega arith))
+      (λ was. owe))
+      few (refl, given_is, fits, at) known
+
+  -- ---- its owner is looked for
+
+  module _ (here : Here replaces.TheVariants.LoadsCell) (nothing : done scene ≡ []) (paid : IsPaid (sees_now scene))
+      (owns : ReplaceOwns scene.terms.by p index owner events) (s : steps ≤ 0) where
+    abbrev load_cell : Ask
+    load_cell = set_stages.loads (cell_word index)
+
+    fails : cell ws index ≢ owner → Leads scene start (Some load_cell) false scene.states [] (Done (answers.NotRemoved ContainerHandleNotOwnedByContainer))
+    fails other =
+        let y = party_then scene start (Some load_cell) false (Done (answers.NotRemoved ContainerHandleNotOwnedByContainer)) in
+        let es = Finished p (Container start) (answers.NotRemoved ContainerHandleNotOwnedByContainer) ∷ [] in
+        let same = loads_same ws (cell_word index) in
+        let well_formed =
+        well_formed_before scene.terms p y latest events es (refl, tt)
+        (λ h. stands_if replaces.TheVariants.LoadsCell here (λ few. absurd (omega arith))) in
+        ends scene start (answers.NotRemoved ContainerHandleNotOwnedByContainer) (Some load_cell) false scene.states [] here.span none_lengthens
+        (ends_calmly scene inv start (at_stage replaces.TheVariants.LoadsCell) tt here y
+        (words_after ws (Some load_cell)) (answers.NotRemoved ContainerHandleNotOwnedByContainer)
+        (set_effects.quietly (of_set scene) (inv_of_set scene inv) (words_after ws (Some load_cell)) es
+        (set_effects.stays_same (of_set scene) (inv_of_set scene inv) (words_after ws (Some load_cell)) same).leaves
+        (quiet_end (of_set scene) (inv_of_set scene inv) start
+        (answers.NotRemoved ContainerHandleNotOwnedByContainer) (λ i o. refl) (λ i r. refl))
+        (refl, tt) (tt, tt) (tt, tt))
+        (inr (λ filled. other (inv.good.cells index below ∙ ap cell_of filled))) well_formed (λ holds. tt) same
+        (λ i b. refl) (owes_none scene start (at_stage replaces.TheVariants.LoadsCell) y here refl))
+        ((refl, (none_done, nothing)), tt) (omega arith) (omega arith)
+
+    found_now : cell ws index ≡ owner → HeldSometime p (IsFilledWith owner index) events
+    found_now is = held_now p (IsFilledWith owner index) events (filled_by (of_set scene) (inv_of_set scene inv) index below owner fits is)
+
+    finds : cell ws index ≡ owner → Leads scene start (Some load_cell) false scene.states [] (GoOn (at_stage replaces.TheVariants.LoadsCount))
+    finds is =
+        calm_step replaces.TheVariants.LoadsCell replaces.TheVariants.LoadsCount load_cell
+        (loads_same ws (cell_word index)) here (found_now is) refl (omega arith) (below, none_done, nothing)
+        (record {
+          paid = omega arith;
+          within = below;
+          owns = owns;
+          found = found_calm replaces.TheVariants.LoadsCell replaces.TheVariants.LoadsCount here load_cell;
+          filled = found_now is;
+        })
+
+    pub cell_step : StepOf scene start (at_stage replaces.TheVariants.LoadsCell)
+    cell_step = go (cell ws index == owner) refl
+      where
+        go : (b : Bool) → (cell ws index == owner) ≡ b → Leads scene start (Some (set_stages.loads (cell_word index))) false scene.states []
+            (as_replace (if b then GoOn (at_replace first replaces.TheVariants.LoadsCount) else Done (Err ContainerHandleNotOwnedByContainer)))
+        go true t = let is : cell ws index ≡ owner = grind (arith, nat_tests) in finds is
+        go false t = let other : cell ws index ≢ owner = grind (arith, nat_tests) in fails other

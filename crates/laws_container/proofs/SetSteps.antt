@@ -1,0 +1,146 @@
+-- The steps of the calls of a container on its set of indices: they leave the elements. Who frees an index leaves what stands
+-- there to nobody who may write.
+use Rattle.std.proofs.Common.{◌≡◌, ◌≢◌, ⊎_elim, ℕ, ◌+◌, ◌<◌, ◌≤◌, true, false, None, List, [], ◌∷◌, ◌++◌, length}
+use Rattle.std.proofs.Common.{get_or, set, refl, ap, subst, ◌∙◌, arith, get_or-set_other}
+use Rattle.std.proofs.lemmas.Bool.{cases_eq}
+use Rattle.std.proofs.lemmas.List.{length-set}
+use Rattle.std.proofs.lemmas.List.Sums.{fold-append}
+use Rattle.model.specs.declared.event.Event.{Event}
+use Rattle.model.specs.declared.event.Event.TheVariants.{Filled, Granted, FreedOf, Locked}
+use Rattle.model.specs.declared.families.container.ContainerStart.{ContainerStart}
+use Rattle.model.specs.declared.families.container.calls.ContainerFlight.{ContainerFlight}
+use Rattle.model.specs.declared.party.Party.{Party}
+use Rattle.model.specs.Families.Container.Reading.{contents_after, announced_after}
+use Rattle.model.specs.Families.Indices.Robust.Reading.{filled_after, filled_of, settled_after, settled_of}
+use Rattle.laws_robust.specs.Gone.{is_gone}
+use Rattle.laws_container.specs.Gone.{RecoversBy}
+use Rattle.laws_robust.proofs.Effects.{at_same, at_other, some_none}
+use Rattle.laws_robust.proofs.Invariant as set_invariant
+use Rattle.laws_robust.proofs.Rights.{IsBy}
+use Rattle.laws_container.proofs.Effects.{OwesStill, calmly}
+use Rattle.laws_container.proofs.Invariant.{Scene, Inv, Does, before, after, of_set}
+use Rattle.laws_container.proofs.Left.{left_after, left_of}
+use Rattle.laws_container.proofs.Stages.{NoLook, IsHere, does_with}
+use Rattle.laws_container.proofs.Turns.{WellFormed}
+use Rattle.laws_container.proofs.Writers.{IsWriter, Replacing}
+
+module _ {T : Type 0} (scene : Scene T) (inv : Inv scene) (start : ContainerStart T) (flight : ContainerFlight T)
+    (none : NoLook flight) (here : IsHere scene start flight) (y : Party T) where
+  open scene use {coding as code, capacity as c, party as p, turns as turns, latest as latest, events as events}
+
+  abbrev ws : List ℕ
+  ws = scene.words
+
+  abbrev WellFormedBefore : List ℕ → List (Event T) → Type 0
+  WellFormedBefore words' es = WellFormed (after scene words' y es) → WellFormed (before scene)
+
+  -- the words behind the cells stay
+  abbrev pub LeavesRest : List ℕ → Type 0
+  LeavesRest words' = (n : ℕ) → 1 + c ≤ n → get_or words' n 0 ≡ get_or ws n 0
+
+  pub rest_set : (words' : List ℕ) (m x : ℕ) → m < 1 + c → words' ≡ set ws m x → LeavesRest words'
+  rest_set words' m x low new n behind = ap (λ w. get_or w n 0) new ∙ get_or-set_other ws m n x 0 (λ e. absurd (omega arith))
+
+  pub wide_set : (words' : List ℕ) (m x : ℕ) → words' ≡ set ws m x → length words' ≡ length ws
+  wide_set words' m x new = ap length new ∙ length-set ws m x
+
+  -- an index is filled, or granted, or all is locked
+  module _ (words' : List ℕ) (rest : LeavesRest words') (wide : length words' ≡ length ws) where
+    pub fills : (i owner : ℕ) → set_invariant.Does (of_set scene) words' (Filled p i owner ∷ [])
+        → (well_formed : WellFormedBefore words' (Filled p i owner ∷ []))
+        → OwesStill scene inv words' y (Filled p i owner ∷ []) well_formed
+        → Does scene words' scene.states y (Filled p i owner ∷ [])
+    fills i owner does well_formed still =
+        does_with scene inv start flight none here words' y (Filled p i owner ∷ [])
+        (calmly scene inv words' y (Filled p i owner ∷ []) well_formed rest wide
+        (record {
+          contents = λ j. fold-append (contents_after j) None events (Filled p i owner ∷ []);
+          announced = λ j. fold-append (announced_after j) false events (Filled p i owner ∷ []);
+          left = λ j was. fold-append (left_after j) true events (Filled p i owner ∷ []) ∙ was;
+          spares = λ holds q ne j o lives mine was. fold-append (left_after j) true events (Filled p i owner ∷ []) ∙ was;
+        })
+        still)
+        does
+        (record { asks = (tt, tt); recovers = (tt, tt); answers = (tt, tt); contains = λ holds. (tt, tt); places = λ holds. (tt, tt) })
+
+    pub grants : (i owner : ℕ) → set_invariant.Does (of_set scene) words' (Granted p i owner ∷ [])
+        → (well_formed : WellFormedBefore words' (Granted p i owner ∷ []))
+        → OwesStill scene inv words' y (Granted p i owner ∷ []) well_formed
+        → Does scene words' scene.states y (Granted p i owner ∷ [])
+    grants i owner does well_formed still =
+        does_with scene inv start flight none here words' y (Granted p i owner ∷ [])
+        (calmly scene inv words' y (Granted p i owner ∷ []) well_formed rest wide
+        (record {
+          contents = λ j. fold-append (contents_after j) None events (Granted p i owner ∷ []);
+          announced = λ j. fold-append (announced_after j) false events (Granted p i owner ∷ []);
+          left = λ j was. fold-append (left_after j) true events (Granted p i owner ∷ []) ∙ was;
+          spares = λ holds q ne j o lives mine was. fold-append (left_after j) true events (Granted p i owner ∷ []) ∙ was;
+        })
+        still)
+        does
+        (record { asks = (tt, tt); recovers = (tt, tt); answers = (tt, tt); contains = λ holds. (tt, tt); places = λ holds. (tt, tt) })
+
+    pub locks : set_invariant.Does (of_set scene) words' (Locked p ∷ [])
+        → (well_formed : WellFormedBefore words' (Locked p ∷ []))
+        → OwesStill scene inv words' y (Locked p ∷ []) well_formed → Does scene words' scene.states y (Locked p ∷ [])
+    locks does well_formed still =
+        does_with scene inv start flight none here words' y (Locked p ∷ [])
+        (calmly scene inv words' y (Locked p ∷ []) well_formed rest wide
+        (record {
+          contents = λ j. fold-append (contents_after j) None events (Locked p ∷ []);
+          announced = λ j. fold-append (announced_after j) false events (Locked p ∷ []);
+          left = λ j was. fold-append (left_after j) true events (Locked p ∷ []) ∙ was;
+          spares = λ holds q ne j o lives mine was. fold-append (left_after j) true events (Locked p ∷ []) ∙ was;
+        })
+        still)
+        does
+        (record { asks = (tt, tt); recovers = (tt, tt); answers = (tt, tt); contains = λ holds. (tt, tt); places = λ holds. (tt, tt) })
+
+    -- ---- an index is freed
+
+    module _ (i owner : ℕ) (does : set_invariant.Does (of_set scene) words' (FreedOf p i owner ∷ []))
+        (well_formed : WellFormedBefore words' (FreedOf p i owner ∷ [])) where
+      abbrev free : List (Event T)
+      free = FreedOf p i owner ∷ []
+
+      -- nobody else may write there
+      not_here : {A : Type 0} → WellFormed (after scene words' y free) → (q : ℕ) → q ≢ p → (o : ℕ)
+          → is_gone scene.terms.by o events ≡ false → IsWriter q i o events → A
+      not_here holds q ne o lives theirs =
+          ⊎_elim
+          (λ (h : IsBy q i o events).
+          let k = (does.spares q ne).owned holds.calm i o lives h in
+          some_none (filled_of i (events ++ free)) o (fold-append (filled_after i) None events free ∙ at_same i i None (filled_of i events) refl) k.filled)
+          (λ (h : Replacing q i o events).
+          let k = (does.spares q ne).settled holds.calm i o lives h.settled (tt, tt) in
+          some_none (settled_of i (events ++ free)) o (fold-append (settled_after i) None events free ∙ at_same i i None (settled_of i events) refl) k)
+          theirs
+
+      left_on : (j : ℕ) → left_of j events ≡ true → left_of j (events ++ free) ≡ true
+      left_on j was =
+          fold-append (left_after j) true events free
+          ∙ ⊎_elim (λ same. at_same i j true (left_of j events) same) (λ ne. at_other i j true (left_of j events) ne ∙ was) (cases_eq j i)
+
+      spared : WellFormed (after scene words' y free) → (q : ℕ) → q ≢ p → (j o : ℕ)
+          → is_gone scene.terms.by o events ≡ false → IsWriter q j o events → left_of j events ≡ false
+          → left_of j (events ++ free) ≡ false
+      spared holds q ne j o lives theirs was =
+          ⊎_elim (λ same. not_here holds q ne o lives (subst (λ k. IsWriter q k o events) same theirs))
+          (λ other. fold-append (left_after j) true events free ∙ (at_other i j true (left_of j events) other ∙ was))
+          (cases_eq j i)
+
+      pub frees : OwesStill scene inv words' y free well_formed
+          → RecoversBy scene.terms.by events (FreedOf p i owner)
+          → Does scene words' scene.states y (FreedOf p i owner ∷ [])
+      frees still right =
+          does_with scene inv start flight none here words' y free
+          (calmly scene inv words' y free well_formed rest wide
+          (record {
+            contents = λ j. fold-append (contents_after j) None events free;
+            announced = λ j. fold-append (announced_after j) false events free;
+            left = left_on;
+            spares = spared;
+          })
+          still)
+          does
+          (record { asks = (tt, tt); recovers = (right, tt); answers = (tt, tt); contains = λ holds. (tt, tt); places = λ holds. (tt, tt) })

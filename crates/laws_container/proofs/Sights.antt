@@ -1,0 +1,130 @@
+-- What is so of a party's state: between its looks, and while a look goes over the indices. It stays so over any turn.
+use Rattle.std.proofs.Common.{◌≡◌, ◌≢◌, ◌⊎◌, ⊎_elim, inl, inr, ℕ, ◌<◌, ◌≤◌, true, Option, Some, None, is_some, List}
+use Rattle.std.proofs.Common.{◌++◌, length, slice_get, slice_index_or, sym, ap, subst, ◌∙◌, append_assoc, arith}
+use Rattle.steps.specs.declared.container.state.ContainerState.{ContainerState}
+use Rattle.steps.specs.declared.container.state.Element.{Element}
+use Rattle.model.specs.declared.event.Event.{Event}
+use Rattle.model.specs.Coding.{Coding}
+use Rattle.model.specs.Families.Container.Looks.{shows, WasCopied, WasAlone}
+use Rattle.model.specs.Families.Container.Reading.{contents_of, announced_of}
+use Rattle.model.specs.Families.Indices.Robust.Promises.{HeldThroughout}
+use Rattle.model.specs.Moments.{BeginsNone, HeldSometime}
+use Rattle.model.proofs.Moments.{held_later}
+use Rattle.laws_robust.proofs.Past.{through_less, through_now}
+use Rattle.laws_container.proofs.Alone.{alone_less}
+use Rattle.laws_container.proofs.KeptCopies.{ShowsOwn, CallsOn, own_later}
+use Rattle.laws_container.proofs.Terms.{Keeps}
+use Rattle.laws_container.proofs.Turns.{Owing, Now, WellFormed, count_in, change_in, Passes}
+
+module _ {T : Type 0} where
+  -- the number that a state has found at an index
+  abbrev pub number_in : Option (Element T) → ℕ
+  number_in None = 0
+  number_in (Some e) = e.count
+
+  abbrev pub number_at : ContainerState T → ℕ → ℕ
+  number_at s i = number_in (slice_get s.shown.elements i)
+
+  pub copied_later : (p i : ℕ) (value : T) (events es : List (Event T)) → WasCopied p i value events → WasCopied p i value (events ++ es)
+  copied_later p i value events es h =
+      record { before = h.before; after = h.after ++ es; is = ap (λ xs. xs ++ es) h.is ∙ append_assoc h.before _ es }
+
+  -- something stood at the index through the party's call
+  abbrev pub StoodThere : ℕ → ℕ → List (Event T) → Type 0
+  StoodThere p i events = HeldThroughout p (λ part. is_some (contents_of i part) ≡ true) events
+
+module _ {T : Type 0} (code : Coding T) (c : ℕ) where
+  -- The state of the party q shows this of the indices, but that one of them is being copied. A look has come
+  -- to the indices below k.
+  pub record Sight (m : Now T) (q : ℕ) (s : ContainerState T) (k copying : ℕ) : Type 0 where
+    pub wide : length s.shown.elements ≡ c
+    pub below : Keeps m.terms → (i : ℕ) → i < c → number_at s i ≤ count_in code c m i
+    pub change : Keeps m.terms → s.shown.change ≤ change_in code c m
+    pub copied : (i : ℕ) (value : T) → i ≢ copying → shows s i ≡ Some value → WasCopied q i value m.events
+    -- a number that still is there shows what stands
+    pub same : WellFormed m → (i : ℕ) → i < c → i ≢ copying → number_at s i ≡ count_in code c m i → shows s i ≡ contents_of i m.events
+    -- where nothing has changed since, what was announced is shown
+    pub caught : WellFormed m → s.shown.change ≡ change_in code c m → (i : ℕ) → i < k → i < c
+        → announced_of i m.events ≡ true → number_at s i ≡ count_in code c m i
+    pub owed : Keeps m.terms → s.shown.change ≡ change_in code c m → (i : ℕ) → i < k → i < c → (number_at s i ≡ count_in code c m i) ⊎ Owing m.latest
+
+  -- a state between its party's looks has seen what it shows
+  pub record Rests (m : Now T) (q : ℕ) (s : ContainerState T) : Type 0 where
+    pub sight : Sight m q s c c
+    pub known : length s.seen.counts ≡ c
+    pub seen : s.seen.change ≡ s.shown.change
+    pub counts : (i : ℕ) → i < c → slice_index_or s.seen.counts i 0 ≡ number_at s i
+    pub room : length s.shown.copy ≡ 128
+
+  -- a look that goes on from its state
+  pub record Course (m : Now T) (p : ℕ) (s : ContainerState T) (k copying : ℕ) : Type 0 where
+    pub sight : Sight m p s k copying
+    pub known : length s.seen.counts ≡ c
+    pub room : length s.shown.copy ≡ 128
+    -- it has not come to these
+    pub unseen : (i : ℕ) → k ≤ i → i < c → i ≢ copying → slice_index_or s.seen.counts i 0 ≡ number_at s i
+    pub fresh : WellFormed m → (i : ℕ) → i < k → i < c → StoodThere p i m.events → number_at s i ≡ count_in code c m i
+    pub once : WellFormed m → (i : ℕ) → i < k → i < c → HeldSometime p (λ part. shows s i ≡ contents_of i part) m.events
+    pub alone : WasAlone p m.events → (i : ℕ) → i < k → i < c → number_at s i ≡ count_in code c m i
+    pub own : ShowsOwn p s copying m.events
+
+  -- ---- any turn
+
+  module _ (m m' : Now T) (es : List (Event T)) (more : m'.events ≡ m.events ++ es) (passes : Passes code c m m') (q : ℕ) (s : ContainerState T) where
+    -- a number that a state has found is there still, if it is there then
+    still : Keeps m'.terms → (i : ℕ) → i < c → number_at s i ≤ count_in code c m i
+        → number_at s i ≡ count_in code c m' i
+        → (number_at s i ≡ count_in code c m i) × (count_in code c m' i ≡ count_in code c m i)
+    still kept i below low e = let grows = passes.counts kept i below in (omega arith, omega arith)
+
+    change_still : Keeps m'.terms → s.shown.change ≤ change_in code c m → s.shown.change ≡ change_in code c m'
+        → (s.shown.change ≡ change_in code c m) × (change_in code c m' ≡ change_in code c m)
+    change_still kept low e = let grows = passes.change kept in (omega arith, omega arith)
+
+    pub sight_later : (k x : ℕ) → Sight m q s k x → Sight m' q s k x
+    sight_later k x h =
+        record {
+          wide = h.wide;
+          below = λ kept i low. let was = h.below (passes.kept kept) i low in let grows = passes.counts kept i low in omega arith;
+          change = λ kept. let was = h.change (passes.kept kept) in let grows = passes.change kept in omega arith;
+          copied = λ i value ne e. subst (WasCopied q i value) (sym more) (copied_later q i value m.events es (h.copied i value ne e));
+          same = λ well_formed i low ne e.
+              let k = still well_formed.kept i low (h.below (passes.kept well_formed.kept) i low) e in
+              h.same (passes.well_formed well_formed) i low ne k.0 ∙ sym (passes.stands well_formed i low k.1);
+          caught = λ well_formed is i ks low said.
+              let k = change_still well_formed.kept (h.change (passes.kept well_formed.kept)) is in
+              let a = passes.announces well_formed k.1 i low said in
+              h.caught (passes.well_formed well_formed) k.0 i ks low a.0 ∙ sym a.1;
+          owed = λ kept is i ks low.
+              let k = change_still kept (h.change (passes.kept kept)) is in
+              ⊎_elim (λ e. ⊎_elim (λ same. inl (e ∙ sym same)) (λ o. inr o) (passes.owed k.1 i low))
+              (λ o. inr (passes.owing k.1 o)) (h.owed (passes.kept kept) k.0 i ks low);
+        }
+
+    pub rests_later : Rests m q s → Rests m' q s
+    rests_later h = record { sight = sight_later c c h.sight; known = h.known; seen = h.seen; counts = h.counts; room = h.room }
+
+    -- of a look of a party that begins no call, nor is alone with another's step
+    pub course_later : {what : Option (ℕ × T)} → CallsOn q what m.events m'.events → BeginsNone q es
+        → (WasAlone q m'.events → (i : ℕ) → i < c → count_in code c m' i ≡ count_in code c m i) → (k x : ℕ)
+        → Course m q s k x → Course m' q s k x
+    course_later {what} on none steady k x h =
+        record {
+          sight = sight_later k x h.sight;
+          known = h.known;
+          room = h.room;
+          unseen = h.unseen;
+          fresh = λ well_formed i ks low through.
+              let all = subst (StoodThere q i) more through in
+              let less = through_less q (λ part. is_some (contents_of i part) ≡ true) m.events es none all in
+              let was = h.fresh (passes.well_formed well_formed) i ks low less in
+              was ∙ sym (passes.stood well_formed i low
+              (through_now q (λ part. is_some (contents_of i part) ≡ true) m.events less)
+              (through_now q (λ part. is_some (contents_of i part) ≡ true) m'.events through));
+          once = λ well_formed i ks low.
+              subst (HeldSometime q (λ part. shows s i ≡ contents_of i part)) (sym more)
+              (held_later q (λ part. shows s i ≡ contents_of i part) m.events es none (h.once (passes.well_formed well_formed) i ks low));
+          alone = λ was i ks low.
+              h.alone (alone_less q m.events es none (subst (WasAlone q) more was)) i ks low ∙ sym (steady was i low);
+          own = own_later q what m.events m'.events on s x h.own;
+        }

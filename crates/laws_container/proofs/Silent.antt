@@ -1,0 +1,135 @@
+-- Steps that change no word, and write events that change nothing of the set nor of what stands: copies, what is shown, questions,
+-- and the end of any call but an add and a replace.
+use Rattle.std.proofs.Common.{◌≡◌, ℕ, Bool, true, false, Option, None, List, [], ◌∷◌, ◌++◌, length, get_or, fold, refl, ap, ◌∙◌, arith}
+use Rattle.std.specs.List.{AllByRecursion}
+use Rattle.std.proofs.lemmas.List.Sums.{fold-append}
+use Rattle.model.specs.declared.event.Event.{Event}
+use Rattle.model.specs.declared.event.Event.TheVariants.{Asked, Told, Copied, Shown, Finished}
+use Rattle.model.specs.declared.event.Start.TheVariants.{Container}
+use Rattle.model.specs.declared.families.container.ContainerStart.{ContainerStart}
+use Rattle.model.specs.declared.families.container.ContainerStart.TheVariants.{Add, Replace}
+use Rattle.model.specs.declared.families.container.calls.ContainerFlight.{ContainerFlight}
+use Rattle.model.specs.declared.party.Party.{Party}
+use Rattle.model.specs.Families.Container.Reading.{contents_after, announced_after}
+use Rattle.model.specs.Families.Indices.Reading.{locked_after}
+use Rattle.model.specs.Families.Indices.Robust.Promises.{SetDoes, HoldsRight}
+use Rattle.model.specs.Families.Indices.Robust.Reading.{filled_after, holder_after, settled_after, dead_after}
+use Rattle.model.proofs.Readings.{AreOwn, AreRight}
+use Rattle.laws_robust.specs.Gone.{GoneBy, AnswersBy}
+use Rattle.laws_robust.proofs.Invariant.{IsWorn}
+use Rattle.laws_robust.proofs.Effects.{Quiet, stays_same, quietly}
+use Rattle.laws_robust.proofs.Invariant as set_invariant
+use Rattle.laws_robust.proofs.Rights.{Right, right_after}
+use Rattle.laws_container.proofs.Effects.{OwesStill, calmly}
+use Rattle.laws_container.proofs.Invariant.{Scene, Inv, Changes, AreAllRight, Does, before, after, of_set, inv_of_set}
+use Rattle.laws_container.proofs.Left.{left_after}
+use Rattle.laws_container.proofs.Stages.{NoLook, IsHere, does_with}
+use Rattle.laws_container.proofs.Turns.{WellFormed}
+
+module _ {T : Type 0} where
+  abbrev pub EndsSilently : ContainerStart T → Type 0
+  EndsSilently (Add value owner) = ⊥
+  EndsSilently (Replace index value owner) = ⊥
+  EndsSilently start = Unit {0}
+
+  abbrev pub Silent : Event T → Type 0
+  Silent (Asked p index owner) = Unit {0}
+  Silent (Told p index owner) = Unit {0}
+  Silent (Copied p index value) = Unit {0}
+  Silent (Shown p index) = Unit {0}
+  Silent (Finished p (Container start) answer) = EndsSilently start
+  Silent e = ⊥
+
+  -- what goes over such events stays as it was
+  module _ {A : Type 0} (f : A → Event T → A) (stays : (e : Event T) → Silent e → (a : A) → f a e ≡ a) where
+    fold_stays : (es : List (Event T)) → AllByRecursion Silent es → (a : A) → fold f a es ≡ a
+    fold_stays [] h a = refl
+    fold_stays (e ∷ es) h a = ap (λ b. fold f b es) (stays e h.0 a) ∙ fold_stays es h.1 a
+
+  filled_stays : (i : ℕ) (e : Event T) → Silent e → (o : Option ℕ) → filled_after i o e ≡ o
+  filled_stays i e h o = grind arith
+
+  holder_stays : (i : ℕ) (e : Event T) → Silent e → (o : Option ℕ) → holder_after i o e ≡ o
+  holder_stays i e h o = grind arith
+
+  locked_stays : (e : Event T) → Silent e → (b : Bool) → locked_after b e ≡ b
+  locked_stays e h b = grind arith
+
+  dead_stays : (owner : ℕ) (e : Event T) → Silent e → (b : Bool) → dead_after owner b e ≡ b
+  dead_stays o e h b = grind arith
+
+  contents_stay : (i : ℕ) (e : Event T) → Silent e → (o : Option T) → contents_after i o e ≡ o
+  contents_stay i e h o = grind arith
+
+  left_stays : (i : ℕ) (e : Event T) → Silent e → (b : Bool) → left_after i b e ≡ b
+  left_stays i e h b = grind arith
+
+  settled_stays : (i : ℕ) (e : Event T) → Silent e → (o : Option ℕ) → settled_after i o e ≡ o
+  settled_stays i e h o = grind arith
+
+  right_stays : (i : ℕ) (e : Event T) → Silent e → (r : Right) → right_after i r e ≡ r
+  right_stays i e h r = grind arith
+
+  announced_stays : (i : ℕ) (e : Event T) → Silent e → (b : Bool) → announced_after i b e ≡ b
+  announced_stays i e h b = grind arith
+
+  does_right : (c : ℕ) (earlier : List (Event T)) (e : Event T) → Silent e → SetDoes c earlier e
+  does_right c earlier e h = grind arith
+
+  holds_right : (earlier : List (Event T)) (e : Event T) → Silent e → HoldsRight earlier e
+  holds_right earlier e h = grind arith
+
+  answers_right : (by : GoneBy) (worn : Type 0) (c : ℕ) (earlier : List (Event T)) (e : Event T) → Silent e → AnswersBy by worn c earlier e
+  answers_right by worn c earlier e h = grind arith
+
+  all_right : (P : List (Event T) → Event T → Type 0)
+      → ((earlier : List (Event T)) (e : Event T) → Silent e → P earlier e) → (earlier es : List (Event T))
+      → AllByRecursion Silent es → AreRight P earlier es
+  all_right P right earlier [] h = tt
+  all_right P right earlier (e ∷ es) h = (right earlier e h.0, all_right P right (earlier ++ e ∷ []) es h.1)
+
+  pub silent_quiet : (es : List (Event T)) → AllByRecursion Silent es → Quiet es
+  silent_quiet es h =
+      record {
+        filled = λ i o. fold_stays (filled_after i) (filled_stays i) es h o;
+        holder = λ i o. fold_stays (holder_after i) (holder_stays i) es h o;
+        settled = λ i o. fold_stays (settled_after i) (settled_stays i) es h o;
+        right = λ i r. fold_stays (right_after i) (right_stays i) es h r;
+        locked = λ b. fold_stays locked_after locked_stays es h b;
+        dead = λ owner b. fold_stays (dead_after owner) (dead_stays owner) es h b;
+        holds = λ earlier. all_right HoldsRight holds_right earlier es h;
+      }
+
+module _ {T : Type 0} (scene : Scene T) (inv : Inv scene) (words' : List ℕ) (same : words' ≡ scene.words)
+    (y : Party T) (es : List (Event T)) (silent : AllByRecursion Silent es) (own : AreOwn scene.party es) where
+  open scene use {capacity as c, party as p, events as events}
+
+  -- of the set
+  pub silent_set : set_invariant.Does (of_set scene) words' es
+  silent_set =
+      quietly (of_set scene) (inv_of_set scene inv) words' es
+      (stays_same (of_set scene) (inv_of_set scene inv) words' same).leaves (silent_quiet es silent) own
+      (all_right (SetDoes c) (does_right c) events es silent)
+      (all_right (AnswersBy scene.terms.by (IsWorn scene.terms.by words') c)
+      (answers_right scene.terms.by (IsWorn scene.terms.by words') c) events es silent)
+
+  -- of the elements
+  pub silent_changes : (well_formed : WellFormed (after scene words' y es) → WellFormed (before scene))
+      → OwesStill scene inv words' y es well_formed → Changes scene words' y es
+  silent_changes well_formed still =
+      calmly scene inv words' y es well_formed (λ n behind. ap (λ w. get_or w n 0) same) (ap length same)
+      (record {
+        contents = λ i. fold-append (contents_after i) None events es ∙ fold_stays (contents_after i) (contents_stay i) es silent _;
+        announced = λ i. fold-append (announced_after i) false events es ∙ fold_stays (announced_after i) (announced_stays i) es silent _;
+        left = λ i was. fold-append (left_after i) true events es ∙ (fold_stays (left_after i) (left_stays i) es silent _ ∙ was);
+        spares = λ holds q ne i o lives mine was. fold-append (left_after i) true events es ∙ (fold_stays (left_after i) (left_stays i) es silent _ ∙ was);
+      })
+      still
+
+  -- in a call that is no look
+  pub silently : (start : ContainerStart T) (flight : ContainerFlight T) (none : NoLook flight) (here : IsHere scene start flight)
+      → (well_formed : WellFormed (after scene words' y es) → WellFormed (before scene))
+      → OwesStill scene inv words' y es well_formed → AreAllRight scene words' y es
+      → Does scene words' scene.states y es
+  silently start flight none here well_formed still right =
+      does_with scene inv start flight none here words' y es (silent_changes well_formed still) silent_set right

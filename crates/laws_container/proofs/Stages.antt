@@ -1,0 +1,299 @@
+-- What a step of a call of the container has to show, and how a call goes on or ends.
+use Rattle.std.proofs.Common.{◌≡◌, ℕ, ◌+◌, ◌-◌, ◌≤◌, Bool, true, false, Option, Some, None, List, [], ◌∷◌, ◌++◌, fold}
+use Rattle.std.proofs.Common.{refl, sym, ap, subst, ◌∙◌, append-nil, arith}
+use Rattle.std.proofs.lemmas.List.Concat.{flat_map-append}
+use Rattle.std.proofs.lemmas.List.Sums.{fold-append}
+use Rattle.steps.specs.declared.ask.Ask.{Ask}
+use Rattle.steps.specs.declared.ask.After.{After}
+use Rattle.steps.specs.declared.ask.After.TheVariants.{GoOn, Done}
+use Rattle.steps.specs.declared.container.state.ContainerState.{ContainerState}
+use Rattle.model.specs.declared.event.Answer.{Answer}
+use Rattle.model.specs.declared.event.Event.{Event}
+use Rattle.model.specs.declared.event.Event.TheVariants.{Finished}
+use Rattle.model.specs.declared.event.Start.TheVariants.{Container}
+use Rattle.model.specs.declared.families.Flight.{Flight}
+use Rattle.model.specs.declared.families.Flight as flights
+use Rattle.model.specs.declared.families.Registry as registries
+use Rattle.model.specs.declared.families.container.ContainerStart.{ContainerStart}
+use Rattle.model.specs.declared.families.container.ContainerStart as starts
+use Rattle.model.specs.declared.families.container.calls.ContainerFlight.{ContainerFlight}
+use Rattle.model.specs.declared.families.container.calls.ContainerFlight as calls
+use Rattle.model.specs.declared.party.Doing.TheVariants.{Over}
+use Rattle.model.specs.declared.party.Party.{Party}
+use Rattle.model.specs.Families.{ask_of}
+use Rattle.model.specs.Families.Container.Bounds.{most_steps}
+use Rattle.model.specs.Families.Container.Calls.{want, after, goes_back, states_after}
+use Rattle.model.specs.Families.Container.Looks.{is_looking}
+use Rattle.model.specs.Families.Container.Promises.{StandsWellFormed, promise}
+use Rattle.model.specs.Families.Container.Reading.{Act, act, acts, acts_of}
+use Rattle.model.specs.Families.Container.States.{state_of}
+use Rattle.model.specs.Families.Container.Steps.{effects, questions}
+use Rattle.model.specs.Families.Indices.Robust.Reading.{Deed, deed, deeds, wrote_in, deeds_of}
+use Rattle.model.specs.Parties.{party_of, put, doing_of, flight_of}
+use Rattle.model.specs.Promises.Spans.{Stands}
+use Rattle.model.specs.Reading.{Open, own_after, span_of}
+use Rattle.model.specs.Step.{as_call, answer_in}
+use Rattle.model.specs.Turns.{old_of, words_after, change_of, step_count, number_of, party_after, ending_of, one_if}
+use Rattle.model.proofs.Readings.{AreOwn, AllFollow, span_of-own}
+use Rattle.laws_robust.proofs.Effects.{both_ways}
+use Rattle.laws_robust.proofs.Invariant as set_invariant
+use Rattle.laws_robust.proofs.Stages.{is_seen}
+use Rattle.laws_container.proofs.Invariant.{Scene, Inv, Does, Shows, AreAllRight, before, wrote_of, view}
+use Rattle.laws_container.proofs.Invariant as invariant
+use Rattle.laws_container.proofs.Knows.{View, Knows}
+use Rattle.laws_container.proofs.WellFormed.{IsWellFormedSoFar, well_formed_before}
+use Rattle.laws_container.proofs.Sights.{rests_later}
+use Rattle.laws_container.proofs.Standing.{At}
+use Rattle.laws_container.proofs.Standing as standing
+use Rattle.laws_container.proofs.Turns.{WellFormed, owes, flight_owes}
+
+module _ {T : Type 0} where
+  -- a call of the kind as one of any
+  abbrev pub any_call : After (ContainerFlight T) (Answer T) → After (Flight T) (Answer T)
+  any_call after = as_call flights.TheVariants.Container (λ answer. answer) after
+
+  -- events that make a span longer
+  abbrev pub Lengthens : List (Event T) → Type 0
+  Lengthens es =
+      (start : ContainerStart T) (w : List (Event T)) → fold own_after (Open (Container start) w) es ≡ Open (Container start) (w ++ es)
+
+  pub none_lengthens : Lengthens []
+  none_lengthens start w = ap (λ es. Open (Container start) es) (sym (append-nil w))
+
+  abbrev pub NoReplace : ContainerStart T → Type 0
+  NoReplace (starts.TheVariants.Replace index value owner) = ⊥
+  NoReplace start = Unit {0}
+
+  abbrev pub NoLook : ContainerFlight T → Type 0
+  NoLook (calls.TheVariants.Look which call) = ⊥
+  NoLook flight = Unit {0}
+
+module _ {T : Type 0} (scene : Scene T) where
+  open scene use {
+    coding as code,
+    capacity as c,
+    party as p,
+    steps as steps,
+    backs as backs,
+    since as since,
+    changes as changes,
+    turns as turns,
+    latest as latest,
+    events as events,
+  }
+
+  abbrev pub ws : List ℕ
+  ws = scene.words
+
+  -- what the call under way has written, and done to the set and to elements
+  abbrev pub wrote : List (Event T)
+  wrote = wrote_of p events
+
+  abbrev pub all : List Deed
+  all = deeds_of p events
+
+  abbrev pub done : List (Act T)
+  done = acts_of p events
+
+  -- the party has this call of this name under way
+  pub record IsHere (start : ContainerStart T) (flight : ContainerFlight T) : Type 0 where
+    pub span : span_of p events ≡ Open (Container start) (wrote_of p events)
+    pub party : Party T
+    pub found : party_of p latest ≡ Some party
+    pub taken : party.steps ≡ steps
+    pub flies : flight_of (Some party.doing) ≡ Some (flights.TheVariants.Container flight)
+
+  -- ---- a step
+
+  abbrev party : ContainerStart T → Party T
+  party start = record { start = Container start; steps = steps; backs = backs; doing = Over 0 }
+
+  abbrev pub party_then : ContainerStart T → Option Ask → Bool → After (ContainerFlight T) (Answer T) → Party T
+  party_then start ask back after =
+      party_after (party start) since changes (step_count ask) (change_of ws ask)
+      (record { after = any_call after; back = back; wrote = []; kept = registries.TheVariants.Container scene.dead scene.states })
+
+  abbrev pub since_then : Option Ask → ℕ
+  since_then ask = since + change_of ws ask
+
+  abbrev pub changes_then : Option Ask → ℕ
+  changes_then ask = changes + change_of ws ask
+
+  abbrev pub backs_then : Bool → ℕ
+  backs_then back = backs + one_if back
+
+  -- what the call sees now, and after a step that leaves these states and writes these events
+  abbrev pub sees_now : View T
+  sees_now = view scene.terms ws scene.states latest events p since changes backs
+
+  abbrev pub then_sees : Option Ask → Bool → List (ℕ × ContainerState T) → Party T → List (Event T) → View T
+  then_sees ask back states' y es =
+      view scene.terms (words_after ws ask) states' (put p y latest) (events ++ es) p (since_then ask) (changes_then ask) (backs_then back)
+
+  -- a step with this operation after which the call goes on or is done, that leaves these states and writes these events
+  abbrev pub ShowsThen : ContainerStart T → Option Ask → Bool → List (ℕ × ContainerState T) → List (Event T) → After (ContainerFlight T) (Answer T) → Type 0
+  ShowsThen start ask back states' es after =
+      Shows scene (words_after ws ask) states' (Open (Container start) (wrote_of p events)) (party_then start ask back after) es (changes + change_of ws ask)
+
+  -- the same by what it did
+  abbrev pub Leads : ContainerStart T → Option Ask → Bool → List (ℕ × ContainerState T) → List (Event T) → After (ContainerFlight T) (Answer T) → Type 0
+  Leads start ask back states' did after =
+      ShowsThen start ask back states' (did ++ ending_of p (Container start) (answer_in (any_call after))) after
+
+  -- the step of a call that is handed this answer
+  abbrev pub AnswerOf : ContainerStart T → ContainerFlight T → Option Ask → ℕ → Type 0
+  AnswerOf start flight ask answer =
+      Leads start ask (goes_back flight answer) (states_after code p flight answer scene.states)
+      (effects code p (state_of p scene.states) flight answer ++ questions p flight answer)
+      (after code (state_of p scene.states) flight answer)
+
+  abbrev pub StepOf : ContainerStart T → ContainerFlight T → Type 0
+  StepOf start flight =
+      AnswerOf start flight (ask_of (want code flight)) (old_of ws (ask_of (want code flight)))
+
+  abbrev pub DecisionOf : ContainerStart T → ContainerFlight T → Bool → Type 0
+  DecisionOf start flight said = AnswerOf start flight None (number_of said)
+
+  -- ---- what the party has written
+
+  module _ (start : ContainerStart T) (span : span_of p events ≡ Open (Container start) (wrote_of p events))
+      (es : List (Event T)) (own : AreOwn p es) (longer : Lengthens es) where
+    wrote_more : wrote_of p (events ++ es) ≡ wrote_of p events ++ es
+    wrote_more = ap wrote_in (span_of-own p events es own ∙ (ap (λ s. fold own_after s es) span ∙ longer start (wrote_of p events)))
+
+    pub deeds_more : deeds_of p (events ++ es) ≡ deeds_of p events ++ deeds es
+    deeds_more = ap deeds wrote_more ∙ flat_map-append deed (wrote_of p events) es
+
+    pub acts_more : acts_of p (events ++ es) ≡ acts_of p events ++ acts es
+    acts_more = ap acts wrote_more ∙ flat_map-append act (wrote_of p events) es
+
+  -- ---- the call goes on, or is done
+
+  pub goes_on :
+      (start : ContainerStart T) (flight : ContainerFlight T) (ask : Option Ask) (back : Bool)
+      (states' : List (ℕ × ContainerState T)) (did : List (Event T))
+      → span_of p events ≡ Open (Container start) (wrote_of p events) → Lengthens did
+      → Does scene (words_after ws ask) states' (party_then start ask back (GoOn flight)) did
+      → AllFollow (Stands promise c) (Open (Container start) (wrote_of p events)) did
+      → steps + step_count ask ≤ standing.number_of c code.size flight (backs_then back)
+      → At c code.size (deeds_of p events ++ deeds did) (acts_of p events ++ acts did) start flight
+      → Knows code c flight (then_sees ask back states' (party_then start ask back (GoOn flight)) did)
+      → ShowsThen start ask back states' did (GoOn flight)
+  goes_on start flight ask back states' did span longer does stands few at known =
+      record {
+        does = does;
+        stands = stands;
+        here =
+            record {
+              span = longer start (wrote_of p events) ∙ ap (λ es. Open (Container start) es) (sym (wrote_more start span did does.set.own longer));
+              steps = few;
+              at = subst (λ d. At c code.size d (acts_of p (events ++ did)) start flight) (sym (deeds_more start span did does.set.own longer))
+                  (subst (λ a. At c code.size (deeds_of p events ++ deeds did) a start flight) (sym (acts_more start span did does.set.own longer)) at);
+            };
+        knows = known;
+        seen = is_seen ws ask changes;
+      }
+
+  pub ends :
+      (start : ContainerStart T) (answer : Answer T) (ask : Option Ask) (back : Bool)
+      (states' : List (ℕ × ContainerState T)) (did : List (Event T))
+      → span_of p events ≡ Open (Container start) (wrote_of p events) → Lengthens did
+      → Does scene (words_after ws ask) states' (party_then start ask back (Done answer)) (did ++ Finished p (Container start) answer ∷ [])
+      → AllFollow (Stands promise c) (Open (Container start) (wrote_of p events)) (did ++ Finished p (Container start) answer ∷ [])
+      → steps + step_count ask ≤ most_steps c code.size start (backs_then back)
+      → backs_then back ≤ changes_then ask - since_then ask
+      → ShowsThen start ask back states' (did ++ Finished p (Container start) answer ∷ []) (Done answer)
+  ends start answer ask back states' did span longer does stands few paid =
+      record {
+        does = does;
+        stands = stands;
+        here =
+            record {
+              answer = answer;
+              wrote = wrote_of p events ++ did;
+              span =
+                  fold-append own_after (Open (Container start) (wrote_of p events)) did (Finished p (Container start) answer ∷ [])
+                  ∙ ap (λ s. own_after s (Finished p (Container start) answer)) (longer start (wrote_of p events));
+              steps = few;
+            };
+        knows = paid;
+        seen = is_seen ws ask changes;
+      }
+
+  -- the same of a step that writes nothing
+  pub goes_calmly :
+      (start : ContainerStart T) (flight : ContainerFlight T) (ask : Option Ask) (back : Bool) (states' : List (ℕ × ContainerState T))
+      → span_of p events ≡ Open (Container start) (wrote_of p events)
+      → Does scene (words_after ws ask) states' (party_then start ask back (GoOn flight)) []
+      → steps + step_count ask ≤ standing.number_of c code.size flight (backs_then back)
+      → At c code.size (deeds_of p events) (acts_of p events) start flight
+      → Knows code c flight
+      (view scene.terms (words_after ws ask) states' (put p (party_then start ask back (GoOn flight)) latest) events
+      p (since_then ask) (changes_then ask) (backs_then back))
+      → ShowsThen start ask back states' [] (GoOn flight)
+  goes_calmly start flight ask back states' span does few at known =
+      goes_on start flight ask back states' [] span none_lengthens does tt few
+      (subst (λ d. At c code.size d (acts_of p events ++ []) start flight) (sym (append-nil (deeds_of p events)))
+      (subst (λ a. At c code.size (deeds_of p events) a start flight) (sym (append-nil (acts_of p events))) at))
+      (subst (λ es. Knows code c flight
+      (view scene.terms (words_after ws ask) states' (put p (party_then start ask back (GoOn flight)) latest) es p
+      (since_then ask) (changes_then ask) (backs_then back)))
+      (sym (append-nil events)) known)
+
+  -- ---- what it owes the changes
+
+  pub owes_is : (start : ContainerStart T) (flight : ContainerFlight T) → IsHere start flight
+      → owes (flight_of (doing_of (party_of p latest))) ≡ flight_owes flight
+  owes_is start flight here = ap (λ o. owes (flight_of (doing_of o))) here.found ∙ ap owes here.flies
+
+  -- a call that owes nothing leaves nothing owing
+  pub owes_none : (start : ContainerStart T) (flight : ContainerFlight T) (y : Party T) → IsHere start flight
+      → flight_owes flight ≡ false → owes (flight_of (doing_of (party_of p latest))) ≡ true
+      → owes (flight_of (Some y.doing)) ≡ true
+  owes_none start flight y here not was = both_ways (flight_owes flight) not (sym (owes_is start flight here) ∙ was)
+
+  -- ---- a turn ago
+
+  -- a call that is no replace says nothing of a well-formed run
+  no_replace : (start : ContainerStart T) → NoReplace start
+      → span_of p events ≡ Open (Container start) (wrote_of p events) → (o : Option (Party T))
+      → StandsWellFormed p o events
+  no_replace start none span o = grind arith
+
+  pub was_well_formed : (start : ContainerStart T) → NoReplace start
+      → span_of p events ≡ Open (Container start) (wrote_of p events)
+      → (words' : List ℕ) (y : Party T) (es : List (Event T)) → AreOwn p es
+      → WellFormed (invariant.after scene words' y es) → WellFormed (before scene)
+  was_well_formed start none span words' y es own =
+      well_formed_before scene.terms p y latest events es own (λ h. no_replace start none span (party_of p latest))
+
+  -- the same of a turn that writes nothing
+  pub was_well_formed_calmly : (start : ContainerStart T) → NoReplace start
+      → span_of p events ≡ Open (Container start) (wrote_of p events) → (y : Party T)
+      → IsWellFormedSoFar scene.terms (put p y latest) events → WellFormed (before scene)
+  was_well_formed_calmly start none span y h =
+      was_well_formed start none span ws y [] tt (subst (λ es. IsWellFormedSoFar scene.terms (put p y latest) es) (sym (append-nil events)) h)
+
+  -- ---- the states of the parties, where the call is no look
+
+  no_look : (flight : ContainerFlight T) → NoLook flight → is_looking (Some (flights.TheVariants.Container flight)) ≡ false
+  no_look flight h = grind arith
+
+  module _ (inv : Inv scene) (start : ContainerStart T) (flight : ContainerFlight T) (none : NoLook flight) (here : IsHere start flight) where
+    pub is_idle_now : is_looking (flight_of (doing_of (party_of p latest))) ≡ false
+    is_idle_now = ap (λ o. is_looking (flight_of (doing_of o))) here.found ∙ (ap is_looking here.flies ∙ no_look flight none)
+
+    -- what a turn does that leaves the states
+    pub does_with : (words' : List ℕ) (y : Party T) (es : List (Event T)) → invariant.Changes scene words' y es
+        → set_invariant.Does (invariant.of_set scene) words' es → AreAllRight scene words' y es
+        → Does scene words' scene.states y es
+    does_with words' y es changes set right =
+        record {
+          set = set;
+          changes = changes;
+          right = right;
+          others = λ q ne. refl;
+          rests =
+              λ s idle found. rests_later code c (before scene) (invariant.after scene words' y es) es refl
+              changes.passes p s (inv.elements.rests p s is_idle_now found);
+        }

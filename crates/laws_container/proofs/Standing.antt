@@ -1,0 +1,330 @@
+-- Where a call of the container stands: how many steps it has taken at most, and what it has done to the set and to elements.
+use Rattle.std.proofs.Common.{◌≡◌, ◌⊎◌, ℕ, ◌+◌, ◌*◌, ◌%◌, ◌<◌, ◌≤◌, List, [], ◌∷◌, arith}
+use Rattle.std.specs.List.{AllByRecursion}
+use Rattle.steps.specs.declared.container.add.AddStage.{AddStage}
+use Rattle.steps.specs.declared.container.add.AddStage as adds
+use Rattle.steps.specs.declared.container.find.FindStage.{FindStage}
+use Rattle.steps.specs.declared.container.find.FindStage as finds
+use Rattle.steps.specs.declared.container.look.LookStage.{LookStage}
+use Rattle.steps.specs.declared.container.look.LookStage as looks
+use Rattle.steps.specs.declared.container.recover.RecoverStage.{RecoverStage}
+use Rattle.steps.specs.declared.container.recover.RecoverStage as recovers
+use Rattle.steps.specs.declared.container.remove.RemoveStage.{RemoveStage}
+use Rattle.steps.specs.declared.container.remove.RemoveStage as removes
+use Rattle.steps.specs.declared.container.replace.ReplaceStage.{ReplaceStage}
+use Rattle.steps.specs.declared.container.replace.ReplaceStage as replaces
+use Rattle.steps.specs.declared.copied.Buffer as buffers
+use Rattle.steps.specs.declared.indices.enums.ReleaseMode.{ReleaseMode}
+use Rattle.steps.specs.declared.indices.enums.ReleaseMode.TheVariants.{LockIfLastIndex, Default}
+use Rattle.steps.specs.declared.indices.robust.parts.Count.{Count as Counting}
+use Rattle.steps.specs.Indices.Robust.Parts.{empty}
+use Rattle.model.specs.declared.event.Answer.TheVariants.{State}
+use Rattle.model.specs.declared.families.container.ContainerStart.{ContainerStart}
+use Rattle.model.specs.declared.families.container.ContainerStart as starts
+use Rattle.model.specs.declared.families.container.calls.ContainerFlight.{ContainerFlight}
+use Rattle.model.specs.declared.families.container.calls.ContainerFlight.TheVariants.{Add, Remove, Replace, Find, Recover, Look, Count, IsLocked}
+use Rattle.model.specs.declared.families.container.calls.CountOf.{CountOf}
+use Rattle.model.specs.declared.families.container.calls.CountOf as counts
+use Rattle.model.specs.declared.families.container.calls.LookOf.{LookOf}
+use Rattle.model.specs.declared.families.container.calls.LookOf as kinds
+use Rattle.model.specs.declared.families.indices.robust.RobustStart as set_starts
+use Rattle.model.specs.Families.Container.Calls.{place_of}
+use Rattle.model.specs.Families.Container.Reading.{Act, Hides, Sees, seen_in, Has, HasLatest}
+use Rattle.model.specs.Families.Container.Spans.{HasDone}
+use Rattle.model.specs.Families.Indices.Robust.Bounds as set_bounds
+use Rattle.model.specs.Families.Indices.Robust.Reading.{Deed, Fills, Grants, Frees, Asks, Yes, IsOneOf, IsLatest, asked_in}
+use Rattle.model.specs.Families.Indices.Robust.Spans.{HasJustFreed}
+use Rattle.laws_robust.proofs.Standing.{raise_number, count_number, lock_number, acquire_number, release_number, AcquireAt, CountAt, LockAt, ReleaseAt}
+
+-- ---- the calls by their stages
+
+module _ {T : Type 0} where
+  abbrev pub add_at : ℕ → T → ℕ → AddStage → ContainerFlight T
+  add_at c value owner stage =
+      Add
+      (record {
+        call = record { capacity = c; stage = stage; of = record {} };
+        given = record { value = value; owner = owner };
+        room = tt;
+      })
+
+  abbrev pub remove_at : ℕ → ℕ → ℕ → ReleaseMode → RemoveStage → ContainerFlight T
+  remove_at c index owner mode stage =
+      Remove
+      (record {
+        call = record { capacity = c; stage = stage };
+        given = record { index = index; owner = owner; mode = mode };
+        room = tt;
+      })
+
+  abbrev pub replace_at : ℕ → ℕ → T → ℕ → ReplaceStage → ContainerFlight T
+  replace_at c index value owner stage =
+      Replace
+      (record {
+        call = record { capacity = c; stage = stage; of = record {} };
+        given = record { index = index; owner = owner; value = value };
+        room = tt;
+      })
+
+  abbrev pub find_at : ℕ → ℕ → buffers.Buffer 128 → FindStage → ContainerFlight T
+  find_at c owner room stage =
+      Find
+      (record {
+        call = record { capacity = c; stage = stage; of = record {} };
+        given = owner;
+        room = room;
+      })
+
+  abbrev pub recover_at : ℕ → ℕ → ReleaseMode → buffers.Buffer 128 → RecoverStage → ContainerFlight T
+  recover_at c owner mode room stage =
+      Recover
+      (record {
+        call = record { capacity = c; stage = stage; of = record {} };
+        given = record { owner = owner; mode = mode };
+        room = room;
+      })
+
+  abbrev pub look_at : LookOf → ℕ → LookStage → ContainerFlight T
+  look_at which c stage = Look which (record { capacity = c; stage = stage; of = record {} })
+
+  abbrev pub count_at : CountOf → ℕ → Counting → ContainerFlight T
+  count_at which c count =
+      Count which
+      (record { call = record { capacity = c; count = count }; given = tt; room = tt })
+
+  abbrev pub lock_at : ContainerFlight T
+  lock_at = IsLocked (record { call = record {}; given = tt; room = tt })
+
+-- ---- how many steps they have taken at most, where a value has z words
+
+abbrev pub add_number : ℕ → ℕ → AddStage → ℕ → ℕ
+add_number c z (adds.TheVariants.Acquires stage) backs = acquire_number c stage backs
+add_number c z (adds.TheVariants.LoadsCount index) backs = c + 3 + backs * (c + 1)
+add_number c z (adds.TheVariants.Hides index count) backs = c + 4 + backs * (c + 1)
+add_number c z (adds.TheVariants.Stores index at) backs = c + 5 + at + backs * (c + 1)
+add_number c z (adds.TheVariants.AddsCount index) backs = c + 5 + z + backs * (c + 1)
+add_number c z (adds.TheVariants.AddsChange index) backs = c + 6 + z + backs * (c + 1)
+
+-- a release, to its end
+abbrev pub release_total : ℕ → ℕ → ℕ → ReleaseMode → ℕ → ℕ
+release_total c index owner mode backs =
+    set_bounds.most_steps c (set_starts.TheVariants.Release index owner mode) backs
+
+abbrev pub remove_number : ℕ → ℕ → ℕ → ReleaseMode → RemoveStage → ℕ → ℕ
+remove_number c index owner mode removes.TheVariants.Refuses backs = 0
+remove_number c index owner mode removes.TheVariants.LoadsCount backs = 0
+remove_number c index owner mode (removes.TheVariants.Releases count stage) backs =
+    1 + release_number c mode stage backs
+remove_number c index owner mode (removes.TheVariants.Hides count state) backs =
+    1 + release_total c index owner mode backs
+remove_number c index owner mode (removes.TheVariants.AddsChange state) backs =
+    2 + release_total c index owner mode backs
+
+abbrev pub replace_number : ℕ → ReplaceStage → ℕ
+replace_number z replaces.TheVariants.Refuses = 0
+replace_number z replaces.TheVariants.LoadsCell = 0
+replace_number z replaces.TheVariants.LoadsCount = 1
+replace_number z (replaces.TheVariants.Hides count) = 2
+replace_number z (replaces.TheVariants.Stores at) = 3 + at
+replace_number z replaces.TheVariants.AddsCount = 3 + z
+replace_number z replaces.TheVariants.AddsChange = 4 + z
+
+abbrev pub find_number : ℕ → FindStage → ℕ
+find_number z (finds.TheVariants.LoadsCell index found) = index * (z + 3)
+find_number z (finds.TheVariants.LoadsCount index found) = 1 + index * (z + 3)
+find_number z (finds.TheVariants.LoadsWord index found count at) = 2 + at + index * (z + 3)
+find_number z (finds.TheVariants.ChecksCount index found count) = 2 + z + index * (z + 3)
+find_number z (finds.TheVariants.Asks index found) = 3 + z + index * (z + 3)
+
+-- what a turn back takes a recovery, and an index
+abbrev pub for_back : ℕ → ℕ → ReleaseMode → ℕ
+for_back c z Default = z + 1
+for_back c z LockIfLastIndex = z + c + 4
+
+abbrev pub for_index : ℕ → ℕ → ReleaseMode → ℕ
+for_index c z Default = z + 7
+for_index c z LockIfLastIndex = z + c + 10
+
+abbrev pub recover_number : ℕ → ℕ → ReleaseMode → RecoverStage → ℕ → ℕ
+recover_number c z mode recovers.TheVariants.LoadsCounter backs = 0
+recover_number c z mode (recovers.TheVariants.LoadsCell index) backs =
+    1 + index * for_index c z mode + backs * for_back c z mode
+recover_number c z mode (recovers.TheVariants.LoadsCount index) backs =
+    2 + index * for_index c z mode + backs * for_back c z mode
+recover_number c z mode (recovers.TheVariants.LoadsWord index count at) backs =
+    3 + at + index * for_index c z mode + backs * for_back c z mode
+recover_number c z mode (recovers.TheVariants.ChecksCount index count) backs =
+    3 + z + index * for_index c z mode + backs * for_back c z mode
+recover_number c z mode (recovers.TheVariants.Asks index count) backs =
+    4 + z + index * for_index c z mode + backs * for_back c z mode
+recover_number c z mode (recovers.TheVariants.EmptiesCell index count) backs =
+    4 + z + index * for_index c z mode + backs * for_back c z mode
+recover_number c z mode (recovers.TheVariants.Hides index count) backs =
+    5 + z + index * for_index c z mode + backs * for_back c z mode
+recover_number c z mode (recovers.TheVariants.Raises index raise) backs =
+    6 + z + raise_number raise + index * for_index c z mode + backs * for_back c z mode
+recover_number c z mode (recovers.TheVariants.Locks index lock) backs =
+    8 + z + lock_number c lock + index * for_index c z mode + backs * for_back c z mode
+recover_number c z mode recovers.TheVariants.LoadsCounterAgain backs =
+    1 + c * for_index c z mode + backs * for_back c z mode
+recover_number c z mode (recovers.TheVariants.AddsChange state) backs =
+    2 + c * for_index c z mode + backs * for_back c z mode
+
+abbrev pub look_number : ℕ → LookStage → ℕ → ℕ
+look_number z looks.TheVariants.LoadsChange backs = 0
+look_number z (looks.TheVariants.LoadsCount index) backs = 1 + index * (z + 2) + backs * (z + 1)
+look_number z (looks.TheVariants.LoadsWord index count at) backs =
+    2 + at + index * (z + 2) + backs * (z + 1)
+look_number z (looks.TheVariants.ChecksCount index count) backs =
+    2 + z + index * (z + 2) + backs * (z + 1)
+
+abbrev pub number_of : {T : Type 0} → ℕ → ℕ → ContainerFlight T → ℕ → ℕ
+number_of c z (Add run) backs = add_number c z run.call.stage backs
+number_of c z (Remove run) backs =
+    remove_number c run.given.index run.given.owner run.given.mode run.call.stage backs
+number_of c z (Replace run) backs = replace_number z run.call.stage
+number_of c z (Find run) backs = find_number z run.call.stage
+number_of c z (Recover run) backs = recover_number c z run.given.mode run.call.stage backs
+number_of c z (Look which call) backs = look_number z call.stage backs
+number_of c z (Count which run) backs = count_number c run.call.count + backs * (c + 2)
+number_of c z (IsLocked run) backs = 0
+
+-- ---- where they stand, and what they have done to the set and to elements
+
+-- it has come to lower ones than this
+abbrev pub AreBelow : ℕ → List ℕ → Type 0
+AreBelow bound indices = AllByRecursion (λ i. i < bound) indices
+
+module _ {T : Type 0} (c z : ℕ) (all : List Deed) (done : List (Act T)) where
+  -- it may have hidden what an earlier owner left
+  abbrev pub MayHaveHidden : ℕ → Type 0
+  MayHaveHidden index = (done ≡ []) ⊎ (done ≡ Hides index ∷ [])
+
+  abbrev pub IsGranted : ℕ → ℕ → Type 0
+  IsGranted owner index = (index < c) × (all ≡ Fills index owner ∷ Grants index owner ∷ [])
+
+  abbrev pub AddAt : ℕ → AddStage → Type 0
+  AddAt owner (adds.TheVariants.Acquires stage) = AcquireAt c owner all stage × (done ≡ [])
+  AddAt owner (adds.TheVariants.LoadsCount index) = IsGranted owner index × (done ≡ [])
+  AddAt owner (adds.TheVariants.Hides index count) =
+      IsGranted owner index × (done ≡ []) × (count % 2 ≡ 1)
+  AddAt owner (adds.TheVariants.Stores index at) =
+      IsGranted owner index × MayHaveHidden index × (at < z)
+  AddAt owner (adds.TheVariants.AddsCount index) = IsGranted owner index × MayHaveHidden index
+  AddAt owner (adds.TheVariants.AddsChange index) = IsGranted owner index
+
+  abbrev pub RemoveAt : ℕ → ℕ → ReleaseMode → RemoveStage → Type 0
+  RemoveAt index owner mode removes.TheVariants.Refuses = (c ≤ index) × (all ≡ [])
+  RemoveAt index owner mode removes.TheVariants.LoadsCount =
+      (index < c) × (all ≡ []) × (done ≡ [])
+  RemoveAt index owner mode (removes.TheVariants.Releases count stage) =
+      (index < c) × ReleaseAt c index owner mode all stage × (done ≡ [])
+  RemoveAt index owner mode (removes.TheVariants.Hides count state) =
+      (index < c) × HasDone {T = T} (starts.TheVariants.Remove index owner mode) (State state) all []
+      × IsOneOf (Frees index owner) all × (done ≡ []) × (count % 2 ≡ 1)
+  RemoveAt index owner mode (removes.TheVariants.AddsChange state) =
+      (index < c) × HasDone {T = T} (starts.TheVariants.Remove index owner mode) (State state) all []
+
+  abbrev pub ReplaceAt : ℕ → ReplaceStage → Type 0
+  ReplaceAt index replaces.TheVariants.Refuses = (c ≤ index) × (all ≡ []) × (done ≡ [])
+  ReplaceAt index replaces.TheVariants.LoadsCell = (index < c) × (all ≡ []) × (done ≡ [])
+  ReplaceAt index replaces.TheVariants.LoadsCount = (index < c) × (all ≡ []) × (done ≡ [])
+  ReplaceAt index (replaces.TheVariants.Hides count) =
+      (index < c) × (all ≡ []) × (done ≡ []) × (count % 2 ≡ 1)
+  ReplaceAt index (replaces.TheVariants.Stores at) =
+      (index < c) × (all ≡ []) × MayHaveHidden index × (at < z)
+  ReplaceAt index replaces.TheVariants.AddsCount = (index < c) × (all ≡ []) × MayHaveHidden index
+  ReplaceAt index replaces.TheVariants.AddsChange = (index < c) × (all ≡ [])
+
+  -- a copy of the element at an index, of which so many words are read under this number
+  abbrev pub CopiesAt : ℕ → ℕ → ℕ → Type 0
+  CopiesAt index count at = (index < c) × AreBelow index (seen_in done) × (count % 2 ≡ 1)
+
+  abbrev pub FindAt : FindStage → Type 0
+  FindAt (finds.TheVariants.LoadsCell index found) =
+      (all ≡ []) × (index < c) × AreBelow index (seen_in done)
+  FindAt (finds.TheVariants.LoadsCount index found) =
+      (all ≡ []) × (index < c) × AreBelow index (seen_in done)
+  FindAt (finds.TheVariants.LoadsWord index found count at) =
+      (all ≡ []) × CopiesAt index count at × (at < z)
+  FindAt (finds.TheVariants.ChecksCount index found count) = (all ≡ []) × CopiesAt index count z
+  FindAt (finds.TheVariants.Asks index found) =
+      (all ≡ []) × (index < c) × AreBelow (index + 1) (seen_in done)
+
+  -- it was asked about, or shown to be nothing
+  abbrev pub AskedOrShown : ℕ → ℕ → Type 0
+  AskedOrShown owner index = IsOneOf (Asks index owner) all ⊎ Has (Sees index) done
+
+  -- a recovery has come to indices below this one, and has asked about each that it has freed, or was shown it
+  pub record IsInCourse (owner index bound : ℕ) : Type 0 where
+    pub within : index < c
+    pub seen : AreBelow bound (seen_in done)
+    pub asked : AreBelow bound (asked_in all)
+    pub freed : (i : ℕ) → IsOneOf (Frees i owner) all → AskedOrShown owner i
+
+  abbrev pub RecoverAt : ℕ → ReleaseMode → RecoverStage → Type 0
+  RecoverAt owner mode recovers.TheVariants.LoadsCounter = (all ≡ []) × (done ≡ [])
+  RecoverAt owner mode (recovers.TheVariants.LoadsCell index) = IsInCourse owner index index
+  RecoverAt owner mode (recovers.TheVariants.LoadsCount index) = IsInCourse owner index index
+  RecoverAt owner mode (recovers.TheVariants.LoadsWord index count at) =
+      IsInCourse owner index index × (count % 2 ≡ 1) × (at < z)
+  RecoverAt owner mode (recovers.TheVariants.ChecksCount index count) =
+      IsInCourse owner index index × (count % 2 ≡ 1)
+  RecoverAt owner mode (recovers.TheVariants.Asks index count) =
+      IsInCourse owner index (index + 1) × (count % 2 ≡ 1) × IsLatest (Asks index owner) all
+  RecoverAt owner mode (recovers.TheVariants.EmptiesCell index count) =
+      IsInCourse owner index (index + 1)
+      × ((IsLatest (Yes index owner) all × IsOneOf (Asks index owner) all)
+      ⊎ HasLatest (Sees index) done)
+  RecoverAt owner mode (recovers.TheVariants.Hides index count) =
+      IsInCourse owner index (index + 1) × (count % 2 ≡ 1) × IsLatest (Frees index owner) all
+  RecoverAt owner mode (recovers.TheVariants.Raises index raise) =
+      IsInCourse owner index (index + 1) × HasJustFreed all
+  RecoverAt owner mode (recovers.TheVariants.Locks index lock) =
+      IsInCourse owner index (index + 1) × HasJustFreed all × (mode ≡ LockIfLastIndex) × LockAt c lock
+  RecoverAt owner mode recovers.TheVariants.LoadsCounterAgain =
+      (i : ℕ) → IsOneOf (Frees i owner) all → AskedOrShown owner i
+  RecoverAt owner mode (recovers.TheVariants.AddsChange state) = Unit {0}
+
+  abbrev pub LookAt : LookStage → Type 0
+  LookAt looks.TheVariants.LoadsChange = (all ≡ []) × (done ≡ [])
+  LookAt (looks.TheVariants.LoadsCount index) =
+      (all ≡ []) × (index < c) × AreBelow index (seen_in done)
+  LookAt (looks.TheVariants.LoadsWord index count at) =
+      (all ≡ []) × CopiesAt index count at × (at < z)
+  LookAt (looks.TheVariants.ChecksCount index count) = (all ≡ []) × CopiesAt index count z
+
+  -- where a call of this name stands
+  abbrev pub At : ContainerStart T → ContainerFlight T → Type 0
+  At (starts.TheVariants.Add value owner) (Add run) =
+      (run.call.capacity ≡ c) × (run.given ≡ record { value = value; owner = owner })
+      × (owner < empty) × AddAt owner run.call.stage
+  At (starts.TheVariants.Remove index owner mode) (Remove run) =
+      (run.call.capacity ≡ c)
+      × (run.given ≡ record { index = place_of c index; owner = owner; mode = mode })
+      × (owner < empty) × RemoveAt index owner mode run.call.stage
+  At (starts.TheVariants.Replace index value owner) (Replace run) =
+      (run.call.capacity ≡ c)
+      × (run.given ≡ record { index = place_of c index; owner = owner; value = value })
+      × (owner < empty) × ReplaceAt index run.call.stage
+  At (starts.TheVariants.Find owner) (Find run) =
+      (run.call.capacity ≡ c) × (run.given ≡ owner) × (owner < empty) × FindAt run.call.stage
+  At (starts.TheVariants.Recover owner mode) (Recover run) =
+      (run.call.capacity ≡ c) × (run.given ≡ record { owner = owner; mode = mode })
+      × (owner < empty) × RecoverAt owner mode run.call.stage
+  At starts.TheVariants.GetState (Look which call) =
+      (call.capacity ≡ c) × (which ≡ kinds.TheVariants.GetState) × LookAt call.stage
+  At starts.TheVariants.UpdateState (Look which call) =
+      (call.capacity ≡ c) × (which ≡ kinds.TheVariants.UpdateState) × LookAt call.stage
+  At starts.TheVariants.Len (Count which run) =
+      (run.call.capacity ≡ c) × (which ≡ counts.TheVariants.Len) × CountAt c run.call.count
+      × (all ≡ [])
+  At starts.TheVariants.IsEmpty (Count which run) =
+      (run.call.capacity ≡ c) × (which ≡ counts.TheVariants.IsEmpty) × CountAt c run.call.count
+      × (all ≡ [])
+  At starts.TheVariants.IsLocked (IsLocked run) = all ≡ []
+  At start flight = ⊥
+
+-- an index of the container is placed as it is, and any other at its end
+pub place_is : (c index : ℕ) → index < c → place_of c index ≡ index
+place_is c index below = grind arith

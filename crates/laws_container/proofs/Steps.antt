@@ -1,0 +1,271 @@
+-- The steps of the calls of a container on its own words: a load, a hide, a store, a place, and the end that counts a change.
+use Rattle.std.proofs.Common.{◌≡◌, ◌≢◌, ⊎_elim, ℕ, ◌%◌, ◌<◌, Bool, true, false, Some, None, is_some, List, [], ◌∷◌}
+use Rattle.std.proofs.Common.{◌++◌, length, get_or, set, refl, sym, ap, subst, ◌∙◌, arith}
+use Rattle.std.proofs.lemmas.Bool.{cases_eq}
+use Rattle.std.proofs.lemmas.List.Sums.{fold-append}
+use Rattle.steps.specs.Container.Layout.{change_word, count_word, element_word}
+use Rattle.steps.specs.Indices.Robust.Parts.{one_more}
+use Rattle.model.specs.declared.event.Answer.{Answer}
+use Rattle.model.specs.declared.event.Event.{Event}
+use Rattle.model.specs.declared.event.Event.TheVariants.{Placed, Hidden, Finished}
+use Rattle.model.specs.declared.event.Start.TheVariants.{Container}
+use Rattle.model.specs.declared.families.container.ContainerStart.{ContainerStart}
+use Rattle.model.specs.declared.families.container.calls.ContainerFlight.{ContainerFlight}
+use Rattle.model.specs.declared.party.Party.{Party}
+use Rattle.model.specs.Families.Container.Reading.{contents_after, contents_of, announced_after, announced_of}
+use Rattle.model.specs.Families.Indices.Robust.Reading.{filled_of}
+use Rattle.model.specs.Parties.{flight_of}
+use Rattle.laws_robust.specs.Gone.{is_gone}
+use Rattle.laws_robust.proofs.Effects as set_effects
+use Rattle.laws_robust.proofs.Effects.{at_same, at_other, both_ways}
+use Rattle.laws_robust.proofs.Invariant as set_invariant
+use Rattle.laws_container.specs.Gone.{AnswersBy}
+use Rattle.laws_container.proofs.Contents.{IsWhole, Writing, place_none, place_whole, hide_some, hide_whole}
+use Rattle.laws_container.proofs.Effects.{OwesStill, IsCalm, calmly, counts_change, stores, IsCounted, counts_one}
+use Rattle.laws_container.proofs.HiddenKnows.{EndsRight}
+use Rattle.laws_container.proofs.Invariant.{Scene, Inv, ActsFor, Elements, AreAllRight, Does, before, after, of_set, inv_of_set, wrote_of}
+use Rattle.laws_container.proofs.Left.{left_after, left_of}
+use Rattle.laws_container.proofs.Sets.{leaves_behind, quiet_placed, quiet_hidden}
+use Rattle.laws_container.proofs.Stages.{NoLook, IsHere, does_with}
+use Rattle.laws_container.proofs.Turns.{owes, WellFormed, count_in, change_in}
+use Rattle.laws_container.proofs.Writers.{IsWriter, one_writer}
+
+module _ {T : Type 0} (scene : Scene T) (inv : Inv scene) (start : ContainerStart T) (flight : ContainerFlight T)
+    (none : NoLook flight) (here : IsHere scene start flight) (y : Party T) where
+  open scene use {coding as code, capacity as c, party as p, turns as turns, latest as latest, events as events}
+
+  abbrev ws : List ℕ
+  ws = scene.words
+
+  e : Elements code c (before scene) scene.states turns
+  e = inv.elements
+
+  abbrev WellFormedBefore : List ℕ → List (Event T) → Type 0
+  WellFormedBefore words' es = WellFormed (after scene words' y es) → WellFormed (before scene)
+
+  pub right_none : (words' : List ℕ) → AreAllRight scene words' y []
+  right_none words' =
+      record { asks = tt; recovers = tt; answers = tt; contains = λ well_formed. tt; places = λ well_formed. tt }
+
+  pub calm_none : (words' : List ℕ) (well_formed : WellFormedBefore words' []) → IsCalm scene inv words' y [] well_formed
+  calm_none words' well_formed =
+      record {
+        contents = λ i. fold-append (contents_after i) None events [];
+        announced = λ i. fold-append (announced_after i) false events [];
+        left = λ i was. fold-append (left_after i) true events [] ∙ was;
+        spares = λ holds q ne i o lives mine was. fold-append (left_after i) true events [] ∙ was;
+      }
+
+  -- ---- it changes nothing, and writes nothing
+
+  pub loads : (words' : List ℕ) → words' ≡ ws → (well_formed : WellFormedBefore words' [])
+      → OwesStill scene inv words' y [] well_formed → Does scene words' scene.states y []
+  loads words' same well_formed still =
+      does_with scene inv start flight none here words' y []
+      (calmly scene inv words' y [] well_formed (λ n behind. ap (λ w. get_or w n 0) same) (ap length same) (calm_none words' well_formed) still)
+      (set_effects.quietly (of_set scene) (inv_of_set scene inv) words' []
+      (set_effects.stays_same (of_set scene) (inv_of_set scene inv) words' same).leaves set_effects.quiet_none tt tt
+      tt)
+      (right_none words')
+
+  -- ---- a writer stores a word
+
+  pub stores_word :
+      (words' : List ℕ) (i : ℕ) (below : i < c) (k : ℕ) (ks : k < code.size) (value : T) (owner : ℕ)
+      → (WellFormed (before scene) → IsWriter p i owner events)
+      → (WellFormed (before scene) → Writing code c ws i value k)
+      → words' ≡ set ws (element_word c code.size i k) (get_or (code.words_of value) k 0)
+      → (well_formed : WellFormedBefore words' []) → OwesStill scene inv words' y [] well_formed → Does scene words' scene.states y []
+  stores_word words' i below k ks value owner mine writing new well_formed still =
+      does_with scene inv start flight none here words' y []
+      (stores scene inv words' y [] well_formed i below k ks value owner mine writing new (calm_none words' well_formed) still)
+      (set_effects.quietly (of_set scene) (inv_of_set scene inv) words' []
+      (leaves_behind (of_set scene) (inv_of_set scene inv) words' (element_word c code.size i k) _ (omega arith) new)
+      set_effects.quiet_none tt tt tt)
+      (right_none words')
+
+  -- ---- the number of an element changes
+
+  module _ (words' : List ℕ) (i : ℕ) (below : i < c)
+      (new : words' ≡ set ws (count_word c i) (one_more (count_in code c (before scene) i)))
+      (owed : owes (flight_of (Some y.doing)) ≡ true) where
+    abbrev n : ℕ
+    n = count_in code c (before scene) i
+
+    leaves : set_effects.Leaves (of_set scene) words'
+    leaves = leaves_behind (of_set scene) (inv_of_set scene inv) words' (count_word c i) (one_more n) (omega arith) new
+
+    -- what stood there is hidden
+    module _ (odd : n % 2 ≡ 1)
+        (stale : WellFormed (before scene) → (q : ℕ) → q ≢ p → (o : ℕ) → IsWriter q i o events → left_of i events ≡ false → ⊥)
+        (well_formed : WellFormedBefore words' (Hidden p i ∷ [])) where
+      hidden_here : contents_of i (events ++ Hidden p i ∷ []) ≡ None
+      hidden_here = fold-append (contents_after i) None events (Hidden p i ∷ []) ∙ at_same i i None (contents_of i events) refl
+
+      counted : IsCounted scene inv words' y (Hidden p i ∷ []) well_formed i below new (refl, tt) (Container start) (wrote_of p events) here.span owed
+      counted =
+          record {
+            contents = λ a ne. fold-append (contents_after a) None events (Hidden p i ∷ []) ∙ at_other i a None (contents_of a events) ne;
+            announced =
+                λ holds a said. ⊎_elim (λ same. gone a same said) (λ ne. (
+                  ne,
+                  sym (fold-append (announced_after a) false events (Hidden p i ∷ []) ∙ at_other i a false (announced_of a events) ne) ∙ said,
+                )) (cases_eq a i);
+            left = λ a ne. fold-append (left_after a) true events (Hidden p i ∷ []);
+            placed = λ holds q ne o theirs fresh some. stale (well_formed holds) q ne o theirs fresh;
+            stood = λ holds was now. both_ways (is_some (contents_of i (events ++ Hidden p i ∷ []))) (ap is_some hidden_here) now;
+            under =
+                λ holds q ne a o theirs even same.
+                let is : count_in code c (before scene) a ≡ n = ap (count_in code c (before scene)) same in
+                absurd (omega arith);
+            over = λ holds q ne o theirs. omega arith;
+            lost = λ holds o dead filled. odd;
+            whole =
+                λ holds. subst (λ w. IsWhole code c w (events ++ Hidden p i ∷ [])) (sym new)
+                (hide_whole code c ws events (e.whole (well_formed holds)) e.wide i below p (one_more n) (omega arith));
+          }
+        where
+          gone : {A : Type 0} → (a : ℕ) → a ≡ i → announced_of a (events ++ Hidden p i ∷ []) ≡ true → A
+          gone a same said =
+              both_ways (announced_of a (events ++ Hidden p i ∷ []))
+              (fold-append (announced_after a) false events (Hidden p i ∷ []) ∙ at_same i a false (announced_of a events) same)
+              said
+
+      pub hides : Does scene words' scene.states y (Hidden p i ∷ [])
+      hides =
+          does_with scene inv start flight none here words' y (Hidden p i ∷ [])
+          (counts_one scene inv words' y (Hidden p i ∷ []) well_formed i below new (refl, tt) (Container start) (wrote_of p events) here.span owed counted)
+          (set_effects.quietly (of_set scene) (inv_of_set scene inv) words' (Hidden p i ∷ []) leaves
+          (quiet_hidden (of_set scene) (inv_of_set scene inv) i) (refl, tt) (tt, tt) (tt, tt))
+          (record {
+            asks = (tt, tt);
+            recovers = (tt, tt);
+            answers = (tt, tt);
+            contains = λ holds. (hide_some code c ws events (e.whole (well_formed holds)) e.wide i below odd, tt);
+            places = λ holds. (tt, tt);
+          })
+
+    -- a writer places its value
+    module _ (value : T) (owner : ℕ) (acts : ActsFor scene owner)
+        (mine : WellFormed (before scene) → IsWriter p i owner events)
+        (writing : WellFormed (before scene) → Writing code c ws i value code.size)
+        (well_formed : WellFormedBefore words' (Placed p i value ∷ [])) where
+      nothing : WellFormed (before scene) → contents_of i events ≡ None
+      nothing holds = place_none code c ws events (e.whole holds) e.wide i below value (writing holds)
+
+      no_other : {A : Type 0} → WellFormed (before scene) → (q : ℕ) → q ≢ p → (o : ℕ) → IsWriter q i o events → A
+      no_other holds q ne o theirs = absurd (ne (one_writer q p i o owner events (inv.good.owned holds.calm) theirs (mine holds)))
+
+      -- its owner, who is not gone, fills the index
+      fills_it : {A : Type 0} → WellFormed (before scene) → (o : ℕ) → is_gone scene.terms.by o events ≡ true → filled_of i events ≡ Some o → A
+      fills_it holds o dead filled = grind arith
+
+      placed_one : IsCounted scene inv words' y (Placed p i value ∷ []) well_formed i below new (refl, tt) (Container start) (wrote_of p events) here.span owed
+      placed_one =
+          record {
+            contents = λ a ne. fold-append (contents_after a) None events (Placed p i value ∷ []) ∙ at_other i a (Some value) (contents_of a events) ne;
+            announced =
+                λ holds a said. let was = sym (fold-append (announced_after a) false events (Placed p i value ∷ [])) ∙ said in
+                (λ same. unannounced (well_formed holds) a same was, was);
+            left = λ a ne. fold-append (left_after a) true events (Placed p i value ∷ []) ∙ at_other i a false (left_of a events) ne;
+            placed = λ holds q ne o theirs fresh some. no_other (well_formed holds) q ne o theirs;
+            stood = λ holds was now. both_ways (is_some (contents_of i events)) (ap is_some (nothing (well_formed holds))) was;
+            under = λ holds q ne a o theirs even same. no_other (well_formed holds) q ne o (subst (λ b. IsWriter q b o events) same theirs);
+            over = λ holds q ne o theirs. no_other (well_formed holds) q ne o theirs;
+            lost = λ holds o dead filled. fills_it (well_formed holds) o dead filled;
+            whole = λ holds.
+                let w = writing (well_formed holds) in
+                let even = w.even in
+                subst (λ w. IsWhole code c w (events ++ Placed p i value ∷ [])) (sym new)
+                (place_whole code c ws events (e.whole (well_formed holds)) e.wide i below p (one_more n) value w (omega arith));
+          }
+        where
+          unannounced : WellFormed (before scene) → (a : ℕ) → a ≡ i → announced_of a events ≡ true → ⊥
+          unannounced holds a same was =
+              both_ways (is_some (contents_of i events)) (ap is_some (nothing holds)) (e.announced holds i (subst (λ b. announced_of b events ≡ true) same was))
+
+      pub places : Does scene words' scene.states y (Placed p i value ∷ [])
+      places =
+          does_with scene inv start flight none here words' y (Placed p i value ∷ [])
+          (counts_one scene inv words' y (Placed p i value ∷ []) well_formed i below new (refl, tt)
+          (Container start) (wrote_of p events) here.span owed placed_one)
+          (set_effects.quietly (of_set scene) (inv_of_set scene inv) words' (Placed p i value ∷ []) leaves
+          (quiet_placed (of_set scene) (inv_of_set scene inv) i value) (refl, tt) (tt, tt) (tt, tt))
+          (record {
+            asks = (tt, tt);
+            recovers = (tt, tt);
+            answers = (tt, tt);
+            contains = λ holds. (nothing (well_formed holds), tt);
+            places = λ holds. (tt, tt);
+          })
+
+    -- in an ill-formed run it can make an odd number even, and nothing is said of it
+    module _ (well_formed : WellFormedBefore words' []) (ill_formed : WellFormed (after scene words' y []) → ⊥) where
+      miscounted : IsCounted scene inv words' y [] well_formed i below new tt (Container start) (wrote_of p events) here.span owed
+      miscounted =
+          record {
+            contents = λ a ne. fold-append (contents_after a) None events [];
+            announced = λ holds a said. absurd (ill_formed holds);
+            left = λ a ne. fold-append (left_after a) true events [];
+            placed = λ holds q ne o theirs fresh some. ill_formed holds;
+            stood = λ holds was now. ill_formed holds;
+            under = λ holds q ne a o theirs even same. ill_formed holds;
+            over = λ holds q ne o theirs. absurd (ill_formed holds);
+            lost = λ holds o dead filled. absurd (ill_formed holds);
+            whole = λ holds. absurd (ill_formed holds);
+          }
+
+      pub misplaces : Does scene words' scene.states y []
+      misplaces =
+          does_with scene inv start flight none here words' y []
+          (counts_one scene inv words' y [] well_formed i below new tt (Container start) (wrote_of p events) here.span owed miscounted)
+          (set_effects.quietly (of_set scene) (inv_of_set scene inv) words' [] leaves set_effects.quiet_none tt tt tt)
+          (right_none words')
+
+  -- ---- the call ends
+
+  -- the words, once a change is counted
+  abbrev pub changed_words : List ℕ
+  changed_words = set ws (change_word c) (one_more (change_in code c (before scene)))
+
+  module _ (words' : List ℕ) (answer : Answer T)
+      (set_does : set_invariant.Does (of_set scene) words' (Finished p (Container start) answer ∷ []))
+      (answers : AnswersBy scene.terms.by (set_invariant.IsWorn scene.terms.by words') c events (Finished p (Container start) answer))
+      (well_formed : WellFormedBefore words' (Finished p (Container start) answer ∷ []))
+      (placed : WellFormed (after scene words' y (Finished p (Container start) answer ∷ []))
+      → EndsRight events (Finished p (Container start) answer)) where
+    abbrev finish : List (Event T)
+    finish = Finished p (Container start) answer ∷ []
+
+    right_end : AreAllRight scene words' y finish
+    right_end = grind arith
+
+    -- and has counted a change
+    pub ends_counted : words' ≡ changed_words
+        → (WellFormed (before scene) → (i : ℕ)
+        → announced_after i (announced_of i events) (Finished p (Container start) answer) ≡ true
+        → is_some (contents_of i events) ≡ true)
+        → Does scene words' scene.states y finish
+    ends_counted new says =
+        does_with scene inv start flight none here words' y finish
+        (counts_change scene inv words' y finish well_formed new
+        (λ i. fold-append (contents_after i) None events finish)
+        (λ i. fold-append (left_after i) true events finish)
+        (λ holds i said. says (well_formed holds) i (sym (fold-append (announced_after i) false events finish) ∙ said)))
+        set_does right_end
+
+    -- or has changed nothing
+    pub ends_calmly : words' ≡ ws
+        → ((i : ℕ) (b : Bool) → announced_after i b (Finished p (Container start) answer) ≡ b)
+        → OwesStill scene inv words' y finish well_formed → Does scene words' scene.states y finish
+    ends_calmly same quiet still =
+        does_with scene inv start flight none here words' y finish
+        (calmly scene inv words' y finish well_formed (λ n behind. ap (λ w. get_or w n 0) same) (ap length same)
+        (record {
+          contents = λ i. fold-append (contents_after i) None events finish;
+          announced = λ i. fold-append (announced_after i) false events finish ∙ quiet i (announced_of i events);
+          left = λ i was. fold-append (left_after i) true events finish ∙ was;
+          spares = λ holds q ne i o lives mine was. fold-append (left_after i) true events finish ∙ was;
+        })
+        still)
+        set_does right_end

@@ -1,0 +1,119 @@
+-- What a turn leaves of the elements: to any party, and to one that may write at an index.
+use Rattle.std.proofs.Common.{◌≡◌, ◌⊎◌, ℕ, ◌%◌, ◌<◌, ◌≤◌, Bool, true, false, Option, Some, is_some, List}
+use Rattle.model.specs.declared.event.Event.{Event}
+use Rattle.model.specs.declared.families.Flight.{Flight}
+use Rattle.model.specs.declared.families.Flight as flights
+use Rattle.model.specs.declared.families.container.calls.ContainerFlight.{ContainerFlight}
+use Rattle.model.specs.declared.families.container.calls.ContainerFlight as calls
+use Rattle.model.specs.declared.party.Party.{Party}
+use Rattle.steps.specs.declared.container.add.AddStage.{AddStage}
+use Rattle.steps.specs.declared.container.add.AddStage as adds
+use Rattle.steps.specs.declared.container.remove.RemoveStage.{RemoveStage}
+use Rattle.steps.specs.declared.container.remove.RemoveStage as removes
+use Rattle.steps.specs.declared.container.replace.ReplaceStage.{ReplaceStage}
+use Rattle.steps.specs.declared.container.replace.ReplaceStage as replaces
+use Rattle.model.specs.Coding.{Coding}
+use Rattle.model.specs.Families.Container.Looks.{WasAlone}
+use Rattle.model.specs.Families.Container.Reading.{contents_of, announced_of}
+use Rattle.model.specs.Families.Indices.Robust.Reading.{filled_of}
+use Rattle.model.specs.Parties.{party_of, doing_of, flight_of}
+use Rattle.laws_robust.specs.Gone.{is_gone}
+use Rattle.laws_container.proofs.Core.{change_at, count_at, datum_at}
+use Rattle.laws_container.proofs.Left.{left_of}
+use Rattle.laws_container.proofs.WellFormed.{IsWellFormedSoFar}
+use Rattle.laws_container.proofs.Terms.{Terms, Keeps}
+use Rattle.laws_container.proofs.Writers.{IsWriter}
+
+-- ---- a call that has changed an element, and ends no more before it has counted the change
+
+abbrev pub add_owes : AddStage → Bool
+add_owes (adds.TheVariants.Acquires stage) = false
+add_owes stage = true
+
+abbrev pub remove_owes : RemoveStage → Bool
+remove_owes (removes.TheVariants.Hides count state) = true
+remove_owes (removes.TheVariants.AddsChange state) = true
+remove_owes stage = false
+
+abbrev pub replace_owes : ReplaceStage → Bool
+replace_owes replaces.TheVariants.Refuses = false
+replace_owes replaces.TheVariants.LoadsCell = false
+replace_owes stage = true
+
+module _ {T : Type 0} where
+  abbrev pub flight_owes : ContainerFlight T → Bool
+  flight_owes (calls.TheVariants.Add run) = add_owes run.call.stage
+  flight_owes (calls.TheVariants.Remove run) = remove_owes run.call.stage
+  flight_owes (calls.TheVariants.Replace run) = replace_owes run.call.stage
+  flight_owes (calls.TheVariants.Recover run) = true
+  flight_owes flight = false
+
+  abbrev pub owes : Option (Flight T) → Bool
+  owes (Some (flights.TheVariants.Container flight)) = flight_owes flight
+  owes flight = false
+
+  pub record Owing (latest : List (ℕ × Party T)) : Type 0 where
+    pub party : ℕ
+    pub is : owes (flight_of (doing_of (party_of party latest))) ≡ true
+
+-- ---- the machine between two turns
+
+pub record Now (T : Type 0) : Type 0 where
+  pub terms : Terms
+  pub words : List ℕ
+  pub latest : List (ℕ × Party T)
+  pub events : List (Event T)
+
+module _ {T : Type 0} where
+  abbrev pub WellFormed : Now T → Type 0
+  WellFormed m = IsWellFormedSoFar m.terms m.latest m.events
+
+module _ {T : Type 0} (code : Coding T) (c : ℕ) where
+  abbrev pub count_in : Now T → ℕ → ℕ
+  count_in m i = count_at c m.words i
+
+  abbrev pub datum_in : Now T → ℕ → ℕ → ℕ
+  datum_in m i j = datum_at c code.size m.words i j
+
+  abbrev pub change_in : Now T → ℕ
+  change_in m = change_at c m.words
+
+  -- what a turn does to any party
+  pub record Passes (m m' : Now T) : Type 0 where
+    pub well_formed : WellFormed m' → WellFormed m
+    pub kept : Keeps m'.terms → Keeps m.terms
+    -- where few turns are taken numbers go up
+    pub counts : Keeps m'.terms → (i : ℕ) → i < c → count_in m i ≤ count_in m' i
+    pub change : Keeps m'.terms → change_in m ≤ change_in m'
+    -- where a number stays, so does what stands, and under an odd one its words
+    pub stands : WellFormed m' → (i : ℕ) → i < c → count_in m' i ≡ count_in m i → contents_of i m'.events ≡ contents_of i m.events
+    pub words : WellFormed m' → (i : ℕ) → i < c → count_in m' i ≡ count_in m i → count_in m i % 2 ≡ 1 → (j : ℕ)
+        → j < code.size → datum_in m' i j ≡ datum_in m i j
+    -- where something stands before and after, it has stood
+    pub stood : WellFormed m' → (i : ℕ) → i < c → is_some (contents_of i m.events) ≡ true
+        → is_some (contents_of i m'.events) ≡ true → count_in m' i ≡ count_in m i
+    -- and nothing was placed, so that what was left is left still
+    pub left : WellFormed m' → (i : ℕ) → i < c → count_in m' i ≡ count_in m i → left_of i m.events ≡ true → left_of i m'.events ≡ true
+    -- what is announced only now has raised the changes
+    pub announces : WellFormed m' → change_in m' ≡ change_in m → (i : ℕ) → i < c → announced_of i m'.events ≡ true
+        → (announced_of i m.events ≡ true) × (count_in m' i ≡ count_in m i)
+    -- who changes an element owes the changes a raise, until he has made it
+    pub owing : change_in m' ≡ change_in m → Owing m.latest → Owing m'.latest
+    pub owed : change_in m' ≡ change_in m → (i : ℕ) → i < c → (count_in m' i ≡ count_in m i) ⊎ Owing m'.latest
+    -- where an owner who is gone fills an index nothing is placed
+    pub lost : WellFormed m' → (i o : ℕ) → i < c → is_gone m.terms.by o m.events ≡ true → filled_of i m.events ≡ Some o
+        → (count_in m' i ≡ count_in m i) ⊎ ((count_in m i % 2 ≡ 1) × (count_in m' i % 2 ≡ 0))
+
+  -- and to another party
+  pub record Leaves (q : ℕ) (m m' : Now T) : Type 0 where
+    -- where it writes under an even number
+    pub under : WellFormed m' → (i o : ℕ) → i < c → is_gone m.terms.by o m.events ≡ false → IsWriter q i o m.events → count_in m i % 2 ≡ 0
+        → (count_in m' i ≡ count_in m i) × ((j : ℕ) → j < code.size → datum_in m' i j ≡ datum_in m i j)
+    -- and where it is about to
+    pub over : WellFormed m' → (i o : ℕ) → i < c → is_gone m.terms.by o m.events ≡ false → IsWriter q i o m.events
+        → (count_in m' i ≡ count_in m i) ⊎ (count_in m' i % 2 ≡ 0)
+    -- and where it has placed a value, that stands
+    pub placed : WellFormed m' → (i o : ℕ) → i < c → is_gone m.terms.by o m.events ≡ false → IsWriter q i o m.events
+        → left_of i m.events ≡ false → is_some (contents_of i m.events) ≡ true
+        → (left_of i m'.events ≡ false) × (is_some (contents_of i m'.events) ≡ true)
+    pub alone : WasAlone q m'.events → (i : ℕ) → i < c → count_in m' i ≡ count_in m i

@@ -1,0 +1,64 @@
+-- A well-formed run, of its events and the parties' latest calls; and that a run was well-formed a turn ago.
+use Rattle.std.proofs.Common.{◌≡◌, ◌≢◌, ⊎_elim, ℕ, Option, Some, None, List, ◌∷◌, ◌++◌, refl, sym, ap, subst, ◌∙◌, append_assoc}
+use Rattle.std.proofs.lemmas.Bool.{cases_eq}
+use Rattle.model.specs.declared.event.Event.{Event}
+use Rattle.model.specs.declared.party.Party.{Party}
+use Rattle.model.specs.Families.Container.Promises.{ReplacesRight, StandsWellFormed, IsWellFormedRun}
+use Rattle.model.specs.Families.Indices.Robust.Promises.{IsFilledWith}
+use Rattle.model.specs.Moments.{BeginsNone}
+use Rattle.model.specs.Parties.{party_of, put}
+use Rattle.model.specs.Reading.{Each, span_of}
+use Rattle.model.specs.World.{Trace}
+use Rattle.model.proofs.Moments.{others_begin_none, held_later}
+use Rattle.model.proofs.Parties.{party_put_other}
+use Rattle.model.proofs.Readings.{AreOwn, span_of-other}
+use Rattle.laws_robust.specs.Gone.{IsHonestBy, IsCalm}
+use Rattle.laws_robust.proofs.Gone.{calm_less}
+use Rattle.laws_container.proofs.Replaces.{earlier}
+use Rattle.laws_container.proofs.Terms.{Terms, dying, Keeps}
+
+module _ {T : Type 0} where
+  pub record IsWellFormedSoFar (terms : Terms) (latest : List (ℕ × Party T)) (events : List (Event T)) : Type 0 where
+    pub kept : Keeps terms
+    pub calm : IsCalm terms.by events
+    pub replaced : Each ReplacesRight events
+    pub replaces : (p : ℕ) → StandsWellFormed p (party_of p latest) events
+
+  pub well_formed_on : (terms : Terms) (t : Trace T) → Keeps terms → IsHonestBy terms.by t.events
+      → IsWellFormedRun t → IsWellFormedSoFar terms t.world.latest t.events
+  well_formed_on terms t kept honest h = record { kept = kept; calm = (h.frees, honest); replaced = h.replaced; replaces = h.replaces }
+
+  -- where owners die
+  pub well_formed_so_far : (t : Trace T) → IsWellFormedRun t → IsWellFormedSoFar dying t.world.latest t.events
+  well_formed_so_far t h = well_formed_on dying t refl tt h
+
+  pub each_less : (P : List (Event T) → Event T → Type 0) (events es : List (Event T)) → Each P (events ++ es) → Each P events
+  each_less P events es all before after e is = all before (after ++ es) e (ap (λ xs. xs ++ es) is ∙ append_assoc before (e ∷ after) es)
+
+  -- a replace of a party whose span stays was begun rightly before as well
+  pub stands_less : (q : ℕ) (o : Option (Party T)) (events es : List (Event T)) → BeginsNone q es
+      → span_of q (events ++ es) ≡ span_of q events → StandsWellFormed q o (events ++ es) → StandsWellFormed q o events
+  stands_less q None events es none same h = tt
+  stands_less q (Some x) events es none same h =
+      λ index owner value wrote span steps found.
+      (earlier q index owner events es none
+      (h index owner value wrote (same ∙ span) steps (held_later q (IsFilledWith owner index) events es none found))).may
+
+  module _ (terms : Terms) (p : ℕ) (y : Party T) (latest : List (ℕ × Party T)) (events es : List (Event T)) (own : AreOwn p es) where
+    abbrev pub IsWellFormedThen : Type 0
+    IsWellFormedThen = IsWellFormedSoFar terms (put p y latest) (events ++ es)
+
+    others_less : IsWellFormedThen → (q : ℕ) → q ≢ p → StandsWellFormed q (party_of q latest) events
+    others_less h q ne =
+        stands_less q (party_of q latest) events es (others_begin_none q p es ne own) (span_of-other p q events es ne own)
+        (subst (λ o. StandsWellFormed q o (events ++ es)) (party_put_other q p y latest ne) (h.replaces q))
+
+    -- a turn of a party of which this is so
+    pub well_formed_before : (IsWellFormedThen → StandsWellFormed p (party_of p latest) events) → IsWellFormedThen → IsWellFormedSoFar terms latest events
+    well_formed_before mine h =
+        record {
+          kept = h.kept;
+          calm = calm_less terms.by events es h.calm;
+          replaced = each_less ReplacesRight events es h.replaced;
+          replaces = λ q. ⊎_elim (λ e. subst (λ n. StandsWellFormed n (party_of n latest) events) (sym e) (mine h)) (λ ne. others_less h q ne) (cases_eq q p);
+        }

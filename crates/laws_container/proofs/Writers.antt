@@ -1,0 +1,26 @@
+-- Which party may store the data words of an index, and raise its element count to an odd number: the one whose add was
+-- granted it, until that add has finished; then the one whose replace was begun last. There is one at most.
+use Rattle.std.proofs.Common.{◌≡◌, ◌⊎◌, ℕ, Some, List, arith}
+use Rattle.model.specs.declared.event.Event.{Event}
+use Rattle.model.specs.Families.Indices.Robust.Reading.{holder_of, settled_of}
+use Rattle.laws_robust.proofs.Rights.{IsBy, AreOwned}
+use Rattle.laws_container.proofs.Replacers.{replacer_of}
+
+module _ {T : Type 0} where
+  -- an add, from its grant to its end
+  pub record Adds (p i o : ℕ) (events : List (Event T)) : Type 0 where
+    pub by : IsBy p i o events
+    pub held : holder_of i events ≡ Some o
+
+  -- a replace that has found its owner in the cell
+  pub record Replacing (p i o : ℕ) (events : List (Event T)) : Type 0 where
+    pub settled : settled_of i events ≡ Some o
+    pub latest : replacer_of i o events ≡ Some p
+
+  -- who may write; and a remove that has the right to the index, where it places nothing
+  abbrev pub IsWriter : ℕ → ℕ → ℕ → List (Event T) → Type 0
+  IsWriter p i o events = IsBy p i o events ⊎ Replacing p i o events
+
+  module _ (p q i o u : ℕ) (events : List (Event T)) (owned : AreOwned events) where
+    pub one_writer : IsWriter p i o events → IsWriter q i u events → p ≡ q
+    one_writer a b = grind arith

@@ -1,0 +1,64 @@
+-- What holds of a container that a run leads to in which nobody sees an owner die, as between threads.
+use Rattle.std.specs.Prelude.{◌≡◌, ℕ, ◌-◌, ◌^◌, ◌<◌, ◌==◌, ◌&&◌, Bool, true, false, not, Option, Some, List, [], ◌∷◌, slice_index}
+use Rattle.steps.specs.Indices.Robust.Parts.{cell_word, locked, greatest}
+use Rattle.model.specs.declared.event.Event.{Event}
+use Rattle.model.specs.declared.families.Flight.{Flight}
+use Rattle.model.specs.declared.families.Flight as flights
+use Rattle.model.specs.declared.turn.Turn.{Turn}
+use Rattle.model.specs.declared.turn.Turn.TheVariants.{Next}
+use Rattle.model.specs.Families.Container.Looks.{ShowsCopies}
+use Rattle.model.specs.Families.Container.Promises.{IsWellFormedRun, IsContained, KeepsDead}
+use Rattle.model.specs.Families.Container.Questions.{AsksCopies}
+use Rattle.model.specs.Families.Indices.Reading.{is_locked}
+use Rattle.model.specs.Families.Indices.Robust.Promises.{cell_of, SetDoes, IsWellFormed, HoldsRight}
+use Rattle.model.specs.Families.Indices.Robust.Reading.{filled_of, is_dead}
+use Rattle.model.specs.Reading.{Each}
+use Rattle.model.specs.World.{Trace, opening, flight_in}
+use Rattle.laws_robust.specs.Gone.{Word, IsHonest}
+use Rattle.laws_robust.specs.Open.{attempt_open, IsReachedOpen}
+use Rattle.laws_container.specs.Gone.{AsksBy, RecoversBy, AnswersBy, acts_for_gone}
+
+module _ {T : Type 0} where
+  -- ---- a faithful run: nobody takes a step for an owner who is gone
+
+  abbrev pub is_for_gone : List (Event T) → Option (Flight T) → Bool
+  is_for_gone events (Some (flights.TheVariants.Container flight)) = acts_for_gone Word events flight
+  is_for_gone events flight = false
+
+  abbrev pub steps_for_gone : Trace T → Turn T → Bool
+  steps_for_gone t (Next p) = is_for_gone t.events (flight_in t.world p)
+  steps_for_gone t turn = false
+
+  abbrev pub is_faithful : List (Turn T) → Trace T → Bool
+  is_faithful [] t = true
+  is_faithful (turn ∷ turns) t = not (steps_for_gone t turn) && is_faithful turns (attempt_open t turn)
+
+  abbrev pub IsFaithful : (t : Trace T) → IsReachedOpen t → Type 0
+  IsFaithful t r =
+      is_faithful r.turns (opening t.world.coding t.world.kind t.world.capacity t.world.parties) ≡ true
+
+  -- it is, and of so few turns that no number of an element has come round
+  pub record IsFaithfulRun (t : Trace T) (r : IsReachedOpen t) : Type 0 where
+    pub faithful : IsFaithful t r
+    pub few : t.world.turns < 2 ^ 64 - 2
+
+  -- ---- what holds of the machine
+
+  -- What its cells hold and whether it is locked, by its events; what each event says; that nobody has died; what is asked
+  -- and what a state at rest shows was copied. Who holds an index, in a run that is well-formed and honest, as a faithful one is;
+  -- and what its elements hold, in one that is well-formed, faithful and of few turns.
+  pub record IsOpenContainer (t : Trace T) (r : IsReachedOpen t) : Type 0 where
+    pub does : Each (SetDoes t.world.capacity) t.events
+    pub asks : Each (AsksBy Word) t.events
+    pub recovers : Each (RecoversBy Word) t.events
+    pub answers : Each (AnswersBy Word (slice_index t.world.words 0 ≡ greatest) t.world.capacity) t.events
+    pub cells : (index : ℕ) → index < t.world.capacity
+        → slice_index t.world.words (cell_word index) ≡ cell_of (filled_of index t.events)
+    pub lock : (slice_index t.world.words 0 == locked) ≡ is_locked t.events
+    pub lives : (owner : ℕ) → is_dead owner t.events ≡ false
+    pub dead : KeepsDead t.world.kept t.events
+    pub questions : AsksCopies t
+    pub states : ShowsCopies t.world t.events
+    pub holds : IsWellFormed t.events → IsHonest t.events → Each HoldsRight t.events
+    pub honest : IsFaithful t r → IsHonest t.events
+    pub contained : IsWellFormedRun t → IsFaithfulRun t r → IsContained t

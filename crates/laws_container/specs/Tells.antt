@@ -1,0 +1,68 @@
+-- What a turn of a container tells, and what of it where something more holds of the run: that it is well-formed, or well-formed and
+-- faithful.
+use Rattle.std.specs.Prelude.{◌≡◌, ◌≢◌, ℕ, ◌+◌, false, Some, List, ◌∷◌, [], ◌++◌}
+use Rattle.steps.specs.declared.container.state.ContainerState.{ContainerState}
+use Rattle.model.specs.declared.event.Answer.{Answer}
+use Rattle.model.specs.declared.event.Answer.TheVariants.{Number}
+use Rattle.model.specs.declared.event.Event.{Event}
+use Rattle.model.specs.declared.event.Event.TheVariants.{Finished}
+use Rattle.model.specs.declared.event.Start.TheVariants.{Container}
+use Rattle.model.specs.declared.families.container.ContainerStart.{ContainerStart}
+use Rattle.model.specs.declared.families.container.ContainerStart.TheVariants.{Find}
+use Rattle.model.specs.declared.turn.Turn.{Turn}
+use Rattle.model.specs.declared.turn.Turn.TheVariants.{Decide}
+use Rattle.model.specs.Families.Container.Keeping.{KeepsStates}
+use Rattle.model.specs.Families.Container.Looks.{state_in, IsCurrent, AnswersOfState, MomentsOfState, EndsLook}
+use Rattle.model.specs.Families.Container.Promises.{IsFoundWhole, LeavesState}
+use Rattle.model.specs.Families.Container.Questions.{question_at, QuestionsRight, EndsFind}
+use Rattle.model.specs.Families.Container.Recoveries.{VisitsUnlocked}
+use Rattle.model.specs.Families.Indices.Robust.Promises.{IsFilledWith, IsCount, IsIn}
+use Rattle.model.specs.World.{Trace}
+
+module _ {T : Type 0} (well_formed : Type 0) where
+  -- the indices below the bound that a find has counted
+  abbrev pub CountsIf : ℕ → ℕ → ℕ → ℕ → List (Event T) → Type 0
+  CountsIf p owner bound number events =
+      IsCount p (IsFilledWith owner) bound number events
+      × (well_formed → IsFoundWhole p owner bound number events)
+
+  abbrev pub FindsAllIf : Trace T → Turn T → Trace T → Type 0
+  FindsAllIf old turn new =
+      (p owner number : ℕ) (ends : EndsFind p owner number old new)
+      → turn ≢ Decide p false
+      → CountsIf p owner old.world.capacity number (old.events ++ ends.wrote)
+
+  -- a find that a no has ended has come to those up to the one that it asked about
+  pub record StoppedIf (p owner : ℕ) (old new : Trace T) : Type 0 where
+    pub index : ℕ
+    pub value : T
+    pub number : ℕ
+    pub asked : question_at old p ≡ Some (index, value)
+    pub ends : new.events
+        ≡ old.events ++ Finished p (Container (Find owner)) (Number number) ∷ []
+    pub counts : CountsIf p owner (index + 1) number old.events
+
+  abbrev pub FindsUpToIf : Trace T → Turn T → Trace T → Type 0
+  FindsUpToIf old turn new =
+      (p owner : ℕ) → turn ≡ Decide p false → IsIn p (Container (Find owner)) old
+      → StoppedIf p owner old new
+
+  -- a look that ends: its state by its answer, and by what stands
+  abbrev pub LooksRightIf : Trace T → Turn T → Trace T → Type 0
+  LooksRightIf old turn new =
+      (p : ℕ) (start : ContainerStart T) (answer : Answer T) (state : ContainerState T)
+      → EndsLook p start answer old new
+      → state_in new.world.kept p ≡ Some state
+      → AnswersOfState start answer (state_in old.world.kept p) state
+      × (well_formed
+      → IsCurrent p old.world.capacity state new.events
+      × MomentsOfState p old.world.capacity start answer state new.events)
+
+  pub record TellsIf (old : Trace T) (turn : Turn T) (new : Trace T) : Type 0 where
+    pub finds : FindsAllIf old turn new
+    pub finds_up_to : FindsUpToIf old turn new
+    pub questions : QuestionsRight old turn new
+    pub looks : LooksRightIf old turn new
+    pub leaves : LeavesState old turn new
+    pub states : KeepsStates old turn new
+    pub visits : VisitsUnlocked old new

@@ -1,0 +1,314 @@
+-- The steps of an acquire.
+use Rattle.std.proofs.Common.{◌≡◌, ◌≢◌, ℕ, ◌+◌, ◌*◌, ◌%◌, ◌^◌, ◌<◌, ◌≤◌, ◌==◌, ⊎_elim, inl, nat_lt, Bool, true, false}
+use Rattle.std.proofs.Common.{bit_or, Option, Some, List, get_or, set, refl, sym, ap, subst, ◌∙◌, arith}
+use Rattle.std.specs.Prelude.{max, Ok, Err}
+use Rattle.std.proofs.lemmas.Bool.{cases_lt}
+use Rattle.std.proofs.lemmas.Bool.Decides.{nat_tests}
+use Rattle.std.proofs.lemmas.List.{set-get_or}
+use Rattle.steps.specs.declared.ask.Ask.{Ask}
+use Rattle.steps.specs.declared.ask.Op.TheVariants.{Load, Or, Exchange}
+use Rattle.steps.specs.declared.ask.After.{After}
+use Rattle.steps.specs.declared.ask.After.TheVariants.{GoOn, Done}
+use Rattle.steps.specs.declared.indices.enums.UniqueIndexSetAcquireFailure.{UniqueIndexSetAcquireFailure}
+use Rattle.steps.specs.declared.indices.enums.UniqueIndexSetAcquireFailure as failures
+use Rattle.steps.specs.declared.indices.unique.Acquire as calls
+use Rattle.steps.specs.declared.indices.unique.AcquireStage.{AcquireStage}
+use Rattle.steps.specs.declared.indices.unique.AcquireStage as acquires
+use Rattle.steps.specs.Indices.Head.{next_word, flag_word, flag, has_flag, proposed, borrowed, locked, says_locked}
+use Rattle.steps.specs.Indices.Unique.{Acquired, at_acquire, acquire_sees, head_taken, first_claim}
+use Rattle.steps.specs.Picks.{by_test, by_eq}
+use Rattle.steps.specs.Routine.{went_on}
+use Rattle.model.specs.Step.{as_call}
+use Rattle.model.specs.declared.event.Answer.TheVariants.{Index, NoIndex}
+use Rattle.model.specs.declared.event.Event.TheVariants.{Finished}
+use Rattle.model.specs.declared.event.Start.TheVariants.{Indices}
+use Rattle.model.specs.declared.families.indices.IndexStart.TheVariants.{Acquire}
+use Rattle.model.specs.declared.families.indices.calls.IndexFlight.TheVariants as flights
+use Rattle.model.specs.Families.Indices.Calls.{acquire_answer, after, goes_back}
+use Rattle.model.specs.Families.Indices.Reading.{is_locked, tally_of, in_use}
+use Rattle.model.specs.Families.Queues.Calls.{as_it_is}
+use Rattle.model.specs.Turns.{words_after}
+use Rattle.laws_indices.proofs.Core.{head_of, counted_in, is_claimed, head_stays, Good}
+use Rattle.laws_indices.proofs.Invariant.{Scene, Inv, AnswersFew}
+use Rattle.laws_indices.proofs.Knows.{acquire_at, acquire_number, acquire_counts, AcquireAt, AcquireKnows, IsOpen, IsPaid, PaidUnless, AllClaimed}
+use Rattle.laws_indices.proofs.Moves.{takes, counts_right, unlocked_for, some_free, was_free, still_claimed, claims, claims_again}
+use Rattle.laws_indices.proofs.Stages.{busy, IsHere, busy_here, all_in_use, Comes, StepOf, since_then, changes_then}
+use Rattle.laws_indices.proofs.Stages.{backs_then, paid_of, unless_then, goes_on, claims_index, open_says}
+
+module _ {T : Type 0} (scene : Scene T) (inv : Inv scene) where
+  open scene use {capacity as c, party as p, steps, backs, since, changes, latest, events}
+
+  abbrev ws : List ℕ
+  ws = scene.set.words
+
+  abbrev hs : List (Option ℕ)
+  hs = scene.set.holders
+
+  g : Good c ws hs (busy scene)
+  g = inv.holds.good
+
+  -- what the call comes to where it goes on so, or is done so
+  abbrev Does : AcquireStage → Ask → Bool → After calls.Acquire Acquired → Type 0
+  Does stage ask back a =
+      Comes scene Acquire (acquire_at c stage) (Some ask) back (as_call flights.Acquire acquire_answer (went_on as_it_is tt tt a))
+
+  abbrev call_at : AcquireStage → calls.Acquire
+  call_at stage = record { capacity = c; stage = stage }
+
+  -- ---- a head was found, by a load or by an exchange that failed
+
+  module _ (stage : AcquireStage) (here : IsHere scene (acquire_at c stage)) (light : acquire_counts stage ≡ 0)
+      (ask : Ask) (back : Bool) (same : words_after ws (Some ask) ≡ ws)
+      (low : steps + 1 ≤ 1 + backs_then scene back * max 2 c)
+      (paid : IsPaid since changes (backs_then scene back)) where
+    fails : (failure : UniqueIndexSetAcquireFailure)
+        → AnswersFew c events (Finished p (Indices Acquire) (NoIndex failure))
+        → Does stage ask back (Done (Err failure))
+    fails x0 x1 = grind arith
+
+    goes_to : (stage' : AcquireStage) → acquire_counts stage' ≡ 0 → AcquireAt c stage'
+        → steps + 1 ≤ acquire_number c stage' (backs_then scene back)
+        → AcquireKnows c (words_after ws (Some ask)) (since_then scene (Some ask)) (changes_then scene (Some ask))
+        (backs_then scene back) stage'
+        → Does stage ask back (GoOn (at_acquire (call_at stage) stage'))
+    goes_to x0 x1 x2 x3 x4 = grind arith
+
+    -- as many indices are in use as there are, without this call, and the set is not locked
+    out_of : borrowed (head_of ws) ≢ locked → borrowed (head_of ws) ≡ c → (c + 1 ≤ in_use (tally_of events)) × (is_locked events ≡ false)
+    out_of unlocked full =
+        let is = counts_right c ws hs (busy scene) g unlocked in
+        let number = is.0 in
+        let all = all_in_use scene (acquire_at c stage) here in
+        (rw inv.holds.tally (omega arith), inv.holds.lock ∙ open_says (head_of ws) unlocked)
+
+    pub sees : Does stage ask back (acquire_sees (call_at stage) (head_of ws))
+    sees =
+        by_test (Does stage ask back) (says_locked (head_of ws)) (Done (Err failures.TheVariants.IsLocked)) _
+        (λ t. fails failures.TheVariants.IsLocked (inv.holds.lock ∙ t))
+        (λ t.
+        let unlocked : borrowed (head_of ws) ≢ locked = grind (arith, nat_tests) in
+        by_eq (Does stage ask back) (borrowed (head_of ws)) c (Done (Err failures.TheVariants.OutOfIndices)) _
+        (λ full. fails failures.TheVariants.OutOfIndices (out_of unlocked full))
+        (λ less. by_test (Does stage ask back) (nat_lt (proposed (head_of ws)) c)
+        (GoOn (at_acquire (call_at stage) (acquires.TheVariants.LoadsNext (head_of ws))))
+        (GoOn (at_acquire (call_at stage) (acquires.TheVariants.ExchangesHead (head_of ws) (proposed (head_of ws)))))
+        (λ own. goes_to (acquires.TheVariants.LoadsNext (head_of ws)) refl (unlocked, less) low (inl (ap head_of same, omega arith)))
+        (λ none. goes_to (acquires.TheVariants.ExchangesHead (head_of ws) (proposed (head_of ws))) refl
+        (unlocked, less) (omega arith) (inl (ap head_of same, omega arith)))))
+
+  -- ---- the load of the head
+
+  abbrev loads : ℕ → Ask
+  loads word = record { word = word; op = Load }
+
+  loads_head : IsHere scene (acquire_at c acquires.TheVariants.LoadsHead) → IsPaid since changes backs → steps ≤ 0
+      → StepOf scene Acquire (acquire_at c acquires.TheVariants.LoadsHead)
+  loads_head here paid s =
+      sees acquires.TheVariants.LoadsHead here refl (loads 0) false (set-get_or ws 0 0) (omega arith) (omega arith)
+
+  -- ---- the load of the next index
+
+  loads_next : (head : ℕ) → IsOpen c head → PaidUnless (head_of ws ≡ head) since changes backs
+      → steps ≤ 1 + backs * max 2 c → StepOf scene Acquire (acquire_at c (acquires.TheVariants.LoadsNext head))
+  loads_next head at knows s =
+      let ask : Option Ask = Some (loads (next_word (proposed head))) in
+      let same : words_after ws ask ≡ ws = set-get_or ws (next_word (proposed head)) 0 in
+      let next : AcquireStage = acquires.TheVariants.ExchangesHead head (get_or ws (next_word (proposed head)) 0 % 2 ^ 24) in
+      goes_on scene inv Acquire (acquire_at c (acquires.TheVariants.LoadsNext head)) (acquire_at c next) ask false
+      (λ busy' e. subst (λ w. Good c w hs busy') (sym same) (let is : busy scene ≡ busy' = omega arith in subst (λ n. Good c ws hs n) is g))
+      refl refl refl (ap (λ w. says_locked (head_of w)) same) tt (omega arith) (refl, at)
+      (unless_then scene ask (head_of ws ≡ head) (head_of (words_after ws ask) ≡ head) (λ e. ap head_of same ∙ e) knows)
+
+  -- ---- the exchange of the head
+
+  module _ (head next : ℕ) (open_head : IsOpen c head) (knows : PaidUnless (head_of ws ≡ head) since changes backs) (s : steps ≤ 2 + backs * max 2 c) where
+    abbrev exchanging : AcquireStage
+    exchanging = acquires.TheVariants.ExchangesHead head next
+
+    abbrev exchange : Ask
+    exchange = record { word = 0; op = Exchange head (head_taken head next) }
+
+    paid : IsPaid since changes backs
+    paid = paid_of scene (head_of ws ≡ head) knows
+
+    module _ (is : head_of ws ≡ head) (new : words_after ws (Some exchange) ≡ set ws 0 (head_taken (head_of ws) next)) where
+      not_locked : counted_in ws ≢ locked
+      not_locked e = open_head.0 (ap borrowed (sym is) ∙ e)
+
+      good_taken : (busy' : ℕ) → busy' ≡ busy scene + 1 → Good c (words_after ws (Some exchange)) hs busy'
+      good_taken busy' e =
+          subst (λ n. Good c (words_after ws (Some exchange)) hs n) (sym e)
+          (subst (λ w. Good c w hs (busy scene + 1)) (sym new)
+          (takes c ws hs (busy scene) next g not_locked (λ full. open_head.1 (ap borrowed (sym is) ∙ full))))
+
+      lock_same : says_locked (head_of (words_after ws (Some exchange))) ≡ says_locked (head_of ws)
+      lock_same =
+          open_says (head_of (words_after ws (Some exchange)))
+          (unlocked_for c (words_after ws (Some exchange)) hs (busy scene + 1) (good_taken (busy scene + 1) refl) (omega arith))
+          ∙ sym (open_says (head_of ws) not_locked)
+
+      goes_to_claim : (stage : AcquireStage) → acquire_counts stage ≡ 1 → AcquireAt c stage
+          → steps + 1 ≤ acquire_number c stage (backs_then scene false)
+          → AcquireKnows c (words_after ws (Some exchange)) (since_then scene (Some exchange))
+          (changes_then scene (Some exchange)) (backs_then scene false) stage
+          → Does exchanging exchange false (GoOn (at_acquire (call_at exchanging) stage))
+      goes_to_claim stage heavy at low known =
+          goes_on scene inv Acquire (acquire_at c exchanging) (acquire_at c stage) (Some exchange) false
+          (λ busy' e. good_taken busy' (omega arith)) refl refl refl lock_same tt low (refl, at) known
+
+      exchange_succeeds : Does exchanging exchange false (GoOn (at_acquire (call_at exchanging) (first_claim c head)))
+      exchange_succeeds =
+          by_test (λ stage. Does exchanging exchange false (GoOn (at_acquire (call_at exchanging) stage)))
+          (nat_lt (proposed head) c) (acquires.TheVariants.Claims (proposed head)) (acquires.TheVariants.Scans 0)
+          (λ own. let below : proposed head < c = grind (arith, nat_tests) in
+          goes_to_claim (acquires.TheVariants.Claims (proposed head)) refl below (omega arith) (omega arith))
+          (λ none. let some = g.some in
+          goes_to_claim (acquires.TheVariants.Scans 0) refl (omega arith) (omega arith)
+          (inl (λ i below. absurd (omega arith), omega arith)))
+
+    pub exchanges : IsHere scene (acquire_at c exchanging) → StepOf scene Acquire (acquire_at c exchanging)
+    exchanges here = go (head_of ws == head) refl
+      where
+        go : (b : Bool) → (head_of ws == head) ≡ b → StepOf scene Acquire (acquire_at c exchanging)
+        go true t =
+            let is : head_of ws ≡ head = grind (arith, nat_tests) in
+            let goes : after {T = T} (acquire_at c exchanging) (head_of ws) ≡ GoOn (acquire_at c (first_claim c head)) = rw t refl in
+            let back : goes_back (acquire_at c exchanging) (head_of ws) ≡ false = rw t refl in
+            let new : words_after ws (Some exchange) ≡ set ws 0 (head_taken (head_of ws) next) = rw t (ap (λ h. set ws 0 (head_taken h next)) (sym is)) in
+            subst (λ a. Comes scene Acquire (acquire_at c exchanging) (Some exchange) (goes_back (acquire_at c exchanging) (head_of ws)) a) (sym goes)
+            (subst (λ b. Comes scene Acquire (acquire_at c exchanging) (Some exchange) b (GoOn (acquire_at c (first_claim c head))))
+            (sym back) (exchange_succeeds is new))
+        go false t =
+            let other : head_of ws ≢ head = grind (arith, nat_tests) in
+            let more : backs + since + 1 ≤ changes = ⊎_elim (λ k. absurd (other k.0)) (λ k. k) knows in
+            let goes : after {T = T} (acquire_at c exchanging) (head_of ws)
+            ≡ as_call flights.Acquire acquire_answer (went_on as_it_is tt tt (acquire_sees (call_at exchanging) (head_of ws))) =
+            rw t refl in
+            let back : goes_back (acquire_at c exchanging) (head_of ws) ≡ true = rw t refl in
+            let same : words_after ws (Some exchange) ≡ ws = rw t (set-get_or ws 0 0) in
+            subst (λ a. Comes scene Acquire (acquire_at c exchanging) (Some exchange) (goes_back (acquire_at c exchanging) (head_of ws)) a) (sym goes)
+            (subst (λ b. Does exchanging exchange b (acquire_sees (call_at exchanging) (head_of ws))) (sym back)
+            (sees exchanging here refl exchange true same (omega arith) (omega arith)))
+
+  -- ---- the claim of a flag
+
+  module _ (stage : AcquireStage) (i : ℕ) (below : i < c) (here : IsHere scene (acquire_at c stage))
+      (heavy : acquire_counts stage ≡ 1) (paid : IsPaid since changes backs) where
+    abbrev claim : Ask
+    claim = record { word = flag_word c i; op = Or (flag i) }
+
+    abbrev old : ℕ
+    old = get_or ws (flag_word c i) 0
+
+    at_work : 1 ≤ busy scene
+    at_work = let mine = busy_here scene (acquire_at c stage) here in omega arith
+
+    head_same : head_of (words_after ws (Some claim)) ≡ head_of ws
+    head_same = head_stays c ws (flag_word c i) (bit_or old (flag i)) (omega arith)
+
+    -- the flag was clear
+    claim_succeeds : has_flag old i ≡ false → steps + 1 ≤ 4 + c + backs_then scene false * max 2 c → Does stage claim false (Done (Ok i))
+    claim_succeeds clear low =
+        claims_index scene inv i (acquire_at c stage) (Some claim) below
+        (was_free c ws hs i below (busy scene) clear g) (unlocked_for c ws hs (busy scene) g at_work)
+        (λ busy' e. let is : busy scene ≡ busy' + 1 = omega arith in claims c ws hs i below p busy' clear (subst (λ n. Good c ws hs n) is g))
+        refl refl refl head_same low paid
+
+    -- it stood
+    tries_on : has_flag old i ≡ true → (back : Bool) (stage' : AcquireStage) → acquire_counts stage' ≡ 1
+        → AcquireAt c stage' → steps + 1 ≤ acquire_number c stage' (backs_then scene back)
+        → AcquireKnows c (words_after ws (Some claim)) (since_then scene (Some claim)) (changes_then scene (Some claim))
+        (backs_then scene back) stage'
+        → Does stage claim back (GoOn (at_acquire (call_at stage) stage'))
+    tries_on stood back stage' heavy' at low knows =
+        goes_on scene inv Acquire (acquire_at c stage) (acquire_at c stage') (Some claim) back
+        (λ busy' e. let is : busy scene ≡ busy' = omega arith in claims_again c ws hs i below busy' stood (subst (λ n. Good c ws hs n) is g))
+        refl refl refl (ap says_locked head_same) tt low (refl, at) knows
+
+  claims_proposed : (i : ℕ) → i < c → IsHere scene (acquire_at c (acquires.TheVariants.Claims i))
+      → IsPaid since changes backs → steps ≤ 3 + backs * max 2 c
+      → StepOf scene Acquire (acquire_at c (acquires.TheVariants.Claims i))
+  claims_proposed i below here paid s =
+      let stage : AcquireStage = acquires.TheVariants.Claims i in
+      let some = g.some in
+      by_test (Does stage (claim stage i below here refl paid) false) (has_flag (get_or ws (flag_word c i) 0) i)
+      (GoOn (at_acquire (call_at stage) (acquires.TheVariants.Scans 0))) (Done (Ok i))
+      (λ stood. tries_on stage i below here refl paid stood false (acquires.TheVariants.Scans 0) refl (omega arith)
+      (omega arith) (inl (λ j less. absurd (omega arith), omega arith)))
+      (λ clear. claim_succeeds stage i below here refl paid clear (omega arith))
+
+  module _ (i : ℕ) (below : i < c) (here : IsHere scene (acquire_at c (acquires.TheVariants.Scans i)))
+      (knows : PaidUnless (AllClaimed c ws i) since changes backs) (s : steps ≤ 4 + i + backs * max 2 c) where
+    abbrev scanning : AcquireStage
+    scanning = acquires.TheVariants.Scans i
+
+    abbrev scan : Ask
+    scan = record { word = flag_word c i; op = Or (flag i) }
+
+    abbrev flags_then : List ℕ
+    flags_then = words_after ws (Some scan)
+
+    scan_paid : IsPaid since changes backs
+    scan_paid = paid_of scene (AllClaimed c ws i) knows
+
+    one_more : is_claimed c ws i ≡ true → AllClaimed c ws i → AllClaimed c ws (i + 1)
+    one_more stood all j less = ⊎_elim (λ before. all j before) (λ last. let same : j ≡ i = omega arith in ap (is_claimed c ws) same ∙ stood) (cases_lt j i)
+
+    scans_on : is_claimed c ws i ≡ true → i + 1 < c → Does scanning scan false (GoOn (at_acquire (call_at scanning) (acquires.TheVariants.Scans (i + 1))))
+    scans_on stood more =
+        tries_on scanning i below here refl scan_paid stood false (acquires.TheVariants.Scans (i + 1)) refl more (omega arith)
+        (unless_then scene (Some scan) (AllClaimed c ws i) (AllClaimed c flags_then (i + 1))
+        (λ all j less. still_claimed c ws hs i below (busy scene) j g (one_more stood all j less)) knows)
+
+    -- some flag was free at each moment, so another party has changed a word
+    scans_again : is_claimed c ws i ≡ true → c ≤ i + 1 → Does scanning scan true (GoOn (at_acquire (call_at scanning) (acquires.TheVariants.Scans 0)))
+    scans_again stood last =
+        let end : i + 1 ≡ c = omega arith in
+        let some = g.some in
+        let more : backs + since + 1 ≤ changes =
+        ⊎_elim (λ k. absurd (some_free c ws hs (busy scene) g (at_work scanning i below here refl scan_paid)
+        (subst (AllClaimed c ws) end (one_more stood k.0))))
+        (λ k. k) knows in
+        tries_on scanning i below here refl scan_paid stood true (acquires.TheVariants.Scans 0) refl (omega arith)
+        (omega arith) (inl (λ j less. absurd (omega arith), omega arith))
+
+    pub scans : StepOf scene Acquire (acquire_at c scanning)
+    scans = go (has_flag (get_or ws (flag_word c i) 0) i) refl (nat_lt (i + 1) c) refl
+      where
+        go : (b : Bool) → has_flag (get_or ws (flag_word c i) 0) i ≡ b → (d : Bool) → nat_lt (i + 1) c ≡ d → StepOf scene Acquire (acquire_at c scanning)
+        go true t true u =
+            let more : i + 1 < c = grind (arith, nat_tests) in
+            let goes : after {T = T} (acquire_at c scanning) (get_or ws (flag_word c i) 0)
+            ≡ GoOn (acquire_at c (acquires.TheVariants.Scans (i + 1))) =
+            rw (t, u) refl in
+            let back : goes_back (acquire_at c scanning) (get_or ws (flag_word c i) 0) ≡ false = rw (t, u) refl in
+            subst (λ a. Comes scene Acquire (acquire_at c scanning) (Some scan) (goes_back (acquire_at c scanning) (get_or ws (flag_word c i) 0)) a) (sym goes)
+            (subst
+            (λ b. Comes scene Acquire (acquire_at c scanning) (Some scan) b (GoOn (acquire_at c (acquires.TheVariants.Scans (i + 1)))))
+            (sym back) (scans_on t more))
+        go true t false u =
+            let last : c ≤ i + 1 = grind (arith, nat_tests) in
+            let goes : after {T = T} (acquire_at c scanning) (get_or ws (flag_word c i) 0)
+            ≡ GoOn (acquire_at c (acquires.TheVariants.Scans 0)) =
+            rw (t, u) refl in
+            let back : goes_back (acquire_at c scanning) (get_or ws (flag_word c i) 0) ≡ true = rw (t, u) refl in
+            subst (λ a. Comes scene Acquire (acquire_at c scanning) (Some scan) (goes_back (acquire_at c scanning) (get_or ws (flag_word c i) 0)) a) (sym goes)
+            (subst (λ b. Comes scene Acquire (acquire_at c scanning) (Some scan) b (GoOn (acquire_at c (acquires.TheVariants.Scans 0))))
+            (sym back) (scans_again t last))
+        go false t d u =
+            let goes : after {T = T} (acquire_at c scanning) (get_or ws (flag_word c i) 0) ≡ Done (Index i) = rw t refl in
+            let back : goes_back (acquire_at c scanning) (get_or ws (flag_word c i) 0) ≡ false = rw t refl in
+            subst (λ a. Comes scene Acquire (acquire_at c scanning) (Some scan) (goes_back (acquire_at c scanning) (get_or ws (flag_word c i) 0)) a) (sym goes)
+            (subst (λ b. Comes scene Acquire (acquire_at c scanning) (Some scan) b (Done (Index i))) (sym back)
+            (claim_succeeds scanning i below here refl scan_paid t (omega arith)))
+
+  -- ---- any step
+
+  pub acquire_step : (stage : AcquireStage) → IsHere scene (acquire_at c stage) → AcquireAt c stage
+      → AcquireKnows c ws since changes backs stage → steps ≤ acquire_number c stage backs
+      → StepOf scene Acquire (acquire_at c stage)
+  acquire_step acquires.TheVariants.LoadsHead here at knows s = loads_head here knows s
+  acquire_step (acquires.TheVariants.LoadsNext head) here at knows s = loads_next head at knows s
+  acquire_step (acquires.TheVariants.ExchangesHead head next) here at knows s = exchanges head next at knows s here
+  acquire_step (acquires.TheVariants.Claims i) here at knows s = claims_proposed i at here knows s
+  acquire_step (acquires.TheVariants.Scans i) here at knows s = scans i at here knows s

@@ -1,0 +1,251 @@
+-- What holds of the machine of a unique index set between any two turns beside what the frame says of every machine, and
+-- what a turn must show to keep it.
+use Rattle.std.proofs.Common.{◌≡◌, ◌≢◌, ℕ, ◌+◌, ◌<◌, ◌≤◌, ⊎_elim, if◌then◌else◌, Bool, false, nat_lt, Option, Some}
+use Rattle.std.proofs.Common.{None, List, [], ◌++◌, fold, refl, sym, ap, subst, ◌∙◌, arith}
+use Rattle.std.proofs.lemmas.Bool.{cases_eq}
+use Rattle.std.proofs.lemmas.List.Sums.{fold-append}
+use Rattle.steps.specs.Indices.Head.{says_locked}
+use Rattle.steps.specs.declared.indices.enums.UniqueIndexSetAcquireFailure.TheVariants.{OutOfIndices}
+use Rattle.model.specs.declared.event.Answer.TheVariants.{NoIndex, Number}
+use Rattle.model.specs.declared.event.Event.{Event}
+use Rattle.model.specs.declared.event.Event.TheVariants.{Finished}
+use Rattle.model.specs.declared.event.Start.{Start}
+use Rattle.model.specs.declared.event.Start as any_starts
+use Rattle.model.specs.declared.families.Flight.{Flight}
+use Rattle.model.specs.declared.families.Flight as flights
+use Rattle.model.specs.declared.families.Registry.{Registry}
+use Rattle.model.specs.declared.families.Registry as registries
+use Rattle.model.specs.declared.families.indices.IndexStart.TheVariants.{Acquire, BorrowedIndices}
+use Rattle.model.specs.declared.families.indices.calls.IndexFlight.{IndexFlight}
+use Rattle.model.specs.declared.party.Party.{Party}
+use Rattle.model.specs.declared.turn.Kind as kinds
+use Rattle.model.specs.Coding.{Coding}
+use Rattle.model.specs.Families.Indices.Promises.{HoldsRight, CountsRight, AnswersRight, GoesStraight, promise}
+use Rattle.model.specs.Families.Indices.Reading.{holder_after, holder_of, locked_after, is_locked, Tally, tally_after, tally_of, in_use}
+use Rattle.model.specs.Parties.{party_of, put, doing_of, flight_of}
+use Rattle.model.specs.Promises.Spans.{Stands}
+use Rattle.model.specs.Reading.{Each, Span, own_after, span_of}
+use Rattle.model.proofs.Frame as frame
+use Rattle.model.proofs.Frame.{Family}
+use Rattle.model.proofs.Parties.{party_put_same, party_put_other}
+use Rattle.model.proofs.Readings.{AreRight, Each-append, AreOwn, AllFollow}
+use Rattle.laws_indices.proofs.Core.{head_of, holder, held_below, Good}
+use Rattle.laws_indices.proofs.Knows.{counts, takes, gives, flight_wrote, number_of, At, FlightKnows, IsSeen}
+use Rattle.laws_indices.proofs.Totals.{weight_of, weight_at, total, total_put, total_longer}
+
+pub record IndexSet : Type 0 where
+  pub words : List ℕ
+  pub holders : List (Option ℕ)
+  pub seats : ℕ  -- the parties from this number on have begun no call
+
+abbrev pub Represents : {T : Type 0} → Registry T → List ℕ → IndexSet → Type 0
+Represents (registries.TheVariants.Indices holders) words s = (words ≡ s.words) × (holders ≡ s.holders)
+Represents kept words s = ⊥
+
+-- ---- where a party's call stands, with the machine around it
+
+pub record Scene (T : Type 0) : Type 0 where
+  pub coding : Coding T
+  pub capacity : ℕ
+  pub set : IndexSet
+  pub party : ℕ
+  pub steps : ℕ
+  pub backs : ℕ
+  pub since : ℕ
+  pub changes : ℕ
+  pub latest : List (ℕ × Party T)
+  pub events : List (Event T)
+
+-- a turn of this party needs a seat for it
+abbrev pub seats_with : ℕ → ℕ → ℕ
+seats_with seats p = if nat_lt p seats then seats else p + 1
+
+abbrev pub tally_with : ℕ → List (Option ℕ) → ℕ → ℕ → Tally
+tally_with c holders taking giving =
+    record { held = held_below holders c; taking = taking; giving = giving }
+
+module _ {T : Type 0} where
+  -- ---- what the calls under way count for
+
+  abbrev pub of_any : (IndexFlight → ℕ) → Flight T → ℕ
+  of_any weight (flights.TheVariants.Indices flight) = weight flight
+  of_any weight flight = 0
+
+  abbrev pub all_counted : List (ℕ × Party T) → ℕ → ℕ
+  all_counted latest n = total (of_any counts) latest n
+
+  abbrev pub all_taking : List (ℕ × Party T) → ℕ → ℕ
+  all_taking latest n = total (of_any takes) latest n
+
+  abbrev pub all_giving : List (ℕ × Party T) → ℕ → ℕ
+  all_giving latest n = total (of_any gives) latest n
+
+  -- An answer says what is promised of it. Beside that, who finds none left finds no lock, and a number of borrowed
+  -- indices is at most the capacity.
+  abbrev pub AnswersFew : ℕ → List (Event T) → Event T → Type 0
+  AnswersFew c before (Finished p (any_starts.TheVariants.Indices Acquire) (NoIndex OutOfIndices)) =
+      (c + 1 ≤ in_use (tally_of before)) × (is_locked before ≡ false)
+  AnswersFew c before (Finished p (any_starts.TheVariants.Indices BorrowedIndices) (Number number)) = CountsRight before number × (number ≤ c)
+  AnswersFew c before e = AnswersRight c before e
+
+  -- what is so of the set, of the latest calls and of the events
+  pub record Holds (c : ℕ) (s : IndexSet) (latest : List (ℕ × Party T)) (events : List (Event T)) : Type 0 where
+    pub bounded : (p : ℕ) (x : Party T) → party_of p latest ≡ Some x → p < s.seats
+    pub good : Good c s.words s.holders (all_counted latest s.seats)
+    pub tally : tally_of events ≡ tally_with c s.holders (all_taking latest s.seats) (all_giving latest s.seats)
+    pub holders : (i : ℕ) → holder_of i events ≡ holder s.holders i
+    pub lock : is_locked events ≡ says_locked (head_of s.words)
+    pub straight : (p : ℕ) (x : Party T) → party_of p latest ≡ Some x → GoesStraight x.start x.backs
+    pub holds : Each (HoldsRight c) events
+    pub answers : Each (AnswersFew c) events
+
+  -- ---- the family of the unique index set
+
+  abbrev any_wrote : ℕ → Flight T → List (Event T)
+  any_wrote p (flights.TheVariants.Indices flight) = flight_wrote p flight
+  any_wrote p flight = []
+
+  abbrev number : ℕ → Flight T → ℕ → ℕ
+  number c (flights.TheVariants.Indices flight) backs = number_of c flight backs
+  number c flight backs = 0
+
+  abbrev pub FlightAt : ℕ → List (Option ℕ) → ℕ → Start T → Flight T → Type 0
+  FlightAt c holders p (any_starts.TheVariants.Indices start) (flights.TheVariants.Indices flight) = At c holders p start flight
+  FlightAt c holders p start flight = ⊥
+
+  abbrev Knowing : ℕ → List ℕ → ℕ → ℕ → ℕ → Flight T → Type 0
+  Knowing c words since changes backs (flights.TheVariants.Indices flight) = FlightKnows c words since changes backs flight
+  Knowing c words since changes backs flight = ⊥
+
+  abbrev pub family : Coding T → ℕ → Family T
+  family code c =
+      record {
+        coding = code;
+        kind = kinds.TheVariants.Indices;
+        promise = promise;
+        capacity = c;
+        State = IndexSet;
+        Represents = Represents;
+        Holds = λ s latest events turns. Holds c s latest events;
+        written = λ s p flight. any_wrote p flight;
+        number = λ wrote. number c;
+        At = λ s p start flight. FlightAt c s.holders p start flight;
+        Knows = λ s p events since changes backs flight. Knowing c s.words since changes backs flight;
+      }
+
+  pub record Inv (scene : Scene T) : Type 0 where
+    pub holds : Holds scene.capacity scene.set scene.latest scene.events
+    pub frame : frame.Inv (family scene.coding scene.capacity) scene.set scene.latest scene.events scene.changes
+
+  abbrev pub set_then : Scene T → List ℕ → List (Option ℕ) → IndexSet
+  set_then scene words holders =
+      record { words = words; holders = holders; seats = seats_with scene.set.seats scene.party }
+
+  -- what a turn shows, where the words and the holders become these, the party's call under way was this one, if any, and
+  -- its span was this
+  pub record Shows (scene : Scene T) (words' : List ℕ) (holders' : List (Option ℕ)) (was : Option (Flight T))
+      (from : Span T) (y : Party T) (es : List (Event T)) (changes' : ℕ) : Type 0 where
+    pub right : AreRight (HoldsRight scene.capacity) scene.events es
+    pub answers : AreRight (AnswersFew scene.capacity) scene.events es
+    pub good : (busy' : ℕ) → busy' + weight_of (of_any counts) was
+        ≡ all_counted scene.latest scene.set.seats + weight_of (of_any counts) (flight_of (Some y.doing))
+        → Good scene.capacity words' holders' busy'
+    pub tally : (taking' giving' : ℕ)
+        → taking' + weight_of (of_any takes) was
+        ≡ all_taking scene.latest scene.set.seats + weight_of (of_any takes) (flight_of (Some y.doing))
+        → giving' + weight_of (of_any gives) was ≡ all_giving scene.latest scene.set.seats + weight_of (of_any gives) (flight_of (Some y.doing))
+        → fold tally_after (tally_with scene.capacity scene.set.holders (all_taking scene.latest scene.set.seats)
+        (all_giving scene.latest scene.set.seats))
+        es
+        ≡ tally_with scene.capacity holders' taking' giving'
+    pub holders : (i : ℕ) → fold (holder_after i) (holder scene.set.holders i) es ≡ holder holders' i
+    pub lock : fold locked_after (says_locked (head_of scene.set.words)) es ≡ says_locked (head_of words')
+    pub straight : GoesStraight y.start y.backs
+    pub own : AreOwn scene.party es
+    pub stands : AllFollow (Stands promise scene.capacity) from es
+    pub here : frame.Fits (family scene.coding scene.capacity) (set_then scene words' holders') scene.party (Some y) (fold own_after from es)
+    pub knows : frame.KnowsDoing (family scene.coding scene.capacity) (set_then scene words' holders') scene.party (scene.events ++ es) changes' y.backs y.doing
+    pub seen : IsSeen scene.set.words words' scene.changes changes'
+    pub keeps : (q : ℕ) → q ≢ scene.party → (index : ℕ) → holder scene.set.holders index ≡ Some q → holder holders' index ≡ Some q
+
+  any_stays : (c : ℕ) (holders holders' : List (Option ℕ)) (q : ℕ)
+      → ((index : ℕ) → holder holders index ≡ Some q → holder holders' index ≡ Some q)
+      → (start : Start T) (flight : Flight T) → FlightAt c holders q start flight → FlightAt c holders' q start flight
+  any_stays x0 x1 x2 x3 x4 x5 x6 x7 = grind arith
+
+  any_knows : (c : ℕ) (words words' : List ℕ) (changes changes' : ℕ) → IsSeen words words' changes changes'
+      → (since backs : ℕ) (flight : Flight T) → Knowing c words since changes backs flight
+      → Knowing c words' since changes' backs flight
+  any_knows x0 x1 x2 x3 x4 x5 x6 x7 x8 x9 = grind arith
+
+  module _ (scene : Scene T) (words' : List ℕ) (holders' : List (Option ℕ)) (was : Option (Flight T))
+      (from : Span T) (y : Party T) (es : List (Event T)) (changes' : ℕ)
+      (s : Shows scene words' holders' was from y es changes') where
+    pub owes : span_of scene.party scene.events ≡ from → Inv scene
+        → frame.Owes (family scene.coding scene.capacity) (set_then scene words' holders') scene.party y scene.latest
+        scene.events es changes'
+    owes is inv =
+        frame.owes (family scene.coding scene.capacity) scene.set (set_then scene words' holders') from scene.party
+        y scene.latest scene.events es scene.changes changes' is inv.frame
+        (record {
+          own = s.own;
+          stands = s.stands;
+          here = s.here;
+          knows = s.knows;
+          others = λ q ne start flight h. (any_stays scene.capacity scene.set.holders holders' q (s.keeps q ne) start flight h, refl);
+          others_know = λ q ne. any_knows scene.capacity scene.set.words words' scene.changes changes' s.seen;
+        })
+
+    module _ (is : flight_of (doing_of (party_of scene.party scene.latest)) ≡ was) (h : Holds scene.capacity scene.set scene.latest scene.events) where
+      open scene use {capacity as c, set as set, party as p, latest as latest, events as events}
+
+      abbrev pub latest' : List (ℕ × Party T)
+      latest' = put p y latest
+
+      abbrev pub seats' : ℕ
+      seats' = seats_with set.seats p
+
+      enough : (set.seats ≤ seats') × (p < seats')
+      enough = grind arith
+
+      no_call : (q : ℕ) → set.seats ≤ q → party_of q latest ≡ None
+      no_call x0 x1 = grind arith
+
+      weight_moves : (weight : IndexFlight → ℕ)
+          → total (of_any weight) latest' seats' + weight_of (of_any weight) was
+          ≡ total (of_any weight) latest set.seats + weight_of (of_any weight) (flight_of (Some y.doing))
+      weight_moves weight =
+          let puts = total_put (of_any weight) latest p y seats' enough.1 in
+          let grows = total_longer (of_any weight) latest set.seats seats' enough.0 no_call in
+          let before : weight_at (of_any weight) latest p ≡ weight_of (of_any weight) was = ap (weight_of (of_any weight)) is in
+          omega arith
+
+      of_each : (P : ℕ → Party T → Type 0) → P p y → ((q : ℕ) (x : Party T) → party_of q latest ≡ Some x → P q x)
+          → (q : ℕ) (x : Party T) → party_of q latest' ≡ Some x → P q x
+      of_each P mine theirs q x found = ⊎_elim here there (cases_eq q p)
+        where
+          here : q ≡ p → P q x
+          here e =
+              let at : party_of p latest' ≡ Some x = subst (λ n. party_of n latest' ≡ Some x) e found in
+              let both : Some y ≡ Some x = sym (party_put_same p y latest) ∙ at in
+              let same : y ≡ x = cc in
+              subst (λ n. P n x) (sym e) (subst (P p) same mine)
+
+          there : q ≢ p → P q x
+          there ne = theirs q x (sym (party_put_other q p y latest ne) ∙ found)
+
+      pub holds_more : Holds c (set_then scene words' holders') latest' (events ++ es)
+      holds_more =
+          record {
+            bounded = of_each (λ q x. q < seats') enough.1 (λ q x found. let below = h.bounded q x found in let low = enough.0 in omega arith);
+            good = s.good (all_counted latest' seats') (weight_moves counts);
+            tally =
+                fold-append tally_after (record { held = 0; taking = 0; giving = 0 }) events es
+                ∙ (ap (λ z. fold tally_after z es) h.tally
+                ∙ s.tally (all_taking latest' seats') (all_giving latest' seats') (weight_moves takes) (weight_moves gives));
+            holders = λ i. fold-append (holder_after i) None events es ∙ (ap (λ o. fold (holder_after i) o es) (h.holders i) ∙ s.holders i);
+            lock = fold-append locked_after false events es ∙ (ap (λ b. fold locked_after b es) h.lock ∙ s.lock);
+            straight = of_each (λ q x. GoesStraight x.start x.backs) s.straight h.straight;
+            holds = Each-append (HoldsRight c) events es h.holds s.right;
+            answers = Each-append (AnswersFew c) events es h.answers s.answers;
+          }

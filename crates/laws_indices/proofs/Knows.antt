@@ -1,0 +1,208 @@
+-- What a call of the unique index set knows where it stands: of the words and of who holds what, and of the counts.
+use Rattle.std.proofs.Common.{◌≡◌, ◌≢◌, ℕ, ◌+◌, ◌*◌, ◌<◌, ◌≤◌, ◌⊎◌, true, Option, Some, List, [], ◌∷◌, arith}
+use Rattle.std.specs.Prelude.{max}
+use Rattle.steps.specs.declared.indices.enums.ReleaseMode.TheVariants.{LockIfLastIndex, Default}
+use Rattle.steps.specs.declared.indices.unique.AcquireStage.{AcquireStage}
+use Rattle.steps.specs.declared.indices.unique.AcquireStage as acquires
+use Rattle.steps.specs.declared.indices.unique.ReleaseStage.{ReleaseStage}
+use Rattle.steps.specs.declared.indices.unique.ReleaseStage as releases
+use Rattle.steps.specs.Indices.Head.{borrowed, locked}
+use Rattle.model.specs.declared.event.Event.{Event}
+use Rattle.model.specs.declared.event.Event.TheVariants.{Freed}
+use Rattle.model.specs.declared.families.indices.IndexStart.{IndexStart}
+use Rattle.model.specs.declared.families.indices.IndexStart as starts
+use Rattle.model.specs.declared.families.indices.calls.IndexFlight.{IndexFlight}
+use Rattle.model.specs.declared.families.indices.calls.IndexFlight.TheVariants.{Acquire, ReleaseDefault, ReleaseLock, BorrowedIndices, IsLocked}
+use Rattle.laws_indices.proofs.Core.{head_of, holder, is_claimed}
+
+-- ---- the calls by their stages
+
+abbrev pub acquire_at : ℕ → AcquireStage → IndexFlight
+acquire_at c stage =
+    Acquire (record { call = record { capacity = c; stage = stage }; given = tt; room = tt })
+
+abbrev pub default_at : ℕ → ℕ → ReleaseStage → IndexFlight
+default_at c index stage =
+    ReleaseDefault
+    (record {
+      call = record { capacity = c; stage = stage; of = record {} };
+      given = index;
+      room = tt;
+    })
+
+abbrev pub lock_at : ℕ → ℕ → ReleaseStage → IndexFlight
+lock_at c index stage =
+    ReleaseLock
+    (record {
+      call = record { capacity = c; stage = stage; of = record {} };
+      given = index;
+      room = tt;
+    })
+
+-- ---- what they count for
+
+-- an acquire is counted in the head from its exchange to its claim
+abbrev pub acquire_counts : AcquireStage → ℕ
+acquire_counts acquires.TheVariants.LoadsHead = 0
+acquire_counts (acquires.TheVariants.LoadsNext head) = 0
+acquire_counts (acquires.TheVariants.ExchangesHead head next) = 0
+acquire_counts (acquires.TheVariants.Claims index) = 1
+acquire_counts (acquires.TheVariants.Scans index) = 1
+
+-- a release is counted there from its clear to its end
+abbrev pub release_counts : ReleaseStage → ℕ
+release_counts releases.TheVariants.ClearsFlag = 0
+release_counts releases.TheVariants.LoadsHead = 1
+release_counts (releases.TheVariants.StoresNext head) = 1
+release_counts (releases.TheVariants.ExchangesHead head) = 1
+release_counts releases.TheVariants.Subtracts = 1
+
+abbrev pub counts : IndexFlight → ℕ
+counts (Acquire run) = acquire_counts run.call.stage
+counts (ReleaseDefault run) = release_counts run.call.stage
+counts (ReleaseLock run) = release_counts run.call.stage
+counts (BorrowedIndices run) = 0
+counts (IsLocked run) = 0
+
+-- each acquire takes an index, and a release gives one back once it has freed
+abbrev pub takes : IndexFlight → ℕ
+takes (Acquire run) = 1
+takes (ReleaseDefault run) = 0
+takes (ReleaseLock run) = 0
+takes (BorrowedIndices run) = 0
+takes (IsLocked run) = 0
+
+abbrev pub gives : IndexFlight → ℕ
+gives (Acquire run) = 0
+gives (ReleaseDefault run) = release_counts run.call.stage
+gives (ReleaseLock run) = release_counts run.call.stage
+gives (BorrowedIndices run) = 0
+gives (IsLocked run) = 0
+
+-- ---- what they have written, and how many steps they have taken at most
+
+module _ {T : Type 0} where
+  abbrev pub release_wrote : ℕ → ℕ → ReleaseStage → List (Event T)
+  release_wrote p index releases.TheVariants.ClearsFlag = []
+  release_wrote p index releases.TheVariants.LoadsHead = Freed p index ∷ []
+  release_wrote p index (releases.TheVariants.StoresNext head) = Freed p index ∷ []
+  release_wrote p index (releases.TheVariants.ExchangesHead head) = Freed p index ∷ []
+  release_wrote p index releases.TheVariants.Subtracts = Freed p index ∷ []
+
+  abbrev pub flight_wrote : ℕ → IndexFlight → List (Event T)
+  flight_wrote p (Acquire run) = []
+  flight_wrote p (ReleaseDefault run) = release_wrote p run.given run.call.stage
+  flight_wrote p (ReleaseLock run) = release_wrote p run.given run.call.stage
+  flight_wrote p (BorrowedIndices run) = []
+  flight_wrote p (IsLocked run) = []
+
+abbrev pub acquire_number : ℕ → AcquireStage → ℕ → ℕ
+acquire_number c acquires.TheVariants.LoadsHead backs = 0
+acquire_number c (acquires.TheVariants.LoadsNext head) backs = 1 + backs * max 2 c
+acquire_number c (acquires.TheVariants.ExchangesHead head next) backs = 2 + backs * max 2 c
+acquire_number c (acquires.TheVariants.Claims index) backs = 3 + backs * max 2 c
+acquire_number c (acquires.TheVariants.Scans index) backs = 4 + index + backs * max 2 c
+
+abbrev pub release_number : ReleaseStage → ℕ → ℕ
+release_number releases.TheVariants.ClearsFlag backs = 0
+release_number releases.TheVariants.LoadsHead backs = 1
+release_number (releases.TheVariants.StoresNext head) backs = 2 + backs * 2
+release_number (releases.TheVariants.ExchangesHead head) backs = 3 + backs * 2
+release_number releases.TheVariants.Subtracts backs = 4
+
+abbrev pub number_of : ℕ → IndexFlight → ℕ → ℕ
+number_of c (Acquire run) backs = acquire_number c run.call.stage backs
+number_of c (ReleaseDefault run) backs = release_number run.call.stage 0
+number_of c (ReleaseLock run) backs = release_number run.call.stage backs
+number_of c (BorrowedIndices run) backs = 0
+number_of c (IsLocked run) backs = 0
+
+-- ---- what they know of the words and of who holds what
+
+-- a head from which an acquire goes on: it is not locked, and counts less than the capacity
+abbrev pub IsOpen : ℕ → ℕ → Type 0
+IsOpen c head = (borrowed head ≢ locked) × (borrowed head ≢ c)
+
+abbrev pub AcquireAt : ℕ → AcquireStage → Type 0
+AcquireAt c acquires.TheVariants.LoadsHead = Unit {0}
+AcquireAt c (acquires.TheVariants.LoadsNext head) = IsOpen c head
+AcquireAt c (acquires.TheVariants.ExchangesHead head next) = IsOpen c head
+AcquireAt c (acquires.TheVariants.Claims index) = index < c
+AcquireAt c (acquires.TheVariants.Scans index) = index < c
+
+-- before it clears the flag, the party of a release holds the index
+abbrev pub ReleaseAt : List (Option ℕ) → ℕ → ℕ → ReleaseStage → Type 0
+ReleaseAt holders p index releases.TheVariants.ClearsFlag = holder holders index ≡ Some p
+ReleaseAt holders p index releases.TheVariants.LoadsHead = Unit {0}
+ReleaseAt holders p index (releases.TheVariants.StoresNext head) = Unit {0}
+ReleaseAt holders p index (releases.TheVariants.ExchangesHead head) = Unit {0}
+ReleaseAt holders p index releases.TheVariants.Subtracts = Unit {0}
+
+-- where a call under way stands
+abbrev pub At : ℕ → List (Option ℕ) → ℕ → IndexStart → IndexFlight → Type 0
+At c holders p starts.TheVariants.Acquire (Acquire run) =
+    (run.call.capacity ≡ c) × AcquireAt c run.call.stage
+At c holders p (starts.TheVariants.Release index Default) (ReleaseDefault run) =
+    (run.call.capacity ≡ c) × (run.given ≡ index) × (index < c)
+    × ReleaseAt holders p index run.call.stage
+At c holders p (starts.TheVariants.Release index LockIfLastIndex) (ReleaseLock run) =
+    (run.call.capacity ≡ c) × (run.given ≡ index) × (index < c)
+    × ReleaseAt holders p index run.call.stage
+At c holders p starts.TheVariants.BorrowedIndices (BorrowedIndices run) = Unit {0}
+At c holders p starts.TheVariants.IsLocked (IsLocked run) = Unit {0}
+At c holders p start flight = ⊥
+
+-- ---- what they know of the counts
+
+-- each turn back is paid by a change of another party since the call began
+abbrev pub IsPaid : ℕ → ℕ → ℕ → Type 0
+IsPaid since changes backs = backs + since ≤ changes
+
+-- and so is one more, unless this is so
+abbrev pub PaidUnless : Type 0 → ℕ → ℕ → ℕ → Type 0
+PaidUnless P since changes backs = (P × IsPaid since changes backs) ⊎ (backs + since + 1 ≤ changes)
+
+-- the flags of these indices stand
+abbrev pub AllClaimed : ℕ → List ℕ → ℕ → Type 0
+AllClaimed c words index = (i : ℕ) → i < index → is_claimed c words i ≡ true
+
+abbrev pub AcquireKnows : ℕ → List ℕ → ℕ → ℕ → ℕ → AcquireStage → Type 0
+AcquireKnows c words since changes backs acquires.TheVariants.LoadsHead = IsPaid since changes backs
+AcquireKnows c words since changes backs (acquires.TheVariants.LoadsNext head) =
+    PaidUnless (head_of words ≡ head) since changes backs
+AcquireKnows c words since changes backs (acquires.TheVariants.ExchangesHead head next) =
+    PaidUnless (head_of words ≡ head) since changes backs
+AcquireKnows c words since changes backs (acquires.TheVariants.Claims index) =
+    IsPaid since changes backs
+AcquireKnows c words since changes backs (acquires.TheVariants.Scans index) =
+    PaidUnless (AllClaimed c words index) since changes backs
+
+abbrev pub LockKnows : List ℕ → ℕ → ℕ → ℕ → ReleaseStage → Type 0
+LockKnows words since changes backs releases.TheVariants.ClearsFlag = IsPaid since changes backs
+LockKnows words since changes backs releases.TheVariants.LoadsHead = IsPaid since changes backs
+LockKnows words since changes backs (releases.TheVariants.StoresNext head) =
+    PaidUnless (head_of words ≡ head) since changes backs
+LockKnows words since changes backs (releases.TheVariants.ExchangesHead head) =
+    PaidUnless (head_of words ≡ head) since changes backs
+LockKnows words since changes backs releases.TheVariants.Subtracts = ⊥
+
+-- a call without a loop has not turned back
+abbrev pub FlightKnows : ℕ → List ℕ → ℕ → ℕ → ℕ → IndexFlight → Type 0
+FlightKnows c words since changes backs (Acquire run) =
+    AcquireKnows c words since changes backs run.call.stage
+FlightKnows c words since changes backs (ReleaseDefault run) = backs ≡ 0
+FlightKnows c words since changes backs (ReleaseLock run) =
+    LockKnows words since changes backs run.call.stage
+FlightKnows c words since changes backs (BorrowedIndices run) = backs ≡ 0
+FlightKnows c words since changes backs (IsLocked run) = backs ≡ 0
+
+-- ---- what a step of another party keeps
+
+-- the words stay, or their changes go up
+abbrev pub IsSeen : List ℕ → List ℕ → ℕ → ℕ → Type 0
+IsSeen words words' changes changes' =
+    ((words' ≡ words) × (changes' ≡ changes)) ⊎ (changes' ≡ changes + 1)
+
+module _ (words words' : List ℕ) (changes changes' since backs : ℕ) (seen : IsSeen words words' changes changes') where
+  pub flight_keeps : (c : ℕ) (flight : IndexFlight) → FlightKnows c words since changes backs flight → FlightKnows c words' since changes' backs flight
+  flight_keeps x0 x1 x2 = grind arith

@@ -1,0 +1,86 @@
+-- The steps of the calls that look at the head: how many indices are borrowed, and whether the set is locked.
+use Rattle.std.proofs.Common.{◌≡◌, ◌≢◌, ℕ, ◌+◌, ◌≤◌, Bool, true, false, Option, Some, List, refl, sym, ap, subst, ◌∙◌, arith}
+use Rattle.std.proofs.lemmas.Bool.Decides.{nat_tests}
+use Rattle.std.proofs.lemmas.List.{set-get_or}
+use Rattle.steps.specs.declared.ask.Ask.{Ask}
+use Rattle.steps.specs.declared.ask.Op.TheVariants.{Load}
+use Rattle.steps.specs.Indices.Head.{borrowed, locked, says_locked}
+use Rattle.steps.specs.Indices.Unique.{borrowed_number}
+use Rattle.model.specs.declared.event.Answer.TheVariants.{Number, Truth}
+use Rattle.model.specs.declared.families.indices.IndexStart as starts
+use Rattle.model.specs.declared.families.indices.calls.IndexFlight.{IndexFlight}
+use Rattle.model.specs.declared.families.indices.calls.IndexFlight.TheVariants.{BorrowedIndices, IsLocked}
+use Rattle.model.specs.Families.Indices.Promises.{CountsRight}
+use Rattle.model.specs.Families.Indices.Reading.{is_locked, Tally, tally_of, in_use}
+use Rattle.model.specs.Turns.{words_after}
+use Rattle.laws_indices.proofs.Core.{head_of, Good}
+use Rattle.laws_indices.proofs.Invariant.{Scene, Inv}
+use Rattle.laws_indices.proofs.Moves.{counts_right}
+use Rattle.laws_indices.proofs.Stages.{busy, IsHere, all_in_use, StepOf, ends, same_tally}
+
+abbrev pub borrowed_at : IndexFlight
+borrowed_at = BorrowedIndices (record { call = record {}; given = tt; room = tt })
+
+abbrev pub locked_at : IndexFlight
+locked_at = IsLocked (record { call = record {}; given = tt; room = tt })
+
+module _ {T : Type 0} (scene : Scene T) (inv : Inv scene) (straight : scene.backs ≡ 0) (s : scene.steps ≤ 0) where
+  open scene use {capacity as c, party as p, steps, backs, since, changes, latest, events}
+
+  abbrev ws : List ℕ
+  ws = scene.set.words
+
+  abbrev hs : List (Option ℕ)
+  hs = scene.set.holders
+
+  g : Good c ws hs (busy scene)
+  g = inv.holds.good
+
+  abbrev loads : Ask
+  loads = record { word = 0; op = Load }
+
+  same : words_after ws (Some loads) ≡ ws
+  same = set-get_or ws 0 0
+
+  good_same : (busy' : ℕ) → busy' + 0 ≡ busy scene + 0 → Good c (words_after ws (Some loads)) hs busy'
+  good_same busy' e =
+      let is : busy scene ≡ busy' = omega arith in
+      subst (λ w. Good c w hs busy') (sym same) (subst (λ n. Good c ws hs n) is g)
+
+  -- what it counts lies between what is held and what is in use
+  counts_so : IsHere scene borrowed_at → CountsRight events (borrowed_number (head_of ws))
+  counts_so here = (shut, unlocked)
+    where
+      shut : is_locked events ≡ true → borrowed_number (head_of ws) ≡ 0
+      shut t =
+          let says : says_locked (head_of ws) ≡ true = sym inv.holds.lock ∙ t in
+          rw says refl
+
+      unlocked : is_locked events ≡ false → ((tally_of events).held ≤ borrowed_number (head_of ws)) × (borrowed_number (head_of ws) ≤ in_use (tally_of events))
+      unlocked t =
+          let says : says_locked (head_of ws) ≡ false = sym inv.holds.lock ∙ t in
+          let not_locked : borrowed (head_of ws) ≢ locked = grind (arith, nat_tests) in
+          let is = counts_right c ws hs (busy scene) g not_locked in
+          let number = is.0 in
+          let all = all_in_use scene borrowed_at here in
+          rw (says, inv.holds.tally) (omega arith, omega arith)
+
+  told : (h t g t' g' : ℕ) → t' + 0 ≡ t + 0 → g' + 0 ≡ g + 0
+      → ◌≡◌ {A = Tally} (record { held = h; taking = t; giving = g }) (record { held = h; taking = t'; giving = g' })
+  told h t g t' g' a b = same_tally h h t t' g g' refl (omega arith) (omega arith)
+
+  -- and is at most the capacity
+  counts_few : borrowed_number (head_of ws) ≤ c
+  counts_few = grind arith
+
+  pub counts_step : IsHere scene borrowed_at → StepOf scene starts.TheVariants.BorrowedIndices borrowed_at
+  counts_step here =
+      ends scene inv starts.TheVariants.BorrowedIndices borrowed_at (Number (borrowed_number (head_of ws)))
+      (Some loads) false good_same told refl (counts_so here, counts_few) (ap (λ w. says_locked (head_of w)) same)
+      tt (omega arith) (omega arith)
+
+  pub looks_step : StepOf scene starts.TheVariants.IsLocked locked_at
+  looks_step =
+      ends scene inv starts.TheVariants.IsLocked locked_at (Truth (says_locked (head_of ws))) (Some loads) false
+      good_same told refl (sym inv.holds.lock) (ap (λ w. says_locked (head_of w)) same) tt (omega arith)
+      (omega arith)

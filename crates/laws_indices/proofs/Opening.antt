@@ -1,0 +1,58 @@
+-- The unique index set as it opens: nobody holds an index, and no flag stands.
+use Rattle.std.proofs.Common.{◌≡◌, ℕ, zero, suc, ◌+◌, ◌/◌, ◌<◌, ◌≤◌, inl, Option, None, is_some, ◌++◌, length}
+use Rattle.std.proofs.Common.{replicate, get_or, refl, sym, ap, ◌∙◌, arith, length-append, get_or-append-add}
+use Rattle.std.proofs.lemmas.List.{length-replicate}
+use Rattle.std.proofs.lemmas.List.FromFn.{length-range_with_len}
+use Rattle.std.specs.List.{range_with_len}
+use Rattle.steps.specs.Indices.Head.{flag_word, has_flag, locked}
+use Rattle.steps.proofs.Flags.Words.{none_stands}
+use Rattle.model.specs.declared.turn.Kind as kinds
+use Rattle.model.specs.Families.Indices.Opening.{opening_words, flag_words}
+use Rattle.model.specs.World.{capacity_error}
+use Rattle.laws_indices.proofs.Core.{size, holder, one_held, held_below, Good}
+use Rattle.laws_indices.proofs.Sums.{sum_none}
+
+zeros : (n i : ℕ) → get_or (replicate {A = ℕ} n 0) i 0 ≡ 0
+zeros zero i = refl
+zeros (suc n) zero = refl
+zeros (suc n) (suc i) = zeros n i
+
+pub nobody_holds : (n i : ℕ) → holder (replicate n None) i ≡ None
+nobody_holds zero i = refl
+nobody_holds (suc n) zero = refl
+nobody_holds (suc n) (suc i) = nobody_holds n i
+
+opening_long : (c : ℕ) → length (opening_words c) ≡ size c
+opening_long c =
+    let both = length-append (range_with_len 1 c) (replicate (flag_words c) 0) in
+    let first = length-range_with_len 1 c in
+    let rest = length-replicate {A = ℕ} (flag_words c) 0 in
+    omega arith
+
+-- the words of flags open as 0
+opening_flag : (c i : ℕ) → get_or (opening_words c) (flag_word c i) 0 ≡ 0
+opening_flag c i =
+    let place : flag_word c i ≡ suc (c + i / 64) = omega arith in
+    let first = length-range_with_len 1 c in
+    let behind : c + i / 64 ≡ length (range_with_len 1 c) + i / 64 = omega arith in
+    ap (λ n. get_or (opening_words c) n 0) place
+    ∙ (ap (λ n. get_or (range_with_len 1 c ++ replicate (flag_words c) 0) n 0) behind
+    ∙ (get_or-append-add (range_with_len 1 c) (replicate (flag_words c) 0) (i / 64) 0 ∙ zeros (flag_words c) (i / 64)))
+
+pub none_held : (c : ℕ) → held_below (replicate c None) c ≡ 0
+none_held c = sum_none (λ i. one_held (holder (replicate c None) i)) c (λ i below. ap one_held (nobody_holds c i))
+
+pub opening_good : (c : ℕ) → 1 ≤ c → c < locked → Good c (opening_words c) (replicate c None) 0
+opening_good c some few =
+    let none = none_held c in
+    record {
+      some = some;
+      few = few;
+      wide = opening_long c;
+      long = length-replicate {A = Option ℕ} c None;
+      flags = λ i below. ap (λ word. has_flag word i) (opening_flag c i) ∙ (none_stands i ∙ sym (ap is_some (nobody_holds c i)));
+      tally = inl (omega arith, omega arith);
+    }
+
+pub admitted_is : (c : ℕ) → capacity_error kinds.TheVariants.Indices c ≡ None → (1 ≤ c) × (c < locked)
+admitted_is x0 x1 = grind arith

@@ -1,0 +1,355 @@
+-- What a step of a call of the unique index set has to show, and the shapes that a step has: a call goes on, frees its
+-- index, claims one, locks the set, or ends without any of these.
+use Rattle.std.proofs.Common.{◌≡◌, ◌≢◌, ℕ, ◌+◌, ◌-◌, ◌<◌, ◌≤◌, ◌==◌, ⊎_elim, inl, inr, if◌then◌else◌, Bool, true}
+use Rattle.std.proofs.Common.{false, Option, Some, None, List, [], ◌∷◌, ◌++◌, length, get_or, set, fold, refl, sym, ap}
+use Rattle.std.proofs.Common.{◌∙◌, arith, eq-eqb, ne_eqb, get_or-set_same, get_or-set_other}
+use Rattle.std.proofs.lemmas.Bool.{cases_eq}
+use Rattle.std.proofs.lemmas.Bool.Decides.{nat_tests}
+use Rattle.std.proofs.lemmas.List.Sums.{fold-append}
+use Rattle.steps.specs.Ask.{written}
+use Rattle.steps.specs.declared.ask.Ask.{Ask}
+use Rattle.steps.specs.declared.ask.After.{After}
+use Rattle.steps.specs.declared.ask.After.TheVariants.{GoOn, Done}
+use Rattle.steps.specs.declared.indices.enums.ReleaseMode.{ReleaseMode}
+use Rattle.steps.specs.declared.indices.enums.ReleaseMode.TheVariants.{LockIfLastIndex}
+use Rattle.steps.specs.declared.indices.enums.ReleaseState as states
+use Rattle.steps.specs.Indices.Head.{says_locked, borrowed, locked}
+use Rattle.model.specs.declared.event.Answer.{Answer}
+use Rattle.model.specs.declared.event.Answer.TheVariants.{Index, State}
+use Rattle.model.specs.declared.event.Event.{Event}
+use Rattle.model.specs.declared.event.Event.TheVariants.{Claimed, Freed, Locked, Finished}
+use Rattle.model.specs.declared.event.Start.TheVariants.{Indices}
+use Rattle.model.specs.declared.families.Flight.{Flight}
+use Rattle.model.specs.declared.families.Flight as flights
+use Rattle.model.specs.declared.families.Registry as registries
+use Rattle.model.specs.declared.families.indices.IndexStart.{IndexStart}
+use Rattle.model.specs.declared.families.indices.IndexStart.TheVariants.{Acquire, Release}
+use Rattle.model.specs.declared.families.indices.calls.IndexFlight.{IndexFlight}
+use Rattle.model.specs.declared.party.Doing.TheVariants.{Over}
+use Rattle.model.specs.declared.party.Party.{Party}
+use Rattle.model.specs.Families.{ask_of}
+use Rattle.model.specs.Families.Indices.Bounds.{most_steps}
+use Rattle.model.specs.Families.Indices.Calls.{want, after, goes_back}
+use Rattle.model.specs.Families.Indices.Promises.{GoesStraight}
+use Rattle.model.specs.Families.Indices.Reading.{Tally, tally_after, locked_after}
+use Rattle.model.specs.Families.Indices.Spans.{deeds, done_by}
+use Rattle.model.specs.Families.Indices.Steps.{frees, effects, holders_after}
+use Rattle.model.specs.Parties.{party_of, doing_of, flight_of}
+use Rattle.model.specs.Reading.{Open}
+use Rattle.model.specs.Step.{as_call, answer_in}
+use Rattle.model.specs.Turns.{one_if, old_of, words_after, change_of, step_count, party_after, ending_of}
+use Rattle.model.proofs.Turns.{kept_words}
+use Rattle.laws_indices.proofs.Core.{head_of, counted_in, holder, one_held, held_below, held_below_set, Good}
+use Rattle.laws_indices.proofs.Invariant.{Scene, Inv, Shows, AnswersFew, of_any, all_counted, all_taking, all_giving}
+use Rattle.laws_indices.proofs.Knows.{counts, takes, gives, flight_wrote, number_of, At, FlightKnows, IsPaid, PaidUnless, IsSeen}
+use Rattle.laws_indices.proofs.Sums.{sum_one, sum_over}
+use Rattle.laws_indices.proofs.Totals.{weight_of, weight_at}
+
+-- ---- what a step of any call is to the others
+
+-- the words stay, or their changes go up
+pub is_seen : (words : List ℕ) (ask : Option Ask) (changes : ℕ) → IsSeen words (words_after words ask) changes (changes + change_of words ask)
+is_seen words None changes = inl (refl, omega arith)
+is_seen words (Some ask) changes = go (get_or (words_after words (Some ask)) ask.word 0 == get_or words ask.word 0) refl
+  where
+    go : (b : Bool) → (get_or (words_after words (Some ask)) ask.word 0 == get_or words ask.word 0) ≡ b
+        → IsSeen words (words_after words (Some ask)) changes (changes + (if b then 0 else 1))
+    go true t =
+        let same : get_or (words_after words (Some ask)) ask.word 0 ≡ get_or words ask.word 0 = grind (arith, nat_tests) in
+        inl (kept_words words ask.word (written ask.op (get_or words ask.word 0)) same, omega arith)
+    go false t = inr refl
+
+-- an index has one holder
+clash : (o : Option ℕ) (p q : ℕ) → q ≢ p → o ≡ Some p → o ≡ Some q → ⊥
+clash o p q ne a b = let same : Some p ≡ Some q = sym a ∙ b in ne (cc)
+
+nobody : (o : Option ℕ) (q : ℕ) → o ≡ None → o ≡ Some q → ⊥
+nobody o q a b = let same : None ≡ Some q = sym a ∙ b in cc
+
+pub shut_says : (head : ℕ) → borrowed head ≡ locked → says_locked head ≡ true
+shut_says head e = eq-eqb (borrowed head) locked e
+
+pub open_says : (head : ℕ) → borrowed head ≢ locked → says_locked head ≡ false
+open_says head ne = ne_eqb (borrowed head) locked ne
+
+-- who holds an index once one is held by another, or by nobody
+holder_set : (holders : List (Option ℕ)) (index : ℕ) (o : Option ℕ) (i : ℕ) → index < length holders
+    → (if index == i then o else holder holders i) ≡ holder (set holders index o) i
+holder_set holders index o i below = ⊎_elim here there (cases_eq index i)
+  where
+    here : index ≡ i → (if index == i then o else holder holders i) ≡ holder (set holders index o) i
+    here e =
+        ap (λ b. if b then o else holder holders i) (eq-eqb index i e)
+        ∙ (sym (get_or-set_same holders index o None below) ∙ ap (holder (set holders index o)) e)
+
+    there : index ≢ i → (if index == i then o else holder holders i) ≡ holder (set holders index o) i
+    there ne =
+        ap (λ b. if b then o else holder holders i) (ne_eqb index i ne)
+        ∙ sym (get_or-set_other holders index i o None (λ e. ne (sym e)))
+
+pub same_tally : (h h' t t' g g' : ℕ) → h ≡ h' → t ≡ t' → g ≡ g'
+    → ◌≡◌ {A = Tally} (record { held = h; taking = t; giving = g }) (record { held = h'; taking = t'; giving = g' })
+same_tally x0 x1 x2 x3 x4 x5 x6 x7 x8 = grind arith
+
+module _ {T : Type 0} where
+  any_less : (o : Option (Flight T)) → weight_of (of_any counts) o ≤ weight_of (of_any takes) o + weight_of (of_any gives) o
+  any_less x0 = grind arith
+
+  -- a call of the set as one of any family
+  abbrev pub any_call : After IndexFlight (Answer T) → After (Flight T) (Answer T)
+  any_call after = as_call flights.TheVariants.Indices (λ answer. answer) after
+
+module _ {T : Type 0} (scene : Scene T) where
+  open scene use {capacity as c, party as p, latest as latest, events as events}
+
+  abbrev pub words : List ℕ
+  words = scene.set.words
+
+  abbrev pub holders : List (Option ℕ)
+  holders = scene.set.holders
+
+  abbrev pub busy : ℕ
+  busy = all_counted scene.latest scene.set.seats
+
+  -- ---- what the sums tell
+
+  -- the party has this call under way
+  pub record IsHere (flight : IndexFlight) : Type 0 where
+    pub seat : p < scene.set.seats
+    pub under : flight_of (doing_of (party_of p latest)) ≡ Some (flights.TheVariants.Indices flight)
+
+  module _ (flight : IndexFlight) (here : IsHere flight) where
+    weighs : (weight : IndexFlight → ℕ) → weight_at (of_any weight) latest p ≡ weight flight
+    weighs weight = ap (weight_of (of_any weight)) here.under
+
+    pub busy_here : counts flight ≤ busy
+    busy_here =
+        let one = sum_one (weight_at (of_any counts) latest) scene.set.seats p here.seat in
+        let mine = weighs counts in
+        omega arith
+
+    pub all_in_use : busy + (takes flight + gives flight) ≤ all_taking latest scene.set.seats + all_giving latest scene.set.seats + counts flight
+    all_in_use =
+        let over =
+        sum_over (weight_at (of_any takes) latest) (weight_at (of_any gives) latest)
+        (weight_at (of_any counts) latest) (λ q. any_less (flight_of (doing_of (party_of q latest))))
+        scene.set.seats p here.seat in
+        let a = weighs counts in
+        let b = weighs takes in
+        let d = weighs gives in
+        omega arith
+
+  -- ---- a step
+
+  -- the party as it stands before the step
+  abbrev party : IndexStart → Party T
+  party start = record { start = Indices start; steps = scene.steps; backs = scene.backs; doing = Over 0 }
+
+  -- and after a step that does this operation
+  abbrev pub party_then : IndexStart → Option Ask → Bool → After IndexFlight (Answer T) → Party T
+  party_then start ask back after =
+      party_after (party start) scene.since scene.changes (step_count ask) (change_of words ask)
+      (record { after = any_call after; back = back; wrote = []; kept = registries.TheVariants.Indices holders })
+
+  -- how often words have changed then
+  abbrev pub changes_then : Option Ask → ℕ
+  changes_then ask = scene.changes + change_of words ask
+
+  abbrev pub since_then : Option Ask → ℕ
+  since_then ask = scene.since + change_of words ask
+
+  abbrev pub backs_then : Bool → ℕ
+  backs_then back = scene.backs + one_if back
+
+  -- what is paid goes on to be so after a step of its own, which counts no change for it
+  pub paid_of : (P : Type 0) → PaidUnless P scene.since scene.changes scene.backs → IsPaid scene.since scene.changes scene.backs
+  paid_of P h = ⊎_elim (λ k. k.1) (λ k. omega arith) h
+
+  pub unless_then : (ask : Option Ask) (P Q : Type 0) → (P → Q) → PaidUnless P scene.since scene.changes scene.backs
+      → PaidUnless Q (since_then ask) (changes_then ask) (backs_then false)
+  unless_then ask P Q follows h = ⊎_elim (λ k. let paid = k.1 in inl (follows k.0, omega arith)) (λ k. inr (omega arith)) h
+
+  -- a step after which the call is this, which leaves these holders and writes these events
+  abbrev pub Leaves : List (Option ℕ) → List (Event T) → IndexStart → IndexFlight → Option Ask → Bool → After IndexFlight (Answer T) → Type 0
+  Leaves holders' es start flight ask back after =
+      Shows scene (words_after words ask) holders' (Some (flights.TheVariants.Indices flight))
+      (Open (Indices start) (flight_wrote p flight)) (party_then start ask back after) es (changes_then ask)
+
+  -- what the step does, before the end of its call
+  abbrev pub effects_then : IndexFlight → After IndexFlight (Answer T) → List (Event T)
+  effects_then flight after = effects p (frees flight) (answer_in after)
+
+  abbrev pub told_after : IndexStart → IndexFlight → After IndexFlight (Answer T) → List (Event T)
+  told_after start flight after = effects_then flight after ++ ending_of p (Indices start) (answer_in (any_call after))
+
+  abbrev pub Comes : IndexStart → IndexFlight → Option Ask → Bool → After IndexFlight (Answer T) → Type 0
+  Comes start flight ask back after =
+      Leaves (fold holders_after holders (effects_then flight after)) (told_after start flight after) start flight ask back after
+
+  -- the old value of the word that a call asks for
+  abbrev pub old_for : IndexFlight → ℕ
+  old_for flight = old_of words (ask_of (want flight))
+
+  abbrev pub StepOf : IndexStart → IndexFlight → Type 0
+  StepOf start flight = Comes start flight (ask_of (want flight)) (goes_back flight (old_for flight)) (after flight (old_for flight))
+
+  module _ (inv : Inv scene) where
+    -- the call goes on, and says nothing
+    pub goes_on :
+        (start : IndexStart) (flight flight' : IndexFlight) (ask : Option Ask) (back : Bool)
+        → ((busy' : ℕ) → busy' + counts flight ≡ busy + counts flight' → Good c (words_after words ask) holders busy')
+        → takes flight' ≡ takes flight → gives flight' ≡ gives flight → flight_wrote {T = T} p flight' ≡ flight_wrote p flight
+        → says_locked (head_of (words_after words ask)) ≡ says_locked (head_of words)
+        → GoesStraight {T = T} (Indices start) (backs_then back)
+        → scene.steps + step_count ask ≤ number_of c flight' (backs_then back)
+        → At c holders p start flight'
+        → FlightKnows c (words_after words ask) (since_then ask) (changes_then ask) (backs_then back) flight'
+        → Leaves holders [] start flight ask back (GoOn flight')
+    goes_on start flight flight' ask back good takes_same gives_same wrote lock straight steps at knows =
+        record {
+          right = tt;
+          answers = tt;
+          good = good;
+          tally =
+              λ taking' giving' a b. same_tally (held_below holders c) (held_below holders c)
+              (all_taking latest scene.set.seats) taking' (all_giving latest scene.set.seats) giving' refl (omega arith)
+              (omega arith);
+          holders = λ i. refl;
+          lock = sym lock;
+          straight = straight;
+          own = tt;
+          stands = tt;
+          here = record { span = ap (λ es. Open (Indices start) es) (sym wrote); steps = steps; at = at };
+          knows = knows;
+          seen = is_seen words ask scene.changes;
+          keeps = λ q ne index h. h;
+        }
+
+    -- the call is done, and has done nothing by this step
+    pub ends :
+        (start : IndexStart) (flight : IndexFlight) (answer : Answer T) (ask : Option Ask) (back : Bool)
+        → ((busy' : ℕ) → busy' + counts flight ≡ busy + 0 → Good c (words_after words ask) holders busy')
+        → ((h t g t' g' : ℕ) → t' + takes flight ≡ t + 0 → g' + gives flight ≡ g + 0
+        → tally_after (record { held = h; taking = t; giving = g }) (Finished p (Indices start) answer) ≡ record { held = h; taking = t'; giving = g' })
+        → done_by start answer ≡ Some (deeds (flight_wrote {T = T} p flight))
+        → AnswersFew c events (Finished p (Indices start) answer)
+        → says_locked (head_of (words_after words ask)) ≡ says_locked (head_of words)
+        → GoesStraight {T = T} (Indices start) (backs_then back)
+        → scene.steps + step_count ask ≤ most_steps c start (backs_then back)
+        → backs_then back ≤ changes_then ask - since_then ask
+        → Leaves holders (Finished p (Indices start) answer ∷ []) start flight ask back (Done answer)
+    ends start flight answer ask back good told done right lock straight steps paid =
+        record {
+          right = (tt, tt);
+          answers = (right, tt);
+          good = good;
+          tally =
+              λ taking' giving' a b. told (held_below holders c) (all_taking latest scene.set.seats)
+              (all_giving latest scene.set.seats) taking' giving' a b;
+          holders = λ i. refl;
+          lock = sym lock;
+          straight = straight;
+          own = (refl, tt);
+          stands = ((refl, done), tt);
+          here = record { answer = answer; wrote = flight_wrote p flight; span = refl; steps = steps };
+          knows = paid;
+          seen = is_seen words ask scene.changes;
+          keeps = λ q ne index h. h;
+        }
+
+    -- a release frees its index
+    pub frees_index :
+        (index : ℕ) (mode : ReleaseMode) (flight flight' : IndexFlight) (ask : Option Ask) → index < c → holder holders index ≡ Some p
+        → ((busy' : ℕ) → busy' + counts flight ≡ busy + counts flight' → Good c (words_after words ask) (set holders index None) busy')
+        → takes flight' ≡ takes flight → gives flight ≡ 0 → gives flight' ≡ 1 → flight_wrote {T = T} p flight ≡ []
+        → flight_wrote {T = T} p flight' ≡ Freed p index ∷ []
+        → head_of (words_after words ask) ≡ head_of words
+        → GoesStraight {T = T} (Indices (Release index mode)) (backs_then false)
+        → scene.steps + step_count ask ≤ number_of c flight' (backs_then false)
+        → At c (set holders index None) p (Release index mode) flight'
+        → FlightKnows c (words_after words ask) (since_then ask) (changes_then ask) (backs_then false) flight'
+        → Leaves (set holders index None) (Freed p index ∷ []) (Release index mode) flight ask false (GoOn flight')
+    frees_index index mode flight flight' ask below holds good takes_same none one before after head straight steps at knows =
+        let long = inv.holds.good.long in
+        let less = held_below_set holders c index None below long in
+        let mine : one_held (holder holders index) ≡ 1 = ap one_held holds in
+        record {
+          right = (inv.holds.holders index ∙ holds, tt);
+          answers = (tt, tt);
+          good = good;
+          tally =
+              λ taking' giving' a b. same_tally (held_below holders c - 1) (held_below (set holders index None) c)
+              (all_taking latest scene.set.seats) taking' (all_giving latest scene.set.seats + 1) giving' (omega arith)
+              (omega arith) (omega arith);
+          holders = λ i. holder_set holders index None i (omega arith);
+          lock = ap says_locked (sym head);
+          straight = straight;
+          own = (refl, tt);
+          stands = rw before ((refl, refl), tt);
+          here = rw before (record { span = ap (λ es. Open (Indices (Release index mode)) es) (sym after); steps = steps; at = at });
+          knows = knows;
+          seen = is_seen words ask scene.changes;
+          keeps = λ q ne i h. get_or-set_other holders index i None None (λ e. clash (holder holders index) p q ne holds (ap (holder holders) (sym e) ∙ h)) ∙ h;
+        }
+
+    -- an acquire claims an index, and is done
+    pub claims_index :
+        (index : ℕ) (flight : IndexFlight) (ask : Option Ask) → index < c → holder holders index ≡ None → counted_in words ≢ locked
+        → ((busy' : ℕ) → busy' + counts flight ≡ busy + 0 → Good c (words_after words ask) (set holders index (Some p)) busy')
+        → takes flight ≡ 1 → gives flight ≡ 0 → flight_wrote {T = T} p flight ≡ []
+        → head_of (words_after words ask) ≡ head_of words
+        → scene.steps + step_count ask ≤ most_steps c Acquire (backs_then false)
+        → IsPaid scene.since scene.changes scene.backs
+        → Leaves (set holders index (Some p)) (Claimed p index ∷ Finished p (Indices Acquire) (Index index) ∷ []) Acquire flight ask false (Done (Index index))
+    claims_index index flight ask below none unlocked good one zero wrote head steps paid =
+        let long = inv.holds.good.long in
+        let more = held_below_set holders c index (Some p) below long in
+        let free : one_held (holder holders index) ≡ 0 = ap one_held none in
+        record {
+          right = ((below, inv.holds.holders index ∙ none, inv.holds.lock ∙ open_says (head_of words) unlocked), (tt, tt));
+          answers = (tt, (tt, tt));
+          good = good;
+          tally =
+              λ taking' giving' a b. same_tally (held_below holders c + 1) (held_below (set holders index (Some p)) c)
+              (all_taking latest scene.set.seats - 1) taking' (all_giving latest scene.set.seats) giving' (omega arith)
+              (omega arith) (omega arith);
+          holders = λ i. holder_set holders index (Some p) i (omega arith);
+          lock = ap says_locked (sym head);
+          straight = tt;
+          own = (refl, (refl, tt));
+          stands = rw wrote (refl, ((refl, refl), tt));
+          here = rw wrote (record { answer = Index index; wrote = Claimed p index ∷ []; span = refl; steps = steps });
+          knows = omega arith;
+          seen = is_seen words ask scene.changes;
+          keeps = λ q ne i h. get_or-set_other holders index i (Some p) None (λ e. nobody (holder holders index) q none (ap (holder holders) (sym e) ∙ h)) ∙ h;
+        }
+
+    -- a release locks the set, and is done
+    pub locks_set :
+        (index : ℕ) (flight : IndexFlight) (ask : Option Ask) → ((i : ℕ) → holder holders i ≡ None) → counted_in words ≢ locked
+        → ((busy' : ℕ) → busy' + counts flight ≡ busy + 0 → Good c (words_after words ask) holders busy')
+        → takes flight ≡ 0 → gives flight ≡ 1 → flight_wrote {T = T} p flight ≡ Freed p index ∷ []
+        → counted_in (words_after words ask) ≡ locked
+        → scene.steps + step_count ask ≤ most_steps c (Release index LockIfLastIndex) (backs_then false)
+        → IsPaid scene.since scene.changes scene.backs
+        → Leaves holders (Locked p ∷ Finished p (Indices (Release index LockIfLastIndex)) (State states.TheVariants.Locked) ∷ [])
+        (Release index LockIfLastIndex) flight ask false (Done (State states.TheVariants.Locked))
+    locks_set index flight ask none unlocked good zero one wrote shut steps paid =
+        record {
+          right = ((λ i. inv.holds.holders i ∙ none i, inv.holds.lock ∙ open_says (head_of words) unlocked), (tt, tt));
+          answers = (tt, (fold-append locked_after false events (Locked p ∷ []), tt));
+          good = good;
+          tally =
+              λ taking' giving' a b. same_tally (held_below holders c) (held_below holders c)
+              (all_taking latest scene.set.seats) taking' (all_giving latest scene.set.seats - 1) giving' refl
+              (omega arith) (omega arith);
+          holders = λ i. refl;
+          lock = sym (shut_says (head_of (words_after words ask)) shut);
+          straight = tt;
+          own = (refl, (refl, tt));
+          stands = rw wrote (refl, ((refl, refl), tt));
+          here = rw wrote (record { answer = State states.TheVariants.Locked; wrote = Freed p index ∷ Locked p ∷ []; span = refl; steps = steps });
+          knows = omega arith;
+          seen = is_seen words ask scene.changes;
+          keeps = λ q ne i h. h;
+        }

@@ -1,0 +1,96 @@
+-- Sums over the numbers below a bound, as of what each party or each index counts for.
+use Rattle.std.proofs.Common.{◌≡◌, ◌≢◌, ℕ, zero, suc, ◌+◌, ◌<◌, ◌≤◌, ⊎_elim, refl, ap, arith}
+use Rattle.std.proofs.lemmas.Bool.{cases_eq, cases_lt}
+
+abbrev pub sum_below : (ℕ → ℕ) → ℕ → ℕ
+sum_below f zero = 0
+sum_below f (suc n) = f n + sum_below f n
+
+module _ (f g : ℕ → ℕ) where
+  pub sum_same : (n : ℕ) → ((i : ℕ) → i < n → f i ≡ g i) → sum_below f n ≡ sum_below g n
+  sum_same zero same = refl
+  sum_same (suc n) same =
+      let here = same n (omega arith) in
+      let rest = sum_same n (λ i below. same i (omega arith)) in
+      omega arith
+
+  -- they differ at p alone
+  pub sum_moved : (n p : ℕ) → p < n → ((i : ℕ) → i ≢ p → f i ≡ g i) → sum_below f n + g p ≡ sum_below g n + f p
+  sum_moved zero p below same = absurd (omega arith)
+  sum_moved (suc n) p below same = ⊎_elim here (before (λ less. sum_moved n p less same)) (cases_eq n p)
+    where
+      here : n ≡ p → f n + sum_below f n + g p ≡ g n + sum_below g n + f p
+      here e =
+          let rest = sum_same n (λ i less. same i (λ h. absurd (omega arith))) in
+          let left : f n ≡ f p = ap f e in
+          let right : g n ≡ g p = ap g e in
+          omega arith
+
+      before : (p < n → sum_below f n + g p ≡ sum_below g n + f p) → n ≢ p → f n + sum_below f n + g p ≡ g n + sum_below g n + f p
+      before moved ne =
+          let rest = moved (omega arith) in
+          let this = same n ne in
+          omega arith
+
+module _ (f : ℕ → ℕ) where
+  -- each counts 1
+  pub sum_all : (n : ℕ) → ((i : ℕ) → i < n → f i ≡ 1) → sum_below f n ≡ n
+  sum_all zero one = refl
+  sum_all (suc n) one =
+      let here = one n (omega arith) in
+      let rest = sum_all n (λ i below. one i (omega arith)) in
+      omega arith
+
+  pub sum_one : (n p : ℕ) → p < n → f p ≤ sum_below f n
+  sum_one zero p below = absurd (omega arith)
+  sum_one (suc n) p below = ⊎_elim (before (sum_one n p)) here (cases_lt p n)
+    where
+      before : (p < n → f p ≤ sum_below f n) → p < n → f p ≤ f n + sum_below f n
+      before one less = let rest = one less in omega arith
+
+      here : n ≤ p → f p ≤ f n + sum_below f n
+      here more =
+          let same : p ≡ n = omega arith in
+          let is : f p ≡ f n = ap f same in
+          omega arith
+
+  pub sum_none : (n : ℕ) → ((i : ℕ) → i < n → f i ≡ 0) → sum_below f n ≡ 0
+  sum_none zero none = refl
+  sum_none (suc n) none =
+      let here = none n (omega arith) in
+      let rest = sum_none n (λ i below. none i (omega arith)) in
+      omega arith
+
+  -- what counts nothing may stand behind
+  pub sum_longer : (n m : ℕ) → n ≤ m → ((i : ℕ) → n ≤ i → f i ≡ 0) → sum_below f m ≡ sum_below f n
+  sum_longer n zero low none = let same : n ≡ 0 = omega arith in rw same refl
+  sum_longer n (suc m) low none = ⊎_elim (longer (λ less. sum_longer n m less none)) whole (cases_lt n (suc m))
+    where
+      longer : (n ≤ m → sum_below f m ≡ sum_below f n) → n < suc m → f m + sum_below f m ≡ sum_below f n
+      longer rest less =
+          let here = none m (omega arith) in
+          let behind = rest (omega arith) in
+          omega arith
+
+      whole : suc m ≤ n → f m + sum_below f m ≡ sum_below f n
+      whole more = let same : n ≡ suc m = omega arith in rw same refl
+
+module _ (f g h : ℕ → ℕ) (less : (i : ℕ) → h i ≤ f i + g i) where
+  all_over : (n : ℕ) → sum_below h n ≤ sum_below f n + sum_below g n
+  all_over zero = omega arith
+  all_over (suc n) = let here = less n in let rest = all_over n in omega arith
+
+  -- each counts by h for no more than by f and g together, and p for as much less as it does
+  pub sum_over : (n p : ℕ) → p < n → sum_below h n + (f p + g p) ≤ sum_below f n + sum_below g n + h p
+  sum_over zero p below = absurd (omega arith)
+  sum_over (suc n) p below = ⊎_elim (before (sum_over n p)) here (cases_lt p n)
+    where
+      before : (p < n → sum_below h n + (f p + g p) ≤ sum_below f n + sum_below g n + h p) → p < n
+          → h n + sum_below h n + (f p + g p) ≤ f n + sum_below f n + (g n + sum_below g n) + h p
+      before over lower = let rest = over lower in let one = less n in omega arith
+
+      here : n ≤ p → h n + sum_below h n + (f p + g p) ≤ f n + sum_below f n + (g n + sum_below g n) + h p
+      here more =
+          let same : p ≡ n = omega arith in
+          let rest = all_over n in
+          rw same (omega arith)

@@ -1,0 +1,244 @@
+-- What a turn of a loan channel writes down: what its step did, then who acts, then the end. A send acts as it publishes, or where
+-- that left one index too many, as the read position goes on; a receive as it moves the read position, or finds nothing.
+use Rattle.std.proofs.Common.{◌≡◌, ◌≢◌, ℕ, ◌+◌, ◌-◌, ◌^◌, ◌<◌, ◌≤◌, ◌==◌, ◌&&◌, if◌then◌else◌, Bool, true, false, inl}
+use Rattle.std.proofs.Common.{Option, Some, List, [], ◌∷◌, ◌++◌, refl, sym, ap, subst, ◌∙◌, arith}
+use Rattle.std.proofs.lemmas.Bool.Decides.{nat_tests}
+use Rattle.std.proofs.lemmas.List.{nil_from_length}
+use Rattle.std.specs.List.{AllByRecursion}
+use Rattle.steps.specs.declared.ask.Ask.{Ask}
+use Rattle.steps.specs.declared.ask.Op.TheVariants.{Load}
+use Rattle.steps.specs.declared.copied.OneWord.{OneWord}
+use Rattle.steps.specs.declared.indices.unique.ReleaseStage.{ReleaseStage}
+use Rattle.steps.specs.declared.loan.reclaim.ReclaimStage.{ReclaimStage}
+use Rattle.steps.specs.declared.loan.take_back.TakeBackStage.{TakeBackStage}
+use Rattle.steps.specs.declared.queues.overflow.PopStage as overflow_pops
+use Rattle.steps.specs.declared.queues.overflow.PushStage as overflow_pushes
+use Rattle.steps.specs.declared.queues.ring.PushStage as pushes
+use Rattle.steps.specs.Loan.Layout.{submission_word}
+use Rattle.steps.specs.Loan.Parts.{shifted}
+use Rattle.steps.specs.Queues.Overflow.{move, push_asks}
+use Rattle.steps.specs.Queues.Ring.{load, distance, word_at}
+use Rattle.model.specs.declared.event.Answer.{Answer}
+use Rattle.model.specs.declared.event.Answer as answers
+use Rattle.model.specs.declared.event.Event.{Event}
+use Rattle.model.specs.declared.event.Event.TheVariants.{Published, HandedOut, Freed, Returned, TakenBack}
+use Rattle.model.specs.declared.event.Item.TheVariants.{Index}
+use Rattle.model.specs.declared.families.loan.LoanStart.TheVariants as calls
+use Rattle.model.specs.declared.families.loan.calls.LoanFlight.{LoanFlight}
+use Rattle.model.specs.declared.families.loan.effects.Effect.{Effect}
+use Rattle.model.specs.declared.families.loan.effects.Effect.TheVariants as effects
+use Rattle.model.specs.declared.turn.Turn.{Turn}
+use Rattle.model.specs.declared.turn.Turn.TheVariants.{Next}
+use Rattle.model.specs.Coding.{Coding}
+use Rattle.model.specs.Families.{ask_of}
+use Rattle.model.specs.Families.Loan.Calls.{want}
+use Rattle.model.specs.Families.Loan.Promises.{read_word, AddsOne, promise}
+use Rattle.model.specs.Families.Loan.Steps.{read_in, sent_at, beside, release_effect, take_back_effect}
+use Rattle.model.specs.Families.Loan.Steps.{give_back_effect, reclaim_effect, effect_of, acts, claimed, room_made}
+use Rattle.model.specs.Families.Loan.Steps.{effects_of}
+use Rattle.model.specs.Families.Queues.Reading.{waiting}
+use Rattle.model.specs.Promises.Turns.{ask_in, IsParty, IsEffectOf, IsAct, ActsRight}
+use Rattle.model.specs.Turns.{old_of}
+use Rattle.model.specs.World.{Trace}
+use Rattle.model.proofs.Frame as frame
+use Rattle.laws_queues.proofs.Overflow.Knows.{KnowsOverflowPush, KnowsBacks}
+use Rattle.laws_loan.proofs.Channel.{Channel, words_in}
+use Rattle.laws_loan.proofs.Invariant.{sends_at, counted_for}
+use Rattle.laws_loan.proofs.Kept.{waiting_is}
+use Rattle.laws_loan.proofs.Parts.{submission_old}
+use Rattle.laws_loan.proofs.Positions.{adds_write, adds_read, finds_read}
+use Rattle.laws_loan.proofs.Receives.{receive_at}
+use Rattle.laws_loan.proofs.Sends.{pushes_at}
+use Rattle.laws_loan.proofs.StepLaw.{channel}
+use Rattle.laws_loan.proofs.Told.{items}
+
+-- ---- the order
+
+module _ {T : Type 0} where
+  -- what a step did to the channel
+  abbrev pub did : ℕ → Effect → Option (Answer T) → List (Event T)
+  did p effects.Quiet outcome = []
+  did p effects.Claims outcome = claimed p outcome
+  did p (effects.Publishes index) outcome = Published p (Index index) ∷ []
+  did p (effects.PublishesAndActs index) outcome = Published p (Index index) ∷ []
+  did p (effects.TakesOut index oldest) outcome = HandedOut p (Index oldest) ∷ []
+  did p effects.FindsNone outcome = []
+  did p (effects.Receives oldest push) outcome = HandedOut p (Index oldest) ∷ []
+  did p (effects.HandsOut oldest) outcome = HandedOut p (Index oldest) ∷ []
+  did p (effects.Returns index) outcome = Returned p index ∷ []
+  did p (effects.TakesBack index) outcome = TakenBack p index ∷ []
+  did p (effects.Frees index) outcome = Freed p index ∷ []
+
+  -- who acts there
+  abbrev pub acts_of : ℕ → Effect → List (Event T)
+  acts_of p effects.Quiet = []
+  acts_of p effects.Claims = []
+  acts_of p (effects.Publishes index) = []
+  acts_of p (effects.PublishesAndActs index) = acts p (calls.Send index) answers.TheVariants.PoppedNone ∷ []
+  acts_of p (effects.TakesOut index oldest) = acts p (calls.Send index) (answers.TheVariants.PoppedIndex oldest) ∷ []
+  acts_of p effects.FindsNone = acts p calls.Receive answers.TheVariants.PoppedNone ∷ []
+  acts_of p (effects.Receives oldest push) = acts p calls.Receive (answers.TheVariants.PoppedIndex oldest) ∷ room_made push
+  acts_of p (effects.HandsOut oldest) = []
+  acts_of p (effects.Returns index) = []
+  acts_of p (effects.TakesBack index) = []
+  acts_of p (effects.Frees index) = []
+
+  pub effects_are : (p : ℕ) (effect : Effect) (outcome : Option (Answer T)) → effects_of p effect outcome ≡ did p effect outcome ++ acts_of p effect
+  effects_are x0 x1 x2 = grind arith
+
+  pub did_effects : (turn : Turn T) (p : ℕ) (effect : Effect) (outcome : Option (Answer T)) → IsParty turn p
+      → AllByRecursion (IsEffectOf turn) (did p effect outcome)
+  did_effects x0 x1 x2 x3 x4 = grind arith
+
+module _ (T : Type 0) where
+  pub all_act : (p : ℕ) (effect : Effect) → AllByRecursion IsAct (acts_of {T = T} p effect)
+  all_act x0 x1 = grind arith
+
+-- ---- steps in which nobody acts
+
+abbrev pub Silent : Effect → Type 0
+Silent effects.Quiet = Unit {0}
+Silent effects.Claims = Unit {0}
+Silent (effects.Publishes index) = Unit {0}
+Silent (effects.HandsOut oldest) = Unit {0}
+Silent (effects.Returns index) = Unit {0}
+Silent (effects.TakesBack index) = Unit {0}
+Silent (effects.Frees index) = Unit {0}
+Silent effect = ⊥
+
+pub frees_silent : (index : ℕ) (stage : ReleaseStage) → Silent (release_effect index stage)
+frees_silent x0 x1 = grind arith
+
+pub take_back_silent : (stage : TakeBackStage) → Silent (take_back_effect stage)
+take_back_silent x0 = grind arith
+
+pub give_back_silent : (index : ℕ) (stage : pushes.PushStage) → Silent (give_back_effect index stage)
+give_back_silent x0 x1 = grind arith
+
+pub reclaim_silent : (slots queue : ℕ) (words : List ℕ) (stage : ReclaimStage) (old : ℕ) → Silent (reclaim_effect slots queue words stage old)
+reclaim_silent x0 x1 x2 x3 x4 = grind arith
+
+-- ---- what an act tells
+
+module _ {T : Type 0} (code : Coding T) (slots queue : ℕ) (t : Trace T)
+    (s : frame.Sound (channel code slots queue) t) (small : t.world.turns < 2 ^ 64 - 2) (p : ℕ) where
+  abbrev pub k : Channel T
+  k = s.state
+
+  abbrev pub asked : Option Ask
+  asked = ask_in t.world (Next p)
+
+  abbrev pub Right : List (Event T) → Type 0
+  Right es = AllByRecursion (ActsRight promise t (Next p)) es
+
+  abbrev busy : ℕ
+  busy = counted_for (sends_at t.world.latest)
+
+  reached : k.submission.write < 2 ^ 64 - 2
+  reached = let sent = s.holds.sent in omega arith
+
+  by_words : (word : ℕ → ℕ) (ask : Option Ask) → asked ≡ ask → AddsOne (word slots) (words_in k) ask → AddsOne (word t.world.capacity) t.world.words asked
+  by_words x0 x1 x2 x3 = grind arith
+
+  -- the next write position is stored
+  writes_on : (write read index : ℕ) → write ≡ k.submission.write
+      → asked ≡ ask_of (shifted (submission_word slots) (push_asks queue (overflow_pushes.TheVariants.StoresWrite write read) index))
+      → AddsOne (submission_word t.world.capacity) t.world.words asked
+  writes_on write read index same asks =
+      by_words submission_word (ask_of (shifted (submission_word slots) (push_asks queue (overflow_pushes.TheVariants.StoresWrite write read) index))) asks
+      (subst (λ n. AddsOne (submission_word slots) (words_in k)
+      (ask_of (shifted (submission_word slots) (push_asks queue (overflow_pushes.TheVariants.StoresWrite n read) index))))
+      (sym same)
+      (adds_write slots queue k busy s.holds.parts reached read index))
+
+  abbrev moved : ℕ → ℕ
+  moved read = old_of (words_in k) (ask_of (shifted (submission_word slots) (move 1 read)))
+
+  -- the read position is moved where it was found
+  moves_on : (read : ℕ) → (moved read == read) ≡ true
+      → asked ≡ ask_of (shifted (submission_word slots) (move 1 read))
+      → AddsOne (read_word t.world.capacity) t.world.words asked
+  moves_on read e asks =
+      let found = finds_read slots queue k busy s.holds.parts reached read in
+      let same : read ≡ k.submission.read = grind (arith, nat_tests) in
+      by_words read_word (ask_of (shifted (submission_word slots) (move 1 read))) asks
+      (subst (λ n. AddsOne (read_word slots) (words_in k) (ask_of (shifted (submission_word slots) (move 1 n)))) (sym same)
+      (adds_read slots queue k busy s.holds.parts reached))
+
+  pub silent_right : (effect : Effect) → Silent effect → Right (acts_of p effect)
+  silent_right x0 x1 = grind arith
+
+  -- beside the send that waits
+  abbrev pub waits : Option (ℕ × ℕ)
+  waits = beside k.book (words_in k) t.world.latest p
+
+  abbrev pub Acting : LoanFlight → Type 0
+  Acting flight = asked ≡ ask_of (want flight) → Right (acts_of p (effect_of (words_in k) waits flight (old_of (words_in k) (ask_of (want flight)))))
+
+  -- ---- a send
+
+  pub send_right : (index : ℕ) (stage : overflow_pushes.PushStage)
+      → KnowsOverflowPush queue k.submission index stage → Acting (pushes_at slots queue stage index)
+  send_right index overflow_pushes.TheVariants.HandsBack known asks = tt
+  send_right index overflow_pushes.TheVariants.LoadsWrite known asks = tt
+  send_right index (overflow_pushes.TheVariants.LoadsRead write) known asks = tt
+  send_right index (overflow_pushes.TheVariants.StoresCell write read) known asks = tt
+  send_right index (overflow_pushes.TheVariants.StoresWrite write read) known asks =
+      go (distance write read == queue && (read_in (submission_word slots) (words_in k) == read))
+    where
+      go : (full : Bool) → Right (acts_of p (if full then effects.Publishes index else effects.PublishesAndActs index))
+      go true = tt
+      go false = (inl (refl, writes_on write read index known.1 asks), tt)
+  send_right index (overflow_pushes.TheVariants.MovesRead read) known asks = go (moved read == read) refl
+    where
+      go : (b : Bool) → (moved read == read) ≡ b
+          → Right
+          (acts_of p (if b then effects.TakesOut index (sent_at (submission_word slots) queue (words_in k) read) else effects.Quiet))
+      go true e = ((refl, moves_on read e asks), tt)
+      go false e = tt
+  send_right index (overflow_pushes.TheVariants.LoadsCell read) known asks = tt
+
+  -- ---- a receive
+
+  made_right : p ≢ 0 → AddsOne (read_word t.world.capacity) t.world.words asked → (push : Option (ℕ × ℕ)) → waits ≡ push → Right (room_made push)
+  made_right x0 x1 x2 x3 = grind arith
+
+  none_waits : (read : ℕ) → read ≤ k.submission.read → k.submission.write ≡ read → waiting t.events ≡ []
+  none_waits read low same =
+      let write = s.holds.parts.submission.write in
+      let none : k.submission.waiting ≡ [] = nil_from_length k.submission.waiting (omega arith) in
+      subst (λ es. waiting es ≡ []) s.holds.same
+      (waiting_is k.events (items k.submission.waiting) s.holds.told.book ∙ ap items none)
+
+  pub receive_right : p ≢ 0 → (since changes backs : ℕ) (stage : overflow_pops.PopStage) (room : OneWord)
+      → KnowsBacks k.submission since changes backs stage → Acting (receive_at slots queue p stage room)
+  receive_right other since changes backs overflow_pops.TheVariants.FindsNone room known asks = tt
+  receive_right other since changes backs overflow_pops.TheVariants.LoadsRead room known asks = tt
+  receive_right other since changes backs (overflow_pops.TheVariants.LoadsWrite read) room known asks = go (old == read) refl
+    where
+      old : ℕ
+      old = old_of (words_in k) (ask_of (shifted (submission_word slots) (load 0)))
+
+      found : old ≡ k.submission.write
+      found = submission_old slots queue k busy s.holds.parts (load 0) (omega arith)
+
+      at_first : asked ≡ Some (record { word = submission_word t.world.capacity; op = Load })
+      at_first =
+          let few = s.holds.parts.set.few in
+          let first : word_at (submission_word slots) 0 ≡ submission_word slots = omega arith in
+          asks ∙ (ap (λ w. Some (record { word = w; op = Load })) first ∙ ap (λ n. Some (record { word = submission_word n; op = Load })) (sym s.capacity))
+
+      go : (b : Bool) → (old == read) ≡ b → Right (acts_of p (if b then effects.FindsNone else effects.Quiet))
+      go true e =
+          let is = found in
+          let same : k.submission.write ≡ read = grind (arith, nat_tests) in
+          ((refl, at_first, none_waits read known.0 same), tt)
+      go false e = tt
+  receive_right other since changes backs (overflow_pops.TheVariants.LoadsCell read) room known asks = tt
+  receive_right other since changes backs (overflow_pops.TheVariants.MovesRead read) room known asks = go (moved read == read) refl
+    where
+      go : (b : Bool) → (moved read == read) ≡ b
+          → Right
+          (acts_of p (if b then effects.Receives (sent_at (submission_word slots) queue (words_in k) read) waits else effects.Quiet))
+      go true e = let adds = moves_on read e asks in ((refl, adds), made_right other adds waits refl)
+      go false e = tt

@@ -1,0 +1,207 @@
+-- A begin that no row refuses keeps what holds of a loan channel.
+use Rattle.std.proofs.Common.{◌≡◌, ℕ, ◌+◌, ◌≤◌, ◌==◌, Bool, false, not, Some, None, List, [], ◌∷◌, ◌++◌, get_or, refl, sym, ap, subst, ◌∙◌, arith}
+use Rattle.std.proofs.lemmas.Bool.Decides.{nat_tests}
+use Rattle.steps.specs.declared.loan.reclaim.ReclaimStage as reclaims
+use Rattle.steps.specs.declared.loan.send.SendStage as sends
+use Rattle.steps.specs.declared.queues.overflow.PopStage as overflow_pops
+use Rattle.steps.specs.declared.queues.overflow.PushStage as overflow_pushes
+use Rattle.steps.specs.Loan.Layout.{submission_word}
+use Rattle.model.specs.declared.event.Event.TheVariants.{Begun}
+use Rattle.model.specs.declared.event.Start.{Start}
+use Rattle.model.specs.declared.event.Start.TheVariants as starts
+use Rattle.model.specs.declared.families.Flight.{Flight}
+use Rattle.model.specs.declared.families.Flight as flights
+use Rattle.model.specs.declared.families.Registry as registries
+use Rattle.model.specs.declared.families.loan.Book.{Book}
+use Rattle.model.specs.declared.families.loan.LoanStart.{LoanStart}
+use Rattle.model.specs.declared.families.loan.LoanStart.TheVariants as calls
+use Rattle.model.specs.declared.families.loan.calls.LoanFlight.{LoanFlight}
+use Rattle.model.specs.declared.families.loan.calls.LoanFlight.TheVariants.{Send, Receive, Reclaim}
+use Rattle.model.specs.declared.party.Party.{Party}
+use Rattle.model.specs.declared.turn.Kind as kinds
+use Rattle.model.specs.Coding.{Coding}
+use Rattle.model.specs.Families.{first_of, kept_after_begin}
+use Rattle.model.specs.Families.Loan.Calls.{first, loan_of, send_of, give_up_of, take_back_of, receive_of, give_back_of, reclaim_of}
+use Rattle.model.specs.declared.turn.Refusal.TheVariants.{BadIndex, NoRole, NotHeld, OwnerIsDead, OwnerLives}
+use Rattle.model.specs.Families.Indices.Robust.Dead.{has_died}
+use Rattle.model.specs.Families.Loan.Opening.{call_rows, kept_rows, is_past, asks_for, lacks_role, lacks_index, reclaims_early}
+use Rattle.model.specs.Families.Queues.Calls.{fresh}
+use Rattle.model.specs.Families.Queues.Opening.{holds}
+use Rattle.model.specs.Parties.{party_of}
+use Rattle.model.specs.Reading.{span_of}
+use Rattle.model.specs.Rows.{first_row}
+use Rattle.model.specs.Shape.{IsShut}
+use Rattle.model.specs.Turns.{party_at_begin}
+use Rattle.model.specs.World.{Trace}
+use Rattle.model.proofs.Frame as frame
+use Rattle.model.proofs.Rows.{MayBegin}
+use Rattle.laws_loan.proofs.Begins.{IsFirst, after, holds_then, owes}
+use Rattle.laws_loan.proofs.Channel.{Channel, kept_is}
+use Rattle.laws_loan.proofs.Firsts.{is_that, is_below, has_it, loan_first, take_back_first, give_up_first, send_first}
+use Rattle.laws_loan.proofs.Firsts.{reclaim_first, receive_first, give_back_first}
+use Rattle.laws_loan.proofs.Invariant.{reclaims_in, HoldsNow, family}
+
+-- five rows, none of which refuses
+pub rows_passed : (a b c d e : Bool) → first_row ((a, BadIndex) ∷ (b, NoRole) ∷ (c, NotHeld) ∷ (d, OwnerIsDead) ∷ (e, OwnerLives) ∷ []) ≡ None
+    → (a ≡ false) × (b ≡ false) × (c ≡ false) × (d ≡ false) × (e ≡ false)
+rows_passed x0 x1 x2 x3 x4 x5 = grind arith
+
+-- ---- on a queue with a capacity a call begins with a load
+
+module _ (slots queue : ℕ) (some : 1 ≤ queue) where
+  loads_first : (queue == 0) ≡ false
+  loads_first = grind (arith, nat_tests)
+
+  send_is : (index : ℕ) → send_of slots queue index ≡ Send (record {
+    call = record { slots = slots; queue = queue; stage = sends.TheVariants.Pushes overflow_pushes.TheVariants.LoadsWrite };
+    given = index;
+    room = tt;
+  })
+  send_is index = rw loads_first refl
+
+  receive_is : (p : ℕ) → receive_of slots queue p ≡ Receive p (record {
+    call = record { base = submission_word slots; call = record { capacity = queue; stage = overflow_pops.TheVariants.LoadsRead } };
+    given = tt;
+    room = fresh;
+  })
+  receive_is p = rw loads_first refl
+
+  reclaim_is : reclaim_of slots queue
+      ≡ Reclaim (record { slots = slots; queue = queue; stage = reclaims.TheVariants.Drains overflow_pops.TheVariants.LoadsRead })
+  reclaim_is = rw loads_first refl
+
+module _ {T : Type 0} (code : Coding T) (slots queue : ℕ) (s : Channel T) (latest : List (ℕ × Party T))
+    (turns changes : ℕ) (h : HoldsNow slots queue s latest s.events turns) (p : ℕ)
+    (shut : IsShut (span_of p s.events)) where
+  abbrev First : LoanStart → LoanFlight → Type 0
+  First start flight = IsFirst code slots queue s latest turns changes p start flight
+
+  -- a call of the sender, which has no other one under way
+  as_sender : (start : LoanStart) (flight : LoanFlight) → not (p == 0) ≡ false
+      → (p ≡ 0 → IsShut (span_of 0 s.events) → reclaims_in (span_of 0 s.events) ≡ false
+      → IsFirst code slots queue s latest turns changes 0 start flight)
+      → First start flight
+  as_sender x0 x1 x2 x3 = grind arith
+
+  -- the sender has the index that its call asks for
+  mine : (index : ℕ) → p ≡ 0 → not (holds (get_or s.book.holders index None) p) ≡ false → not (holds (get_or s.book.holders index None) 0) ≡ false
+  mine index zero e = subst (λ q. not (holds (get_or s.book.holders index None) q) ≡ false) zero e
+
+  -- what a call has passed that no row refuses
+  passed : (start : LoanStart) → first_row (call_rows slots s.book p start) ≡ None
+      → (is_past slots (asks_for start) ≡ false) × (lacks_role s.book p start ≡ false)
+      × (lacks_index s.book p (asks_for start) ≡ false) × (has_died p s.book.dead ≡ false)
+      × (reclaims_early s.book start ≡ false)
+  passed start r =
+      rows_passed (is_past slots (asks_for start)) (lacks_role s.book p start) (lacks_index s.book p (asks_for start))
+      (has_died p s.book.dead) (reclaims_early s.book start) r
+
+  pub first_is : (start : LoanStart) → first_row (call_rows slots s.book p start) ≡ None → First start (first slots s.book start)
+  first_is calls.Loan r =
+      let e = passed calls.Loan r in
+      as_sender calls.Loan (loan_of slots) e.1 (λ zero over idle. loan_first code slots queue s latest turns changes h idle)
+  first_is (calls.Send index) r =
+      let e = passed (calls.Send index) r in
+      let below = is_below slots index e.0 in
+      subst (First (calls.Send index)) (sym (ap (λ q. send_of slots q index) h.parts.capacity ∙ send_is slots queue h.parts.some index))
+      (as_sender (calls.Send index) _ e.1
+      (λ zero over idle. send_first code slots queue s latest turns changes h idle index below
+      (has_it code slots queue s latest turns changes h 0 index (mine index zero e.2)) h.parts.some))
+  first_is (calls.GiveUp index) r =
+      let e = passed (calls.GiveUp index) r in
+      let below = is_below slots index e.0 in
+      as_sender (calls.GiveUp index) (give_up_of slots index) e.1
+      (λ zero over idle. give_up_first code slots queue s latest turns changes h idle index below
+      (has_it code slots queue s latest turns changes h 0 index (mine index zero e.2)))
+  first_is calls.TakeBack r =
+      let e = passed calls.TakeBack r in
+      subst (First calls.TakeBack) (sym (ap (take_back_of slots) h.parts.capacity))
+      (as_sender calls.TakeBack (take_back_of slots queue) e.1 (λ zero over idle. take_back_first code slots queue s latest turns changes h idle))
+  first_is calls.Receive r =
+      let e = passed calls.Receive r in
+      let is = is_that p s.book.receiver e.1 in
+      subst (First calls.Receive)
+      (sym (ap (λ q. receive_of slots q s.book.receiver) h.parts.capacity
+      ∙ (ap (receive_of slots queue) (sym is) ∙ receive_is slots queue h.parts.some p)))
+      (receive_first code slots queue s latest turns changes h p is h.parts.some)
+  first_is (calls.GiveBack index) r =
+      let e = passed (calls.GiveBack index) r in
+      let is = is_that p s.book.receiver e.1 in
+      let below = is_below slots index e.0 in
+      subst (First (calls.GiveBack index))
+      (sym
+      (ap (λ q. give_back_of slots q s.book.receiver index) h.parts.capacity ∙ ap (λ n. give_back_of slots queue n index) (sym is)))
+      (give_back_first code slots queue s latest turns changes h p is index below (has_it code slots queue s latest turns changes h p index e.2))
+  first_is calls.Reclaim r =
+      let e = passed calls.Reclaim r in
+      subst (First calls.Reclaim) (sym (ap (reclaim_of slots) h.parts.capacity ∙ reclaim_is slots queue h.parts.some))
+      (as_sender calls.Reclaim _ e.1
+      (λ zero over idle. reclaim_first code slots queue s latest turns changes h idle over
+      (frame.is_true (has_died s.book.receiver s.book.dead) e.4)))
+
+-- ---- the law
+
+-- a call that begins on a loan channel is one of its own
+abbrev pub IsOwn : {T : Type 0} → ℕ → Book → Start T → Flight T → Type 0
+IsOwn slots book (starts.Loan start) (flights.TheVariants.Loan flight) = first slots book start ≡ flight
+IsOwn slots book start flight = ⊥
+
+pub begins_own : {T : Type 0} (slots : ℕ) (book : Book) (start : Start T) (flight : Flight T)
+    → first_of kinds.TheVariants.Loan slots start (registries.TheVariants.Loan book) ≡ Some flight
+    → IsOwn slots book start flight
+begins_own x0 x1 x2 x3 x4 = grind arith
+
+module _ {T : Type 0} (code : Coding T) (slots queue : ℕ) where
+  abbrev channel : frame.Family T
+  channel = family code slots queue
+
+  pub begin_comes : (t : Trace T) (p : ℕ) (start : Start T) (flight : Flight T) (sound : frame.Sound channel t)
+      → MayBegin t.world p start → first_of t.world.kind t.world.capacity start t.world.kept ≡ Some flight
+      → frame.Comes channel t p (kept_after_begin t.world.coding t.world.capacity start p t.world.kept)
+      t.world.words (party_at_begin start flight t.world.changes) (Begun p start ∷ []) t.world.changes
+  begin_comes t p (starts.Loan start) (flights.TheVariants.Loan flight) sound may e =
+      let w = t.world in
+      let s = sound.state in
+      let is = kept_is w.kept w.words s sound.fit in
+      let same = sound.holds.same in
+      let h : HoldsNow slots queue s w.latest s.events w.turns = subst (λ es. HoldsNow slots queue s w.latest es w.turns) (sym same) sound.holds in
+      let inv : frame.Inv channel s w.latest s.events w.changes = subst (λ es. frame.Inv channel s w.latest es w.changes) (sym same) sound.inv in
+      let over : IsShut (span_of p s.events) = frame.shut channel s p (party_of p w.latest) (span_of p s.events) may.free (inv.calls p) in
+      let rows : first_row (kept_rows {T = T} w.capacity start (registries.TheVariants.Loan s.book) p) ≡ None =
+      subst (λ kept. first_row (kept_rows {T = T} w.capacity start kept p) ≡ None) is.0 may.rows in
+      let passed : first_row (call_rows slots s.book p start) ≡ None = subst (λ n. first_row (call_rows n s.book p start) ≡ None) sound.capacity rows in
+      let named : first_of {T = T} kinds.TheVariants.Loan w.capacity (starts.Loan start) (registries.TheVariants.Loan s.book)
+      ≡ Some (flights.TheVariants.Loan flight) =
+      subst (λ kept. first_of {T = T} kinds.TheVariants.Loan w.capacity (starts.Loan start) kept ≡ Some (flights.TheVariants.Loan flight)) is.0
+      (subst (λ kind. first_of {T = T} kind w.capacity (starts.Loan start) w.kept ≡ Some (flights.TheVariants.Loan flight)) sound.kind e)
+      in
+      let own : first slots s.book start ≡ flight =
+      subst (λ n. first n s.book start ≡ flight) sound.capacity
+      (begins_own w.capacity s.book (starts.Loan start) (flights.TheVariants.Loan flight) named) in
+      let known =
+      subst (λ f. IsFirst code slots queue s w.latest w.turns w.changes p start f) own
+      (first_is code slots queue s w.latest w.turns w.changes h p over start passed) in
+      let then_state = after code slots queue s w.latest w.turns w.changes p start flight in
+      subst (λ kept. frame.Comes channel t p (kept_after_begin w.coding w.capacity (starts.Loan start) p kept) w.words
+      (party_at_begin (starts.Loan start) (flights.TheVariants.Loan flight) w.changes)
+      (Begun p (starts.Loan start) ∷ []) w.changes)
+      (sym is.0)
+      (record {
+        state = then_state;
+        fit = (refl, is.1);
+        holds =
+            subst (λ es. HoldsNow slots queue then_state _ (es ++ Begun p (starts.Loan start) ∷ []) (w.turns + 1)) same
+            (holds_then code slots queue s w.latest w.turns w.changes p start flight h inv may.free known);
+        owes =
+            subst (λ es. frame.Owes channel then_state p _ w.latest es (Begun p (starts.Loan start) ∷ []) w.changes)
+            same (owes code slots queue s w.latest w.turns w.changes p start flight h inv may.free known);
+      })
+  begin_comes t p start flight sound may e =
+      let w = t.world in
+      let s = sound.state in
+      let is = kept_is w.kept w.words s sound.fit in
+      let named : first_of kinds.TheVariants.Loan w.capacity start (registries.TheVariants.Loan s.book) ≡ Some flight =
+      subst (λ kept. first_of kinds.TheVariants.Loan w.capacity start kept ≡ Some flight) is.0
+      (subst (λ kind. first_of kind w.capacity start w.kept ≡ Some flight) sound.kind e)
+      in
+      absurd (begins_own w.capacity s.book start flight named)

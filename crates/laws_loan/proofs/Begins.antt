@@ -1,0 +1,194 @@
+-- A call of a loan channel begins.
+use Rattle.std.proofs.Common.{◌≡◌, ◌≢◌, ℕ, ◌+◌, ◌⊎◌, ⊎_elim, true, false, Option, Some, None, List, [], ◌∷◌, ◌++◌, refl, sym, ap, subst, ◌∙◌, append-nil, arith}
+use Rattle.std.proofs.lemmas.Bool.{cases_eq}
+use Rattle.std.proofs.lemmas.List.Sums.{fold-append}
+use Rattle.model.specs.declared.event.Event.{Event}
+use Rattle.model.specs.declared.event.Event.TheVariants.{Begun}
+use Rattle.model.specs.declared.event.Start.{Start}
+use Rattle.model.specs.declared.event.Start.TheVariants as starts
+use Rattle.model.specs.declared.families.Flight.{Flight}
+use Rattle.model.specs.declared.families.Flight as flights
+use Rattle.model.specs.declared.families.loan.Book.{Book}
+use Rattle.model.specs.declared.families.loan.LoanStart.{LoanStart}
+use Rattle.model.specs.declared.families.loan.calls.LoanFlight.{LoanFlight}
+use Rattle.model.specs.declared.party.Party.{Party}
+use Rattle.model.specs.Coding.{Coding}
+use Rattle.model.specs.Families.Indices.Robust.Dead.{has_died}
+use Rattle.model.specs.Families.Loan.Opening.{asks_for, taken_from}
+use Rattle.model.specs.Families.Loan.Promises.{MovesRight, BeginsRight}
+use Rattle.model.specs.Families.Loan.Reading.{Passing, spot_of, receiver_after, receiver_of, reclaims_after}
+use Rattle.model.specs.Parties.{party_of, put, doing_of, flight_of}
+use Rattle.model.specs.Reading.{Span, Open, span_of}
+use Rattle.model.specs.Shape.{IsShut}
+use Rattle.model.specs.Turns.{party_at_begin}
+use Rattle.model.proofs.Frame as frame
+use Rattle.model.proofs.Parties.{party_put_same, party_put_other}
+use Rattle.model.proofs.Readings.{span_of-own, span_of-other}
+use Rattle.laws_indices.proofs.Core as indices
+use Rattle.laws_loan.proofs.Channel.{Channel, Holds}
+use Rattle.laws_loan.proofs.Invariant.{Hangs, sends_at, counted_for, hung, reclaims_in, Carries, HoldsNow, family}
+use Rattle.laws_loan.proofs.Keeping.{at_stays}
+use Rattle.laws_loan.proofs.Knows.{counts, wrote_in, At, FlightKnows}
+use Rattle.laws_loan.proofs.Placed.{Placed}
+use Rattle.laws_loan.proofs.Told.{items, is_reclaiming}
+use Rattle.laws_loan.proofs.Turns.{Shows, now_more}
+
+-- a call that is over has nothing in passing
+pub shut_none : {T : Type 0} (index : ℕ) (span : Span T) → IsShut span → Carries index span → ⊥
+shut_none x0 x1 x2 x3 = grind arith
+
+module _ {T : Type 0} (code : Coding T) (slots queue : ℕ) (s : Channel T) (latest : List (ℕ × Party T))
+    (turns changes p : ℕ) (start : LoanStart) (flight : LoanFlight) where
+  abbrev channel : frame.Family T
+  channel = family code slots queue
+
+  abbrev pub begun : Event T
+  begun = Begun p (starts.Loan start)
+
+  abbrev pub events_then : List (Event T)
+  events_then = s.events ++ Begun p (starts.Loan start) ∷ []
+
+  abbrev pub book_then : Book
+  book_then = taken_from s.book (asks_for start)
+
+  abbrev pub after : Channel T
+  after = record s { book = book_then; events = events_then }
+
+  abbrev pub began : Party T
+  began = party_at_begin (starts.Loan start) (flights.TheVariants.Loan flight) changes
+
+  -- what a begin shows of its call: its party may begin it, and what it moves nobody has in passing
+  pub record IsFirst : Type 0 where
+    pub placed : Placed slots s.claims s.submission.waiting s.completion.waiting book_then events_then
+    pub queue_stays : book_then.queue ≡ s.book.queue
+    pub places_stay : book_then.places ≡ s.book.places
+    pub receiver_stays : book_then.receiver ≡ s.book.receiver
+    pub dead_stay : book_then.dead ≡ s.book.dead
+    pub light : counts flight ≡ 0
+    pub calm : hung {T = T} s.submission.read (Some (flights.TheVariants.Loan flight)) ≡ None
+    pub moves : MovesRight slots s.events begun
+    pub begins : BeginsRight s.events begun
+    pub reclaiming : reclaims_after (is_reclaiming s.events) begun ≡ reclaims_in (span_of 0 events_then)
+    pub stays : (index q : ℕ) → spot_of index s.events ≡ Passing q → spot_of index events_then ≡ Passing q
+    pub passing : (index q : ℕ) → spot_of index events_then ≡ Passing q
+        → (spot_of index s.events ≡ Passing q) ⊎ ((q ≡ p) × Carries {T = T} index (Open (starts.Loan start) []))
+    pub at : At slots queue after p [] start flight
+    pub knows : FlightKnows slots queue after changes changes 0 flight
+
+  module _ (h : HoldsNow slots queue s latest s.events turns) (inv : frame.Inv channel s latest s.events changes)
+      (free : flight_of (doing_of (party_of p latest)) ≡ None) (first : IsFirst) where
+    shut : IsShut (span_of p s.events)
+    shut = frame.shut channel s p (party_of p latest) (span_of p s.events) free (inv.calls p)
+
+    mine_opens : span_of p events_then ≡ Open (starts.Loan start) []
+    mine_opens = span_of-own p s.events (begun ∷ []) (refl, tt)
+
+    theirs_stays : (q : ℕ) → q ≢ p → span_of q events_then ≡ span_of q s.events
+    theirs_stays q ne = span_of-other p q s.events (begun ∷ []) ne (refl, tt)
+
+    -- what is read of the sender's call is as it was: none was under way, or it is another party's
+    weighs_same : {A : Type 0} (f : Option (Flight T) → A) → f (Some (flights.TheVariants.Loan flight)) ≡ f None
+        → f (sends_at (put p began latest)) ≡ f (sends_at latest)
+    weighs_same {A} f e = ⊎_elim mine other (cases_eq p 0)
+      where
+        mine : p ≡ 0 → f (sends_at (put p began latest)) ≡ f (sends_at latest)
+        mine z =
+            let here : sends_at (put p began latest) ≡ Some (flights.TheVariants.Loan flight) =
+            ap (λ n. flight_of (doing_of (party_of n (put p began latest)))) (sym z) ∙ ap (λ o. flight_of (doing_of o)) (party_put_same p began latest)
+            in
+            let none : sends_at latest ≡ None = ap (λ n. flight_of (doing_of (party_of n latest))) (sym z) ∙ free in
+            ap f here ∙ (e ∙ ap f (sym none))
+
+        other : p ≢ 0 → f (sends_at (put p began latest)) ≡ f (sends_at latest)
+        other ne = ap (λ o. f (flight_of (doing_of o))) (party_put_other 0 p began latest (λ z. ne (sym z)))
+
+    still_carried : (index q : ℕ) → spot_of index s.events ≡ Passing q → Carries index (span_of q events_then)
+    still_carried index q e =
+        let carried = h.passing index q e in
+        ⊎_elim
+        (λ same. absurd (shut_none index (span_of p s.events) shut (subst (λ n. Carries index (span_of n s.events)) same carried)))
+        (λ ne. subst (Carries index) (sym (theirs_stays q ne)) carried)
+        (cases_eq q p)
+
+    parts_then : Holds slots queue after (counted_for (sends_at (put p began latest)))
+    parts_then =
+        record {
+          capacity = first.queue_stays ∙ h.parts.capacity;
+          some = h.parts.some;
+          few = h.parts.few;
+          set = subst (λ n. indices.Good slots s.set s.claims n) (sym (weighs_same counted_for first.light)) h.parts.set;
+          submission = h.parts.submission;
+          completion = h.parts.completion;
+          unlocked = h.parts.unlocked;
+          placed = first.placed;
+        }
+
+    same_receiver : receiver_of events_then ≡ receiver_of s.events
+    same_receiver = fold-append receiver_after 1 s.events (begun ∷ [])
+
+    pub shows : Shows slots queue s after p began latest turns (begun ∷ [])
+    shows =
+        let sent = h.sent in
+        let given = h.given in
+        let same = same_receiver in
+        record {
+          events = refl;
+          parts = parts_then;
+          tells = record { book = append-nil (items s.submission.waiting); given = append-nil s.completion.waiting; goes = refl; answers = refl };
+          hangs = subst (Hangs queue s.submission) (sym (weighs_same (hung s.submission.read) first.calm)) h.hangs;
+          reclaiming = first.reclaiming;
+          sent = omega arith;
+          given = omega arith;
+          receivers = (omega arith, omega arith);
+          moves = (first.moves, tt);
+          begins = (first.begins, tt);
+          answers = (tt, tt);
+          passing =
+              λ index q e. ⊎_elim (λ old. still_carried index q old)
+              (λ new. subst (λ n. Carries index (span_of n events_then)) (sym new.0) (subst (Carries index) (sym mine_opens) new.1))
+              (first.passing index q e);
+        }
+
+    -- the calls of the other parties stand where they stood
+    others : (q : ℕ) → q ≢ p → (other : Start T) (call : Flight T) → channel.At s q other call
+        → channel.At after q other call × (channel.written after q call ≡ channel.written s q call)
+    others q ne (starts.Loan other) (flights.TheVariants.Loan call) known = (
+      subst (λ wrote. At slots queue after q wrote other call) (ap wrote_in (sym (theirs_stays q ne)))
+          (at_stays slots queue s book_then events_then q
+          (record {
+            passes = λ index e. first.stays index q e;
+            no_more = λ index e. ⊎_elim (λ (old : spot_of index s.events ≡ Passing q). old) (λ new. absurd (ne new.0)) (first.passing index q e);
+            places = first.places_stay;
+            receiver = first.receiver_stays;
+            alive = λ alive. subst (λ dead. has_died q dead ≡ false) first.dead_stay alive;
+            dead = λ dead. subst (λ all. has_died s.book.receiver all ≡ true) (sym first.dead_stay) dead;
+          })
+          (wrote_in (span_of q s.events)) other call known),
+      ap wrote_in (theirs_stays q ne),
+    )
+    others q ne other call known = absurd known
+
+    others_know : (q : ℕ) → q ≢ p → (since backs : ℕ) (call : Flight T)
+        → channel.Knows s q s.events since changes backs call
+        → channel.Knows after q (s.events ++ begun ∷ []) since changes backs call
+    others_know x0 x1 x2 x3 x4 x5 = grind arith
+
+    pub owes : frame.Owes channel after p began latest s.events (begun ∷ []) changes
+    owes =
+        frame.owes channel s after (span_of p s.events) p began latest s.events (begun ∷ []) changes changes refl inv
+        (record {
+          own = (refl, tt);
+          stands = (shut, tt);
+          here =
+              record {
+                span = ap (λ wrote. Open (starts.Loan start) wrote) (sym (ap wrote_in mine_opens));
+                steps = omega arith;
+                at = subst (λ wrote. At slots queue after p wrote start flight) (sym (ap wrote_in mine_opens)) first.at;
+              };
+          knows = first.knows;
+          others = others;
+          others_know = others_know;
+        })
+
+    pub holds_then : HoldsNow slots queue after (put p began latest) events_then (turns + 1)
+    holds_then = now_more slots queue s after p began latest turns (begun ∷ []) h shows

@@ -1,0 +1,135 @@
+-- The state of a loan channel's machine: its three parts with what they hold, its book and the events, what holds of them
+-- between two turns, and how it opens.
+use Rattle.std.proofs.Common.{◌≡◌, ◌≢◌, ℕ, zero, suc, ◌+◌, ◌^◌, ◌<◌, ◌≤◌, ⊎_elim, Option, None, List, [], ◌++◌, replicate, refl, ◌∙◌, arith}
+use Rattle.std.proofs.lemmas.List.{length-replicate}
+use Rattle.steps.specs.declared.loan.places.Place.{Place}
+use Rattle.steps.specs.declared.loan.places.Place.TheVariants as places
+use Rattle.steps.specs.Indices.Head.{locked}
+use Rattle.steps.specs.Loan.Places.{place_at}
+use Rattle.model.specs.declared.event.Event.{Event}
+use Rattle.model.specs.declared.families.Registry.{Registry}
+use Rattle.model.specs.declared.families.Registry as registries
+use Rattle.model.specs.declared.families.loan.Book.{Book}
+use Rattle.model.specs.declared.families.queues.Roles.{Roles}
+use Rattle.model.specs.Families.Indices.Opening as index_opening
+use Rattle.model.specs.Families.Loan.Opening.{opening_words, opening_book, opening_kept}
+use Rattle.model.specs.Families.Loan.Promises.{KeepsBook}
+use Rattle.model.specs.Families.Loan.Reading.{Free, Passing, With}
+use Rattle.model.specs.Families.Queues.Calls.{words_of_index}
+use Rattle.laws_indices.proofs.Core as indices
+use Rattle.laws_indices.proofs.Opening.{nobody_holds, opening_good}
+use Rattle.laws_queues.proofs.Queues.Core as queues
+use Rattle.laws_queues.proofs.Queues.Core.{Core}
+use Rattle.laws_queues.proofs.Queues.Knows.{layout}
+use Rattle.laws_loan.proofs.Placed.{IsBy, Placed}
+
+-- ---- the state
+
+pub record Channel (T : Type 0) : Type 0 where
+  pub set : List ℕ  -- the words of the indices
+  pub claims : List (Option ℕ)  -- who has claimed each: the sender, or nobody
+  pub submission : Core ℕ
+  pub completion : Core ℕ
+  pub book : Book
+  pub events : List (Event T)
+
+-- nobody takes a role of its queues
+abbrev pub no_roles : Roles
+no_roles = record { producer = None; consumer = None }
+
+abbrev pub words_in : {T : Type 0} → Channel T → List ℕ
+words_in s = s.set ++ (layout no_roles s.submission ++ layout no_roles s.completion)
+
+abbrev pub Represents : {T : Type 0} → Registry T → List ℕ → Channel T → Type 0
+Represents (registries.TheVariants.Loan book) words s = (book ≡ s.book) × (words ≡ words_in s)
+Represents kept words s = ⊥
+
+pub kept_is : {T : Type 0} (kept : Registry T) (words : List ℕ) (s : Channel T) → Represents kept words s
+    → (kept ≡ registries.TheVariants.Loan s.book) × (words ≡ words_in s)
+kept_is x0 x1 x2 x3 = grind arith
+
+-- ---- what holds between two turns
+
+-- of so many slots and a submission queue of this capacity, where so many calls of the set take an index or give one back
+pub record Holds {T : Type 0} (slots queue : ℕ) (s : Channel T) (busy : ℕ) : Type 0 where
+  pub capacity : s.book.queue ≡ queue
+  pub some : 1 ≤ queue
+  pub few : queue < 2 ^ 32
+  pub set : indices.Good slots s.set s.claims busy
+  pub submission : queues.Good 1 words_of_index (queue + 1) s.submission
+  pub completion : queues.Good 1 words_of_index slots s.completion
+  pub unlocked : indices.counted_in s.set ≢ locked
+  pub placed : Placed slots s.claims s.submission.waiting s.completion.waiting s.book s.events
+
+-- ---- the opening
+
+-- a queue in which nothing was pushed
+abbrev pub empty : ℕ → Core ℕ
+empty cells = record { write = 0; read = 0; waiting = []; cells = replicate cells 0 }
+
+abbrev pub opened : {T : Type 0} → ℕ → ℕ → Channel T
+opened slots queue =
+    record {
+      set = index_opening.opening_words slots;
+      claims = replicate slots None;
+      submission = empty (queue + 1);
+      completion = empty slots;
+      book = opening_book slots queue;
+      events = [];
+    }
+
+pub opening_fits : (T : Type 0) (slots queue : ℕ) → Represents {T = T} (opening_kept slots queue) (opening_words slots queue) (opened slots queue)
+opening_fits T slots queue = (refl, refl)
+
+empty_good : (cells : ℕ) → queues.Good 1 words_of_index cells (empty cells)
+empty_good cells =
+    record {
+      write = refl;
+      few = omega arith;
+      cells = length-replicate {A = ℕ} cells 0 ∙ (omega arith);
+      held = λ i v e. absurd (cc);
+    }
+
+pub all_free : (n i : ℕ) → place_at (replicate n places.Free) i ≡ places.Free
+all_free zero i = refl
+all_free (suc n) zero = refl
+all_free (suc n) (suc i) = all_free n i
+
+nobody_by : (p : ℕ) → IsBy p Free → ⊥
+nobody_by p by = ⊎_elim (λ (e : Free ≡ With p). absurd (cc)) (λ (e : Free ≡ Passing p). absurd (cc)) by
+
+opening_keeps : {T : Type 0} (slots queue : ℕ) → KeepsBook {T = T} (opening_book slots queue) []
+opening_keeps slots queue =
+    record {
+      places = λ i. rw (all_free slots i) refl;
+      holders = λ i. nobody_holds slots i;
+      receiver = refl;
+      dead = λ p. refl;
+    }
+
+opening_placed : {T : Type 0} (slots queue : ℕ) → Placed {T = T} slots (replicate slots None) [] [] (opening_book slots queue) []
+opening_placed slots queue =
+    record {
+      claimed = λ i below. nobody_holds slots i;
+      past = λ i beyond. refl;
+      waits = λ i. refl;
+      returns = λ i. refl;
+      parties = λ i p by. absurd (nobody_by p by);
+      claims_long = length-replicate {A = Option ℕ} slots None;
+      places_long = length-replicate {A = Place} slots places.Free;
+      holders_long = length-replicate {A = Option ℕ} slots None;
+      keeps = opening_keeps slots queue;
+    }
+
+pub opening_holds : {T : Type 0} (slots queue : ℕ) → 1 ≤ slots → slots < locked → 1 ≤ queue → queue < 2 ^ 32 → Holds {T = T} slots queue (opened slots queue) 0
+opening_holds slots queue some few room fits =
+    record {
+      capacity = refl;
+      some = room;
+      few = fits;
+      set = opening_good slots some few;
+      submission = empty_good (queue + 1);
+      completion = empty_good slots;
+      unlocked = λ e. absurd (omega arith);
+      placed = opening_placed slots queue;
+    }

@@ -1,0 +1,119 @@
+-- What each operation of a push and of a pop does to the completion queue, whose values have one word each.
+use Rattle.std.proofs.Common.{◌≡◌, ℕ, ◌+◌, ◌-◌, ◌*◌, ◌%◌, ◌^◌, ◌<◌, ◌≤◌, ◌==◌, true, false, Option, Some, List, [], ◌∷◌, length, get_or, refl, ap, ◌∙◌, arith}
+use Rattle.std.proofs.lemmas.Bool.Decides.{nat_tests}
+use Rattle.steps.specs.declared.ask.Ask.{Ask}
+use Rattle.steps.specs.declared.ask.Op.TheVariants.{Store}
+use Rattle.steps.specs.declared.ask.After.TheVariants.{GoOn}
+use Rattle.steps.specs.declared.queues.ring.Push.{Push}
+use Rattle.steps.specs.declared.queues.ring.PushStage as pushes
+use Rattle.steps.specs.Queues.Ring.{after_position, cell_word, push_takes, word_at}
+use Rattle.model.specs.Families.Queues.Calls.{words_of_index}
+use Rattle.model.specs.Turns.{words_after, change_of}
+use Rattle.laws_queues.proofs.Queues.Core as core
+use Rattle.laws_queues.proofs.Queues.Core.{Core, Good, Holds, filled, published, taken, fills, one_filled, publishes, takes, front, set_at}
+use Rattle.laws_queues.proofs.Queues.Knows.{layout}
+use Rattle.laws_loan.proofs.Channel.{no_roles}
+
+none_long : (xs : List ℕ) → length xs ≡ 0 → xs ≡ []
+none_long [] e = refl
+none_long (x ∷ xs) e = absurd (omega arith)
+
+module _ (slots : ℕ) (some : 1 ≤ slots) (few : slots < 2 ^ 24) (k : Core ℕ) (g : Good 1 words_of_index slots k) (reached : k.write < 2 ^ 64 - 2) where
+  abbrev pub ws : List ℕ
+  ws = layout no_roles k
+
+  -- ---- its words
+
+  pub long : length ws ≡ 4 + slots
+  long = let cells = g.cells in omega arith
+
+  -- the place of a position's cell, as a call asks for it
+  cell_place : (position : ℕ) → word_at (cell_word slots 1 position) 0 ≡ 4 + (1 * (position % slots) + 0)
+  cell_place x0 = grind arith
+
+  pub cell_on : (position : ℕ) → word_at (cell_word slots 1 position) 0 < length ws
+  cell_on x0 = grind arith
+
+  pub cell_is : (position : ℕ) → get_or ws (word_at (cell_word slots 1 position) 0) 0 ≡ get_or k.cells (1 * (position % slots) + 0) 0
+  cell_is position = core.word_at k.write k.read 1 1 k.cells (word_at (cell_word slots 1 position) 0) (1 * (position % slots) + 0) (cell_place position)
+
+  -- the first value stands in the cell of the read position
+  pub first_is : (value : ℕ) (rest : List ℕ) → k.waiting ≡ value ∷ rest → get_or ws (word_at (cell_word slots 1 k.read) 0) 0 ≡ value
+  first_is value rest first = cell_is k.read ∙ front 1 words_of_index slots k value rest first g 0 (omega arith)
+
+  -- ---- a push
+
+  abbrev pub push_at : pushes.PushStage → Push ℕ
+  push_at stage = record { capacity = slots; stage = stage; of = record {} }
+
+  pub loads_write : push_takes 1 (push_at pushes.TheVariants.LoadsWrite) pushes.TheVariants.LoadsWrite k.write
+      ≡ GoOn (push_at (pushes.TheVariants.LoadsRead k.write))
+  loads_write = let t : (k.write == 2 ^ 64 - 1) ≡ false = grind (arith, nat_tests) in rw t refl
+
+  -- it finds room
+  pub loads_read : length k.waiting < slots
+      → push_takes 1 (push_at (pushes.TheVariants.LoadsRead k.write)) (pushes.TheVariants.LoadsRead k.write) k.read
+      ≡ GoOn (push_at (pushes.TheVariants.StoresCell k.write (cell_word slots 1 k.write) 0))
+  loads_read x0 = grind arith
+
+  module _ (v : ℕ) (room : length k.waiting < slots) where
+    abbrev pub fill : Core ℕ
+    fill = filled 1 words_of_index slots k 0 v
+
+    abbrev pub fills_cell : Option Ask
+    fills_cell = Some (record { word = word_at (cell_word slots 1 k.write) 0; op = Store v })
+
+    pub fill_words : words_after ws fills_cell ≡ layout no_roles fill
+    fill_words = set_at k.write k.read 1 1 k.cells (word_at (cell_word slots 1 k.write) 0) (1 * (k.write % slots) + 0) v (cell_place k.write)
+
+    pub fill_good : Good 1 words_of_index slots fill
+    fill_good = fills 1 words_of_index slots k 0 v room (omega arith) g
+
+    pub fill_whole : Holds 1 words_of_index slots fill.cells fill.write v 1
+    fill_whole = one_filled 1 words_of_index slots k v 0 room (omega arith) g (λ i h. absurd (omega arith))
+
+    abbrev pub publish : Core ℕ
+    publish = published 1 words_of_index slots k v
+
+    abbrev pub next_write : Option Ask
+    next_write = Some (record { word = 0; op = Store (after_position k.write) })
+
+    pub publish_words : words_after ws next_write ≡ layout no_roles publish
+    publish_words = grind arith
+
+    pub publish_changes : change_of ws next_write ≡ 1
+    publish_changes = let moved : (after_position k.write == k.write) ≡ false = grind (arith, nat_tests) in rw moved refl
+
+    pub publish_good : Holds 1 words_of_index slots k.cells k.write v 1 → Good 1 words_of_index slots publish
+    publish_good whole = publishes 1 words_of_index slots k v room g whole
+
+  -- ---- a pop
+
+  -- it finds nothing, or something
+  pub finds_none : (k.write == k.read) ≡ true → k.waiting ≡ []
+  finds_none t =
+      let write = g.write in
+      let same : k.write ≡ k.read = grind (arith, nat_tests) in
+      none_long k.waiting (omega arith)
+
+  pub finds_some : (k.write == k.read) ≡ false → k.read < k.write
+  finds_some x0 = grind arith
+
+  abbrev pub next_read : Option Ask
+  next_read = Some (record { word = 1; op = Store (after_position k.read) })
+
+  module _ (value : ℕ) (rest : List ℕ) (first : k.waiting ≡ value ∷ rest) where
+    abbrev pub take_out : Core ℕ
+    take_out = taken 1 words_of_index slots k rest
+
+    not_last : after_position k.read ≡ k.read + 1
+    not_last = let write = g.write in omega arith
+
+    pub take_words : words_after ws next_read ≡ layout no_roles take_out
+    take_words = ap (λ n. k.write ∷ n ∷ 1 ∷ 1 ∷ k.cells) not_last
+
+    pub take_changes : change_of ws next_read ≡ 1
+    take_changes = grind arith
+
+    pub take_good : Good 1 words_of_index slots take_out
+    take_good = takes 1 words_of_index slots k value rest first g

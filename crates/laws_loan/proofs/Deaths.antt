@@ -1,0 +1,175 @@
+-- The death of a party: its calls go no further, and nothing else changes.
+use Rattle.std.proofs.Common.{◌≡◌, ◌≢◌, ℕ, ◌+◌, ◌⊎◌, ◌==◌, ◌||◌, ⊎_elim, if◌then◌else◌, Bool, true, false, List, []}
+use Rattle.std.proofs.Common.{◌∷◌, ◌++◌, refl, sym, ap, subst, ◌∙◌, append-nil, arith, eq-eqb, ne_eqb}
+use Rattle.std.proofs.lemmas.Bool.{cases_eq}
+use Rattle.std.proofs.lemmas.List.Sums.{fold-append}
+use Rattle.model.specs.declared.event.Event.{Event}
+use Rattle.model.specs.declared.event.Event.TheVariants.{Died}
+use Rattle.model.specs.declared.event.Start.{Start}
+use Rattle.model.specs.declared.event.Start.TheVariants as starts
+use Rattle.model.specs.declared.families.Flight.{Flight}
+use Rattle.model.specs.declared.families.Flight as flights
+use Rattle.model.specs.declared.families.Registry.{Registry}
+use Rattle.model.specs.declared.families.loan.LoanStart.{LoanStart}
+use Rattle.model.specs.declared.families.loan.calls.LoanFlight.{LoanFlight}
+use Rattle.model.specs.declared.party.Party.{Party}
+use Rattle.model.specs.Coding.{Coding}
+use Rattle.model.specs.Families.{kept_after_death}
+use Rattle.model.specs.Families.Indices.Robust.Dead.{has_died, dead_with}
+use Rattle.model.specs.Families.Loan.Promises.{MovesRight, BeginsRight, AnswersRight}
+use Rattle.model.specs.Families.Loan.Reading.{spot_of, receiver_after, receiver_of, died_after, has_died_by, reclaims_after}
+use Rattle.model.specs.Reading.{span_of}
+use Rattle.model.specs.World.{Trace}
+use Rattle.model.proofs.Dead.{died_now, died_before}
+use Rattle.model.proofs.Frame as frame
+use Rattle.model.proofs.Readings.{Each-append, span_of-death}
+use Rattle.model.proofs.Rows.{MayDie}
+use Rattle.laws_loan.proofs.Channel.{Channel, Represents, Holds}
+use Rattle.laws_loan.proofs.Invariant.{sends_at, counted_for, reclaims_in, Carries, HoldsNow, family}
+use Rattle.laws_loan.proofs.Keeping.{at_stays}
+use Rattle.laws_loan.proofs.Knows.{wrote_in, At}
+use Rattle.laws_loan.proofs.Lists.{lists_stay}
+use Rattle.laws_loan.proofs.Placed.{Placed, placed_on}
+use Rattle.laws_loan.proofs.Spots.{is_waiting, is_returning, spot_stays}
+use Rattle.laws_loan.proofs.Told.{items, Told, told_more}
+
+-- ---- who has died
+
+died_with : (q o : ℕ) (dead : List ℕ) → has_died q (dead_with o dead) ≡ ((o == q) || has_died q dead)
+died_with q o dead = ⊎_elim now before (cases_eq q o)
+  where
+    now : q ≡ o → has_died q (dead_with o dead) ≡ ((o == q) || has_died q dead)
+    now e = ap (λ n. has_died q (dead_with n dead)) (sym e) ∙ (died_now q dead ∙ sym (ap (λ b. b || has_died q dead) (eq-eqb o q (sym e))))
+
+    before : q ≢ o → has_died q (dead_with o dead) ≡ ((o == q) || has_died q dead)
+    before ne = died_before q o dead ne ∙ sym (ap (λ b. b || has_died q dead) (ne_eqb o q (λ e. ne (sym e))))
+
+either_way : (b d : Bool) → (b || d) ≡ (if b then true else d)
+either_way x0 x1 = grind arith
+
+still_dead : (b d : Bool) → d ≡ true → (b || d) ≡ true
+still_dead x0 x1 x2 = grind arith
+
+was_alive : (b d : Bool) → (b || d) ≡ false → d ≡ false
+was_alive x0 x1 x2 = grind arith
+
+module _ {T : Type 0} (slots queue : ℕ) (s : Channel T) (o : ℕ) where
+  abbrev pub after : Channel T
+  after = record s { book = record s.book { dead = dead_with o s.book.dead }; events = s.events ++ Died o ∷ [] }
+
+  same_spot : (i : ℕ) → spot_of i (s.events ++ Died o ∷ []) ≡ spot_of i s.events
+  same_spot i = spot_stays s.events (Died o) i refl
+
+  same_receiver : receiver_of (s.events ++ Died o ∷ []) ≡ receiver_of s.events
+  same_receiver = fold-append receiver_after 1 s.events (Died o ∷ [])
+
+  -- ---- what holds
+
+  placed_then : Placed slots s.claims s.submission.waiting s.completion.waiting s.book s.events
+      → Placed slots after.claims after.submission.waiting after.completion.waiting after.book after.events
+  placed_then h =
+      placed_on slots s.events (Died o) refl s.claims s.submission.waiting s.completion.waiting s.book after.book h
+      (record {
+        places = refl;
+        holders = refl;
+        receiver = h.keeps.receiver ∙ sym same_receiver;
+        dead = λ p. died_with p o s.book.dead
+            ∙ (ap (λ d. (o == p) || d) (h.keeps.dead p)
+            ∙ (either_way (o == p) (has_died_by p s.events) ∙ sym (fold-append (died_after p) false s.events (Died o ∷ []))));
+        parties = λ i p by. subst (λ r. (p ≡ 0) ⊎ (p ≡ r)) (sym same_receiver) (h.parties i p by);
+      })
+      (lists_stay is_waiting s.submission.waiting s.events (Died o) h.waits refl)
+      (lists_stay is_returning s.completion.waiting s.events (Died o) h.returns refl)
+
+  parts_then : (busy : ℕ) → Holds slots queue s busy → Holds slots queue after busy
+  parts_then busy h =
+      record {
+        capacity = h.capacity;
+        some = h.some;
+        few = h.few;
+        set = h.set;
+        submission = h.submission;
+        completion = h.completion;
+        unlocked = h.unlocked;
+        placed = placed_then h.placed;
+      }
+
+  told_then : Told queue s.submission.waiting s.completion.waiting s.events → Told queue s.submission.waiting s.completion.waiting (s.events ++ Died o ∷ [])
+  told_then h =
+      told_more queue s.submission.waiting s.submission.waiting s.completion.waiting s.completion.waiting s.events (Died o ∷ []) h
+      (record { book = append-nil (items s.submission.waiting); given = append-nil s.completion.waiting; goes = refl; answers = refl })
+
+  now_then : (latest : List (ℕ × Party T)) (turns : ℕ) → HoldsNow slots queue s latest s.events turns
+      → HoldsNow slots queue after latest (s.events ++ Died o ∷ []) (turns + 1)
+  now_then latest turns h =
+      let sent = h.sent in
+      let given = h.given in
+      let some = h.receivers.0 in
+      let most = h.receivers.1 in
+      let same = same_receiver in
+      record {
+        same = refl;
+        parts = parts_then (counted_for (sends_at latest)) h.parts;
+        told = told_then h.told;
+        hangs = h.hangs;
+        reclaiming = fold-append reclaims_after false s.events (Died o ∷ []) ∙ (h.reclaiming ∙ sym (ap reclaims_in (span_of-death 0 s.events o)));
+        sent = omega arith;
+        given = omega arith;
+        receivers = (omega arith, omega arith);
+        moves = Each-append (MovesRight slots) s.events (Died o ∷ []) h.moves (tt, tt);
+        begins = Each-append BeginsRight s.events (Died o ∷ []) h.begins (tt, tt);
+        answers = Each-append (AnswersRight slots) s.events (Died o ∷ []) h.answers (tt, tt);
+        passing = λ index p e. subst (Carries index) (sym (span_of-death p s.events o)) (h.passing index p (sym (same_spot index) ∙ e));
+      }
+
+  -- ---- what the calls know
+
+  at_on : (p : ℕ) (wrote : List (Event T)) (start : LoanStart) (flight : LoanFlight)
+      → At slots queue s p wrote start flight → At slots queue after p wrote start flight
+  at_on p =
+      at_stays slots queue s after.book (s.events ++ Died o ∷ []) p
+      (record {
+        passes = λ index e. same_spot index ∙ e;
+        no_more = λ index e. sym (same_spot index) ∙ e;
+        places = refl;
+        receiver = refl;
+        alive = λ alive. was_alive (o == p) (has_died p s.book.dead) (sym (died_with p o s.book.dead) ∙ alive);
+        dead = λ dead. died_with s.book.receiver o s.book.dead ∙ still_dead (o == s.book.receiver) (has_died s.book.receiver s.book.dead) dead;
+      })
+
+-- ---- the turn
+
+module _ {T : Type 0} (code : Coding T) (slots queue : ℕ) where
+  abbrev channel : frame.Family T
+  channel = family code slots queue
+
+  fit_then : (kept : Registry T) (words : List ℕ) (s : Channel T) (o : ℕ) → Represents kept words s
+      → Represents (kept_after_death kept o) words (after slots queue s o)
+  fit_then x0 x1 x2 x3 x4 = grind arith
+
+  call_on : (s : Channel T) (o q : ℕ) (start : Start T) (flight : Flight T) → channel.At s q start flight → channel.At (after slots queue s o) q start flight
+  call_on s o q (starts.Loan start) (flights.TheVariants.Loan flight) h =
+      subst (λ wrote. At slots queue (after slots queue s o) q wrote start flight) (ap wrote_in (sym (span_of-death q s.events o)))
+      (at_on slots queue s o q (wrote_in (span_of q s.events)) start flight h)
+  call_on s o q start flight h = absurd h
+
+  known_on : (s : Channel T) (o since changes backs : ℕ) (flight : Flight T)
+      → channel.Knows s o s.events since changes backs flight
+      → channel.Knows (after slots queue s o) o (s.events ++ Died o ∷ []) since changes backs flight
+  known_on x0 x1 x2 x3 x4 x5 x6 = grind arith
+
+  pub death_comes : (t : Trace T) (owner : ℕ) (sound : frame.Sound channel t) → MayDie t.world owner → frame.ComesByDeath channel t sound owner
+  death_comes t owner sound may =
+      let s = sound.state in
+      let same = sound.holds.same in
+      let holds : HoldsNow slots queue s t.world.latest s.events t.world.turns =
+      subst (λ es. HoldsNow slots queue s t.world.latest es t.world.turns) (sym same) sound.holds in
+      record {
+        state = after slots queue s owner;
+        fit = fit_then t.world.kept t.world.words s owner sound.fit;
+        holds =
+            subst (λ es. HoldsNow slots queue (after slots queue s owner) t.world.latest (es ++ Died owner ∷ []) (t.world.turns + 1))
+            same (now_then slots queue s owner t.world.latest t.world.turns holds);
+        calls = λ q start flight h. (call_on s owner q start flight h, ap wrote_in (span_of-death q s.events owner));
+        calls_know = λ q since backs flight h. known_on s owner since t.world.changes backs flight h;
+      }

@@ -1,0 +1,352 @@
+-- The steps of a reclaim that pops the submission queue, until that is empty.
+use Rattle.std.proofs.Common.{◌≡◌, ◌≢◌, ℕ, suc, ◌+◌, ◌%◌, ◌^◌, ◌*◌, ◌-◌, ◌<◌, ◌≤◌, ◌==◌, inl, ⊎_elim, Bool, true}
+use Rattle.std.proofs.Common.{false, not, Option, Some, List, [], ◌∷◌, ◌++◌, length, get_or, refl, sym, ap, subst, ◌∙◌}
+use Rattle.std.proofs.Common.{append-nil, length-append, arith}
+use Rattle.std.proofs.lemmas.Bool.{cases_eq}
+use Rattle.std.proofs.lemmas.Bool.Decides.{nat_tests}
+use Rattle.std.proofs.lemmas.List.{set-get_or}
+use Rattle.std.proofs.lemmas.List.Concat.{flat_map-append}
+use Rattle.std.proofs.lemmas.List.Sums.{fold-append}
+use Rattle.steps.specs.declared.ask.Ask.{Ask}
+use Rattle.steps.specs.declared.ask.After.{After}
+use Rattle.steps.specs.declared.ask.After.TheVariants.{GoOn}
+use Rattle.steps.specs.declared.loan.places.Place.TheVariants as places
+use Rattle.steps.specs.declared.loan.reclaim.ReclaimStage.{ReclaimStage}
+use Rattle.steps.specs.declared.loan.reclaim.ReclaimStage as reclaims
+use Rattle.steps.specs.declared.queues.overflow.PopStage.{PopStage}
+use Rattle.steps.specs.declared.queues.overflow.PopStage as pops
+use Rattle.steps.specs.declared.queues.ring.PopStage as ring_pops
+use Rattle.steps.specs.Loan.Layout.{submission_word}
+use Rattle.steps.specs.Loan.Places.{place_at}
+use Rattle.steps.specs.Queues.Overflow.{cell_word, pop_asks}
+use Rattle.steps.specs.Queues.Ring.{load}
+use Rattle.model.specs.declared.event.Answer.{Answer}
+use Rattle.model.specs.declared.event.Event.{Event}
+use Rattle.model.specs.declared.event.Event.TheVariants.{HandedOut}
+use Rattle.model.specs.declared.event.Item.{Item}
+use Rattle.model.specs.declared.event.Item.TheVariants.{Index}
+use Rattle.model.specs.declared.families.Flight as flights
+use Rattle.model.specs.declared.families.loan.calls.LoanFlight.{LoanFlight}
+use Rattle.model.specs.declared.families.loan.effects.Effect.{Effect}
+use Rattle.model.specs.declared.families.loan.effects.Effect.TheVariants as effects
+use Rattle.model.specs.declared.party.Party.{Party}
+use Rattle.model.specs.Coding.{Coding}
+use Rattle.model.specs.Families.{ask_of}
+use Rattle.model.specs.Families.Loan.Promises.{IsIn}
+use Rattle.model.specs.Families.Loan.Reading.{Passing, Waiting, Move, spot_of, receiver_after, takes_back, taken_back, frees, freed}
+use Rattle.model.specs.Families.Loan.Steps.{sent_at}
+use Rattle.model.specs.Families.Queues.Calls.{words_of_index}
+use Rattle.model.specs.Families.Queues.Objects.{answer_of_item}
+use Rattle.model.specs.Families.Queues.Reading.{hands_out, handed_out}
+use Rattle.model.specs.Reading.{Open, span_of}
+use Rattle.model.specs.Turns.{old_of, words_after, change_of, step_count}
+use Rattle.laws_queues.proofs.Overflow.Core.{oldest, pop_front}
+use Rattle.laws_queues.proofs.Queues.Core.{Core, taken}
+use Rattle.laws_queues.proofs.Queues.Knows.{layout}
+use Rattle.laws_loan.proofs.Channel.{Channel, no_roles, words_in}
+use Rattle.laws_loan.proofs.Cuts.{IsOn}
+use Rattle.laws_loan.proofs.Invariant.{sends_at, counted_for, HoldsNow}
+use Rattle.laws_loan.proofs.Knows.{reclaim_counts, reclaim_number, StageAt, ReclaimAt}
+use Rattle.laws_loan.proofs.Lists.{first_there}
+use Rattle.laws_loan.proofs.Parts.{submission_old, submission_words, submission_change}
+use Rattle.laws_loan.proofs.ReclaimGoes as steps
+use Rattle.laws_loan.proofs.ReclaimGoes.{start, asked, old, Does}
+use Rattle.laws_loan.proofs.Reclaiming.{reclaim_at, none_more}
+use Rattle.laws_loan.proofs.Rooms.{sent_below}
+use Rattle.laws_loan.proofs.Spots.{is_waiting, waits_there, spot_other, spot_moved}
+use Rattle.laws_loan.proofs.Submission as submission
+use Rattle.laws_loan.proofs.Table.{sent_there, waiting_away, hands_it_out}
+use Rattle.laws_loan.proofs.Told.{items, Tells}
+
+abbrev drains : PopStage → ReclaimStage
+drains stage = reclaims.TheVariants.Drains stage
+
+-- a list of which nothing is left
+none_long : (xs : List ℕ) → length xs ≡ 0 → xs ≡ []
+none_long [] e = refl
+none_long (x ∷ xs) e = absurd (omega arith)
+
+module _ {T : Type 0} (code : Coding T) (slots queue : ℕ) (s : Channel T) (latest : List (ℕ × Party T))
+    (turns changes since : ℕ) (x : Party T) (wrote : List (Event T)) (h : HoldsNow slots queue s latest s.events turns)
+    (small : turns < 2 ^ 64 - 2) (under : ReclaimStage)
+    (here : sends_at latest ≡ Some (flights.TheVariants.Loan (reclaim_at slots queue under)))
+    (idle : reclaim_counts under ≡ 0)
+    (from : span_of 0 s.events ≡ Open (start code slots queue s latest turns changes since x wrote) wrote)
+    (known : ReclaimAt slots queue s wrote under) (straight : x.backs ≡ 0) where
+  abbrev Does_at : PopStage → Type 0
+  Does_at stage = Does code slots queue s latest turns changes since x wrote (drains stage)
+
+  abbrev asks : PopStage → Option Ask
+  asks stage = asked code slots queue s latest turns changes since x wrote (drains stage)
+
+  abbrev value : PopStage → ℕ
+  value stage = old code slots queue s latest turns changes since x wrote (drains stage)
+
+  abbrev then_of : PopStage → ℕ → After LoanFlight (Answer T)
+  then_of stage v = steps.goes code slots queue s latest turns changes since x wrote (drains stage) v
+
+  abbrev effect_of : PopStage → ℕ → Effect
+  effect_of stage v = steps.effect_at code slots queue s latest turns changes since x wrote (drains stage) v
+
+  abbrev To : Channel T → PopStage → After LoanFlight (Answer T) → Effect → Type 0
+  To s' stage after effect = steps.StepTo code slots queue s latest turns changes since x wrote s' (drains stage) after effect
+
+  abbrev s_still : Channel T
+  s_still = steps.s_still code slots queue s latest turns changes since x wrote h under here idle from known straight
+
+  -- ---- what is so of the queue
+
+  abbrev queued : List ℕ
+  queued = layout no_roles s.submission
+
+  low_write : s.submission.write < 2 ^ 64 - 2
+  low_write = let sent = h.sent in omega arith
+
+  wide : length queued ≡ 5 + queue
+  wide = submission.long queue h.parts.some h.parts.few s.submission h.parts.submission low_write
+
+  old_is : (stage : PopStage) → IsOn queued (pop_asks queue stage) → value stage ≡ old_of queued (ask_of (pop_asks queue stage))
+  old_is stage on = submission_old slots queue s (counted_for (sends_at latest)) h.parts (pop_asks queue stage) on
+
+  words_are : (stage : PopStage) (k : Core ℕ) → IsOn queued (pop_asks queue stage)
+      → words_after queued (ask_of (pop_asks queue stage)) ≡ layout no_roles k
+      → words_after (words_in s) (asks stage) ≡ s.set ++ (layout no_roles k ++ layout no_roles s.completion)
+  words_are stage k on is =
+      submission_words slots queue s (counted_for (sends_at latest)) h.parts (pop_asks queue stage) on
+      ∙ ap (λ ws. s.set ++ (ws ++ layout no_roles s.completion)) is
+
+  -- ---- the loads
+
+  still : (now : PopStage) (after_it : ReclaimStage) → IsOn queued (pop_asks queue now)
+      → words_after queued (ask_of (pop_asks queue now)) ≡ queued → reclaim_counts after_it ≡ 0
+      → StageAt slots s.submission s.completion s.book.places wrote after_it → x.steps + step_count (asks now) ≤ reclaim_number slots wrote after_it
+      → To s_still now (GoOn (reclaim_at slots queue after_it)) effects.Quiet
+  still now after_it on words counted stands few = (
+    steps.goes_still code slots queue s latest turns changes since x wrote h under here idle from known straight
+        (drains now) after_it (words_are now s.submission on words) counted stands few,
+    refl,
+  )
+
+  abbrev load_of_write : PopStage
+  load_of_write = pops.TheVariants.LoadsWrite s.submission.read
+
+  abbrev load_of_cell : PopStage
+  load_of_cell = pops.TheVariants.LoadsCell s.submission.read
+
+  abbrev moves : PopStage
+  moves = pops.TheVariants.MovesRead s.submission.read
+
+  module _ (most : length (handed_out wrote) + length s.submission.waiting ≤ slots) (none_taken : taken_back wrote ≡ []) (none_freed : freed wrote ≡ []) where
+    loads_read : x.steps ≤ 4 * length (handed_out wrote) → Does_at pops.TheVariants.LoadsRead
+    loads_read few =
+        let on : 1 < length queued = (let all = wide in omega arith) in
+        let is : then_of pops.TheVariants.LoadsRead (value pops.TheVariants.LoadsRead) ≡ GoOn (reclaim_at slots queue (drains load_of_write)) =
+        ap (then_of pops.TheVariants.LoadsRead) (old_is pops.TheVariants.LoadsRead on)
+        in
+        record {
+          channel_then = s_still;
+          stays = refl;
+          step =
+              subst (λ a. To s_still pops.TheVariants.LoadsRead a effects.Quiet) (sym is)
+              (still pops.TheVariants.LoadsRead (drains load_of_write) on refl refl (refl, most, none_taken, none_freed) (omega arith));
+        }
+
+    -- nothing waits, or something does
+    loads_write : x.steps ≤ 4 * length (handed_out wrote) + 1 → Does_at load_of_write
+    loads_write few = go (s.submission.write == s.submission.read) refl
+      where
+        on : 0 < length queued
+        on = let all = wide in omega arith
+
+        go : (same : Bool) → (s.submission.write == s.submission.read) ≡ same → Does_at load_of_write
+        go true e =
+            let is : then_of load_of_write (value load_of_write)
+            ≡ GoOn (reclaim_at slots queue (reclaims.TheVariants.Empties ring_pops.TheVariants.LoadsRead)) =
+            ap (then_of load_of_write) (old_is load_of_write on) ∙ (rw e refl)
+            in
+            let same : s.submission.write ≡ s.submission.read = grind (arith, nat_tests) in
+            let write = h.parts.submission.write in
+            let empty : s.submission.waiting ≡ [] = none_long s.submission.waiting (omega arith) in
+            let none : length (taken_back wrote) ≡ 0 = ap length none_taken in
+            let within = h.parts.completion.few in
+            record {
+              channel_then = s_still;
+              stays = refl;
+              step =
+                  subst (λ a. To s_still load_of_write a effects.Quiet) (sym is)
+                  (still load_of_write (reclaims.TheVariants.Empties ring_pops.TheVariants.LoadsRead) on refl refl
+                  (tt, (omega arith), none_freed, empty) (omega arith));
+            }
+        go false e =
+            let is : then_of load_of_write (value load_of_write) ≡ GoOn (reclaim_at slots queue (drains load_of_cell)) =
+            ap (then_of load_of_write) (old_is load_of_write on) ∙ (rw e refl)
+            in
+            let other : s.submission.write ≢ s.submission.read = grind (arith, nat_tests) in
+            let write = h.parts.submission.write in
+            record {
+              channel_then = s_still;
+              stays = refl;
+              step =
+                  subst (λ a. To s_still load_of_write a effects.Quiet) (sym is)
+                  (still load_of_write (drains load_of_cell) on refl refl ((refl, omega arith), most, none_taken, none_freed) (omega arith));
+            }
+
+    loads_cell : s.submission.read < s.submission.write → x.steps ≤ 4 * length (handed_out wrote) + 2 → Does_at load_of_cell
+    loads_cell ahead few =
+        let on = submission.cell_on queue h.parts.some h.parts.few s.submission h.parts.submission low_write s.submission.read in
+        record {
+          channel_then = s_still;
+          stays = refl;
+          step =
+              still load_of_cell (drains moves) on (set-get_or queued (cell_word queue s.submission.read) 0) refl
+              ((refl, ahead), most, none_taken, none_freed) (omega arith);
+        }
+
+    -- ---- the oldest one leaves the queue
+
+    module _ (u : ℕ) (rest : List ℕ) (first : s.submission.waiting ≡ u ∷ rest) where
+      abbrev hands : Event T
+      hands = HandedOut 0 (Index u)
+
+      abbrev k : Core ℕ
+      k = taken 1 words_of_index (queue + 1) s.submission rest
+
+      abbrev handing : Move
+      handing = record { index = u; from = Waiting; to = Passing 0 }
+
+      on_moves : 1 < length queued
+      on_moves = let all = wide in omega arith
+
+      below : u < slots
+      below = sent_below slots s.claims s.submission.waiting s.completion.waiting s.book s.events h.parts.placed u rest first
+
+      was_waiting : spot_of u s.events ≡ Waiting
+      was_waiting = waits_there (spot_of u s.events) (first_there is_waiting s.submission.waiting rest s.events u first h.parts.placed.waits)
+
+      now_passing : spot_of u (s.events ++ hands ∷ []) ≡ Passing 0
+      now_passing = spot_moved s.events hands handing refl
+
+      elsewhere : (i : ℕ) → u ≢ i → spot_of i (s.events ++ hands ∷ []) ≡ spot_of i s.events
+      elsewhere i ne = spot_other s.events hands handing refl i ne
+
+      passing : (i q : ℕ) → q ≢ 0 → spot_of i (s.events ++ hands ∷ []) ≡ Passing q → spot_of i s.events ≡ Passing q
+      passing i q theirs e = ⊎_elim
+          (λ (same : u ≡ i).
+          let both : Passing 0 ≡ Passing q = sym now_passing ∙ (ap (λ n. spot_of n (s.events ++ hands ∷ [])) same ∙ e) in
+          absurd (theirs (cc)))
+          (λ (ne : u ≢ i). sym (elsewhere i ne) ∙ e)
+          (cases_eq u i)
+
+      was_sent : place_at s.book.places u ≡ places.Sent
+      was_sent =
+          sent_there (place_at s.book.places u) Waiting
+          (subst (IsIn (place_at s.book.places u)) was_waiting (h.parts.placed.keeps.places u)) waiting_away
+
+      sent : (i : ℕ) → spot_of i (s.events ++ hands ∷ []) ≡ Passing 0 → place_at s.book.places i ≡ places.Sent
+      sent i e = ⊎_elim
+          (λ (same : u ≡ i). subst (λ n. place_at s.book.places n ≡ places.Sent) same was_sent)
+          (λ (ne : u ≢ i). known.sent i (sym (elsewhere i ne) ∙ e))
+          (cases_eq u i)
+
+      -- the reclaim pops the queue as it hands the index out
+      tells_out : Tells queue true s.submission.waiting rest s.completion.waiting s.completion.waiting (hands ∷ [])
+      tells_out =
+          let few = steps.calm code slots queue s latest turns changes since x wrote h under here idle from known straight in
+          let list = pop_front {T = T} queue s.submission.waiting u rest first few in
+          record {
+            book = append-nil (items s.submission.waiting) ∙ ap items first;
+            given = append-nil s.completion.waiting;
+            goes = list.0;
+            answers = ap (λ (o : Option (Item T)). answer_of_item o ∷ []) list.1;
+          }
+
+      leads : x.steps ≤ 4 * length (handed_out wrote) + 3
+          → steps.Leads code slots queue s latest turns changes since x wrote h under here idle from known straight
+          (drains moves) k s.completion (hands ∷ []) (drains pops.TheVariants.LoadsRead)
+      leads few =
+          let change : change_of (words_in s) (asks moves) ≡ 1 =
+          submission_change slots queue s (counted_for (sends_at latest)) h.parts (pop_asks queue moves) on_moves
+          ∙ submission.take_changes queue h.parts.some h.parts.few s.submission h.parts.submission low_write u rest first
+          in
+          let shorter : length s.submission.waiting ≡ suc (length rest) = ap length first in
+          let handed : length (handed_out (wrote ++ hands ∷ [])) ≡ length (handed_out wrote) + 1 =
+          ap length (flat_map-append hands_out wrote (hands ∷ [])) ∙ length-append (handed_out wrote) (Index u ∷ [])
+          in
+          record {
+            words = words_are moves k on_moves (submission.take_words queue h.parts.some h.parts.few s.submission h.parts.submission low_write u rest first);
+            own = (refl, tt);
+            stands = ((none_taken, none_freed), tt);
+            span = refl;
+            submission = submission.take_good queue h.parts.some h.parts.few s.submission h.parts.submission low_write u rest first;
+            completion = h.parts.completion;
+            fewer = omega arith;
+            sent_write = refl;
+            given_write = refl;
+            placed = hands_it_out slots s.claims s.submission.waiting s.completion.waiting s.book s.events h.parts.placed u below 0 rest first (inl refl);
+            tells = tells_out;
+            counted = refl;
+            moves = ((below, was_waiting), tt);
+            begins = (tt, tt);
+            answers = (tt, tt);
+            passing = passing;
+            sent = sent;
+            receiver = fold-append receiver_after 1 s.events (hands ∷ []);
+            reclaiming = refl;
+            claims = refl;
+            publishes = refl;
+            gives = refl;
+            acts = refl;
+            stage_at = (tt, (omega arith), none_more takes_back wrote (hands ∷ []) none_taken refl, none_more frees wrote (hands ∷ []) none_freed refl);
+            steps = omega arith;
+            push = λ index stage known. known;
+            up = record { write = omega arith; read = omega arith; paid = omega arith };
+          }
+
+    -- nobody else moves the read position, so its exchange succeeds
+    moves_read : s.submission.read < s.submission.write → x.steps ≤ 4 * length (handed_out wrote) + 3 → Does_at moves
+    moves_read ahead few =
+        let write = h.parts.submission.write in
+        let some : 0 < length s.submission.waiting = omega arith in
+        let front = oldest queue s.submission h.parts.submission some in
+        let u = get_or s.submission.cells (s.submission.read % (queue + 1)) 0 in
+        let on : 1 < length queued = (let all = wide in omega arith) in
+        let t : (s.submission.read == s.submission.read) ≡ true = grind (arith, nat_tests) in
+        let found : value moves ≡ s.submission.read = old_is moves on in
+        let place : sent_at (submission_word slots) queue (words_in s) s.submission.read ≡ u =
+        submission_old slots queue s (counted_for (sends_at latest)) h.parts
+        (load (cell_word queue s.submission.read))
+        (submission.cell_on queue h.parts.some h.parts.few s.submission h.parts.submission low_write s.submission.read)
+        ∙ submission.cell_is queue h.parts.some h.parts.few s.submission h.parts.submission low_write s.submission.read
+        in
+        let is_after : then_of moves (value moves) ≡ GoOn (reclaim_at slots queue (drains pops.TheVariants.LoadsRead)) =
+        ap (then_of moves) found ∙ (rw t refl) in
+        let is_effect : effect_of moves (value moves) ≡ effects.HandsOut u = ap (effect_of moves) found ∙ (rw (t, place) refl) in
+        let s_out : Channel T =
+        steps.s_on code slots queue s latest turns changes since x wrote h under here idle from known straight
+        (drains moves) (k u front.0 front.1) s.completion (hands u front.0 front.1 ∷ [])
+        (drains pops.TheVariants.LoadsRead) in
+        record {
+          channel_then = s_out;
+          stays = ap (λ v. not (v == s.submission.read)) found ∙ ap not t;
+          step =
+              subst (λ a. To s_out moves a (effect_of moves (value moves))) (sym is_after)
+              (subst (λ e. To s_out moves (GoOn (reclaim_at slots queue (drains pops.TheVariants.LoadsRead))) e) (sym is_effect) (
+                steps.leads_on code slots queue s latest turns changes since x wrote h under here idle from known
+                    straight (drains moves) (k u front.0 front.1) s.completion (hands u front.0 front.1 ∷ [])
+                    (drains pops.TheVariants.LoadsRead) (leads u front.0 front.1 few),
+                refl,
+              ));
+        }
+
+  -- ---- each of its stages
+
+  pub drains_does : (stage : PopStage) → StageAt slots s.submission s.completion s.book.places wrote (drains stage)
+      → x.steps ≤ reclaim_number slots wrote (drains stage) → Does_at stage
+  drains_does pops.TheVariants.FindsNone at few = absurd at.0
+  drains_does pops.TheVariants.LoadsRead at few = loads_read at.1 at.2 at.3 (omega arith)
+  drains_does (pops.TheVariants.LoadsWrite read) at few =
+      subst (λ n. Does_at (pops.TheVariants.LoadsWrite n)) (sym at.0) (loads_write at.1 at.2 at.3 few)
+  drains_does (pops.TheVariants.LoadsCell read) at few =
+      subst (λ n. Does_at (pops.TheVariants.LoadsCell n)) (sym at.0.0) (loads_cell at.1 at.2 at.3 at.0.1 few)
+  drains_does (pops.TheVariants.MovesRead read) at few =
+      subst (λ n. Does_at (pops.TheVariants.MovesRead n)) (sym at.0.0) (moves_read at.1 at.2 at.3 at.0.1 few)

@@ -1,0 +1,437 @@
+-- The steps of a reclaim that pops the completion queue, until that is empty: then it comes to the first index that is sent, or ends.
+use Rattle.std.proofs.Common.{◌≡◌, ◌≢◌, ℕ, suc, ◌+◌, ◌*◌, ◌-◌, ◌%◌, ◌^◌, ◌<◌, ◌≤◌, ◌==◌, ◌||◌, ⊎_elim, Bool, true}
+use Rattle.std.proofs.Common.{false, Option, Some, None, List, [], ◌∷◌, ◌++◌, length, get_or, fold, refl, sym, ap}
+use Rattle.std.proofs.Common.{subst, ◌∙◌, append-nil, length-append, arith}
+use Rattle.std.specs.List.{AllByRecursion}
+use Rattle.std.proofs.lemmas.Bool.{cases_eq}
+use Rattle.std.proofs.lemmas.Bool.Decides.{nat_tests}
+use Rattle.std.proofs.lemmas.List.{set-get_or}
+use Rattle.std.proofs.lemmas.List.Concat.{flat_map-append}
+use Rattle.std.proofs.lemmas.List.Sums.{fold-append}
+use Rattle.steps.specs.declared.ask.Ask.{Ask}
+use Rattle.steps.specs.declared.ask.After.{After}
+use Rattle.steps.specs.declared.ask.After.TheVariants.{GoOn, Done}
+use Rattle.steps.specs.declared.indices.unique.ReleaseStage as releases
+use Rattle.steps.specs.declared.loan.places.Place.TheVariants as places
+use Rattle.steps.specs.declared.loan.reclaim.ReclaimStage.{ReclaimStage}
+use Rattle.steps.specs.declared.loan.reclaim.ReclaimStage as reclaims
+use Rattle.steps.specs.declared.queues.ring.PopStage.{PopStage}
+use Rattle.steps.specs.declared.queues.ring.PopStage as pops
+use Rattle.steps.specs.Loan.Layout.{completion_word}
+use Rattle.steps.specs.Loan.Places.{place_at, next_sent}
+use Rattle.steps.specs.Loan.Reclaim.{reclaim_releases}
+use Rattle.steps.specs.Queues.Ring.{cell_word, word_at, load, pop_asks}
+use Rattle.model.specs.declared.event.Answer.{Answer}
+use Rattle.model.specs.declared.event.Answer.TheVariants.{Number}
+use Rattle.model.specs.declared.event.Event.{Event}
+use Rattle.model.specs.declared.event.Event.TheVariants.{TakenBack}
+use Rattle.model.specs.declared.families.Flight as flights
+use Rattle.model.specs.declared.families.loan.LoanStart.TheVariants as calls
+use Rattle.model.specs.declared.families.loan.calls.LoanFlight.{LoanFlight}
+use Rattle.model.specs.declared.families.loan.calls.LoanFlight.TheVariants.{Reclaim}
+use Rattle.model.specs.declared.families.loan.effects.Effect.{Effect}
+use Rattle.model.specs.declared.families.loan.effects.Effect.TheVariants as effects
+use Rattle.model.specs.declared.party.Party.{Party}
+use Rattle.model.specs.Coding.{Coding}
+use Rattle.model.specs.Families.{ask_of}
+use Rattle.model.specs.Families.Loan.Promises.{IsIn}
+use Rattle.model.specs.Families.Loan.Reading.{Passing, Returning, Move, spot_of, receiver_after, takes_back, taken_back, frees, freed}
+use Rattle.model.specs.Families.Loan.Steps.{given_back_at}
+use Rattle.model.specs.Families.Queues.Calls.{words_of_index}
+use Rattle.model.specs.Reading.{Open, Ended, own_after, span_of}
+use Rattle.model.specs.Step.{as_call}
+use Rattle.model.specs.Turns.{old_of, words_after, step_count}
+use Rattle.model.proofs.Readings.{span_of-own}
+use Rattle.laws_queues.proofs.Queues.Core.{Core, taken}
+use Rattle.laws_queues.proofs.Queues.Knows.{layout}
+use Rattle.laws_loan.proofs.Channel.{Channel, no_roles, words_in}
+use Rattle.laws_loan.proofs.Completion as completion
+use Rattle.laws_loan.proofs.Cuts.{IsOn}
+use Rattle.laws_loan.proofs.Invariant.{sends_at, counted_for, reclaims_in, HoldsNow}
+use Rattle.laws_loan.proofs.Knows.{reclaim_counts, reclaim_number, StageAt, ReclaimAt}
+use Rattle.laws_loan.proofs.Lists.{first_there}
+use Rattle.laws_loan.proofs.OnQueues.{OnQueues, queues_then, queues_show, silent_tells}
+use Rattle.laws_loan.proofs.Parts.{completion_long, completion_old, completion_words}
+use Rattle.laws_loan.proofs.ReclaimGoes as steps
+use Rattle.laws_loan.proofs.ReclaimGoes.{start, asked, old, Does}
+use Rattle.laws_loan.proofs.Reclaiming.{reclaim_at, none_more, reclaimed, end_of, receiver_then, none_passing, placed_ended}
+use Rattle.laws_loan.proofs.Reclaims.{dead_stays}
+use Rattle.laws_loan.proofs.Rooms.{back_below}
+use Rattle.laws_loan.proofs.Sender.{party_then, Steps}
+use Rattle.laws_loan.proofs.Sents.{ComesTo, IsHome, comes_to, all_home}
+use Rattle.laws_loan.proofs.Spots.{is_returning, returns_there, spot_other, spot_moved}
+use Rattle.laws_loan.proofs.Table.{sent_there, returning_away, takes_it_back}
+use Rattle.laws_loan.proofs.TakenOff.{take_keeps, first_of}
+use Rattle.laws_loan.proofs.Told.{is_reclaiming}
+use Rattle.laws_loan.proofs.Waits.{cell_place}
+
+abbrev empties : PopStage → ReclaimStage
+empties stage = reclaims.TheVariants.Empties stage
+
+module _ {T : Type 0} (code : Coding T) (slots queue : ℕ) (s : Channel T) (latest : List (ℕ × Party T))
+    (turns changes since : ℕ) (x : Party T) (wrote : List (Event T)) (h : HoldsNow slots queue s latest s.events turns)
+    (small : turns < 2 ^ 64 - 2) (under : ReclaimStage)
+    (here : sends_at latest ≡ Some (flights.TheVariants.Loan (reclaim_at slots queue under)))
+    (idle : reclaim_counts under ≡ 0)
+    (from : span_of 0 s.events ≡ Open (start code slots queue s latest turns changes since x wrote) wrote)
+    (known : ReclaimAt slots queue s wrote under) (straight : x.backs ≡ 0) where
+  abbrev Does_at : PopStage → Type 0
+  Does_at stage = Does code slots queue s latest turns changes since x wrote (empties stage)
+
+  abbrev asks : PopStage → Option Ask
+  asks stage = asked code slots queue s latest turns changes since x wrote (empties stage)
+
+  abbrev value : PopStage → ℕ
+  value stage = old code slots queue s latest turns changes since x wrote (empties stage)
+
+  abbrev then_of : PopStage → ℕ → After LoanFlight (Answer T)
+  then_of stage v = steps.goes code slots queue s latest turns changes since x wrote (empties stage) v
+
+  abbrev effect_of : PopStage → Effect
+  effect_of stage = steps.effect_at code slots queue s latest turns changes since x wrote (empties stage) 0
+
+  abbrev To : Channel T → PopStage → After LoanFlight (Answer T) → Effect → Type 0
+  To s' stage after effect = steps.StepTo code slots queue s latest turns changes since x wrote s' (empties stage) after effect
+
+  abbrev s_still : Channel T
+  s_still = steps.s_still code slots queue s latest turns changes since x wrote h under here idle from known straight
+
+  -- ---- what is so of the queue
+
+  some : 1 ≤ slots
+  some = h.parts.set.some
+
+  few : slots < 2 ^ 24
+  few = let low = h.parts.set.few in omega arith
+
+  reached : s.completion.write < 2 ^ 64 - 2
+  reached = let given = h.given in omega arith
+
+  abbrev queued : List ℕ
+  queued = layout no_roles s.completion
+
+  long : length queued ≡ 4 + slots
+  long = completion_long slots queue s (counted_for (sends_at latest)) h.parts
+
+  old_is : (stage : PopStage) → IsOn queued (pop_asks stage) → value stage ≡ old_of queued (ask_of (pop_asks stage))
+  old_is stage on = completion_old slots queue s (counted_for (sends_at latest)) h.parts (pop_asks stage) on
+
+  words_are : (stage : PopStage) (k : Core ℕ) → IsOn queued (pop_asks stage)
+      → words_after queued (ask_of (pop_asks stage)) ≡ layout no_roles k
+      → words_after (words_in s) (asks stage) ≡ s.set ++ (layout no_roles s.submission ++ layout no_roles k)
+  words_are stage k on is =
+      completion_words slots queue s (counted_for (sends_at latest)) h.parts (pop_asks stage) on
+      ∙ ap (λ ws. s.set ++ (layout no_roles s.submission ++ ws)) is
+
+  -- ---- the loads
+
+  still : (now : PopStage) (after_it : ReclaimStage) → IsOn queued (pop_asks now)
+      → words_after queued (ask_of (pop_asks now)) ≡ queued → reclaim_counts after_it ≡ 0
+      → StageAt slots s.submission s.completion s.book.places wrote after_it → x.steps + step_count (asks now) ≤ reclaim_number slots wrote after_it
+      → To s_still now (GoOn (reclaim_at slots queue after_it)) effects.Quiet
+  still now after_it on words counted stands less = (
+    steps.goes_still code slots queue s latest turns changes since x wrote h under here idle from known straight
+        (empties now) after_it (words_are now s.completion on words) counted stands less,
+    refl,
+  )
+
+  abbrev load_of_write : PopStage
+  load_of_write = pops.TheVariants.LoadsWrite s.completion.read
+
+  abbrev load_of_cell : PopStage
+  load_of_cell = pops.TheVariants.LoadsCell s.completion.read (cell_word slots 1 s.completion.read) 0
+
+  abbrev store_of_read : PopStage
+  store_of_read = pops.TheVariants.StoresRead s.completion.read
+
+  module _ (most : length (taken_back wrote) + length s.completion.waiting ≤ slots) (none_freed : freed wrote ≡ []) (drained : s.submission.waiting ≡ []) where
+    loads_read : x.steps ≤ 4 * (slots + 1) + 4 * length (taken_back wrote) → Does_at pops.TheVariants.LoadsRead
+    loads_read less =
+        let on : 1 < length queued = (let all = long in omega arith) in
+        let is : then_of pops.TheVariants.LoadsRead (value pops.TheVariants.LoadsRead) ≡ GoOn (reclaim_at slots queue (empties load_of_write)) =
+        ap (then_of pops.TheVariants.LoadsRead) (old_is pops.TheVariants.LoadsRead on)
+        in
+        record {
+          channel_then = s_still;
+          stays = refl;
+          step =
+              subst (λ a. To s_still pops.TheVariants.LoadsRead a effects.Quiet) (sym is)
+              (still pops.TheVariants.LoadsRead (empties load_of_write) on refl refl (refl, most, none_freed, drained) (omega arith));
+        }
+
+    loads_cell : s.completion.read < s.completion.write → x.steps ≤ 4 * (slots + 1) + 4 * length (taken_back wrote) + 2 → Does_at load_of_cell
+    loads_cell ahead less =
+        let on = completion.cell_on slots some few s.completion h.parts.completion reached s.completion.read in
+        record {
+          channel_then = s_still;
+          stays = refl;
+          step =
+              still load_of_cell (empties store_of_read) on
+              (set-get_or queued (word_at (cell_word slots 1 s.completion.read) 0) 0) refl
+              ((refl, ahead), most, none_freed, drained) (omega arith);
+        }
+
+    -- ---- both queues are empty
+
+    on_write : 0 < length queued
+    on_write = let all = long in omega arith
+
+    module _ (emptied : s.completion.waiting ≡ []) (less : x.steps ≤ 4 * (slots + 1) + 4 * length (taken_back wrote) + 1) where
+      -- what it comes to by the first index that is sent, if any
+      abbrev comes_after : Option ℕ → After LoanFlight (Answer T)
+      comes_after o = as_call Reclaim Number (reclaim_releases (record { slots = slots; queue = queue; stage = empties load_of_write }) 0 o)
+
+      pub record Comes (o : Option ℕ) : Type 0 where
+        pub channel_then : Channel T
+        pub step : To channel_then load_of_write (comes_after o) effects.Quiet
+
+      module _ (none : ComesTo s.book.places slots 0 None) where
+        abbrev end : Event T
+        end = end_of (Number 0)
+
+        abbrev y_end : Party T
+        y_end = party_then s x since changes calls.Reclaim (asks load_of_write) false (Done (Number 0))
+
+        abbrev s_end : Channel T
+        s_end = queues_then slots queue s latest turns y_end s.submission s.completion (reclaimed s.book) (end ∷ [])
+
+        home : (i : ℕ) → IsHome (spot_of i s.events)
+        home =
+            all_home slots s.claims s.submission.waiting s.completion.waiting s.book s.events h.parts.placed
+            (λ j below. none j (omega arith) below) known.sent
+
+        ended_then : span_of 0 (s.events ++ end ∷ []) ≡ Ended (start code slots queue s latest turns changes since x wrote) (Number 0) wrote
+        ended_then = span_of-own 0 s.events (end ∷ []) (refl, tt) ∙ ap (λ span. fold own_after span (end ∷ [])) from
+
+        on_queues_end : OnQueues slots queue s latest turns y_end s.submission s.completion (reclaimed s.book) (end ∷ [])
+        on_queues_end =
+            let sent = h.sent in
+            let given = h.given in
+            let next = receiver_then s.events (Number 0) in
+            let few_receivers = h.receivers.1 in
+            record {
+              busy_before = steps.busy_none code slots queue s latest turns changes since x wrote h under here idle from known straight;
+              busy_after = refl;
+              queue_stays = refl;
+              submission = h.parts.submission;
+              completion = h.parts.completion;
+              placed = placed_ended s.events (Number 0) home slots s.claims s.submission.waiting s.completion.waiting s.book h.parts.placed (omega arith);
+              tells =
+                  silent_tells queue (is_reclaiming s.events) s.submission.waiting s.completion.waiting
+                  s.completion.waiting (end ∷ []) refl refl refl (append-nil s.completion.waiting);
+              hangs = steps.calm code slots queue s latest turns changes since x wrote h under here idle from known straight;
+              sent = omega arith;
+              given = omega arith;
+              reclaiming = sym (ap reclaims_in ended_then);
+              receivers = (omega arith, omega arith);
+              moves = (tt, tt);
+              begins = (tt, tt);
+              answers = (home, tt);
+              passing = λ i q e. none_passing s.events (Number 0) home i q e;
+            }
+
+        ends_steps : Steps code slots queue s latest turns changes since x s_end
+            (Open (start code slots queue s latest turns changes since x wrote) wrote) calls.Reclaim
+            (asks load_of_write) false (Done (Number 0)) (end ∷ [])
+        ends_steps =
+            record {
+              words = words_are load_of_write s.completion on_write refl;
+              shows = queues_show slots queue s latest turns y_end s.submission s.completion (reclaimed s.book) (end ∷ []) h on_queues_end;
+              own = (refl, tt);
+              stands = ((refl, record { moments = known.acts; done = (ap length none_freed, known.claims, known.publishes, known.gives) }), tt);
+              here = record { answer = Number 0; wrote = wrote; span = refl; steps = omega arith };
+              knows = omega arith;
+              theirs = λ q ne. dead_stays slots queue s s_end known.dead refl (λ index stage known. known) q;
+              up = record { write = omega arith; read = omega arith; paid = omega arith };
+            }
+
+      comes : (o : Option ℕ) → ComesTo s.book.places slots 0 o → Comes o
+      comes None none = record { channel_then = s_end none; step = (ends_steps none, refl) }
+      comes (Some index) first =
+          record {
+            channel_then = s_still;
+            step =
+                still load_of_write (reclaims.TheVariants.Releases 0 index releases.TheVariants.ClearsFlag) on_write refl refl (
+                  first.2,
+                  first.1,
+                  (omega arith),
+                  ap length none_freed,
+                  subst (AllByRecursion (λ i. i < index + 0)) (sym none_freed) tt,
+                  (λ j below. first.3 j (omega arith) (omega arith)),
+                  drained,
+                  emptied,
+                )
+                (omega arith);
+          }
+
+    -- nothing is to be taken back, or something is
+    loads_write : x.steps ≤ 4 * (slots + 1) + 4 * length (taken_back wrote) + 1 → Does_at load_of_write
+    loads_write less = go (s.completion.write == s.completion.read) refl
+      where
+        none_zero : (slots == 0) ≡ false
+        none_zero = let least = some in grind (arith, nat_tests)
+
+        go : (same : Bool) → (s.completion.write == s.completion.read) ≡ same → Does_at load_of_write
+        go true e =
+            let zero = none_zero in
+            let both : (slots == 0 || s.completion.write == s.completion.read) ≡ true = rw (zero, e) refl in
+            let emptied = completion.finds_none slots some few s.completion h.parts.completion reached e in
+            let is : then_of load_of_write (value load_of_write) ≡ comes_after emptied less (next_sent s.book.places slots 0) =
+            ap (then_of load_of_write) (old_is load_of_write on_write) ∙ (rw both refl)
+            in
+            let found = comes emptied less (next_sent s.book.places slots 0) (comes_to s.book.places slots 0) in
+            record {
+              channel_then = found.channel_then;
+              stays = refl;
+              step = subst (λ a. To found.channel_then load_of_write a effects.Quiet) (sym is) found.step;
+            }
+        go false e =
+            let zero = none_zero in
+            let both : (slots == 0 || s.completion.write == s.completion.read) ≡ false = rw (zero, e) refl in
+            let is : then_of load_of_write (value load_of_write) ≡ GoOn (reclaim_at slots queue (empties load_of_cell)) =
+            ap (then_of load_of_write) (old_is load_of_write on_write) ∙ (rw both refl)
+            in
+            let ahead = completion.finds_some slots some few s.completion h.parts.completion reached e in
+            record {
+              channel_then = s_still;
+              stays = refl;
+              step =
+                  subst (λ a. To s_still load_of_write a effects.Quiet) (sym is)
+                  (still load_of_write (empties load_of_cell) on_write refl refl ((refl, ahead, refl, refl), most, none_freed, drained) (omega arith));
+            }
+
+    -- ---- the first one leaves the queue
+
+    module _ (v : ℕ) (rest : List ℕ) (first : s.completion.waiting ≡ v ∷ rest) where
+      abbrev takes : Event T
+      takes = TakenBack 0 v
+
+      abbrev m : Core ℕ
+      m = taken 1 words_of_index slots s.completion rest
+
+      abbrev taking : Move
+      taking = record { index = v; from = Returning; to = Passing 0 }
+
+      below : v < slots
+      below = back_below slots s.claims s.submission.waiting s.completion.waiting s.book s.events h.parts.placed v rest first
+
+      was_returning : spot_of v s.events ≡ Returning
+      was_returning = returns_there (spot_of v s.events) (first_there is_returning s.completion.waiting rest s.events v first h.parts.placed.returns)
+
+      now_passing : spot_of v (s.events ++ takes ∷ []) ≡ Passing 0
+      now_passing = spot_moved s.events takes taking refl
+
+      elsewhere : (i : ℕ) → v ≢ i → spot_of i (s.events ++ takes ∷ []) ≡ spot_of i s.events
+      elsewhere i ne = spot_other s.events takes taking refl i ne
+
+      passing : (i q : ℕ) → q ≢ 0 → spot_of i (s.events ++ takes ∷ []) ≡ Passing q → spot_of i s.events ≡ Passing q
+      passing i q theirs e = ⊎_elim
+          (λ (same : v ≡ i).
+          let both : Passing 0 ≡ Passing q = sym now_passing ∙ (ap (λ n. spot_of n (s.events ++ takes ∷ [])) same ∙ e) in
+          absurd (theirs (cc)))
+          (λ (ne : v ≢ i). sym (elsewhere i ne) ∙ e)
+          (cases_eq v i)
+
+      was_sent : place_at s.book.places v ≡ places.Sent
+      was_sent =
+          sent_there (place_at s.book.places v) Returning
+          (subst (IsIn (place_at s.book.places v)) was_returning (h.parts.placed.keeps.places v)) returning_away
+
+      sent : (i : ℕ) → spot_of i (s.events ++ takes ∷ []) ≡ Passing 0 → place_at s.book.places i ≡ places.Sent
+      sent i e = ⊎_elim
+          (λ (same : v ≡ i). subst (λ n. place_at s.book.places n ≡ places.Sent) same was_sent)
+          (λ (ne : v ≢ i). known.sent i (sym (elsewhere i ne) ∙ e))
+          (cases_eq v i)
+
+      leads : x.steps ≤ 4 * (slots + 1) + 4 * length (taken_back wrote) + 3
+          → steps.Leads code slots queue s latest turns changes since x wrote h under here idle from known straight
+          (empties store_of_read) s.submission m (takes ∷ []) (empties pops.TheVariants.LoadsRead)
+      leads less =
+          let on : 1 < length queued = (let all = long in omega arith) in
+          let shorter : length s.completion.waiting ≡ suc (length rest) = ap length first in
+          let more : length (taken_back (wrote ++ takes ∷ [])) ≡ length (taken_back wrote) + 1 =
+          ap length (flat_map-append takes_back wrote (takes ∷ [])) ∙ length-append (taken_back wrote) (v ∷ [])
+          in
+          record {
+            words = words_are store_of_read m on (completion.take_words slots some few s.completion h.parts.completion reached v rest first);
+            own = (refl, tt);
+            stands = (none_freed, tt);
+            span = refl;
+            submission = h.parts.submission;
+            completion = completion.take_good slots some few s.completion h.parts.completion reached v rest first;
+            fewer = omega arith;
+            sent_write = refl;
+            given_write = refl;
+            placed = takes_it_back slots s.claims s.submission.waiting s.completion.waiting s.book s.events h.parts.placed v below rest first;
+            tells =
+                silent_tells {T = T} queue true s.submission.waiting s.completion.waiting rest (takes ∷ []) refl refl
+                refl (append-nil s.completion.waiting ∙ first);
+            counted = refl;
+            moves = ((below, was_returning), tt);
+            begins = (tt, tt);
+            answers = (tt, tt);
+            passing = passing;
+            sent = sent;
+            receiver = fold-append receiver_after 1 s.events (takes ∷ []);
+            reclaiming = refl;
+            claims = refl;
+            publishes = refl;
+            gives = refl;
+            acts = refl;
+            stage_at = (tt, (omega arith), none_more frees wrote (takes ∷ []) none_freed refl, drained);
+            steps = omega arith;
+            push = take_keeps slots s.completion v rest first;
+            up = record { write = omega arith; read = omega arith; paid = omega arith };
+          }
+
+    -- the words of the whole have the first one in the cell of the read position
+    first_is : (v : ℕ) (rest : List ℕ) → s.completion.waiting ≡ v ∷ rest → given_back_at (completion_word slots queue) slots (words_in s) s.completion.read ≡ v
+    first_is v rest first =
+        let place = cell_place slots s.completion.read (omega arith) in
+        let least = some in
+        let low : s.completion.read % slots < slots = omega arith in
+        let less = few in
+        let all = long in
+        let plain : word_at (cell_word slots 1 s.completion.read) 0 ≡ cell_word slots 1 s.completion.read = omega arith in
+        completion_old slots queue s (counted_for (sends_at latest)) h.parts (load (cell_word slots 1 s.completion.read)) (omega arith)
+        ∙ (ap (λ n. get_or queued n 0) (sym plain) ∙ completion.first_is slots some few s.completion h.parts.completion reached v rest first)
+
+    stores_read : s.completion.read < s.completion.write → x.steps ≤ 4 * (slots + 1) + 4 * length (taken_back wrote) + 3 → Does_at store_of_read
+    stores_read ahead less =
+        let write = h.parts.completion.write in
+        let front = first_of s.completion.waiting (omega arith) in
+        let v = front.0 in
+        let rest = front.1 in
+        let is_effect : effect_of store_of_read ≡ effects.TakesBack v = ap (λ n. effects.TakesBack n) (first_is v rest front.2) in
+        let s_out : Channel T =
+        steps.s_on code slots queue s latest turns changes since x wrote h under here idle from known straight
+        (empties store_of_read) s.submission (m v rest front.2) (takes v rest front.2 ∷ [])
+        (empties pops.TheVariants.LoadsRead) in
+        record {
+          channel_then = s_out;
+          stays = refl;
+          step =
+              subst (λ e. To s_out store_of_read (GoOn (reclaim_at slots queue (empties pops.TheVariants.LoadsRead))) e) (sym is_effect) (
+                steps.leads_on code slots queue s latest turns changes since x wrote h under here idle from known
+                    straight (empties store_of_read) s.submission (m v rest front.2) (takes v rest front.2 ∷ [])
+                    (empties pops.TheVariants.LoadsRead) (leads v rest front.2 less),
+                refl,
+              );
+        }
+
+  -- ---- each of its stages
+
+  pub empties_does : (stage : PopStage)
+      → StageAt slots s.submission s.completion s.book.places wrote (empties stage)
+      → x.steps ≤ reclaim_number slots wrote (empties stage) → Does_at stage
+  empties_does pops.TheVariants.LoadsRead at less = loads_read at.1 at.2 at.3 (omega arith)
+  empties_does (pops.TheVariants.LoadsWrite read) at less =
+      subst (λ n. Does_at (pops.TheVariants.LoadsWrite n)) (sym at.0) (loads_write at.1 at.2 at.3 less)
+  empties_does (pops.TheVariants.LoadsCell read cell place) at less =
+      let zero = at.0.3 in
+      subst (λ n. Does_at (pops.TheVariants.LoadsCell read cell n)) (sym at.0.3)
+      (subst (λ n. Does_at (pops.TheVariants.LoadsCell read n 0)) (sym at.0.2)
+      (subst (λ n. Does_at (pops.TheVariants.LoadsCell n (cell_word slots 1 s.completion.read) 0)) (sym at.0.0)
+      (loads_cell at.1 at.2 at.3 at.0.1 (omega arith))))
+  empties_does (pops.TheVariants.StoresRead read) at less =
+      subst (λ n. Does_at (pops.TheVariants.StoresRead n)) (sym at.0.0) (stores_read at.1 at.2 at.3 at.0.1 less)

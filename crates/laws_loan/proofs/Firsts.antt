@@ -1,0 +1,337 @@
+-- What the first stage of each call of a loan channel knows, where no row refuses its begin.
+use Rattle.std.proofs.Common.{◌≡◌, ◌≢◌, ℕ, ◌+◌, ◌<◌, ◌≤◌, ◌⊎◌, ◌==◌, inl, inr, ⊎_elim, nat_le, Bool, true, false, not}
+use Rattle.std.proofs.Common.{Some, None, List, [], ◌∷◌, ◌++◌, get_or, refl, sym, ap, subst, ◌∙◌, arith}
+use Rattle.std.proofs.lemmas.Bool.{cases_eq}
+use Rattle.std.proofs.lemmas.Bool.Decides.{nat_tests}
+use Rattle.std.proofs.lemmas.List.Sums.{fold-append}
+use Rattle.steps.specs.declared.loan.reclaim.ReclaimStage as reclaims
+use Rattle.steps.specs.declared.loan.send.SendStage as sends
+use Rattle.steps.specs.declared.queues.overflow.PopStage as overflow_pops
+use Rattle.steps.specs.declared.queues.overflow.PushStage as overflow_pushes
+use Rattle.steps.specs.Loan.Layout.{submission_word}
+use Rattle.model.specs.declared.event.Event.{Event}
+use Rattle.model.specs.declared.event.Event.TheVariants.{Begun}
+use Rattle.model.specs.declared.event.Start.TheVariants as starts
+use Rattle.model.specs.declared.families.loan.LoanStart.{LoanStart}
+use Rattle.model.specs.declared.families.loan.LoanStart.TheVariants as calls
+use Rattle.model.specs.declared.families.loan.calls.LoanFlight.{LoanFlight}
+use Rattle.model.specs.declared.families.loan.calls.LoanFlight.TheVariants.{Send, Receive, Reclaim}
+use Rattle.model.specs.declared.party.Party.{Party}
+use Rattle.model.specs.Coding.{Coding}
+use Rattle.model.specs.Families.Indices.Robust.Dead.{has_died}
+use Rattle.model.specs.Families.Loan.Calls.{loan_of, give_up_of, take_back_of, give_back_of}
+use Rattle.model.specs.Families.Loan.Reading.{Passing, With, Move, move_of, spot_of, receiver_after, receiver_of, died_after}
+use Rattle.model.specs.Families.Queues.Calls.{fresh}
+use Rattle.model.specs.Families.Queues.Opening.{holds}
+use Rattle.model.specs.Reading.{Open, span_of}
+use Rattle.model.proofs.Readings.{span_of-own, span_of-other}
+use Rattle.model.specs.Shape.{IsShut}
+use Rattle.laws_loan.proofs.Begins.{IsFirst, shut_none}
+use Rattle.laws_loan.proofs.Channel.{Channel}
+use Rattle.laws_loan.proofs.Invariant.{reclaims_in, HoldsNow}
+use Rattle.laws_loan.proofs.Lists.{lists_stay}
+use Rattle.laws_loan.proofs.Placed.{Placed, placed_on}
+use Rattle.laws_loan.proofs.Rooms.{waits_few}
+use Rattle.laws_loan.proofs.Spots.{is_waiting, is_returning, spot_stays, spot_other, spot_moved}
+use Rattle.laws_loan.proofs.Table.{sender_begins, receiver_begins}
+use Rattle.laws_loan.proofs.Told.{is_reclaiming}
+
+-- ---- what rows tell that do not apply
+
+pub is_that : (a b : ℕ) → not (a == b) ≡ false → a ≡ b
+is_that x0 x1 x2 = grind arith
+
+pub is_below : (slots index : ℕ) → nat_le slots index ≡ false → index < slots
+is_below slots index t = grind (arith, nat_tests)
+
+-- a spot that is another's is not in passing
+other_spot : (p q : ℕ) → With p ≡ Passing q → ⊥
+other_spot p q e = absurd (cc)
+
+module _ {T : Type 0} (code : Coding T) (slots queue : ℕ) (s : Channel T) (latest : List (ℕ × Party T))
+    (turns changes : ℕ) (h : HoldsNow slots queue s latest s.events turns) where
+  abbrev First : ℕ → LoanStart → LoanFlight → Type 0
+  First p start flight = IsFirst code slots queue s latest turns changes p start flight
+
+  -- the party has the index by its row
+  pub has_it : (p index : ℕ) → not (holds (get_or s.book.holders index None) p) ≡ false → spot_of index s.events ≡ With p
+  has_it x0 x1 x2 = grind arith
+
+  pub receiver_is : (p : ℕ) → p ≡ s.book.receiver → (p ≢ 0) × (p ≡ receiver_of s.events)
+  receiver_is x0 x1 = grind arith
+
+  module _ (p : ℕ) (start : LoanStart) where
+    abbrev begun : Event T
+    begun = Begun p (starts.Loan start)
+
+    same_receiver : receiver_of (s.events ++ begun ∷ []) ≡ receiver_of s.events
+    same_receiver = fold-append receiver_after 1 s.events (begun ∷ [])
+
+    -- a call that asks for no index moves none
+    module _ (none : move_of {T = T} begun ≡ None) where
+      stays_put : (index : ℕ) → spot_of index (s.events ++ begun ∷ []) ≡ spot_of index s.events
+      stays_put index = spot_stays s.events begun index none
+
+      placed_still : Placed slots s.claims s.submission.waiting s.completion.waiting s.book (s.events ++ begun ∷ [])
+      placed_still =
+          let placed = h.parts.placed in
+          placed_on slots s.events begun none s.claims s.submission.waiting s.completion.waiting s.book s.book placed
+          (record {
+            places = refl;
+            holders = refl;
+            receiver = placed.keeps.receiver ∙ sym same_receiver;
+            dead = λ q. placed.keeps.dead q ∙ sym (fold-append (died_after q) false s.events (begun ∷ []));
+            parties = λ i q by. subst (λ r. (q ≡ 0) ⊎ (q ≡ r)) (sym same_receiver) (placed.parties i q by);
+          })
+          (lists_stay is_waiting s.submission.waiting s.events begun placed.waits none)
+          (lists_stay is_returning s.completion.waiting s.events begun placed.returns none)
+
+    -- one that asks for an index moves it from its party
+    module _ (index : ℕ) (is : move_of {T = T} begun ≡ Some (record { index = index; from = With p; to = Passing p }))
+        (has : spot_of index s.events ≡ With p) where
+      abbrev move : Move
+      move = record { index = index; from = With p; to = Passing p }
+
+      moves_it : (i q : ℕ) → spot_of i s.events ≡ Passing q → spot_of i (s.events ++ begun ∷ []) ≡ Passing q
+      moves_it i q e =
+          ⊎_elim (λ (same : index ≡ i). absurd (other_spot p q (sym has ∙ (ap (λ n. spot_of n s.events) same ∙ e))))
+          (λ (ne : index ≢ i). spot_other s.events begun move is i ne ∙ e)
+          (cases_eq index i)
+
+      moved_or_not : (i q : ℕ) → spot_of i (s.events ++ begun ∷ []) ≡ Passing q → (spot_of i s.events ≡ Passing q) ⊎ ((q ≡ p) × (i ≡ index))
+      moved_or_not i q e =
+          ⊎_elim (λ (same : index ≡ i). inr (
+            (let both : Passing p ≡ Passing q =
+                sym (spot_moved s.events begun move is) ∙ (ap (λ n. spot_of n (s.events ++ begun ∷ [])) same ∙ e) in
+                cc),
+            sym same,
+          ))
+          (λ (ne : index ≢ i). inl (sym (spot_other s.events begun move is i ne) ∙ e))
+          (cases_eq index i)
+
+  -- ---- the sender's calls, beside which no reclaim is under way
+
+  module _ (idle : reclaims_in (span_of 0 s.events) ≡ false) where
+    quiet : is_reclaiming s.events ≡ false
+    quiet = h.reclaiming ∙ idle
+
+    not_reclaiming : (start : LoanStart) → reclaims_in {T = T} (Open (starts.Loan start) []) ≡ false
+        → is_reclaiming s.events ≡ reclaims_in (span_of 0 (s.events ++ Begun 0 (starts.Loan start) ∷ []))
+    not_reclaiming start other = quiet ∙ (sym other ∙ sym (ap reclaims_in (span_of-own 0 s.events (Begun 0 (starts.Loan start) ∷ []) (refl, tt))))
+
+    pub loan_first : First 0 calls.Loan (loan_of slots)
+    loan_first =
+        record {
+          placed = placed_still 0 calls.Loan refl;
+          queue_stays = refl;
+          places_stay = refl;
+          receiver_stays = refl;
+          dead_stay = refl;
+          light = refl;
+          calm = refl;
+          moves = tt;
+          begins = refl;
+          reclaiming = not_reclaiming calls.Loan refl;
+          stays = λ index q e. stays_put 0 calls.Loan refl index ∙ e;
+          passing = λ index q e. inl (sym (stays_put 0 calls.Loan refl index) ∙ e);
+          at = (refl, refl, refl, tt);
+          knows = refl;
+        }
+
+    pub take_back_first : First 0 calls.TakeBack (take_back_of slots queue)
+    take_back_first =
+        record {
+          placed = placed_still 0 calls.TakeBack refl;
+          queue_stays = refl;
+          places_stay = refl;
+          receiver_stays = refl;
+          dead_stay = refl;
+          light = refl;
+          calm = refl;
+          moves = tt;
+          begins = refl;
+          reclaiming = not_reclaiming calls.TakeBack refl;
+          stays = λ index q e. stays_put 0 calls.TakeBack refl index ∙ e;
+          passing = λ index q e. inl (sym (stays_put 0 calls.TakeBack refl index) ∙ e);
+          at = (refl, refl, refl, refl, omega arith);
+          knows = refl;
+        }
+
+    module _ (index : ℕ) (below : index < slots) (has : spot_of index s.events ≡ With 0) where
+      pub give_up_first : First 0 (calls.GiveUp index) (give_up_of slots index)
+      give_up_first =
+          record {
+            placed =
+                sender_begins slots s.claims s.submission.waiting s.completion.waiting s.book s.events h.parts.placed
+                index below (calls.GiveUp index) refl has;
+            queue_stays = refl;
+            places_stay = refl;
+            receiver_stays = refl;
+            dead_stay = refl;
+            light = refl;
+            calm = refl;
+            moves = (below, has);
+            begins = refl;
+            reclaiming = not_reclaiming (calls.GiveUp index) refl;
+            stays = moves_it 0 (calls.GiveUp index) index refl has;
+            passing = λ i q e. ⊎_elim (λ old. inl old) (λ new. inr (new.0, (new.1, refl))) (moved_or_not 0 (calls.GiveUp index) index refl has i q e);
+            at = (
+              refl,
+              refl,
+              refl,
+              refl,
+              (below, spot_moved s.events (Begun 0 (starts.Loan (calls.GiveUp index))) (move 0 (calls.GiveUp index) index refl has) refl),
+            );
+            knows = refl;
+          }
+
+      abbrev pub send_at : LoanFlight
+      send_at =
+          Send (record {
+            call = record { slots = slots; queue = queue; stage = sends.TheVariants.Pushes overflow_pushes.TheVariants.LoadsWrite };
+            given = index;
+            room = tt;
+          })
+
+      pub send_first : 1 ≤ queue → First 0 (calls.Send index) send_at
+      send_first some =
+          record {
+            placed =
+                sender_begins slots s.claims s.submission.waiting s.completion.waiting s.book s.events h.parts.placed
+                index below (calls.Send index) refl has;
+            queue_stays = refl;
+            places_stay = refl;
+            receiver_stays = refl;
+            dead_stay = refl;
+            light = refl;
+            calm = refl;
+            moves = (below, has);
+            begins = refl;
+            reclaiming = not_reclaiming (calls.Send index) refl;
+            stays = moves_it 0 (calls.Send index) index refl has;
+            passing = λ i q e. ⊎_elim (λ old. inl old) (λ new. inr (new.0, inl (new.1, refl))) (moved_or_not 0 (calls.Send index) index refl has i q e);
+            at = (
+              refl,
+              refl,
+              refl,
+              refl,
+              refl,
+              (
+                some,
+                (below, spot_moved s.events (Begun 0 (starts.Loan (calls.Send index))) (move 0 (calls.Send index) index refl has) refl),
+              ),
+            );
+            knows = refl;
+          }
+
+    abbrev pub reclaim_at : LoanFlight
+    reclaim_at = Reclaim (record { slots = slots; queue = queue; stage = reclaims.TheVariants.Drains overflow_pops.TheVariants.LoadsRead })
+
+    pub reclaim_first : IsShut (span_of 0 s.events) → has_died s.book.receiver s.book.dead ≡ true → First 0 calls.Reclaim reclaim_at
+    reclaim_first shut dead =
+        let few = waits_few slots s.claims s.submission.waiting s.completion.waiting s.book s.events h.parts.placed in
+        record {
+          placed = placed_still 0 calls.Reclaim refl;
+          queue_stays = refl;
+          places_stay = refl;
+          receiver_stays = refl;
+          dead_stay = refl;
+          light = refl;
+          calm = refl;
+          moves = tt;
+          begins = refl;
+          reclaiming = sym (ap reclaims_in (span_of-own 0 s.events (Begun 0 (starts.Loan calls.Reclaim) ∷ []) (refl, tt)));
+          stays = λ index q e. stays_put 0 calls.Reclaim refl index ∙ e;
+          passing = λ index q e. inl (sym (stays_put 0 calls.Reclaim refl index) ∙ e);
+          at = (
+            refl,
+            refl,
+            refl,
+            record {
+              dead = dead;
+              sent =
+                  λ index e. absurd
+                  (shut_none index (span_of 0 s.events) shut (h.passing index 0 (sym (stays_put 0 calls.Reclaim refl index) ∙ e)));
+              claims = refl;
+              publishes = refl;
+              gives = refl;
+              acts = refl;
+              stage_at = (tt, (omega arith), refl, refl);
+            },
+          );
+          knows = refl;
+        }
+
+  -- ---- the receiver's calls
+
+  module _ (p : ℕ) (is : p ≡ s.book.receiver) where
+    other : p ≢ 0
+    other = (receiver_is p is).0
+
+    as_before : (start : LoanStart) → is_reclaiming s.events ≡ reclaims_in (span_of 0 (s.events ++ Begun p (starts.Loan start) ∷ []))
+    as_before start = h.reclaiming ∙ sym (ap reclaims_in (span_of-other p 0 s.events (Begun p (starts.Loan start) ∷ []) (λ z. other (sym z)) (refl, tt)))
+
+    abbrev pub receive_at : LoanFlight
+    receive_at =
+        Receive p
+        (record {
+          call = record { base = submission_word slots; call = record { capacity = queue; stage = overflow_pops.TheVariants.LoadsRead } };
+          given = tt;
+          room = fresh;
+        })
+
+    pub receive_first : 1 ≤ queue → First p calls.Receive receive_at
+    receive_first some =
+        record {
+          placed = placed_still p calls.Receive refl;
+          queue_stays = refl;
+          places_stay = refl;
+          receiver_stays = refl;
+          dead_stay = refl;
+          light = refl;
+          calm = refl;
+          moves = tt;
+          begins = (receiver_is p is).1;
+          reclaiming = as_before calls.Receive;
+          stays = λ index q e. stays_put p calls.Receive refl index ∙ e;
+          passing = λ index q e. inl (sym (stays_put p calls.Receive refl index) ∙ e);
+          at = (other, refl, refl, refl, refl, λ alive. (is, some));
+          knows = omega arith;
+        }
+
+    pub give_back_first : (index : ℕ) → index < slots → spot_of index s.events ≡ With p → First p (calls.GiveBack index) (give_back_of slots queue p index)
+    give_back_first index below has =
+        record {
+          placed =
+              receiver_begins slots s.claims s.submission.waiting s.completion.waiting s.book s.events h.parts.placed
+              index below p other (receiver_is p is).1 has;
+          queue_stays = refl;
+          places_stay = refl;
+          receiver_stays = refl;
+          dead_stay = refl;
+          light = refl;
+          calm = refl;
+          moves = (below, has);
+          begins = (receiver_is p is).1;
+          reclaiming = as_before (calls.GiveBack index);
+          stays = moves_it p (calls.GiveBack index) index refl has;
+          passing = λ i q e. ⊎_elim (λ old. inl old) (λ new. inr (new.0, (new.1, refl))) (moved_or_not p (calls.GiveBack index) index refl has i q e);
+          at = (
+            other,
+            refl,
+            refl,
+            refl,
+            refl,
+            refl,
+            omega arith,
+            λ alive. (
+              is,
+              (
+                below,
+                spot_moved s.events (Begun p (starts.Loan (calls.GiveBack index))) (move p (calls.GiveBack index) index refl has) refl,
+              ),
+              tt,
+            ),
+          );
+          knows = refl;
+        }

@@ -1,0 +1,413 @@
+-- The steps of a reclaim that releases an index that was sent, while the receiver is dead and nothing waits in either queue.
+use Rattle.std.proofs.Common.{◌≡◌, ◌≢◌, ℕ, ◌+◌, ◌*◌, ◌-◌, ◌^◌, ◌<◌, ◌≤◌, ⊎_elim, false, Option, Some, None, List, []}
+use Rattle.std.proofs.Common.{◌∷◌, ◌++◌, fold, length, set, refl, sym, ap, subst, ◌∙◌, append-nil, length-append}
+use Rattle.std.proofs.Common.{arith, get_or-set_same, get_or-set_other}
+use Rattle.std.specs.List.{AllByRecursion}
+use Rattle.std.proofs.lemmas.Bool.{cases_eq}
+use Rattle.std.proofs.lemmas.List.Concat.{flat_map-append}
+use Rattle.std.proofs.lemmas.List.Sums.{fold-append}
+use Rattle.steps.specs.declared.ask.Ask.{Ask}
+use Rattle.steps.specs.declared.ask.After.TheVariants.{GoOn, Done}
+use Rattle.steps.specs.declared.indices.unique.ReleaseStage.{ReleaseStage}
+use Rattle.steps.specs.declared.indices.unique.ReleaseStage as releases
+use Rattle.steps.specs.declared.loan.places.Place.{Place}
+use Rattle.steps.specs.declared.loan.places.Place.TheVariants as places
+use Rattle.steps.specs.declared.loan.reclaim.ReclaimStage.TheVariants.{Releases}
+use Rattle.steps.specs.Loan.Back.{back_asks, back_takes}
+use Rattle.steps.specs.Loan.Places.{place_at}
+use Rattle.model.specs.declared.event.Answer.{Answer}
+use Rattle.model.specs.declared.event.Answer.TheVariants.{Number}
+use Rattle.model.specs.declared.event.Event.{Event}
+use Rattle.model.specs.declared.event.Event.TheVariants.{Freed, Finished}
+use Rattle.model.specs.declared.event.Start.TheVariants as starts
+use Rattle.model.specs.declared.families.Flight as flights
+use Rattle.model.specs.declared.families.loan.Book.{Book}
+use Rattle.model.specs.declared.families.loan.LoanStart.TheVariants as calls
+use Rattle.model.specs.declared.families.loan.calls.LoanFlight.{LoanFlight}
+use Rattle.model.specs.declared.party.Party.{Party}
+use Rattle.model.specs.Coding.{Coding}
+use Rattle.model.specs.Families.{ask_of}
+use Rattle.model.specs.Families.Loan.Promises.{IsReclaiming}
+use Rattle.model.specs.Families.Loan.Reading.{Free, Passing, Move, spot_of, receiver_after, receiver_of, frees, freed, claims, gives_back}
+use Rattle.model.specs.Families.Loan.Steps.{book_after}
+use Rattle.model.specs.Families.Queues.Reading.{publishes}
+use Rattle.model.specs.Reading.{acts, Open, Ended, own_after, span_of}
+use Rattle.model.specs.Turns.{old_of, words_after, step_count}
+use Rattle.model.proofs.Frame as frame
+use Rattle.model.proofs.Readings.{span_of-own, span_of-other}
+use Rattle.laws_indices.proofs.Core as indices
+use Rattle.laws_indices.proofs.Knows.{release_counts, release_number, ReleaseAt}
+use Rattle.laws_loan.proofs.Channel.{Channel, words_in}
+use Rattle.laws_loan.proofs.Cuts.{IsOn}
+use Rattle.laws_loan.proofs.Invariant.{sends_at, counted_for, hung, reclaims_in, Carries, HoldsNow, family}
+use Rattle.laws_loan.proofs.Knows.{wrote_in, FreesAt, StageAt, ReclaimAt, At}
+use Rattle.laws_loan.proofs.OnSet.{OnSet, set_then, set_shows}
+use Rattle.laws_loan.proofs.Parts.{set_words}
+use Rattle.laws_loan.proofs.Placed.{Placed}
+use Rattle.laws_loan.proofs.Reclaiming.{reclaim_at, none_more, reclaimed, receiver_then, none_passing, placed_ended}
+use Rattle.laws_loan.proofs.Reclaims.{dead_stays}
+use Rattle.laws_loan.proofs.Sender.{party_then, Steps}
+use Rattle.laws_loan.proofs.Sents.{none_there, IsHome, may_free, all_home}
+use Rattle.laws_loan.proofs.SetSteps.{ReleaseLeads, ReleaseStep, claims_then, release_step}
+use Rattle.laws_loan.proofs.Spots.{is_waiting, is_returning, spot_other, spot_moved}
+use Rattle.laws_loan.proofs.Table.{frees_it}
+
+abbrev pub frees_at : ℕ → ℕ → ℕ → ℕ → ReleaseStage → LoanFlight
+frees_at slots queue number index stage = reclaim_at slots queue (Releases number index stage)
+
+-- each stage takes one operation
+one_step : (slots index : ℕ) (stage : ReleaseStage) → step_count (ask_of (back_asks slots index stage)) ≡ 1
+one_step x0 x1 x2 = grind arith
+
+-- behind the first stage nothing more is to be known of the index
+pub frees_for : (stage : ReleaseStage) → release_counts stage ≡ 1 → (table : List Place) (index : ℕ) → FreesAt table index stage
+frees_for x0 x1 x2 x3 = grind arith
+
+-- numbers below a bound are below a greater one
+pub all_less : (xs : List ℕ) (m n : ℕ) → m ≤ n → AllByRecursion (λ i. i < m) xs → AllByRecursion (λ i. i < n) xs
+all_less [] m n more h = tt
+all_less (x ∷ xs) m n more h = let here = h.0 in (omega arith, all_less xs m n more h.1)
+
+all_push : (xs : List ℕ) (x n : ℕ) → x < n → AllByRecursion (λ i. i < n) xs → AllByRecursion (λ i. i < n) (xs ++ x ∷ [])
+all_push [] x n less h = (less, tt)
+all_push (y ∷ ys) x n less h = (h.0, all_push ys x n less h.1)
+
+module _ {T : Type 0} (code : Coding T) (slots queue : ℕ) (s : Channel T) (latest : List (ℕ × Party T))
+    (turns changes since : ℕ) (x : Party T) (h : HoldsNow slots queue s latest s.events turns) (number index : ℕ)
+    (wrote : List (Event T))
+    (from : span_of 0 s.events ≡ Open (starts.Loan calls.Reclaim) wrote) (straight : x.backs ≡ 0) where
+  abbrev channel : frame.Family T
+  channel = family code slots queue
+
+  abbrev Here : ReleaseStage → Type 0
+  Here stage = sends_at latest ≡ Some (flights.TheVariants.Loan (frees_at slots queue number index stage))
+
+  abbrev Known : ReleaseStage → Type 0
+  Known stage = ReclaimAt slots queue s wrote (Releases number index stage)
+
+  reclaims_now : IsReclaiming (span_of 0 s.events)
+  reclaims_now = subst IsReclaiming (sym from) (refl, tt)
+
+  -- what its step does to the words of the indices
+  release_for : (stage : ReleaseStage) → index < slots → FreesAt s.book.places index stage → ReleaseAt s.claims 0 index stage
+  release_for x0 x1 x2 = grind arith
+
+  steps_set : (stage : ReleaseStage) → Here stage → (at : Known stage) → ReleaseStep slots index at.stage_at.1 s.set s.claims stage
+  steps_set stage here at =
+      release_step slots index at.stage_at.1 s.set s.claims stage (release_for stage at.stage_at.1 at.stage_at.0)
+      (subst (λ n. indices.Good slots s.set s.claims n) (ap counted_for here) h.parts.set)
+
+  pub on_words : (stage : ReleaseStage) → Here stage → Known stage → IsOn s.set (back_asks slots index stage)
+  on_words stage here at = (steps_set stage here at).on
+
+  whole_words : (stage : ReleaseStage) → Here stage → Known stage
+      → words_after (words_in s) (ask_of (back_asks slots index stage))
+      ≡ words_in (record s { set = words_after s.set (ask_of (back_asks slots index stage)) })
+  whole_words stage here at = set_words slots queue s (counted_for (sends_at latest)) h.parts (back_asks slots index stage) (steps_set stage here at).on
+
+  -- ---- the clear of the flag
+
+  module _ (here : Here releases.TheVariants.ClearsFlag) (at : Known releases.TheVariants.ClearsFlag) (few : x.steps ≤ 8 * (slots + 1) + 5 * number) where
+    abbrev freed_es : List (Event T)
+    freed_es = Freed 0 index ∷ []
+
+    abbrev wrote_then : List (Event T)
+    wrote_then = wrote ++ freed_es
+
+    abbrev clears_ask : Option Ask
+    clears_ask = ask_of (back_asks slots index releases.TheVariants.ClearsFlag)
+
+    abbrev y_freed : Party T
+    y_freed = party_then s x since changes calls.Reclaim clears_ask false (GoOn (frees_at slots queue number index releases.TheVariants.LoadsHead))
+
+    abbrev book_freed : Book
+    book_freed = book_after {T = T} s.book (Freed 0 index)
+
+    abbrev s_freed : Channel T
+    s_freed = set_then slots queue s latest turns y_freed (words_after s.set clears_ask) (set s.claims index None) book_freed freed_es
+
+    abbrev freeing : Move
+    freeing = record { index = index; from = Passing 0; to = Free }
+
+    open_then : span_of 0 (s.events ++ freed_es) ≡ Open (starts.Loan calls.Reclaim) wrote_then
+    open_then = span_of-own 0 s.events freed_es (refl, tt) ∙ ap (λ span. fold own_after span freed_es) from
+
+    same_receiver : receiver_of (s.events ++ freed_es) ≡ receiver_of s.events
+    same_receiver = fold-append receiver_after 1 s.events freed_es
+
+    now_free : spot_of index (s.events ++ freed_es) ≡ Free
+    now_free = spot_moved s.events (Freed 0 index) freeing refl
+
+    elsewhere : (i : ℕ) → index ≢ i → spot_of i (s.events ++ freed_es) ≡ spot_of i s.events
+    elsewhere i ne = spot_other s.events (Freed 0 index) freeing refl i ne
+
+    not_now : (i q : ℕ) → spot_of i (s.events ++ freed_es) ≡ Passing q → index ≢ i
+    not_now i q e same =
+        let clash : Free ≡ Passing q = sym now_free ∙ (ap (λ n. spot_of n (s.events ++ freed_es)) same ∙ e) in
+        absurd (cc)
+
+    passing_then : (i q : ℕ) → spot_of i (s.events ++ freed_es) ≡ Passing q → Carries i (span_of q (s.events ++ freed_es))
+    passing_then i q e = ⊎_elim
+        (λ (mine : q ≡ 0). subst (λ n. Carries i (span_of n (s.events ++ freed_es))) (sym mine) (subst (Carries i) (sym open_then) tt))
+        (λ (theirs : q ≢ 0). subst (Carries i) (sym (span_of-other 0 q s.events freed_es theirs (refl, tt)))
+        (h.passing i q (sym (elsewhere i (not_now i q e)) ∙ e)))
+        (cases_eq q 0)
+
+    -- the sender's table: the index is free, and the others are as they were
+    long : index < length s.book.places
+    long = let all = h.parts.placed.places_long in let below = at.stage_at.1 in omega arith
+
+    place_other : (j : ℕ) → index ≢ j → place_at book_freed.places j ≡ place_at s.book.places j
+    place_other j ne = get_or-set_other s.book.places index j places.Free places.Free (λ e. ne (sym e))
+
+    none_sent : (j : ℕ) → j < index + 1 → place_at book_freed.places j ≢ places.Sent
+    none_sent j low sent = ⊎_elim mine others (cases_eq index j)
+      where
+        mine : index ≡ j → ⊥
+        mine same =
+            let free : place_at book_freed.places index ≡ places.Free = get_or-set_same s.book.places index places.Free places.Free long in
+            let clash : places.Free ≡ places.Sent = sym free ∙ (ap (place_at book_freed.places) same ∙ sent) in
+            absurd (cc)
+
+        others : index ≢ j → ⊥
+        others ne = at.stage_at.5 j (omega arith) (sym (place_other j ne) ∙ sent)
+
+    on_set : OnSet slots queue s latest turns y_freed (words_after s.set clears_ask) (set s.claims index None) book_freed freed_es
+    on_set =
+        let step = steps_set releases.TheVariants.ClearsFlag here at in
+        let same = same_receiver in
+        let placed = h.parts.placed in
+        record {
+          good = step.leads.0;
+          unlocked = step.unlocked;
+          queue_stays = refl;
+          placed =
+              frees_it slots s.claims s.submission.waiting s.completion.waiting s.book s.events placed index at.stage_at.1 (spot_of index s.events) refl
+              (none_there is_waiting s.submission.waiting s.events at.stage_at.6 placed.waits index)
+              (none_there is_returning s.completion.waiting s.events at.stage_at.7 placed.returns index);
+          silent = record { publishes = refl; hands_out = refl; gives = refl; takes = refl; acts = refl };
+          calm_before = ap (hung s.submission.read) here;
+          calm_after = refl;
+          reclaiming = h.reclaiming ∙ (ap reclaims_in from ∙ sym (ap reclaims_in open_then));
+          receivers = (omega arith, omega arith);
+          moves = (
+            (
+              at.stage_at.1,
+              may_free slots s.claims s.submission.waiting s.completion.waiting s.book s.events placed at.stage_at.6
+                  at.stage_at.7 index at.stage_at.0 at.dead reclaims_now,
+            ),
+            tt,
+          );
+          begins = (tt, tt);
+          answers = (tt, tt);
+          passing = passing_then;
+        }
+
+    known_then : ReclaimAt slots queue s_freed wrote_then (Releases number index releases.TheVariants.LoadsHead)
+    known_then =
+        let more : freed wrote_then ≡ freed wrote ++ index ∷ [] = flat_map-append frees wrote freed_es in
+        let longer = length-append (freed wrote) (index ∷ []) in
+        let before = at.stage_at.3 in
+        let counted : length (freed wrote ++ index ∷ []) ≡ number + 1 = omega arith in
+        record {
+          dead = at.dead;
+          sent = λ i e. let ne = not_now i 0 e in place_other i ne ∙ at.sent i (sym (elsewhere i ne) ∙ e);
+          claims = none_more claims wrote freed_es at.claims refl;
+          publishes = none_more publishes wrote freed_es at.publishes refl;
+          gives = none_more gives_back wrote freed_es at.gives refl;
+          acts = none_more acts wrote freed_es at.acts refl;
+          stage_at = (
+            tt,
+            at.stage_at.1,
+            at.stage_at.2,
+            ap length more ∙ counted,
+            subst (AllByRecursion (λ i. i < index + 1)) (sym more)
+                (all_push (freed wrote) index (index + 1) (omega arith)
+                (all_less (freed wrote) (index + 0) (index + 1) (omega arith) at.stage_at.4)),
+            none_sent,
+            at.stage_at.6,
+            at.stage_at.7,
+          );
+        }
+
+    pub clears_steps : Steps code slots queue s latest turns changes since x s_freed
+        (Open (starts.Loan calls.Reclaim) wrote) calls.Reclaim clears_ask false
+        (GoOn (frees_at slots queue number index releases.TheVariants.LoadsHead)) freed_es
+    clears_steps =
+        let wrote_is : wrote_then ≡ wrote_in (span_of 0 (s.events ++ freed_es)) = sym (ap wrote_in open_then) in
+        record {
+          words = whole_words releases.TheVariants.ClearsFlag here at;
+          shows = set_shows slots queue s latest turns y_freed (words_after s.set clears_ask) (set s.claims index None) book_freed freed_es h on_set;
+          own = (refl, tt);
+          stands = (all_less (freed wrote) (index + 0) index (omega arith) at.stage_at.4, tt);
+          here =
+              record {
+                span = ap (λ wrote. Open (starts.Loan calls.Reclaim) wrote) wrote_is;
+                steps = omega arith;
+                at =
+                    subst (λ wrote. At slots queue s_freed 0 wrote calls.Reclaim
+                    (frees_at slots queue number index releases.TheVariants.LoadsHead))
+                    wrote_is (refl, refl, refl, known_then);
+              };
+          knows = omega arith;
+          theirs = λ q ne. dead_stays slots queue s s_freed at.dead refl (λ i stage known. known) q;
+          up = record { write = omega arith; read = omega arith; paid = omega arith };
+        }
+
+  -- ---- every later step
+
+  claims_for : (stage : ReleaseStage) → release_counts stage ≡ 1 → claims_then index stage s.claims ≡ s.claims
+  claims_for x0 x1 = grind arith
+
+  module _ (stage : ReleaseStage) (heavy : release_counts stage ≡ 1) (here : Here stage) (at : Known stage)
+      (few : x.steps ≤ 8 * (slots + 1) + 5 * number + release_number stage 0) where
+    abbrev ask : Option Ask
+    ask = ask_of (back_asks slots index stage)
+
+    abbrev words_then : List ℕ
+    words_then = words_after s.set ask
+
+    step : ReleaseStep slots index at.stage_at.1 s.set s.claims stage
+    step = steps_set stage here at
+
+    pub leads : ReleaseLeads slots stage words_then s.claims (back_takes slots stage (old_of s.set ask))
+    leads = subst (λ hs. ReleaseLeads slots stage words_then hs (back_takes slots stage (old_of s.set ask))) (claims_for stage heavy) step.leads
+
+    -- ---- it goes on, with this index or with the next one
+
+    module _ (number' index' : ℕ) (stage' : ReleaseStage)
+        (good : indices.Good slots words_then s.claims (release_counts stage'))
+        (known : StageAt slots s.submission s.completion s.book.places wrote (Releases number' index' stage'))
+        (more : x.steps + 1 ≤ 8 * (slots + 1) + 5 * number' + release_number stage' 0) where
+      abbrev flight_on : LoanFlight
+      flight_on = frees_at slots queue number' index' stage'
+
+      abbrev y_on : Party T
+      y_on = party_then s x since changes calls.Reclaim ask false (GoOn flight_on)
+
+      abbrev s_on : Channel T
+      s_on = set_then slots queue s latest turns y_on words_then s.claims s.book []
+
+      as_was : span_of 0 (s.events ++ []) ≡ Open (starts.Loan calls.Reclaim) wrote
+      as_was = ap (span_of 0) (append-nil s.events) ∙ from
+
+      on_set_goes : OnSet slots queue s latest turns y_on words_then s.claims s.book []
+      on_set_goes =
+          let same : receiver_of (s.events ++ []) ≡ receiver_of s.events = ap receiver_of (append-nil s.events) in
+          record {
+            good = good;
+            unlocked = step.unlocked;
+            queue_stays = refl;
+            placed = subst (Placed slots s.claims s.submission.waiting s.completion.waiting s.book) (sym (append-nil s.events)) h.parts.placed;
+            silent = record { publishes = refl; hands_out = refl; gives = refl; takes = refl; acts = refl };
+            calm_before = ap (hung s.submission.read) here;
+            calm_after = refl;
+            reclaiming = h.reclaiming ∙ ap (λ es. reclaims_in (span_of 0 es)) (sym (append-nil s.events));
+            receivers = (omega arith, omega arith);
+            moves = tt;
+            begins = tt;
+            answers = tt;
+            passing =
+                λ i q e. subst (λ es. Carries i (span_of q es)) (sym (append-nil s.events))
+                (h.passing i q (ap (spot_of i) (sym (append-nil s.events)) ∙ e));
+          }
+
+      known_on : ReclaimAt slots queue s_on wrote (Releases number' index' stage')
+      known_on =
+          record {
+            dead = at.dead;
+            sent = λ i e. at.sent i (ap (spot_of i) (sym (append-nil s.events)) ∙ e);
+            claims = at.claims;
+            publishes = at.publishes;
+            gives = at.gives;
+            acts = at.acts;
+            stage_at = known;
+          }
+
+      pub goes_steps : Steps code slots queue s latest turns changes since x s_on
+          (Open (starts.Loan calls.Reclaim) wrote) calls.Reclaim ask false (GoOn flight_on) []
+      goes_steps =
+          let wrote_is : wrote ≡ wrote_in (span_of 0 (s.events ++ [])) = sym (ap wrote_in as_was) in
+          let one = one_step slots index stage in
+          record {
+            words = whole_words stage here at;
+            shows = set_shows slots queue s latest turns y_on words_then s.claims s.book [] h on_set_goes;
+            own = tt;
+            stands = tt;
+            here =
+                record {
+                  span = ap (λ wrote. Open (starts.Loan calls.Reclaim) wrote) wrote_is;
+                  steps = omega arith;
+                  at = subst (λ wrote. At slots queue s_on 0 wrote calls.Reclaim flight_on) wrote_is (refl, refl, refl, known_on);
+                };
+            knows = omega arith;
+            theirs = λ q ne. dead_stays slots queue s s_on at.dead refl (λ i stage known. known) q;
+            up = record { write = omega arith; read = omega arith; paid = omega arith };
+          }
+
+    -- ---- it ends, where no index is sent
+
+    module _ (good : indices.Good slots words_then s.claims 0)
+        (none : (j : ℕ) → j < slots → place_at s.book.places j ≢ places.Sent)
+        (more : x.steps + 1 ≤ 8 * (slots + 1) + 5 * (number + 1)) (small : turns < 2 ^ 64 - 2) where
+      abbrev answer : Answer T
+      answer = Number (number + 1)
+
+      abbrev end : Event T
+      end = Finished 0 (starts.Loan calls.Reclaim) answer
+
+      abbrev book_end : Book
+      book_end = reclaimed s.book
+
+      abbrev y_end : Party T
+      y_end = party_then s x since changes calls.Reclaim ask false (Done answer)
+
+      abbrev s_end : Channel T
+      s_end = set_then slots queue s latest turns y_end words_then s.claims book_end (end ∷ [])
+
+      home : (i : ℕ) → IsHome (spot_of i s.events)
+      home = all_home slots s.claims s.submission.waiting s.completion.waiting s.book s.events h.parts.placed none at.sent
+
+      next_receiver : receiver_of (s.events ++ end ∷ []) ≡ receiver_of s.events + 1
+      next_receiver = receiver_then s.events answer
+
+      ended_then : span_of 0 (s.events ++ end ∷ []) ≡ Ended (starts.Loan calls.Reclaim) answer wrote
+      ended_then = span_of-own 0 s.events (end ∷ []) (refl, tt) ∙ ap (λ span. fold own_after span (end ∷ [])) from
+
+      on_set_ends : OnSet slots queue s latest turns y_end words_then s.claims book_end (end ∷ [])
+      on_set_ends =
+          let next = next_receiver in
+          let most = h.receivers.1 in
+          record {
+            good = good;
+            unlocked = step.unlocked;
+            queue_stays = refl;
+            placed = placed_ended s.events answer home slots s.claims s.submission.waiting s.completion.waiting s.book h.parts.placed (omega arith);
+            silent = record { publishes = refl; hands_out = refl; gives = refl; takes = refl; acts = refl };
+            calm_before = ap (hung s.submission.read) here;
+            calm_after = refl;
+            reclaiming = sym (ap reclaims_in ended_then);
+            receivers = (omega arith, omega arith);
+            moves = (tt, tt);
+            begins = (tt, tt);
+            answers = (home, tt);
+            passing = λ i q e. none_passing s.events answer home i q e;
+          }
+
+      pub ends_steps : Steps code slots queue s latest turns changes since x s_end
+          (Open (starts.Loan calls.Reclaim) wrote) calls.Reclaim ask false (Done answer) (end ∷ [])
+      ends_steps =
+          let one = one_step slots index stage in
+          let below = at.stage_at.1 in
+          let less = at.stage_at.2 in
+          let count : length (freed wrote) ≡ number + 1 = at.stage_at.3 ∙ ap (λ n. number + n) heavy in
+          record {
+            words = whole_words stage here at;
+            shows = set_shows slots queue s latest turns y_end words_then s.claims book_end (end ∷ []) h on_set_ends;
+            own = (refl, tt);
+            stands = ((refl, record { moments = at.acts; done = (count, at.claims, at.publishes, at.gives) }), tt);
+            here = record { answer = answer; wrote = wrote; span = refl; steps = omega arith };
+            knows = omega arith;
+            theirs = λ q ne. dead_stays slots queue s s_end at.dead refl (λ i stage known. known) q;
+            up = record { write = omega arith; read = omega arith; paid = omega arith };
+          }

@@ -1,0 +1,412 @@
+-- The steps of a give-back: the receiver pushes its index into the completion queue, where there is room for each one.
+use Rattle.std.proofs.Common.{◌≡◌, ◌≢◌, ℕ, ◌+◌, ◌-◌, ◌^◌, ◌<◌, ◌≤◌, ◌⊎◌, ⊎_elim, Bool, true, false, Option, List, []}
+use Rattle.std.proofs.Common.{◌∷◌, ◌++◌, length, fold, refl, sym, ap, subst, ◌∙◌, append-nil, append_assoc, arith}
+use Rattle.std.proofs.lemmas.Bool.{cases_eq}
+use Rattle.std.proofs.lemmas.List.Sums.{fold-append}
+use Rattle.steps.specs.declared.ask.Ask.{Ask}
+use Rattle.steps.specs.declared.ask.Want.{Want}
+use Rattle.steps.specs.declared.ask.After.{After}
+use Rattle.steps.specs.declared.ask.After.TheVariants.{GoOn, Done}
+use Rattle.steps.specs.declared.queues.ring.Push.{Push}
+use Rattle.steps.specs.declared.queues.ring.PushStage.{PushStage}
+use Rattle.steps.specs.declared.queues.ring.PushStage as pushes
+use Rattle.steps.specs.declared.queues.ring.PopStage.{PopStage}
+use Rattle.steps.specs.Loan.Layout.{completion_word}
+use Rattle.steps.specs.Loan.Parts.{shifted, part_after}
+use Rattle.steps.specs.Queues.Ring.{cell_word, push_asks, push_takes}
+use Rattle.steps.specs.Routine.{went_on}
+use Rattle.model.specs.declared.event.Answer.{Answer}
+use Rattle.model.specs.declared.event.Answer.TheVariants as answers
+use Rattle.model.specs.declared.event.Event.{Event}
+use Rattle.model.specs.declared.event.Event.TheVariants.{Returned, Finished}
+use Rattle.model.specs.declared.event.Start.{Start}
+use Rattle.model.specs.declared.event.Start.TheVariants as starts
+use Rattle.model.specs.declared.families.loan.LoanStart.TheVariants as calls
+use Rattle.model.specs.declared.families.loan.calls.LoanFlight.{LoanFlight}
+use Rattle.model.specs.declared.families.loan.calls.LoanFlight.TheVariants.{GiveBack}
+use Rattle.model.specs.declared.families.loan.effects.Effect.{Effect}
+use Rattle.model.specs.declared.families.loan.effects.Effect.TheVariants as effects
+use Rattle.model.specs.declared.party.Party.{Party}
+use Rattle.model.specs.Coding.{Coding, one_word}
+use Rattle.model.specs.Families.{ask_of}
+use Rattle.model.specs.Families.Indices.Robust.Dead.{has_died}
+use Rattle.model.specs.Families.Loan.Reading.{Passing, Returning, spot_of, receiver_after, receiver_of, died_after}
+use Rattle.model.specs.Families.Loan.Steps.{ended_book, book_after, give_back_effect, effects_of}
+use Rattle.model.specs.Families.Queues.Calls.{as_it_is, words_of_index}
+use Rattle.model.specs.Reading.{Span, Open, span_of}
+use Rattle.model.specs.Step.{as_call, answer_in}
+use Rattle.model.specs.Turns.{old_of, words_after, step_count, ending_of}
+use Rattle.model.proofs.Readings.{span_of-other}
+use Rattle.laws_queues.proofs.Queues.Core.{Core, Good, filled, published}
+use Rattle.laws_queues.proofs.Queues.Knows.{layout}
+use Rattle.laws_queues.proofs.Ring.Knows.{KnowsPush, KnowsPop, push_number}
+use Rattle.laws_loan.proofs.Channel.{Channel, no_roles, words_in}
+use Rattle.laws_loan.proofs.Completion as completion
+use Rattle.laws_loan.proofs.Cuts.{IsOn}
+use Rattle.laws_loan.proofs.Giving.{OnCompletion, GivingStep, given_to, given_shows}
+use Rattle.laws_loan.proofs.Invariant.{sends_at, counted_for, reclaims_in, Carries, HoldsNow}
+use Rattle.laws_loan.proofs.Knows.{Passes, wrote_in, At}
+use Rattle.laws_loan.proofs.Lists.{lists_stay}
+use Rattle.laws_loan.proofs.Mine.{fill_keeps, publish_keeps}
+use Rattle.laws_loan.proofs.OnQueues.{silent_tells}
+use Rattle.laws_loan.proofs.Parts.{completion_long, completion_old, completion_words}
+use Rattle.laws_loan.proofs.Placed.{Placed, placed_on}
+use Rattle.laws_loan.proofs.Rooms.{returns_room}
+use Rattle.laws_loan.proofs.Sender.{party_then}
+use Rattle.laws_loan.proofs.Spots.{is_waiting, is_returning, spot_stays, spot_other, spot_moved}
+use Rattle.laws_loan.proofs.Table.{returns_it}
+use Rattle.laws_loan.proofs.Told.{is_reclaiming}
+
+abbrev pub push_on : ℕ → PushStage → Push ℕ
+push_on slots stage = record { capacity = slots; stage = stage; of = record {} }
+
+abbrev pub give_at : ℕ → ℕ → ℕ → ℕ → PushStage → LoanFlight
+give_at slots queue p index stage =
+    GiveBack p (record { call = record { base = completion_word slots queue; call = push_on slots stage }; given = index; room = tt })
+
+-- how a give-back goes on whose push goes on so
+abbrev pub given_after : (T : Type 0) → ℕ → ℕ → ℕ → ℕ → After (Push ℕ) Bool → After LoanFlight (Answer T)
+given_after T slots queue p index push =
+    as_call (λ r. GiveBack p r) answers.Truth (went_on as_it_is index tt (part_after (completion_word slots queue) push))
+
+passing_same : (p q : ℕ) → Passing p ≡ Passing q → p ≡ q
+passing_same p q e = cc
+
+module _ {T : Type 0} (code : Coding T) (slots queue : ℕ) (s : Channel T) (latest : List (ℕ × Party T))
+    (turns changes since : ℕ) (x : Party T) (p index : ℕ) (h : HoldsNow slots queue s latest s.events turns)
+    (small : turns < 2 ^ 64 - 2) (other : p ≢ 0) (alive : has_died p s.book.dead ≡ false)
+    (receives : p ≡ s.book.receiver) (passes : Passes slots queue s p index)
+    (from : span_of p s.events ≡ Open (starts.Loan (calls.GiveBack index)) []) (straight : x.backs ≡ 0) where
+  abbrev start : Start T
+  start = starts.Loan (calls.GiveBack index)
+
+  abbrev spanned : Span T
+  spanned = Open start []
+
+  abbrev want : PushStage → Want (Unit {0})
+  want stage = push_asks words_of_index stage index
+
+  abbrev pub asked : PushStage → Option Ask
+  asked stage = ask_of (shifted (completion_word slots queue) (want stage))
+
+  abbrev old : PushStage → ℕ
+  old stage = old_of (words_in s) (asked stage)
+
+  abbrev queued : List ℕ
+  queued = layout no_roles s.completion
+
+  abbrev pub after_of : PushStage → After LoanFlight (Answer T)
+  after_of stage = given_after T slots queue p index (push_takes 1 (push_on slots stage) stage (old stage))
+
+  abbrev events_by : Effect → After LoanFlight (Answer T) → List (Event T)
+  events_by effect after = effects_of p effect (answer_in after) ++ ending_of p start (answer_in after)
+
+  -- what is kept then
+  abbrev Keeps : Effect → After LoanFlight (Answer T) → Type 0
+  Keeps effect after =
+      ended_book {T = T} p (calls.GiveBack index) (answer_in after)
+      (fold (book_after {T = T}) s.book (effects_of p effect (answer_in after)))
+      ≡ s.book
+
+  abbrev StepTo : Core ℕ → PushStage → After LoanFlight (Answer T) → Effect → Type 0
+  StepTo k stage after effect =
+      GivingStep code slots queue s latest turns changes since x p k spanned (calls.GiveBack index) (asked stage)
+      false after (events_by effect after)
+      × Keeps effect after
+
+  -- what a step of a give-back that stands here comes to
+  pub record Does (stage : PushStage) : Type 0 where
+    pub queue_then : Core ℕ
+    pub step : StepTo queue_then stage (after_of stage) (give_back_effect index stage)
+
+  -- ---- what is so of the queue
+
+  some : 1 ≤ slots
+  some = let below = passes.0 in omega arith
+
+  few : slots < 2 ^ 24
+  few = let low = h.parts.set.few in omega arith
+
+  reached : s.completion.write < 2 ^ 64 - 2
+  reached = let given = h.given in omega arith
+
+  room : length s.completion.waiting < slots
+  room = returns_room slots s.claims s.submission.waiting s.completion.waiting s.book s.events h.parts.placed index p passes.0 passes.1
+
+  long : length queued ≡ 4 + slots
+  long = completion_long slots queue s (counted_for (sends_at latest)) h.parts
+
+  old_is : (stage : PushStage) → IsOn queued (want stage) → old stage ≡ old_of queued (ask_of (want stage))
+  old_is stage on = completion_old slots queue s (counted_for (sends_at latest)) h.parts (want stage) on
+
+  words_are : (stage : PushStage) (k : Core ℕ) → IsOn queued (want stage)
+      → words_after queued (ask_of (want stage)) ≡ layout no_roles k
+      → words_after (words_in s) (asked stage) ≡ s.set ++ (layout no_roles s.submission ++ layout no_roles k)
+  words_are stage k on is =
+      completion_words slots queue s (counted_for (sends_at latest)) h.parts (want stage) on
+      ∙ ap (λ ws. s.set ++ (layout no_roles s.submission ++ ws)) is
+
+  one_step : (stage : PushStage) → step_count (asked stage) ≡ 1
+  one_step x0 = grind arith
+
+  -- ---- it goes on
+
+  module _ (stage stage' : PushStage) (k : Core ℕ) (waits : k.waiting ≡ s.completion.waiting)
+      (write : k.write ≡ s.completion.write) (good : Good 1 words_of_index slots k) (on : IsOn queued (want stage))
+      (words : words_after queued (ask_of (want stage)) ≡ layout no_roles k)
+      (known : KnowsPush one_word slots k index stage') (steps : x.steps + 1 ≤ push_number 1 stage')
+      (low : push_number 1 stage' ≤ 3)
+      (pops : (room : List ℕ) (stage : PopStage) → KnowsPop one_word slots s.completion room stage
+      → KnowsPop one_word slots k room stage) where
+    abbrev y_on : Party T
+    y_on = party_then s x since changes (calls.GiveBack index) (asked stage) false (GoOn (give_at slots queue p index stage'))
+
+    abbrev s_on : Channel T
+    s_on = given_to slots queue s latest turns p y_on k []
+
+    as_was : span_of p (s.events ++ []) ≡ spanned
+    as_was = ap (span_of p) (append-nil s.events) ∙ from
+
+    on_completion_goes : OnCompletion slots queue s latest turns p y_on k []
+    on_completion_goes =
+        let given = h.given in
+        let same : receiver_of (s.events ++ []) ≡ receiver_of s.events = ap receiver_of (append-nil s.events) in
+        record {
+          other = other;
+          good = good;
+          placed =
+              subst (λ back. Placed slots s.claims s.submission.waiting back s.book (s.events ++ [])) (sym waits)
+              (subst (Placed slots s.claims s.submission.waiting s.completion.waiting s.book) (sym (append-nil s.events)) h.parts.placed);
+          tells =
+              silent_tells queue (is_reclaiming s.events) s.submission.waiting s.completion.waiting k.waiting [] refl
+              refl refl (append-nil s.completion.waiting ∙ sym waits);
+          reclaiming = h.reclaiming ∙ ap (λ es. reclaims_in (span_of 0 es)) (sym (append-nil s.events));
+          write = omega arith;
+          receivers = (omega arith, omega arith);
+          moves = tt;
+          begins = tt;
+          answers = tt;
+          passing =
+              λ i q e. subst (λ es. Carries i (span_of q es)) (sym (append-nil s.events))
+              (h.passing i q (ap (spot_of i) (sym (append-nil s.events)) ∙ e));
+        }
+
+    goes_on : StepTo k stage (GoOn (give_at slots queue p index stage')) effects.Quiet
+    goes_on =
+        let wrote_is : [] ≡ wrote_in (span_of p (s.events ++ [])) = sym (ap wrote_in as_was) in
+        let one = one_step stage in (
+          record {
+            words = words_are stage k on words;
+            shows = given_shows slots queue s latest turns p y_on k [] h on_completion_goes;
+            own = tt;
+            stands = tt;
+            here =
+                record {
+                  span = ap (λ wrote. Open start wrote) wrote_is;
+                  steps = omega arith;
+                  at =
+                      subst (λ wrote. At slots queue s_on p wrote (calls.GiveBack index) (give_at slots queue p index stage')) wrote_is
+                      (other, refl, refl, refl, refl, refl, low, λ lives. (receives, (passes.0, ap (spot_of index) (append-nil s.events) ∙ passes.1), known));
+                };
+            knows = omega arith;
+            gives = record { receiver = receives; alive = alive; pop = pops; passes = λ q i ne e. ap (spot_of i) (append-nil s.events) ∙ e };
+          },
+          refl,
+        )
+
+  -- ---- it ends: the index waits in the completion queue
+
+  abbrev returned : Event T
+  returned = Returned p index
+
+  abbrev ends : Event T
+  ends = Finished p start (answers.Truth true)
+
+  abbrev told : List (Event T)
+  told = returned ∷ ends ∷ []
+
+  abbrev last : PushStage
+  last = pushes.TheVariants.StoresWrite s.completion.write
+
+  abbrev y_end : Party T
+  y_end = party_then s x since changes (calls.GiveBack index) (asked last) false (Done (answers.Truth true))
+
+  abbrev full : Core ℕ
+  full = published 1 words_of_index slots s.completion index
+
+  whole : (s.events ++ returned ∷ []) ++ ends ∷ [] ≡ s.events ++ told
+  whole = append_assoc s.events (returned ∷ []) (ends ∷ [])
+
+  elsewhere : (i : ℕ) → index ≢ i → spot_of i (s.events ++ told) ≡ spot_of i s.events
+  elsewhere i ne =
+      ap (spot_of i) (sym whole)
+      ∙ (spot_stays (s.events ++ returned ∷ []) ends i refl
+      ∙ spot_other s.events returned (record { index = index; from = Passing p; to = Returning }) refl i ne)
+
+  now_returning : spot_of index (s.events ++ told) ≡ Returning
+  now_returning =
+      ap (spot_of index) (sym whole)
+      ∙ (spot_stays (s.events ++ returned ∷ []) ends index refl
+      ∙ spot_moved s.events returned (record { index = index; from = Passing p; to = Returning }) refl)
+
+  -- what is in passing in another party's call stays so
+  passes_on : (q i : ℕ) → q ≢ p → spot_of i s.events ≡ Passing q → spot_of i (s.events ++ told) ≡ Passing q
+  passes_on q i ne e =
+      let apart : index ≢ i = λ same. ne (sym (passing_same p q (sym passes.1 ∙ (ap (λ n. spot_of n s.events) same ∙ e)))) in
+      elsewhere i apart ∙ e
+
+  passing_end : (i q : ℕ) → spot_of i (s.events ++ told) ≡ Passing q → Carries i (span_of q (s.events ++ told))
+  passing_end i q e = ⊎_elim mine others (cases_eq index i)
+    where
+      mine : index ≡ i → Carries i (span_of q (s.events ++ told))
+      mine same =
+          let clash : Returning ≡ Passing q = sym now_returning ∙ (ap (λ n. spot_of n (s.events ++ told)) same ∙ e) in
+          absurd (cc)
+
+      others : index ≢ i → Carries i (span_of q (s.events ++ told))
+      others ne =
+          let carried = h.passing i q (sym (elsewhere i ne) ∙ e) in
+          ⊎_elim
+          (λ (here : q ≡ p). absurd (ne (sym (subst (Carries i) from (subst (λ n. Carries i (span_of n s.events)) here carried)).0)))
+          (λ (theirs : q ≢ p). subst (Carries i) (sym (span_of-other p q s.events told theirs (refl, (refl, tt)))) carried)
+          (cases_eq q p)
+
+  same_receiver : receiver_of (s.events ++ told) ≡ receiver_of s.events
+  same_receiver = fold-append receiver_after 1 s.events told
+
+  placed_end : Placed slots s.claims s.submission.waiting full.waiting s.book (s.events ++ told)
+  placed_end =
+      let placed =
+      returns_it slots s.claims s.submission.waiting s.completion.waiting s.book s.events h.parts.placed index
+      passes.0 p other (receives ∙ h.parts.placed.keeps.receiver) passes.1 in
+      let still : receiver_of ((s.events ++ returned ∷ []) ++ ends ∷ []) ≡ receiver_of (s.events ++ returned ∷ []) =
+      fold-append receiver_after 1 (s.events ++ returned ∷ []) (ends ∷ []) in
+      subst (Placed slots s.claims s.submission.waiting full.waiting s.book) whole
+      (placed_on slots (s.events ++ returned ∷ []) ends refl s.claims s.submission.waiting full.waiting s.book s.book placed
+      (record {
+        places = refl;
+        holders = refl;
+        receiver = placed.keeps.receiver ∙ sym still;
+        dead = λ q. placed.keeps.dead q ∙ sym (fold-append (died_after q) false (s.events ++ returned ∷ []) (ends ∷ []));
+        parties = λ i q by. subst (λ n. (q ≡ 0) ⊎ (q ≡ n)) (sym still) (placed.parties i q by);
+      })
+      (lists_stay is_waiting s.submission.waiting (s.events ++ returned ∷ []) ends placed.waits refl)
+      (lists_stay is_returning full.waiting (s.events ++ returned ∷ []) ends placed.returns refl))
+
+  module _ (good : Good 1 words_of_index slots full) where
+    on_completion_end : OnCompletion slots queue s latest turns p y_end full told
+    on_completion_end =
+        let given = h.given in
+        let same = same_receiver in
+        record {
+          other = other;
+          good = good;
+          placed = placed_end;
+          tells = silent_tells queue (is_reclaiming s.events) s.submission.waiting s.completion.waiting full.waiting told refl refl refl refl;
+          reclaiming = h.reclaiming ∙ ap reclaims_in (sym (span_of-other p 0 s.events told (λ e. other (sym e)) (refl, (refl, tt))));
+          write = omega arith;
+          receivers = (omega arith, omega arith);
+          moves = ((passes.0, passes.1), (tt, tt));
+          begins = (tt, (tt, tt));
+          answers = (tt, (tt, tt));
+          passing = passing_end;
+        }
+
+    ends_with : x.steps ≤ 3 → StepTo full last (Done (answers.Truth true)) (effects.Returns index)
+    ends_with steps = (
+      record {
+        words =
+            words_are last full (let wide = long in omega arith)
+            (completion.publish_words slots some few s.completion h.parts.completion reached index room);
+        shows = given_shows slots queue s latest turns p y_end full told h on_completion_end;
+        own = (refl, (refl, tt));
+        stands = (
+          (refl, record { claimed = refl; published = refl; handed_out = refl; given_back = refl; taken_back = refl; freed = refl }),
+          (
+            (
+              refl,
+              record {
+                moments = refl;
+                done = record { claimed = refl; published = refl; handed_out = refl; given_back = refl; taken_back = refl; freed = refl };
+              },
+            ),
+            tt,
+          ),
+        );
+        here = record { answer = answers.Truth true; wrote = returned ∷ []; span = refl; steps = omega arith };
+        knows = omega arith;
+        gives = record { receiver = receives; alive = alive; pop = publish_keeps slots s.completion index; passes = passes_on };
+      },
+      refl,
+    )
+
+  -- ---- each of its stages
+
+  abbrev load_of_write : PushStage
+  load_of_write = pushes.TheVariants.LoadsWrite
+
+  abbrev load_of_read : PushStage
+  load_of_read = pushes.TheVariants.LoadsRead s.completion.write
+
+  abbrev store_of_cell : PushStage
+  store_of_cell = pushes.TheVariants.StoresCell s.completion.write (cell_word slots 1 s.completion.write) 0
+
+  loads_write : x.steps ≤ 0 → Does load_of_write
+  loads_write steps =
+      let on : 0 < length queued = (let wide = long in omega arith) in
+      let goes : after_of load_of_write ≡ GoOn (give_at slots queue p index load_of_read) =
+      ap (λ n. given_after T slots queue p index (push_takes 1 (push_on slots load_of_write) load_of_write n)) (old_is load_of_write on)
+      ∙ ap (given_after T slots queue p index) (completion.loads_write slots some few s.completion h.parts.completion reached)
+      in
+      record {
+        queue_then = s.completion;
+        step =
+            subst (λ a. StepTo s.completion load_of_write a effects.Quiet) (sym goes)
+            (goes_on load_of_write load_of_read s.completion refl refl h.parts.completion on refl
+            (refl, (let low = reached in omega arith)) (omega arith) (omega arith) (λ room stage known. known));
+      }
+
+  loads_read : x.steps ≤ 1 → Does load_of_read
+  loads_read steps =
+      let on : 1 < length queued = (let wide = long in omega arith) in
+      let goes : after_of load_of_read ≡ GoOn (give_at slots queue p index store_of_cell) =
+      ap (λ n. given_after T slots queue p index (push_takes 1 (push_on slots load_of_read) load_of_read n)) (old_is load_of_read on)
+      ∙ ap (given_after T slots queue p index) (completion.loads_read slots some few s.completion h.parts.completion reached room)
+      in
+      record {
+        queue_then = s.completion;
+        step =
+            subst (λ a. StepTo s.completion load_of_read a effects.Quiet) (sym goes)
+            (goes_on load_of_read store_of_cell s.completion refl refl h.parts.completion on refl
+            (refl, room, refl, omega arith, (λ i below. absurd (omega arith)), (let low = reached in omega arith))
+            (omega arith) (omega arith) (λ room stage known. known));
+      }
+
+  stores_cell : x.steps ≤ 2 → Does store_of_cell
+  stores_cell steps =
+      record {
+        queue_then = filled 1 words_of_index slots s.completion 0 index;
+        step =
+            goes_on store_of_cell last (filled 1 words_of_index slots s.completion 0 index) refl refl
+            (completion.fill_good slots some few s.completion h.parts.completion reached index room)
+            (completion.cell_on slots some few s.completion h.parts.completion reached s.completion.write)
+            (completion.fill_words slots some few s.completion h.parts.completion reached index room)
+            (refl, room, completion.fill_whole slots some few s.completion h.parts.completion reached index room, (let low = reached in omega arith))
+            (omega arith) (omega arith) (fill_keeps slots s.completion index);
+      }
+
+  -- what a give-back knows leads on
+  pub does : (stage : PushStage) → KnowsPush one_word slots s.completion index stage → x.steps ≤ push_number 1 stage → Does stage
+  does pushes.TheVariants.LoadsWrite known steps = loads_write steps
+  does (pushes.TheVariants.LoadsRead write) known steps = subst (λ n. Does (pushes.TheVariants.LoadsRead n)) (sym known.0) (loads_read steps)
+  does (pushes.TheVariants.StoresCell write cell at) known steps =
+      let first : at ≡ 0 = (let below = known.3 in omega arith) in
+      subst (λ n. Does (pushes.TheVariants.StoresCell write cell n)) (sym first)
+      (subst (λ n. Does (pushes.TheVariants.StoresCell write n 0)) (sym known.2)
+      (subst (λ n. Does (pushes.TheVariants.StoresCell n (cell_word slots 1 s.completion.write) 0)) (sym known.0) (stores_cell (omega arith))))
+  does (pushes.TheVariants.StoresWrite write) known steps =
+      subst (λ n. Does (pushes.TheVariants.StoresWrite n)) (sym known.0)
+      (record {
+        queue_then = full;
+        step = ends_with (completion.publish_good slots some few s.completion h.parts.completion reached index room known.2) steps;
+      })

@@ -1,0 +1,59 @@
+-- A give-up, as steps of the machine: it is a release of the set.
+use Rattle.std.proofs.Common.{◌≡◌, ℕ, ◌-◌, ◌^◌, ◌<◌, sym, ap, subst, ◌∙◌, arith}
+use Rattle.steps.specs.declared.ask.After.{After}
+use Rattle.steps.specs.declared.indices.enums.ReleaseState.{ReleaseState}
+use Rattle.steps.specs.declared.indices.unique.DefaultMode.{DefaultMode}
+use Rattle.steps.specs.declared.indices.unique.Release.{Release}
+use Rattle.steps.specs.declared.indices.unique.ReleaseStage.{ReleaseStage}
+use Rattle.steps.specs.Loan.Back.{back_asks, back_takes}
+use Rattle.steps.specs.Routine.{went_on}
+use Rattle.model.specs.declared.event.Answer.{Answer}
+use Rattle.model.specs.declared.event.Answer.TheVariants as answers
+use Rattle.model.specs.declared.event.Start as starts
+use Rattle.model.specs.declared.families.Flight as flights
+use Rattle.model.specs.declared.families.loan.LoanStart.TheVariants as calls
+use Rattle.model.specs.declared.families.loan.calls.LoanFlight.{LoanFlight}
+use Rattle.model.specs.declared.families.loan.calls.LoanFlight.TheVariants.{GiveUp}
+use Rattle.model.specs.declared.party.Party.{Party}
+use Rattle.model.specs.Coding.{Coding}
+use Rattle.model.specs.Families.{ask_of}
+use Rattle.model.specs.Families.Loan.Steps.{release_effect}
+use Rattle.model.specs.Families.Queues.Calls.{as_it_is}
+use Rattle.model.specs.Reading.{Open, span_of}
+use Rattle.model.specs.Step.{as_call}
+use Rattle.model.specs.Turns.{old_of}
+use Rattle.model.specs.World.{Trace}
+use Rattle.model.proofs.Frame as frame
+use Rattle.laws_loan.proofs.Channel.{words_in}
+use Rattle.laws_loan.proofs.Releases.{give_up_at, gives_up}
+use Rattle.laws_loan.proofs.ReleaseSteps.{With, releases_on}
+use Rattle.laws_loan.proofs.Releasing.{embedded}
+use Rattle.laws_loan.proofs.Senders.{Stands, Comes}
+use Rattle.laws_loan.proofs.StepLaw.{channel}
+
+module _ (T : Type 0) (slots queue index : ℕ) where
+  -- how a give-up goes on whose release goes on so
+  abbrev given_up_after : After (Release DefaultMode) ReleaseState → After LoanFlight (Answer T)
+  given_up_after release = as_call GiveUp (λ _. answers.Done) (went_on as_it_is index tt release)
+
+  goes_so : (stage : ReleaseStage) (value : ℕ)
+      → given_up_after (back_takes slots stage value) ≡ embedded (give_up_at slots queue index) answers.Done (back_takes slots stage value)
+  goes_so x0 x1 = grind arith
+
+module _ {T : Type 0} (code : Coding T) (slots queue : ℕ) (t : Trace T)
+    (sound : frame.Sound (channel code slots queue) t) (small : t.world.turns < 2 ^ 64 - 2) (x : Party T)
+    (since : ℕ) where
+  pub give_up_releases : (index : ℕ) (stage : ReleaseStage)
+      → Stands code slots queue t sound small x since 0 (starts.TheVariants.Loan (calls.GiveUp index))
+      (flights.TheVariants.Loan (give_up_at slots queue index stage))
+      → Comes code slots queue t sound small x since 0 (starts.TheVariants.Loan (calls.GiveUp index))
+      (flights.TheVariants.Loan (give_up_at slots queue index stage))
+  give_up_releases index stage there =
+      let at = there.at in
+      let from = ap (span_of 0) sound.holds.same ∙ (there.span ∙ ap (λ es. Open (starts.TheVariants.Loan (calls.GiveUp index)) es) at.3) in
+      let value = old_of (words_in sound.state) (ask_of (back_asks slots index stage)) in
+      subst
+      (With code slots queue t sound small x since index (gives_up T slots queue index) there.knows stage (release_effect index stage))
+      (sym (goes_so T slots queue index stage value))
+      (releases_on code slots queue t sound small x since index (gives_up T slots queue index) there.knows stage
+      (record { found = there.found; gives = at.4; from = from; few = (let steps = there.steps in omega arith) }))

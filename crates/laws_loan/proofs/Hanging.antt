@@ -1,0 +1,143 @@
+-- A send that has published over a full queue and waits for the read position: which send that is, and what becomes of a span
+-- where a receive makes it act.
+use Rattle.std.proofs.Common.{◌≡◌, ℕ, ◌<◌, ⊎_elim, inl, inr, Option, Some, None, option_map, List, [], ◌∷◌, ◌++◌}
+use Rattle.std.proofs.Common.{flat_map, fold, refl, ap, ◌∙◌, append-nil, arith, eq-eqb}
+use Rattle.std.proofs.lemmas.List.Concat.{flat_map-append}
+use Rattle.steps.specs.Loan.Layout.{submission_word}
+use Rattle.steps.specs.Queues.Ring.{load}
+use Rattle.model.specs.declared.event.Event.{Event}
+use Rattle.model.specs.declared.event.Event.TheVariants.{Published, Acted}
+use Rattle.model.specs.declared.event.Answer.TheVariants.{PoppedNone}
+use Rattle.model.specs.declared.event.Item.TheVariants.{Index}
+use Rattle.model.specs.declared.event.Start.{Start}
+use Rattle.model.specs.declared.event.Start.TheVariants as starts
+use Rattle.model.specs.declared.families.Flight.{Flight}
+use Rattle.model.specs.declared.families.Flight as flights
+use Rattle.model.specs.declared.families.loan.LoanStart.{LoanStart}
+use Rattle.model.specs.declared.families.loan.LoanStart.TheVariants as calls
+use Rattle.model.specs.declared.families.loan.calls.LoanFlight.{LoanFlight}
+use Rattle.model.specs.declared.families.loan.calls.LoanFlight.TheVariants.{Send}
+use Rattle.model.specs.declared.party.Party.{Party}
+use Rattle.model.specs.Coding.{Coding}
+use Rattle.model.specs.Families.Loan.Reading.{gives_back, takes_back, frees}
+use Rattle.model.specs.Families.Loan.Steps.{read_in, pending_send, pending, beside, room_made}
+use Rattle.model.specs.Families.Queues.Reading.{publishes, hands_out}
+use Rattle.model.specs.Parties.{party_of, doing_of, flight_of}
+use Rattle.model.specs.Reading.{Span, Never, Open, Ended, own_after, span_of}
+use Rattle.model.proofs.Frame as frame
+use Rattle.model.proofs.Readings.{AreOwn}
+use Rattle.laws_loan.proofs.Channel.{Channel, words_in}
+use Rattle.laws_loan.proofs.Invariant.{sends_at, counted_for, hung, reclaims_in, Carries, HoldsNow, family}
+use Rattle.laws_loan.proofs.Knows.{send_of, wrote_in, At}
+use Rattle.laws_loan.proofs.Parts.{submission_long, submission_old}
+use Rattle.laws_loan.proofs.Still.{AreStill}
+
+-- ---- what a receive makes of the send that waits with this index, if one does
+
+-- the send as the receive's effect names it
+abbrev pub by_sender : Option ℕ → Option (ℕ × ℕ)
+by_sender waits = option_map (λ (index : ℕ). (0, index)) waits
+
+module _ {T : Type 0} where
+  abbrev pub made : Option ℕ → List (Event T)
+  made waits = room_made (by_sender waits)
+
+  -- it stays a reclaim or none
+  pub reclaims_made : (waits : Option ℕ) (span : Span T) → reclaims_in (fold own_after span (made waits)) ≡ reclaims_in span
+  reclaims_made x0 x1 = grind arith
+
+  silent : {X : Type 0} (tells : Event T → List X) (wrote : List (Event T)) (e : Event T) → tells e ≡ []
+      → flat_map tells (wrote ++ e ∷ []) ≡ flat_map tells wrote
+  silent tells wrote e none =
+      flat_map-append tells wrote (e ∷ [])
+      ∙ (ap (λ xs. flat_map tells wrote ++ (xs ++ [])) none ∙ append-nil (flat_map tells wrote))
+
+  -- and the index in passing in it stays so
+  pub carries_made : (waits : Option ℕ) (i : ℕ) (span : Span T) → Carries i span → Carries i (fold own_after span (made waits))
+  carries_made None i span carried = carried
+  carries_made (Some index) i (Open (starts.Loan (calls.Send own)) wrote) carried =
+      let acted : Event T = Acted 0 (send_of index) PoppedNone in
+      ⊎_elim
+      (λ mine. inl (mine.0, silent publishes wrote acted refl ∙ mine.1))
+      (λ other. inr (silent hands_out wrote acted refl ∙ other.0, silent frees wrote acted refl ∙ other.1))
+      carried
+  carries_made (Some index) i (Open (starts.Loan (calls.GiveUp own)) wrote) carried =
+      (carried.0, silent frees wrote (Acted 0 (send_of index) PoppedNone) refl ∙ carried.1)
+  carries_made (Some index) i (Open (starts.Loan calls.TakeBack) wrote) carried =
+      let acted : Event T = Acted 0 (send_of index) PoppedNone in
+      (silent takes_back wrote acted refl ∙ carried.0, silent frees wrote acted refl ∙ carried.1)
+  carries_made (Some index) i (Open (starts.Loan (calls.GiveBack own)) wrote) carried =
+      (carried.0, silent gives_back wrote (Acted 0 (send_of index) PoppedNone) refl ∙ carried.1)
+  carries_made (Some index) i (Open (starts.Loan calls.Reclaim) wrote) carried = tt
+  carries_made (Some index) i (Open call wrote) carried = absurd carried
+  carries_made (Some index) i Never carried = absurd carried
+  carries_made (Some index) i (Ended call answer wrote) carried = absurd carried
+
+pub made_own : (T : Type 0) (waits : Option ℕ) → AreOwn {T = T} 0 (made waits)
+made_own x0 x1 = grind arith
+
+pub made_still : (T : Type 0) (waits : Option ℕ) → AreStill {T = T} (made waits)
+made_still x0 x1 = grind arith
+
+-- ---- which send waits
+
+module _ {T : Type 0} (code : Coding T) (slots queue : ℕ) (s : Channel T) where
+  abbrev channel : frame.Family T
+  channel = family code slots queue
+
+  -- what the sender knows of its call tells of the call what is so of each
+  pub each_call : (P : Option (Flight T) → Type 0) → P None
+      → ((start : Start T) (flight : Flight T) → channel.At s 0 start flight → P (Some flight))
+      → (o : Option (Party T)) (seen : Span T) → frame.Fits channel s 0 o seen → P (flight_of (doing_of o))
+  each_call x0 x1 x2 x3 x4 x5 = grind arith
+
+  module _ (position : ℕ) (past : s.submission.read < position) where
+    past_flight : (start : Start T) (flight : Flight T) → channel.At s 0 start flight → hung position (Some flight) ≡ None
+    past_flight x0 x1 x2 = grind arith
+
+    pub past_none : (latest : List (ℕ × Party T)) (seen : Span T) → frame.Fits channel s 0 (party_of 0 latest) seen → hung position (sends_at latest) ≡ None
+    past_none latest seen fits = each_call (λ flight. hung position flight ≡ None) refl past_flight (party_of 0 latest) seen fits
+
+  -- ---- by the words of the whole
+
+  module _ (latest : List (ℕ × Party T)) (turns : ℕ) (h : HoldsNow slots queue s latest s.events turns) where
+    read_is : read_in (submission_word slots) (words_in s) ≡ s.submission.read
+    read_is =
+        submission_old slots queue s (counted_for (sends_at latest)) h.parts (load 1)
+        (let wide = submission_long slots queue s (counted_for (sends_at latest)) h.parts in omega arith)
+
+    by_words_call : (wrote : List (Event T)) (start : LoanStart) (flight : LoanFlight)
+        → At slots queue s 0 wrote start flight
+        → pending {T = T} (words_in s) (Some (flights.TheVariants.Loan flight))
+        ≡ hung {T = T} s.submission.read (Some (flights.TheVariants.Loan flight))
+    by_words_call wrote (calls.Send index) (Send run) known =
+        ap (λ n. pending_send (read_in (submission_word n) (words_in s)) run.given run.call.stage) known.1
+        ∙ ap (λ read. pending_send read run.given run.call.stage) read_is
+    by_words_call wrote start (Send run) known = absurd known
+    by_words_call wrote start flight known = refl
+
+    by_words_flight : (start : Start T) (flight : Flight T) → channel.At s 0 start flight
+        → pending (words_in s) (Some flight) ≡ hung s.submission.read (Some flight)
+    by_words_flight (starts.Loan start) (flights.TheVariants.Loan flight) known = by_words_call (wrote_in (span_of 0 s.events)) start flight known
+    by_words_flight start (flights.TheVariants.Loan flight) known = absurd known
+    by_words_flight start flight known = refl
+
+    -- the send beside a receiver's step
+    pub beside_is : (p : ℕ) → p ≡ s.book.receiver → (seen : Span T)
+        → frame.Fits channel s 0 (party_of 0 latest) seen
+        → beside s.book (words_in s) latest p ≡ by_sender (hung s.submission.read (sends_at latest))
+    beside_is p receives seen fits =
+        let t = eq-eqb p s.book.receiver receives in
+        let same : pending (words_in s) (sends_at latest) ≡ hung s.submission.read (sends_at latest) =
+        each_call (λ flight. pending (words_in s) flight ≡ hung s.submission.read flight) refl by_words_flight (party_of 0 latest) seen fits
+        in
+        rw t (ap by_sender same)
+
+  -- ---- what the send that waits has written
+
+  abbrev published_it : ℕ → Span T
+  published_it index = Open (send_of index) (Published 0 (Index index) ∷ [])
+
+  pub hung_span : (index : ℕ) (o : Option (Party T)) → frame.Fits channel s 0 o (span_of 0 s.events)
+      → hung s.submission.read (flight_of (doing_of o)) ≡ Some index → span_of 0 s.events ≡ published_it index
+  hung_span x0 x1 x2 x3 = grind arith

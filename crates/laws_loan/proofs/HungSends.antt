@@ -1,0 +1,56 @@
+-- What the sender's call goes on to know where a receive takes an index out of the submission queue: a send that waits has acted.
+use Rattle.std.proofs.Common.{◌≡◌, ◌≢◌, ℕ, ◌+◌, false, Option, List, fold, arith}
+use Rattle.model.specs.declared.event.Event.{Event}
+use Rattle.model.specs.declared.families.Flight.{Flight}
+use Rattle.model.specs.declared.families.loan.Book.{Book}
+use Rattle.model.specs.declared.families.loan.calls.LoanFlight.{LoanFlight}
+use Rattle.model.specs.declared.families.loan.calls.LoanFlight.TheVariants.{Loan}
+use Rattle.model.specs.declared.party.Party.{Party}
+use Rattle.model.specs.Coding.{Coding}
+use Rattle.model.specs.Families.Indices.Robust.Dead.{has_died}
+use Rattle.model.specs.Families.Loan.Reading.{Passing, spot_of}
+use Rattle.model.specs.Families.Queues.Calls.{words_of_index}
+use Rattle.model.specs.Parties.{doing_of, flight_of}
+use Rattle.model.specs.Reading.{Span, own_after, span_of}
+use Rattle.model.proofs.Frame as frame
+use Rattle.laws_queues.proofs.Queues.Core.{Core, taken}
+use Rattle.laws_loan.proofs.Channel.{Channel}
+use Rattle.laws_loan.proofs.Hanging.{made}
+use Rattle.laws_loan.proofs.Invariant.{hung, reclaims_in, family}
+use Rattle.laws_loan.proofs.Knows.{wrote_in}
+
+module _ {T : Type 0} (slots queue : ℕ) (s : Channel T) (rest : List ℕ) (book' : Book) (events' : List (Event T)) (p : ℕ) where
+  abbrev pub taken_out : Core ℕ
+  taken_out = taken 1 words_of_index (queue + 1) s.submission rest
+
+  abbrev pub taken_then : Channel T
+  taken_then = record s { submission = taken_out; book = book'; events = events' }
+
+  -- the receiver lives, so no reclaim is under way; and what is in passing in another party's call stays so
+  pub record Takes : Type 0 where
+    pub receiver : p ≡ s.book.receiver
+    pub alive : has_died p s.book.dead ≡ false
+    pub passes : (q index : ℕ) → q ≢ p → spot_of index s.events ≡ Passing q → spot_of index events' ≡ Passing q
+
+  module _ (takes : Takes) (other : p ≢ 0) where
+    -- ---- any call of the sender's
+
+    module _ (code : Coding T) where
+      abbrev channel : frame.Family T
+      channel = family code slots queue
+
+      abbrev before : List (Event T)
+      before = wrote_in (span_of 0 s.events)
+
+      -- its span goes on with the act of the send that waits
+      abbrev Goes : Option (Flight T) → Type 0
+      Goes flight = span_of 0 events' ≡ fold own_after (span_of 0 s.events) (made (hung s.submission.read flight))
+
+      pub sender_fits : (o : Option (Party T)) → frame.Fits channel s 0 o (span_of 0 s.events)
+          → Goes (flight_of (doing_of o)) → frame.Fits channel taken_then 0 o (span_of 0 events')
+      sender_fits x0 x1 x2 = grind arith
+
+      -- ---- it is no reclaim
+
+      pub none_reclaims : (o : Option (Party T)) (seen : Span T) → frame.Fits channel s 0 o seen → reclaims_in seen ≡ false
+      none_reclaims x0 x1 x2 = grind arith

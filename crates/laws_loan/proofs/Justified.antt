@@ -1,0 +1,168 @@
+-- What is proved of every run of a loan channel: its turns write down in order, act where the promise says, and go on by the table.
+use native.Mathlib.Omega.{arith}
+use Rattle.std.proofs.Common.{◌≡◌, ◌≢◌, ℕ, ◌-◌, ◌^◌, ◌<◌, Option, Some, List, ◌++◌, refl, sym, ap, subst}
+use Rattle.steps.specs.declared.ask.After.{After}
+use Rattle.steps.specs.declared.copied.OneWord.{OneWord}
+use Rattle.steps.specs.declared.loan.send.SendStage.{SendStage}
+use Rattle.steps.specs.declared.loan.send.SendStage as sends
+use Rattle.steps.specs.declared.queues.overflow.PopStage.{PopStage}
+use Rattle.steps.specs.Loan.Layout.{submission_word}
+use Rattle.model.specs.declared.event.Answer.{Answer}
+use Rattle.model.specs.declared.event.Event.{Event}
+use Rattle.model.specs.declared.event.Start.{Start}
+use Rattle.model.specs.declared.event.Start as starts
+use Rattle.model.specs.declared.families.Flight.{Flight}
+use Rattle.model.specs.declared.families.Flight as flights
+use Rattle.model.specs.declared.families.Registry.{Registry}
+use Rattle.model.specs.declared.families.Registry as registries
+use Rattle.model.specs.declared.families.loan.LoanStart.{LoanStart}
+use Rattle.model.specs.declared.families.loan.LoanStart.TheVariants as calls
+use Rattle.model.specs.declared.families.loan.calls.LoanFlight.{LoanFlight}
+use Rattle.model.specs.declared.families.loan.calls.LoanFlight.TheVariants.{Loan, Send, GiveUp, TakeBack, Receive, GiveBack, Reclaim}
+use Rattle.model.specs.declared.party.Doing.TheVariants.{Going}
+use Rattle.model.specs.declared.party.Party.{Party}
+use Rattle.model.specs.declared.turn.Kind as kinds
+use Rattle.model.specs.declared.turn.Turn.TheVariants.{Next}
+use Rattle.model.specs.Coding.{Coding}
+use Rattle.model.specs.Families.{ask_of, beside_of, step_of, goes_of}
+use Rattle.model.specs.Families.Loan.Calls.{want, after}
+use Rattle.model.specs.Families.Loan.Promises.{promise}
+use Rattle.model.specs.Families.Loan.Steps.{effect_of}
+use Rattle.model.specs.Parties.{party_of}
+use Rattle.model.specs.Promises.{IsTurnBy, IsKeptBy}
+use Rattle.model.specs.Promises.Families.{promise_of}
+use Rattle.model.specs.Promises.Turns.{ask_in}
+use Rattle.model.specs.Step.{answer_in}
+use Rattle.model.specs.Turns.{old_of, ending_of, after_turn}
+use Rattle.model.specs.World.{Trace}
+use Rattle.model.proofs.Frame as frame
+use Rattle.model.proofs.Orders.{Orders, Keeps, ends_end, turn_is}
+use Rattle.model.proofs.Scenes.{StandsThere, stands_there, InOrder, in_order_from}
+use Rattle.laws_loan.proofs.Acts.{did, acts_of, effects_are, did_effects, all_act, frees_silent, take_back_silent}
+use Rattle.laws_loan.proofs.Acts.{give_back_silent, reclaim_silent, waits, Acting, silent_right, send_right}
+use Rattle.laws_loan.proofs.Acts.{receive_right}
+use Rattle.laws_loan.proofs.Channel.{Channel, Represents, words_in, kept_is}
+use Rattle.laws_loan.proofs.Invariant.{family}
+use Rattle.laws_loan.proofs.Kept.{kept_by}
+use Rattle.laws_loan.proofs.Laws.{asks_nothing, reached}
+use Rattle.laws_loan.proofs.Receives.{receive_at}
+use Rattle.laws_loan.proofs.Sender.{any_call}
+use Rattle.laws_loan.proofs.SendStep.{send_at}
+use Rattle.laws_loan.proofs.StepLaw.{channel}
+
+-- a receive on a queue of any capacity, which begins at any word
+abbrev receive_on : ℕ → ℕ → ℕ → PopStage → OneWord → LoanFlight
+receive_on p base queue stage room =
+    Receive p (record { call = record { base = base; call = record { capacity = queue; stage = stage } }; given = tt; room = room })
+
+module _ {T : Type 0} (code : Coding T) (slots queue : ℕ) (t : Trace T)
+    (s : frame.Sound (channel code slots queue) t) (small : t.world.turns < 2 ^ 64 - 2) (p : ℕ) (x : Party T)
+    (since : ℕ) where
+  abbrev Acts : LoanFlight → Type 0
+  Acts flight = Acting code slots queue t s small p flight
+
+  abbrev There : LoanStart → LoanFlight → Type 0
+  There start flight = StandsThere (channel code slots queue) t s p x since (starts.TheVariants.Loan start) (flights.TheVariants.Loan flight)
+
+  send_acts : (index : ℕ) (stage : SendStage) → There (calls.Send index) (send_at slots queue index stage) → Acts (send_at slots queue index stage)
+  send_acts index (sends.TheVariants.Pushes stage) there asks = let at = there.at in send_right code slots queue t s small p index stage at.5.0 asks
+  send_acts index (sends.TheVariants.Releases oldest stage) there asks = silent_right code slots queue t s small p _ (frees_silent oldest stage)
+
+  receive_acts : p ≢ 0 → (stage : PopStage) (room : OneWord)
+      → There calls.Receive (receive_at slots queue p stage room) → Acts (receive_at slots queue p stage room)
+  receive_acts other stage room there asks = receive_right code slots queue t s small p other since t.world.changes x.backs stage room there.knows asks
+
+  call_acts : (start : LoanStart) (flight : LoanFlight) → There start flight → Acts flight
+  call_acts calls.Loan (Loan run) there asks = tt
+  call_acts (calls.Send index) (Send run) there asks =
+      let at = there.at in
+      subst (λ n. There (calls.Send index) (send_at n run.call.queue run.given run.call.stage)
+      → Acts (send_at n run.call.queue run.given run.call.stage))
+      (sym at.1)
+      (subst (λ n. There (calls.Send index) (send_at slots n run.given run.call.stage) → Acts (send_at slots n run.given run.call.stage)) (sym at.2)
+      (subst (λ n. There (calls.Send index) (send_at slots queue n run.call.stage) → Acts (send_at slots queue n run.call.stage)) (sym at.3)
+      (send_acts index run.call.stage)))
+      there
+      asks
+  call_acts (calls.GiveUp index) (GiveUp run) there asks = silent_right code slots queue t s small p _ (frees_silent run.given run.call.stage)
+  call_acts calls.TakeBack (TakeBack run) there asks = silent_right code slots queue t s small p _ (take_back_silent run.call.stage)
+  call_acts calls.Receive (Receive by run) there asks =
+      let at = there.at in
+      subst (λ q. There calls.Receive (Receive q run) → Acts (Receive q run)) (sym at.1)
+      (subst (λ n. There calls.Receive (receive_on p n run.call.call.capacity run.call.call.stage run.room)
+      → Acts (receive_on p n run.call.call.capacity run.call.call.stage run.room))
+      (sym at.2)
+      (subst (λ n. There calls.Receive (receive_on p (submission_word slots) n run.call.call.stage run.room)
+      → Acts (receive_on p (submission_word slots) n run.call.call.stage run.room))
+      (sym at.3)
+      (receive_acts at.0 run.call.call.stage run.room)))
+      there
+      asks
+  call_acts (calls.GiveBack index) (GiveBack by run) there asks = silent_right code slots queue t s small p _ (give_back_silent run.given run.call.call.stage)
+  call_acts calls.Reclaim (Reclaim call) there asks =
+      silent_right code slots queue t s small p _ (reclaim_silent call.slots call.queue (words_in s.state) call.stage _)
+  call_acts start flight there asks = absurd there.at
+
+  -- ---- the order of what a step writes
+
+  in_order : (start : Start T) (flight : Flight T)
+      → StandsThere (channel code slots queue) t s p x since start flight
+      → InOrder t p promise t.world.coding (words_in s.state) (registries.TheVariants.Loan s.state.book) start flight
+  in_order (starts.TheVariants.Loan start) (flights.TheVariants.Loan flight) there =
+      let words = words_in s.state in
+      let old = old_of words (ask_of (want flight)) in
+      let effect = effect_of words (waits code slots queue t s small p) flight old in
+      let then_so : After LoanFlight (Answer T) = after s.state.book.places flight old in
+      let outcome : Option (Answer T) = answer_in then_so in
+      let ends : List (Event T) = ending_of p (starts.TheVariants.Loan start) (answer_in (any_call then_so)) in
+      let asks : ask_in t.world (Next p) ≡ ask_of (want flight) = rw there.found refl in
+      record {
+        effects = did p effect outcome;
+        acts = acts_of p effect;
+        ends = ends;
+        is = ap (λ es. t.events ++ (es ++ ends)) (effects_are p effect outcome);
+        are_effects = did_effects (Next p) p effect outcome refl;
+        are_acts = all_act T p effect;
+        are_ends = ends_end (Next p) p (starts.TheVariants.Loan start) (answer_in (any_call then_so)) refl;
+        right = call_acts start flight there asks;
+      }
+  in_order start flight there = absurd there.at
+
+  step_in_order : (flight : Flight T) → party_of p t.world.latest ≡ Some x → x.doing ≡ Going flight since
+      → InOrder t p promise t.world.coding t.world.words t.world.kept x.start flight
+  step_in_order flight found doing =
+      let is = kept_is t.world.kept t.world.words s.state s.fit in
+      in_order_from t p promise t.world.coding (words_in s.state) (registries.TheVariants.Loan s.state.book) x.start flight is.1 is.0
+      (in_order x.start flight (stands_there (channel code slots queue) t s p x since flight found doing))
+
+-- a call of a loan channel goes on as its table says
+told : {T : Type 0} (code z : Coding T) (slots queue : ℕ) (words : List ℕ) (push : Option (ℕ × ℕ)) (s : Channel T)
+    (p : ℕ) (start : Start T) (flight : Flight T) (answer : ℕ) (kept : Registry T)
+    → Represents kept words s → (channel code slots queue).At s p start flight
+    → (step_of z words push p start flight answer kept).after ≡ goes_of z p flight answer kept
+told x0 x1 x2 x3 x4 x5 x6 x7 x8 x9 x10 x11 x12 x13 = grind arith
+
+orders : {T : Type 0} (code : Coding T) (slots queue : ℕ) → Orders (channel code slots queue)
+orders code slots queue =
+    record {
+      step = λ t p x flight since s small found doing. step_in_order code slots queue t s small p x since flight found doing;
+      decision = λ t p x flight since said s small found doing asks. asks_nothing code slots queue t p x flight since s found doing asks;
+      after = λ t p x flight since answer s found doing.
+          told code t.world.coding slots queue t.world.words (beside_of t.world.words t.world.kept t.world.latest p)
+          s.state p x.start flight answer t.world.kept s.fit
+          (stands_there (channel code slots queue) t s p x since flight found doing).at;
+      tells = λ t turn e s. tt;
+    }
+
+-- what is proved of every run of a loan channel
+pub loan_keeps : {T : Type 0} → Keeps T kinds.TheVariants.Loan
+loan_keeps {T} =
+    record {
+      kept = λ t is r.
+          let s = reached t is r in
+          subst (λ P. IsKeptBy P t) (sym (ap (promise_of {T = T}) is)) (kept_by t s.0 s.1.holds.parts.set.some s.1 s.2 s.3);
+      turn = λ t turn is e r.
+          let s = reached t is r in
+          subst (λ P. IsTurnBy P t turn (after_turn t turn)) (sym (ap (promise_of {T = T}) is))
+          (turn_is (family t.world.coding t.world.capacity s.0) (orders t.world.coding t.world.capacity s.0) t turn e r s.1);
+    }

@@ -1,0 +1,124 @@
+-- That between two turns a loan channel's machine keeps its promise.
+use Rattle.std.proofs.Common.{◌≡◌, ◌≢◌, ℕ, ◌<◌, ◌≤◌, ◌⊎◌, true, true≢false, is_some, List, ◌++◌, length, get_or, take}
+use Rattle.std.proofs.Common.{drop, refl, sym, ap, subst, ◌∙◌, drop_at, arith}
+use Rattle.std.proofs.lemmas.List.{get_or_append_left, map-append, take-map}
+use Rattle.steps.specs.Indices.Head.{flag_word, has_flag}
+use Rattle.model.specs.declared.event.Event.{Event}
+use Rattle.model.specs.declared.event.Item.{Item}
+use Rattle.model.specs.declared.event.Item.TheVariants.{Index}
+use Rattle.model.specs.Families.Loan.Promises.{sent_in, given_back_in, AreThose, KeepsBook, LivesRight, IsChannelBy, IsChannel, promise}
+use Rattle.model.specs.Families.Loan.Reading.{Spot, Free, Waiting, Returning, spot_of, place_of, receiver_of, given_back, taken_back, queue_moments}
+use Rattle.model.specs.Families.Queues.Objects.{overflowing_list}
+use Rattle.model.specs.Families.Queues.Reading.{published, handed_out, waiting}
+use Rattle.model.specs.Objects.{IsLegal, standing}
+use Rattle.model.specs.Parties.{party_of}
+use Rattle.model.specs.Promises.{IsKeptBy}
+use Rattle.model.specs.Reading.{Each, span_of}
+use Rattle.model.specs.World.{Trace}
+use Rattle.model.proofs.Frame as frame
+use Rattle.laws_indices.proofs.Core.{flag_within}
+use Rattle.laws_queues.proofs.Queues.Knows.{layout}
+use Rattle.laws_loan.proofs.Bounds.{bounds}
+use Rattle.laws_loan.proofs.Channel.{kept_is, no_roles}
+use Rattle.laws_loan.proofs.Invariant.{sends_at, counted_for, carried_open, family}
+use Rattle.laws_loan.proofs.Placed.{claim_of, IsBy}
+use Rattle.laws_loan.proofs.Spots.{is_waiting, is_returning, waits_there, returns_there}
+use Rattle.laws_loan.proofs.Tabled.{IsTabled, place_in}
+use Rattle.laws_loan.proofs.Told.{items}
+use Rattle.laws_loan.proofs.Waits.{sent_is, back_is, are_those}
+
+-- the sender has claimed an index just where it is not free
+claim_tells : (spot : Spot) → is_some (claim_of spot) ≡ true → spot ≢ Free
+claim_tells spot some e = true≢false (sym some ∙ ap (λ x. is_some (claim_of x)) e)
+
+claim_told : (spot : Spot) → spot ≢ Free → is_some (claim_of spot) ≡ true
+claim_told x0 x1 = grind arith
+
+module _ {T : Type 0} where
+  -- what was published and not handed out is what waits
+  pub waiting_is : (events : List (Event T)) (rest : List (Item T)) → published events ≡ handed_out events ++ rest → waiting events ≡ rest
+  waiting_is events rest book = ap (drop (length (handed_out events))) book ∙ drop_at (handed_out events) rest (length (handed_out events)) refl
+
+  channel_kept : (t : Trace T) (queue : ℕ) → (s : frame.Sound (family t.world.coding t.world.capacity queue) t)
+      → Each LivesRight t.events → IsTabled t → IsChannel t
+  channel_kept t queue s lives tabled =
+      let w = t.world in
+      let k = s.state in
+      let hold = s.holds in
+      let parts = hold.parts in
+      let told = hold.told in
+      let is = kept_is w.kept w.words k s.fit in
+      let busy = counted_for (sends_at w.latest) in
+      let sent : sent_in w.coding w.capacity k.book.queue w.words ≡ items k.submission.waiting =
+      ap (λ q. sent_in w.coding w.capacity q w.words) parts.capacity
+      ∙ (ap (sent_in w.coding w.capacity queue) is.1 ∙ sent_is w.coding w.capacity queue k busy parts)
+      in
+      let back : given_back_in w.coding w.capacity k.book.queue w.words ≡ items k.completion.waiting =
+      ap (λ q. given_back_in w.coding w.capacity q w.words) parts.capacity
+      ∙ (ap (given_back_in w.coding w.capacity queue) is.1 ∙ back_is w.coding w.capacity queue k busy parts)
+      in
+      let flag : (index : ℕ) → index < w.capacity
+      → has_flag (get_or w.words (flag_word w.capacity index) 0) index ≡ is_some (claim_of (spot_of index t.events)) =
+      λ index below.
+      let wide = parts.set.wide in
+      let within = flag_within w.capacity index below in
+      let read : get_or w.words (flag_word w.capacity index) 0 ≡ get_or k.set (flag_word w.capacity index) 0 =
+      ap (λ ws. get_or ws (flag_word w.capacity index) 0) is.1
+      ∙ get_or_append_left k.set (layout no_roles k.submission ++ layout no_roles k.completion) 0
+      (flag_word w.capacity index) (omega arith)
+      in
+      ap (λ x. has_flag x index) read
+      ∙ (parts.set.flags index below
+      ∙ (ap is_some (parts.placed.claimed index below) ∙ ap (λ es. is_some (claim_of (spot_of index es))) hold.same))
+      in
+      subst (λ kept. IsChannelBy kept t) (sym is.0)
+      (record {
+        moves = hold.moves;
+        begins = hold.begins;
+        answers = hold.answers;
+        lives = lives;
+        table = λ index. subst (λ kept. place_in kept index ≡ place_of index t.events) is.0 (tabled index);
+        passing = λ index p e. carried_open index (span_of p t.events) (hold.passing index p e);
+        parties = λ index p by. subst (λ es. IsBy p (spot_of index es) → (p ≡ 0) ⊎ (p ≡ receiver_of es)) hold.same (parts.placed.parties index p) by;
+        flags =
+            λ index below. (
+              λ some. claim_tells (spot_of index t.events) (sym (flag index below) ∙ some),
+              λ ne. flag index below ∙ claim_told (spot_of index t.events) ne,
+            );
+        sent =
+            subst (λ es. published es ≡ handed_out es ++ sent_in w.coding w.capacity k.book.queue w.words) hold.same
+            (told.book ∙ ap (λ xs. handed_out k.events ++ xs) (sym sent));
+        waits =
+            subst (λ xs. AreThose Waiting xs t.events) (sym sent)
+            (subst (λ es. AreThose Waiting (items k.submission.waiting) es) hold.same
+            (are_those Waiting is_waiting refl waits_there k.submission.waiting k.events parts.placed.waits));
+        list =
+            subst (λ q. standing (overflowing_list q) (queue_moments t.events) ≡ take q (waiting t.events)) (sym parts.capacity)
+            (subst (λ es. standing (overflowing_list queue) (queue_moments es) ≡ take queue (waiting es)) hold.same
+            (told.stand ∙ (sym (take-map Index queue k.submission.waiting)
+            ∙ ap (take queue) (sym (waiting_is k.events (items k.submission.waiting) told.book)))));
+        legal =
+            subst (λ q. IsLegal (overflowing_list q) (queue_moments t.events)) (sym parts.capacity)
+            (subst (λ es. IsLegal (overflowing_list queue) (queue_moments es)) hold.same told.legal);
+        returned =
+            subst (λ es. items (given_back es) ≡ items (taken_back es) ++ given_back_in w.coding w.capacity k.book.queue w.words) hold.same
+            (ap items told.given ∙ (map-append Index (taken_back k.events) k.completion.waiting ∙ ap (λ xs. items (taken_back k.events) ++ xs) (sym back)));
+        returns =
+            subst (λ xs. AreThose Returning xs t.events) (sym back)
+            (subst (λ es. AreThose Returning (items k.completion.waiting) es) hold.same
+            (are_those Returning is_returning refl returns_there k.completion.waiting k.events parts.placed.returns));
+        keeps = subst (λ es. KeepsBook k.book es) hold.same parts.placed.keeps;
+      })
+
+  pub kept_by : (t : Trace T) (queue : ℕ) → 1 ≤ t.world.capacity
+      → (s : frame.Sound (family t.world.coding t.world.capacity queue) t) → Each LivesRight t.events → IsTabled t
+      → IsKeptBy promise t
+  kept_by t queue some s lives tabled =
+      let w = t.world in
+      record {
+        spans = s.inv.spans;
+        progress =
+            λ p. frame.progresses (family w.coding w.capacity queue) (bounds w.coding w.capacity queue some) s.state p
+            t.events w.changes (party_of p w.latest) (span_of p t.events) (s.inv.calls p) (s.inv.knows p);
+        promised = channel_kept t queue s lives tabled;
+      }

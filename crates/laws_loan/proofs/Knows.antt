@@ -1,0 +1,265 @@
+-- What a call of a loan channel knows where it stands, and how many steps it has taken at most. Of a receiver that has died it
+-- knows nothing but how often it has turned back, since a reclaim goes on meanwhile.
+use Rattle.std.proofs.Common.{◌≡◌, ◌≢◌, ℕ, ◌+◌, ◌*◌, ◌%◌, ◌<◌, ◌≤◌, ◌==◌, if◌then◌else◌, true, false, List, [], ◌∷◌, length, get_or}
+use Rattle.std.specs.List.{AllByRecursion}
+use Rattle.steps.specs.declared.indices.unique.ReleaseStage.{ReleaseStage}
+use Rattle.steps.specs.declared.indices.unique.ReleaseStage as releases
+use Rattle.steps.specs.declared.loan.places.Place.{Place}
+use Rattle.steps.specs.declared.loan.places.Place.TheVariants as places
+use Rattle.steps.specs.declared.loan.reclaim.ReclaimStage.{ReclaimStage}
+use Rattle.steps.specs.declared.loan.reclaim.ReclaimStage as reclaims
+use Rattle.steps.specs.declared.loan.send.SendStage.{SendStage}
+use Rattle.steps.specs.declared.loan.send.SendStage as sends
+use Rattle.steps.specs.declared.loan.take_back.TakeBackStage.{TakeBackStage}
+use Rattle.steps.specs.declared.loan.take_back.TakeBackStage as take_backs
+use Rattle.steps.specs.declared.queues.overflow.PushStage as overflow_pushes
+use Rattle.steps.specs.declared.queues.overflow.PopStage as overflow_pops
+use Rattle.steps.specs.declared.queues.ring.PopStage as pops
+use Rattle.steps.specs.Loan.Layout.{submission_word, completion_word}
+use Rattle.steps.specs.Loan.Places.{place_at}
+use Rattle.steps.specs.Queues.Ring.{cell_word}
+use Rattle.model.specs.declared.event.Answer.TheVariants.{PoppedNone, PoppedIndex}
+use Rattle.model.specs.declared.event.Event.{Event}
+use Rattle.model.specs.declared.event.Event.TheVariants.{Published, HandedOut, TakenBack, Acted}
+use Rattle.model.specs.declared.event.Item.TheVariants.{Index}
+use Rattle.model.specs.declared.event.Start.{Start}
+use Rattle.model.specs.declared.event.Start.TheVariants as starts
+use Rattle.model.specs.declared.families.loan.LoanStart.{LoanStart}
+use Rattle.model.specs.declared.families.loan.LoanStart.TheVariants as calls
+use Rattle.model.specs.declared.families.loan.calls.LoanFlight.{LoanFlight}
+use Rattle.model.specs.declared.families.loan.calls.LoanFlight.TheVariants.{Loan, Send, GiveUp, TakeBack, Receive, GiveBack, Reclaim}
+use Rattle.model.specs.Coding.{one_word}
+use Rattle.model.specs.Families.Indices.Robust.Dead.{has_died}
+use Rattle.model.specs.Families.Loan.Reading.{Passing, spot_of, given_back, taken_back, freed, claimed}
+use Rattle.model.specs.Families.Queues.Reading.{published, handed_out}
+use Rattle.model.specs.Reading.{moments, Span, Never, Open, Ended}
+use Rattle.laws_indices.proofs.Knows.{acquire_counts, acquire_number, release_counts, release_wrote, release_number}
+use Rattle.laws_queues.proofs.Overflow.Knows.{KnowsOverflowPush, KnowsOverflowPop, KnowsBacks, overflow_push_number, overflow_pop_number}
+use Rattle.laws_queues.proofs.Queues.Core.{Core}
+use Rattle.laws_queues.proofs.Queues.Knows.{in_one}
+use Rattle.laws_queues.proofs.Ring.Knows.{KnowsPush, KnowsPop, push_number, pop_number}
+use Rattle.laws_loan.proofs.Channel.{Channel}
+use Rattle.laws_loan.proofs.SetSteps.{TakesAt}
+
+-- ---- what the sender's call counts for in the head of the indices
+
+abbrev pub send_counts : SendStage → ℕ
+send_counts (sends.TheVariants.Pushes stage) = 0
+send_counts (sends.TheVariants.Releases index stage) = release_counts stage
+
+abbrev pub take_back_counts : TakeBackStage → ℕ
+take_back_counts (take_backs.TheVariants.Pops stage found) = 0
+take_back_counts (take_backs.TheVariants.Releases index stage) = release_counts stage
+
+abbrev pub reclaim_counts : ReclaimStage → ℕ
+reclaim_counts (reclaims.TheVariants.Drains stage) = 0
+reclaim_counts (reclaims.TheVariants.Empties stage) = 0
+reclaim_counts (reclaims.TheVariants.Releases number index stage) = release_counts stage
+
+abbrev pub counts : LoanFlight → ℕ
+counts (Loan run) = acquire_counts run.call.stage
+counts (Send run) = send_counts run.call.stage
+counts (GiveUp run) = release_counts run.call.stage
+counts (TakeBack run) = take_back_counts run.call.stage
+counts (Receive p run) = 0
+counts (GiveBack p run) = 0
+counts (Reclaim call) = reclaim_counts call.stage
+
+-- ---- how many steps they have taken at most, having written this and turned back so often
+
+abbrev pub send_number : SendStage → ℕ
+send_number (sends.TheVariants.Pushes stage) = overflow_push_number stage
+send_number (sends.TheVariants.Releases index stage) = 6 + release_number stage 0
+
+abbrev pub take_back_number : TakeBackStage → ℕ
+take_back_number (take_backs.TheVariants.Pops stage found) = pop_number 1 stage
+take_back_number (take_backs.TheVariants.Releases index stage) = 4 + release_number stage 0
+
+module _ {T : Type 0} where
+  -- of a reclaim each index costs so many steps: one handed out, one taken back, and one freed
+  abbrev pub reclaim_number : ℕ → List (Event T) → ReclaimStage → ℕ
+  reclaim_number slots wrote (reclaims.TheVariants.Drains stage) =
+      4 * length (handed_out wrote) + overflow_pop_number stage
+  reclaim_number slots wrote (reclaims.TheVariants.Empties stage) =
+      4 * (slots + 1) + 4 * length (taken_back wrote) + pop_number 1 stage
+  reclaim_number slots wrote (reclaims.TheVariants.Releases number index stage) =
+      8 * (slots + 1) + 5 * number + release_number stage 0
+
+  abbrev pub number_of : ℕ → List (Event T) → LoanFlight → ℕ → ℕ
+  number_of slots wrote (Loan run) backs = acquire_number slots run.call.stage 0
+  number_of slots wrote (Send run) backs = send_number run.call.stage
+  number_of slots wrote (GiveUp run) backs = release_number run.call.stage 0
+  number_of slots wrote (TakeBack run) backs = take_back_number run.call.stage
+  number_of slots wrote (Receive p run) backs =
+      2 * backs + overflow_pop_number run.call.call.stage
+  number_of slots wrote (GiveBack p run) backs = push_number 1 run.call.call.stage
+  number_of slots wrote (Reclaim call) backs = reclaim_number slots wrote call.stage
+
+  -- ---- what they have written
+
+  -- what the call of a span has written, under way or ended
+  abbrev pub wrote_in : Span T → List (Event T)
+  wrote_in Never = []
+  wrote_in (Open start wrote) = wrote
+  wrote_in (Ended start answer wrote) = wrote
+
+  abbrev pub send_of : ℕ → Start T
+  send_of index = starts.Loan (calls.Send index)
+
+  -- a push that has published over a full queue has acted once the read position has moved
+  abbrev pub push_wrote : ℕ → Core ℕ → ℕ → overflow_pushes.PushStage → List (Event T)
+  push_wrote queue k index overflow_pushes.TheVariants.HandsBack = []
+  push_wrote queue k index overflow_pushes.TheVariants.LoadsWrite = []
+  push_wrote queue k index (overflow_pushes.TheVariants.LoadsRead write) = []
+  push_wrote queue k index (overflow_pushes.TheVariants.StoresCell write read) = []
+  push_wrote queue k index (overflow_pushes.TheVariants.StoresWrite write read) = []
+  push_wrote queue k index (overflow_pushes.TheVariants.MovesRead read) =
+      Published 0 (Index index)
+      ∷ (if read == k.read then [] else Acted 0 (send_of index) PoppedNone ∷ [])
+  push_wrote queue k index (overflow_pushes.TheVariants.LoadsCell read) =
+      Published 0 (Index index)
+      ∷ HandedOut 0 (Index (get_or k.cells (read % (queue + 1)) 0))
+      ∷ Acted 0 (send_of index) (PoppedIndex (get_or k.cells (read % (queue + 1)) 0))
+      ∷ []
+
+  abbrev pub send_wrote : ℕ → Core ℕ → ℕ → SendStage → List (Event T)
+  send_wrote queue k index (sends.TheVariants.Pushes stage) = push_wrote queue k index stage
+  send_wrote queue k index (sends.TheVariants.Releases oldest stage) =
+      Published 0 (Index index)
+      ∷ HandedOut 0 (Index oldest)
+      ∷ Acted 0 (send_of index) (PoppedIndex oldest)
+      ∷ release_wrote 0 oldest stage
+
+  abbrev pub take_back_wrote : TakeBackStage → List (Event T)
+  take_back_wrote (take_backs.TheVariants.Pops stage found) = []
+  take_back_wrote (take_backs.TheVariants.Releases index stage) =
+      TakenBack 0 index ∷ release_wrote 0 index stage
+
+-- ---- where a reclaim stands, during which nobody else moves a position
+
+abbrev pub DrainsAt : Core ℕ → overflow_pops.PopStage → Type 0
+DrainsAt k overflow_pops.TheVariants.FindsNone = ⊥
+DrainsAt k overflow_pops.TheVariants.LoadsRead = Unit {0}
+DrainsAt k (overflow_pops.TheVariants.LoadsWrite read) = read ≡ k.read
+DrainsAt k (overflow_pops.TheVariants.LoadsCell read) = (read ≡ k.read) × (k.read < k.write)
+DrainsAt k (overflow_pops.TheVariants.MovesRead read) = (read ≡ k.read) × (k.read < k.write)
+
+abbrev pub EmptiesAt : ℕ → Core ℕ → pops.PopStage → Type 0
+EmptiesAt slots k pops.TheVariants.LoadsRead = Unit {0}
+EmptiesAt slots k (pops.TheVariants.LoadsWrite read) = read ≡ k.read
+EmptiesAt slots k (pops.TheVariants.LoadsCell read cell at) =
+    (read ≡ k.read) × (k.read < k.write) × (cell ≡ cell_word slots 1 k.read) × (at ≡ 0)
+EmptiesAt slots k (pops.TheVariants.StoresRead read) = (read ≡ k.read) × (k.read < k.write)
+
+-- the index that is released was sent until its flag is cleared
+abbrev pub FreesAt : List Place → ℕ → ReleaseStage → Type 0
+FreesAt table index releases.TheVariants.ClearsFlag = place_at table index ≡ places.Sent
+FreesAt table index releases.TheVariants.LoadsHead = Unit {0}
+FreesAt table index (releases.TheVariants.StoresNext head) = Unit {0}
+FreesAt table index (releases.TheVariants.ExchangesHead head) = Unit {0}
+FreesAt table index releases.TheVariants.Subtracts = Unit {0}
+
+-- with these two queues and this table: what it has written of the one kind and what still waits are no more than the slots,
+-- and none that was sent is behind it
+abbrev pub StageAt : {T : Type 0} → ℕ → Core ℕ → Core ℕ → List Place → List (Event T) → ReclaimStage → Type 0
+StageAt slots k m table wrote (reclaims.TheVariants.Drains stage) =
+    DrainsAt k stage × (length (handed_out wrote) + length k.waiting ≤ slots) × (taken_back wrote ≡ []) × (freed wrote ≡ [])
+StageAt slots k m table wrote (reclaims.TheVariants.Empties stage) =
+    EmptiesAt slots m stage × (length (taken_back wrote) + length m.waiting ≤ slots) × (freed wrote ≡ []) × (k.waiting ≡ [])
+StageAt slots k m table wrote (reclaims.TheVariants.Releases number index stage) =
+    FreesAt table index stage × (index < slots) × (number ≤ index)
+    × (length (freed wrote) ≡ number + release_counts stage)
+    × AllByRecursion (λ i. i < index + release_counts stage) (freed wrote)
+    × ((j : ℕ) → j < index + release_counts stage → place_at table j ≢ places.Sent)
+    × (k.waiting ≡ []) × (m.waiting ≡ [])
+
+-- ---- where a call under way stands
+
+module _ {T : Type 0} (slots queue : ℕ) (s : Channel T) where
+  -- this index is in passing in this party's call
+  abbrev pub Passes : ℕ → ℕ → Type 0
+  Passes p index = (index < slots) × (spot_of index s.events ≡ Passing p)
+
+  -- a release of an index that is in passing, until it clears the flag
+  abbrev pub GivesAt : ℕ → ReleaseStage → Type 0
+  GivesAt index releases.TheVariants.ClearsFlag = Passes 0 index
+  GivesAt index releases.TheVariants.LoadsHead = index < slots
+  GivesAt index (releases.TheVariants.StoresNext head) = index < slots
+  GivesAt index (releases.TheVariants.ExchangesHead head) = index < slots
+  GivesAt index releases.TheVariants.Subtracts = index < slots
+
+  -- a push of the submission queue: its index is in passing until it is published, and so is then the one that it takes out
+  abbrev pub PushAt : ℕ → overflow_pushes.PushStage → Type 0
+  PushAt index overflow_pushes.TheVariants.HandsBack = ⊥
+  PushAt index overflow_pushes.TheVariants.LoadsWrite = Passes 0 index
+  PushAt index (overflow_pushes.TheVariants.LoadsRead write) = Passes 0 index
+  PushAt index (overflow_pushes.TheVariants.StoresCell write read) = Passes 0 index
+  PushAt index (overflow_pushes.TheVariants.StoresWrite write read) = Passes 0 index
+  PushAt index (overflow_pushes.TheVariants.MovesRead read) = Unit {0}
+  PushAt index (overflow_pushes.TheVariants.LoadsCell read) =
+      Passes 0 (get_or s.submission.cells (read % (queue + 1)) 0)
+
+  abbrev pub SendAt : ℕ → SendStage → Type 0
+  SendAt index (sends.TheVariants.Pushes stage) =
+      KnowsOverflowPush queue s.submission index stage × PushAt index stage
+  SendAt index (sends.TheVariants.Releases oldest stage) = GivesAt oldest stage
+
+  abbrev pub TakeBackAt : TakeBackStage → Type 0
+  TakeBackAt (take_backs.TheVariants.Pops stage found) =
+      KnowsPop one_word slots s.completion (in_one found) stage
+  TakeBackAt (take_backs.TheVariants.Releases index stage) = GivesAt index stage
+
+  pub record ReclaimAt (wrote : List (Event T)) (stage : ReclaimStage) : Type 0 where
+    pub dead : has_died s.book.receiver s.book.dead ≡ true
+    pub sent : (index : ℕ) → spot_of index s.events ≡ Passing 0 → place_at s.book.places index ≡ places.Sent
+    pub claims : claimed wrote ≡ []
+    pub publishes : published wrote ≡ []
+    pub gives : given_back wrote ≡ []
+    pub acts : moments wrote ≡ []
+    pub stage_at : StageAt slots s.submission s.completion s.book.places wrote stage
+
+  -- ---- any call, which has written this
+
+  -- what a receiver's call knows while its party lives
+  abbrev pub WhileAlive : ℕ → Type 0 → Type 0
+  WhileAlive p Fact = has_died p s.book.dead ≡ false → Fact
+
+  abbrev pub At : ℕ → List (Event T) → LoanStart → LoanFlight → Type 0
+  At p wrote calls.Loan (Loan run) =
+      (p ≡ 0) × (run.call.capacity ≡ slots) × (wrote ≡ []) × TakesAt slots s.set run.call.stage
+  At p wrote (calls.Send index) (Send run) =
+      (p ≡ 0) × (run.call.slots ≡ slots) × (run.call.queue ≡ queue) × (run.given ≡ index)
+      × (wrote ≡ send_wrote queue s.submission index run.call.stage)
+      × SendAt index run.call.stage
+  At p wrote (calls.GiveUp index) (GiveUp run) =
+      (p ≡ 0) × (run.call.capacity ≡ slots) × (run.given ≡ index)
+      × (wrote ≡ release_wrote 0 index run.call.stage) × GivesAt index run.call.stage
+  At p wrote calls.TakeBack (TakeBack run) =
+      (p ≡ 0) × (run.call.slots ≡ slots) × (run.call.queue ≡ queue)
+      × (wrote ≡ take_back_wrote run.call.stage) × TakeBackAt run.call.stage
+  At p wrote calls.Receive (Receive by run) =
+      (p ≢ 0) × (by ≡ p) × (run.call.base ≡ submission_word slots)
+      × (run.call.call.capacity ≡ queue) × (wrote ≡ [])
+      × WhileAlive p ((p ≡ s.book.receiver) × KnowsOverflowPop queue s.submission run.room run.call.call.stage)
+  At p wrote (calls.GiveBack index) (GiveBack by run) =
+      (p ≢ 0) × (by ≡ p) × (run.call.base ≡ completion_word slots queue)
+      × (run.call.call.capacity ≡ slots) × (run.given ≡ index) × (wrote ≡ [])
+      × (push_number 1 run.call.call.stage ≤ 3)
+      × WhileAlive p
+      ((p ≡ s.book.receiver) × Passes p index
+      × KnowsPush one_word slots s.completion index run.call.call.stage)
+  At p wrote calls.Reclaim (Reclaim call) =
+      (p ≡ 0) × (call.slots ≡ slots) × (call.queue ≡ queue) × ReclaimAt wrote call.stage
+  At p wrote start flight = ⊥
+
+  -- ---- what it knows of the counts: only a receive turns back, where a send has moved the read position
+
+  abbrev pub FlightKnows : ℕ → ℕ → ℕ → LoanFlight → Type 0
+  FlightKnows since changes backs (Loan run) = backs ≡ 0
+  FlightKnows since changes backs (Send run) = backs ≡ 0
+  FlightKnows since changes backs (GiveUp run) = backs ≡ 0
+  FlightKnows since changes backs (TakeBack run) = backs ≡ 0
+  FlightKnows since changes backs (Receive by run) =
+      KnowsBacks s.submission since changes backs run.call.call.stage
+  FlightKnows since changes backs (GiveBack by run) = backs ≡ 0
+  FlightKnows since changes backs (Reclaim call) = backs ≡ 0

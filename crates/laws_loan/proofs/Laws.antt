@@ -1,0 +1,165 @@
+-- Every turn keeps what holds of a loan channel's machine: the laws of the family, and so every run has it.
+use native.Mathlib.Omega.{arith}
+use Rattle.std.proofs.Common.{◌≡◌, ℕ, ◌-◌, ◌^◌, ◌<◌, true, false, Some, None, sym, subst}
+use Rattle.model.specs.declared.event.Start.{Start}
+use Rattle.model.specs.declared.event.Start as starts
+use Rattle.model.specs.declared.families.Flight.{Flight}
+use Rattle.model.specs.declared.families.Flight as flights
+use Rattle.model.specs.declared.families.Registry as registries
+use Rattle.model.specs.declared.families.loan.LoanStart.{LoanStart}
+use Rattle.model.specs.declared.families.loan.LoanStart.TheVariants as calls
+use Rattle.model.specs.declared.families.loan.calls.LoanFlight.{LoanFlight}
+use Rattle.model.specs.declared.families.loan.calls.LoanFlight.TheVariants.{Loan, Send, GiveUp, TakeBack, Receive, GiveBack, Reclaim}
+use Rattle.model.specs.declared.party.Doing.TheVariants.{Going}
+use Rattle.model.specs.declared.party.Party.{Party}
+use Rattle.model.specs.declared.turn.Kind as kinds
+use Rattle.model.specs.declared.turn.Turn.{Turn}
+use Rattle.model.specs.Coding.{Coding}
+use Rattle.model.specs.Families.{want_of, is_question, going_rows}
+use Rattle.model.specs.Families.Indices.Robust.Dead.{has_died}
+use Rattle.model.specs.Families.Loan.Calls as rows
+use Rattle.model.specs.Families.Loan.Promises.{LivesRight}
+use Rattle.model.specs.Parties.{party_of}
+use Rattle.model.specs.Reading.{Each}
+use Rattle.model.specs.Refusals.{refusal_of}
+use Rattle.model.specs.Rows.{first_row}
+use Rattle.model.specs.Turns.{old_of, after_turn, IsReached}
+use Rattle.model.specs.World.{Trace, opened, capacity_error, queue_error}
+use Rattle.model.proofs.Frame as frame
+use Rattle.model.proofs.Reached.{kept_by_runs}
+use Rattle.model.proofs.Readings.{Each-nil}
+use Rattle.model.proofs.Rows.{passes}
+use Rattle.model.proofs.Scenes.{asked, StandsThere, stands_there, ComesFrom, comes_from}
+use Rattle.laws_loan.proofs.BeginLaw.{begin_comes}
+use Rattle.laws_loan.proofs.Channel.{words_in, kept_is, all_free}
+use Rattle.laws_loan.proofs.Deaths.{death_comes}
+use Rattle.laws_loan.proofs.GiveBackStep.{give_back_comes}
+use Rattle.laws_loan.proofs.GiveUpStep.{give_up_releases}
+use Rattle.laws_loan.proofs.Invariant.{family}
+use Rattle.laws_loan.proofs.LoanStep.{loan_acquires}
+use Rattle.laws_loan.proofs.Lives.{lives}
+use Rattle.laws_loan.proofs.Living.{turn_lives}
+use Rattle.laws_loan.proofs.Loans.{loan_at}
+use Rattle.laws_loan.proofs.Opens.{slots_are, queue_is, opening_sound}
+use Rattle.laws_loan.proofs.ReceiveSteps.{receive_comes}
+use Rattle.laws_loan.proofs.ReclaimStep.{reclaim_steps_from}
+use Rattle.laws_loan.proofs.Releases.{give_up_at}
+use Rattle.laws_loan.proofs.Senders.{Stands, Comes}
+use Rattle.laws_loan.proofs.SendStep.{send_at, send_steps}
+use Rattle.laws_loan.proofs.StepLaw.{channel}
+use Rattle.laws_loan.proofs.Tabled.{IsTabled, turn_tabled}
+use Rattle.laws_loan.proofs.TakeBackStep.{take_back_at, take_back_steps}
+
+module _ {T : Type 0} (code : Coding T) (slots queue : ℕ) (t : Trace T)
+    (sound : frame.Sound (channel code slots queue) t) (small : t.world.turns < 2 ^ 64 - 2) (x : Party T)
+    (since : ℕ) where
+  -- where it stands there it comes so on
+  abbrev Goes : ℕ → LoanStart → LoanFlight → Type 0
+  Goes p start flight =
+      Stands code slots queue t sound small x since p (starts.TheVariants.Loan start) (flights.TheVariants.Loan flight)
+      → Comes code slots queue t sound small x since p (starts.TheVariants.Loan start) (flights.TheVariants.Loan flight)
+
+  call_comes : (p : ℕ) (start : LoanStart) (flight : LoanFlight) → has_died (rows.party_of flight) sound.state.book.dead ≡ false → Goes p start flight
+  call_comes p calls.Loan (Loan run) alive there =
+      let at = there.at in
+      subst (λ q. Goes q calls.Loan (Loan run)) (sym at.0)
+      (subst (λ n. Goes 0 calls.Loan (loan_at n run.call.stage)) (sym at.1)
+      (λ there. loan_acquires code slots queue t sound small x since run.call.stage there))
+      there
+  call_comes p (calls.Send index) (Send run) alive there =
+      let at = there.at in
+      subst (λ q. Goes q (calls.Send index) (Send run)) (sym at.0)
+      (subst (λ n. Goes 0 (calls.Send index) (send_at n run.call.queue run.given run.call.stage)) (sym at.1)
+      (subst (λ n. Goes 0 (calls.Send index) (send_at slots n run.given run.call.stage)) (sym at.2)
+      (subst (λ n. Goes 0 (calls.Send index) (send_at slots queue n run.call.stage)) (sym at.3)
+      (λ there. send_steps code slots queue t sound small x since index run.call.stage there))))
+      there
+  call_comes p (calls.GiveUp index) (GiveUp run) alive there =
+      let at = there.at in
+      subst (λ q. Goes q (calls.GiveUp index) (GiveUp run)) (sym at.0)
+      (subst (λ n. Goes 0 (calls.GiveUp index) (give_up_at n queue run.given run.call.stage)) (sym at.1)
+      (subst (λ n. Goes 0 (calls.GiveUp index) (give_up_at slots queue n run.call.stage)) (sym at.2)
+      (λ there. give_up_releases code slots queue t sound small x since index run.call.stage there)))
+      there
+  call_comes p calls.TakeBack (TakeBack run) alive there =
+      let at = there.at in
+      subst (λ q. Goes q calls.TakeBack (TakeBack run)) (sym at.0)
+      (subst (λ n. Goes 0 calls.TakeBack (take_back_at n run.call.queue run.call.stage)) (sym at.1)
+      (subst (λ n. Goes 0 calls.TakeBack (take_back_at slots n run.call.stage)) (sym at.2)
+      (λ there. take_back_steps code slots queue t sound small x since run.call.stage there)))
+      there
+  call_comes p calls.Receive (Receive by run) alive there =
+      let lives : has_died p sound.state.book.dead ≡ false = subst (λ q. has_died q sound.state.book.dead ≡ false) there.at.1 alive in
+      receive_comes code slots queue t sound small x since p lives by run there
+  call_comes p (calls.GiveBack index) (GiveBack by run) alive there =
+      let lives : has_died p sound.state.book.dead ≡ false = subst (λ q. has_died q sound.state.book.dead ≡ false) there.at.1 alive in
+      give_back_comes code slots queue t sound small x since p index lives by run there
+  call_comes p calls.Reclaim (Reclaim call) alive there =
+      subst (λ q. Goes q calls.Reclaim (Reclaim call)) (sym there.at.0) (λ there. reclaim_steps_from code slots queue t sound small x since call there) there
+  call_comes p start flight alive there = absurd there.at
+
+  comes : (p : ℕ) (start : Start T) (flight : Flight T)
+      → first_row (going_rows t.world.coding t.world.kept (Some flight) None) ≡ None
+      → StandsThere (channel code slots queue) t sound p x since start flight
+      → ComesFrom (channel code slots queue) t sound p x since code (words_in sound.state) (registries.TheVariants.Loan sound.state.book) start flight
+  comes p (starts.TheVariants.Loan start) (flights.TheVariants.Loan flight) r there =
+      call_comes p start flight (lives code slots queue t sound flight None r) there
+  comes p start flight r there = absurd there.at
+
+  step_comes : (p : ℕ) (flight : Flight T)
+      → first_row (going_rows t.world.coding t.world.kept (Some flight) None) ≡ None
+      → party_of p t.world.latest ≡ Some x → x.doing ≡ Going flight since
+      → frame.ComesByStep (channel code slots queue) t p x flight since (asked t.world.coding flight) (old_of t.world.words (asked t.world.coding flight))
+  step_comes p flight r found doing =
+      let is = kept_is t.world.kept t.world.words sound.state sound.fit in
+      comes_from (channel code slots queue) t sound p x since (words_in sound.state) (registries.TheVariants.Loan sound.state.book) flight is.1 is.0
+      (comes p x.start flight r (stands_there (channel code slots queue) t sound p x since flight found doing))
+
+module _ {T : Type 0} (code : Coding T) (slots queue : ℕ) where
+  -- no call waits for a decision
+  pub asks_nothing : {A : Type 0}
+      → (t : Trace T) (p : ℕ) (x : Party T) (flight : Flight T) (since : ℕ) (s : frame.Sound (channel code slots queue) t)
+      → party_of p t.world.latest ≡ Some x → x.doing ≡ Going flight since
+      → is_question (want_of t.world.coding flight) ≡ true → A
+  asks_nothing x0 x1 x2 x3 x4 x5 x6 x7 x8 = grind arith
+
+  pub laws : frame.Laws (channel code slots queue)
+  laws =
+      record {
+        step = λ t p x flight since s small passed found doing. step_comes code slots queue t s small x since p flight passed found doing;
+        decision = λ t p x flight since said s small passed found doing asks. asks_nothing t p x flight since s found doing asks;
+        begin = λ t p start flight s small may e. begin_comes code slots queue t p start flight s may e;
+        death = λ t owner s may. death_comes code slots queue t owner s may;
+      }
+
+-- a machine that was reached is a sound one of some second number, its dead do nothing more, and its table is right
+pub reached : {T : Type 0} (t : Trace T) → t.world.kind ≡ kinds.TheVariants.Loan → IsReached t
+    → (queue : ℕ) × frame.Sound (family t.world.coding t.world.capacity queue) t × Each LivesRight t.events × IsTabled t
+reached {T} t is r = kept_by_runs IsSound keeps t first r
+  where
+    IsSound : Trace T → Type 0
+    IsSound u = (queue : ℕ) × frame.Sound (family t.world.coding t.world.capacity queue) u × Each LivesRight u.events × IsTabled u
+
+    keeps : (u : Trace T) (turn : Turn T) → refusal_of u.world turn ≡ None → IsSound u → IsSound (after_turn u turn)
+    keeps u turn e h =
+        let passed = passes u.world turn e in
+        let sound =
+        frame.turn_sound (family t.world.coding t.world.capacity h.0) (λ t. t.world.turns < 2 ^ 64 - 2)
+        (laws t.world.coding t.world.capacity h.0) u turn passed.on passed.turns h.1 in (
+          h.0,
+          sound,
+          turn_lives t.world.coding t.world.capacity h.0 u h.1 turn passed.on h.2,
+          turn_tabled t.world.coding t.world.capacity h.0 u h.1 h.3 turn sound.holds.moves,
+        )
+
+    first : (queue : ℕ) → queue_error t.world.kind queue ≡ None → IsSound (opened t.world.coding t.world.kind t.world.capacity queue t.world.parties)
+    first queue queued =
+        let w = t.world in
+        let few = slots_are w.capacity (subst (λ kind. capacity_error kind w.capacity ≡ None) is r.admitted) in
+        let fits = queue_is queue (subst (λ kind. queue_error kind queue ≡ None) is queued) in (
+          queue,
+          subst (λ kind. frame.Sound (family w.coding w.capacity queue) (opened w.coding kind w.capacity queue w.parties))
+              (sym is) (opening_sound w.capacity queue few.0 few.1 fits.0 fits.1 w.coding w.parties),
+          Each-nil _,
+          subst (λ kind. IsTabled (opened w.coding kind w.capacity queue w.parties)) (sym is) (λ i. all_free w.capacity i),
+        )

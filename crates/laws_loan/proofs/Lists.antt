@@ -1,0 +1,142 @@
+-- The indices that wait in a queue are those that are there by the events, each once, and so no more than there are slots.
+use Rattle.std.proofs.Common.{◌≡◌, ◌≢◌, ℕ, zero, suc, ◌+◌, ◌<◌, ◌≤◌, ◌==◌, ⊎_elim, Bool, true, false, Some, None, List}
+use Rattle.std.proofs.Common.{[], ◌∷◌, ◌++◌, length, refl, sym, ap, subst, ◌∙◌, arith, eq-eqb, ne_eqb}
+use Rattle.std.proofs.lemmas.Bool.{cases_eq, cases_lt}
+use Rattle.model.specs.declared.event.Event.{Event}
+use Rattle.model.specs.Families.Loan.Reading.{Spot, Move, move_of, spot_of}
+use Rattle.model.specs.Turns.{one_if}
+use Rattle.laws_indices.proofs.Sums.{sum_below, sum_moved, sum_none}
+use Rattle.laws_loan.proofs.Spots.{spot_stays, spot_other, spot_moved}
+
+-- ---- how often a number stands in a list
+
+abbrev pub times : ℕ → List ℕ → ℕ
+times i [] = 0
+times i (x ∷ xs) = one_if (x == i) + times i xs
+
+pub same_one : (i : ℕ) → one_if (i == i) ≡ 1
+same_one i = ap one_if (eq-eqb i i refl)
+
+pub other_none : (x i : ℕ) → x ≢ i → one_if (x == i) ≡ 0
+other_none x i ne = ap one_if (ne_eqb x i ne)
+
+pub one_at_most : (b : Bool) → one_if b ≤ 1
+one_at_most x0 = grind arith
+
+pub true_if_one : (b : Bool) → 1 ≤ one_if b → b ≡ true
+true_if_one x0 x1 = grind arith
+
+times_more : (i : ℕ) (xs : List ℕ) (x : ℕ) → times i (xs ++ x ∷ []) ≡ times i xs + one_if (x == i)
+times_more i [] x = omega arith
+times_more i (y ∷ ys) x = let rest = times_more i ys x in omega arith
+
+-- a list of numbers below a bound is as long as they stand in it
+long : (xs : List ℕ) (n : ℕ) → ((i : ℕ) → n ≤ i → times i xs ≡ 0) → length xs ≡ sum_below (λ i. times i xs) n
+long [] n none = sym (sum_none (λ i. times i []) n (λ i below. refl))
+long (x ∷ xs) n none =
+    let rest = long xs n (λ i past. let all : one_if (x == i) + times i xs ≡ 0 = none i past in omega arith) in
+    let here = same_one x in
+    let below : x < n =
+    ⊎_elim (λ (h : x < n). h)
+    (λ (past : n ≤ x). let all : one_if (x == x) + times x xs ≡ 0 = none x past in absurd (omega arith))
+    (cases_lt x n) in
+    let moved = sum_moved (λ i. times i (x ∷ xs)) (λ i. times i xs) n x below (λ i ne. let other = other_none x i (λ h. ne (sym h)) in omega arith) in
+    omega arith
+
+sum_few : (f : ℕ → ℕ) (n : ℕ) → ((i : ℕ) → f i ≤ 1) → sum_below f n ≤ n
+sum_few f zero one = omega arith
+sum_few f (suc n) one = let here = one n in let rest = sum_few f n one in omega arith
+
+-- and less where one counts nothing
+pub sum_less : (f : ℕ → ℕ) (n i : ℕ) → ((j : ℕ) → f j ≤ 1) → i < n → f i ≡ 0 → sum_below f n < n
+sum_less f zero i one below none = absurd (omega arith)
+sum_less f (suc n) i one below none = ⊎_elim last (before (λ less. sum_less f n i one less none)) (cases_eq i n)
+  where
+    last : i ≡ n → f n + sum_below f n < suc n
+    last e =
+        let here : f n ≡ 0 = ap f (sym e) ∙ none in
+        let rest = sum_few f n one in
+        omega arith
+
+    before : (i < n → sum_below f n < n) → i ≢ n → f n + sum_below f n < suc n
+    before less ne =
+        let here = one n in
+        let rest = less (omega arith) in
+        omega arith
+
+-- ---- the indices at a spot
+
+module _ {T : Type 0} (is : Spot → Bool) where
+  abbrev pub Lists : List ℕ → List (Event T) → Type 0
+  Lists xs events = (i : ℕ) → times i xs ≡ one_if (is (spot_of i events))
+
+  -- no more than there are slots
+  pub lists_few : (xs : List ℕ) (events : List (Event T)) (slots : ℕ) → Lists xs events
+      → ((i : ℕ) → slots ≤ i → is (spot_of i events) ≡ false) → length xs ≤ slots
+  lists_few xs events slots all past =
+      let whole = long xs slots (λ i beyond. all i ∙ ap one_if (past i beyond)) in
+      let few = sum_few (λ i. times i xs) slots (λ i. let here = all i in let most = one_at_most (is (spot_of i events)) in omega arith) in
+      omega arith
+
+  -- and fewer where one index is elsewhere
+  pub lists_room : (xs : List ℕ) (events : List (Event T)) (slots i : ℕ) → Lists xs events
+      → ((j : ℕ) → slots ≤ j → is (spot_of j events) ≡ false) → i < slots → is (spot_of i events) ≡ false
+      → length xs < slots
+  lists_room xs events slots i all past below apart =
+      let whole = long xs slots (λ j beyond. all j ∙ ap one_if (past j beyond)) in
+      let few =
+      sum_less (λ j. times j xs) slots i
+      (λ j. let here = all j in let most = one_at_most (is (spot_of j events)) in omega arith) below
+      (all i ∙ ap one_if apart) in
+      omega arith
+
+  -- the first of them is there
+  pub first_there : (xs rest : List ℕ) (events : List (Event T)) (x : ℕ) → xs ≡ x ∷ rest → Lists xs events → is (spot_of x events) ≡ true
+  first_there x0 x1 x2 x3 x4 x5 = grind arith
+
+  module _ (xs : List ℕ) (events : List (Event T)) (e : Event T) (all : Lists xs events) where
+    -- an event that moves no index
+    pub lists_stay : move_of e ≡ None → Lists xs (events ++ e ∷ [])
+    lists_stay none i = all i ∙ ap (λ spot. one_if (is spot)) (sym (spot_stays events e i none))
+
+    module _ (m : Move) (moves : move_of e ≡ Some m) where
+      now : one_if (is (spot_of m.index (events ++ e ∷ []))) ≡ one_if (is m.to)
+      now = ap (λ spot. one_if (is spot)) (spot_moved events e m moves)
+
+      others : (i : ℕ) → m.index ≢ i → one_if (is (spot_of i (events ++ e ∷ []))) ≡ times i xs
+      others i ne = ap (λ spot. one_if (is spot)) (spot_other events e m moves i ne) ∙ sym (all i)
+
+      -- what is so of the index that moves, and of the others
+      each : (ys : List ℕ) → times m.index ys ≡ one_if (is m.to) → ((i : ℕ) → m.index ≢ i → times i ys ≡ times i xs) → Lists ys (events ++ e ∷ [])
+      each ys here there i = ⊎_elim at apart (cases_eq m.index i)
+        where
+          at : m.index ≡ i → times i ys ≡ one_if (is (spot_of i (events ++ e ∷ [])))
+          at same = subst (λ j. times j ys ≡ one_if (is (spot_of j (events ++ e ∷ [])))) same (here ∙ sym now)
+
+          apart : m.index ≢ i → times i ys ≡ one_if (is (spot_of i (events ++ e ∷ [])))
+          apart ne = there i ne ∙ sym (others i ne)
+
+      -- an index moves between other spots
+      pub lists_pass : is (spot_of m.index events) ≡ false → is m.to ≡ false → Lists xs (events ++ e ∷ [])
+      lists_pass from to = each xs (all m.index ∙ (ap one_if from ∙ sym (ap one_if to))) (λ i ne. refl)
+
+      -- an index comes
+      pub lists_push : is (spot_of m.index events) ≡ false → is m.to ≡ true → Lists (xs ++ m.index ∷ []) (events ++ e ∷ [])
+      lists_push from to =
+          let none : times m.index xs ≡ 0 = all m.index ∙ ap one_if from in
+          let one : one_if (is m.to) ≡ 1 = ap one_if to in
+          let more = times_more m.index xs m.index in
+          let self = same_one m.index in
+          each (xs ++ m.index ∷ []) (omega arith)
+          (λ i ne. let longer = times_more i xs m.index in let other = other_none m.index i ne in omega arith)
+
+      -- the first one leaves
+      pub lists_pop : (rest : List ℕ) → xs ≡ m.index ∷ rest → is m.to ≡ false → Lists rest (events ++ e ∷ [])
+      lists_pop rest front to =
+          let before : times m.index xs ≡ one_if (m.index == m.index) + times m.index rest = ap (times m.index) front in
+          let most = one_at_most (is (spot_of m.index events)) in
+          let had = all m.index in
+          let none : one_if (is m.to) ≡ 0 = ap one_if to in
+          let self = same_one m.index in
+          each rest (omega arith)
+          (λ i ne. let shorter : times i xs ≡ one_if (m.index == i) + times i rest = ap (times i) front in let other = other_none m.index i ne in omega arith)

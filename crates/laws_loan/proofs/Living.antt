@@ -1,0 +1,113 @@
+-- Who has died does nothing more: what a turn writes down finds its party alive, since the turn has passed its rows.
+use native.Mathlib.Omega.{arith}
+use Rattle.std.proofs.Common.{◌≡◌, ℕ, Bool, false, Option, Some, None, List, [], ◌∷◌, ◌++◌, refl, sym, subst, ◌∙◌}
+use Rattle.std.proofs.lemmas.List.Sums.{fold-append}
+use Rattle.model.specs.declared.event.Event.{Event}
+use Rattle.model.specs.declared.event.Event.TheVariants.{Begun}
+use Rattle.model.specs.declared.event.Start.{Start}
+use Rattle.model.specs.declared.families.Flight.{Flight}
+use Rattle.model.specs.declared.families.Registry.{Registry}
+use Rattle.model.specs.declared.families.loan.calls.LoanFlight.{LoanFlight}
+use Rattle.model.specs.declared.families.loan.calls.LoanFlight.TheVariants.{Loan}
+use Rattle.model.specs.declared.party.Doing.{Doing}
+use Rattle.model.specs.declared.party.Doing.TheVariants.{Going, Over}
+use Rattle.model.specs.declared.party.Party.{Party}
+use Rattle.model.specs.declared.turn.Turn.{Turn}
+use Rattle.model.specs.declared.turn.Turn.TheVariants.{Begin, Next, Decide, Die}
+use Rattle.model.specs.Coding.{Coding}
+use Rattle.model.specs.Families.{step_of, going_rows, is_dead}
+use Rattle.model.specs.Families.Indices.Robust.Dead.{has_died}
+use Rattle.model.specs.Families.Loan.Promises.{LivesRight}
+use Rattle.model.specs.Families.Loan.Reading.{died_after, has_died_by}
+use Rattle.model.specs.Parties.{party_of}
+use Rattle.model.specs.Reading.{Each}
+use Rattle.model.specs.Refusals.{call_refusal}
+use Rattle.model.specs.Rows.{first_row}
+use Rattle.model.specs.Turns.{events_of_step, events_of_answer, events_of_next, events_of_decision, events_of, old_of, ask_of_doing, number_of, after_turn}
+use Rattle.model.specs.World.{Trace, flight_in}
+use Rattle.model.proofs.Frame as frame
+use Rattle.model.proofs.Readings.{AreRight, Each-append}
+use Rattle.model.proofs.Rows.{may_begin, may_die, next_passes, decision_passes, MayBegin}
+use Rattle.model.proofs.Scenes.{stands_there}
+use Rattle.laws_loan.proofs.Channel.{Channel, Represents, kept_is}
+use Rattle.laws_loan.proofs.Knows.{At}
+use Rattle.laws_loan.proofs.Lives.{lives}
+use Rattle.laws_loan.proofs.StepLaw.{channel}
+
+module _ {T : Type 0} where
+  -- ---- what the step of a living party writes down
+
+  -- it is no death of that party, and right where that party lives
+  abbrev Writes : ℕ → Event T → Type 0
+  Writes p e = ((dead : Bool) → died_after p dead e ≡ dead) × ((before : List (Event T)) → has_died_by p before ≡ false → LivesRight before e)
+
+  abbrev AllWritten : ℕ → List (Event T) → Type 0
+  AllWritten p [] = Unit {0}
+  AllWritten p (e ∷ es) = Writes p e × AllWritten p es
+
+  written_right : (p : ℕ) (before es : List (Event T)) → has_died_by p before ≡ false → AllWritten p es → AreRight LivesRight before es
+  written_right p before [] alive all = tt
+  written_right p before (e ∷ es) alive all =
+      let still : has_died_by p (before ++ e ∷ []) ≡ false = fold-append (died_after p) false before (e ∷ []) ∙ (all.0.0 (has_died_by p before) ∙ alive) in
+      (all.0.1 before alive, written_right p (before ++ e ∷ []) es still all.1)
+
+module _ {T : Type 0} (code : Coding T) (slots queue : ℕ) where
+  step_written : (z : Coding T) (words : List ℕ) (push : Option (ℕ × ℕ)) (s : Channel T) (p : ℕ) (start : Start T)
+      (flight : Flight T) (old : ℕ) (kept : Registry T)
+      → Represents kept words s → (channel code slots queue).At s p start flight
+      → AllWritten p (events_of_step p start (step_of z words push p start flight old kept))
+  step_written x0 x1 x2 x3 x4 x5 x6 x7 x8 x9 x10 = grind arith
+
+  module _ (t : Trace T) (sound : frame.Sound (channel code slots queue) t) where
+    -- who lives by the book lives by the events
+    alive_by : (p : ℕ) → has_died p sound.state.book.dead ≡ false → has_died_by p t.events ≡ false
+    alive_by p alive = subst (λ es. has_died_by p es ≡ false) sound.holds.same (sym (sound.holds.parts.placed.keeps.dead p) ∙ alive)
+
+    -- ---- a call begins
+
+    begins : (p : ℕ) (start : Start T) → MayBegin t.world p start → LivesRight t.events (Begun p start)
+    begins x0 x1 x2 = grind arith
+
+    -- ---- a call goes on
+
+    module _ (p : ℕ) (said : Option Bool) (passed : first_row (going_rows t.world.coding t.world.kept (flight_in t.world p) said) ≡ None) where
+      goes_alive : (start : Start T) (flight : Flight T) → (channel code slots queue).At sound.state p start flight
+          → first_row (going_rows t.world.coding t.world.kept (Some flight) said) ≡ None
+          → has_died p sound.state.book.dead ≡ false
+      goes_alive x0 x1 x2 x3 = grind arith
+
+      answered : (x : Party T) (answer : ℕ) (doing : Doing T) → party_of p t.world.latest ≡ Some x → x.doing ≡ doing
+          → AreRight LivesRight t.events (events_of_answer t.world p x answer doing)
+      answered x answer (Over others) found d = tt
+      answered x answer (Going flight since) found d =
+          let there = stands_there (channel code slots queue) t sound p x since flight found d in
+          let r : first_row (going_rows t.world.coding t.world.kept (Some flight) said) ≡ None =
+          subst (λ o. first_row (going_rows t.world.coding t.world.kept o said) ≡ None) there.found passed in
+          written_right p t.events _ (alive_by p (goes_alive x.start flight there.at r))
+          (step_written t.world.coding t.world.words _ sound.state p x.start flight answer t.world.kept sound.fit there.at)
+
+    next : (p : ℕ) → first_row (going_rows t.world.coding t.world.kept (flight_in t.world p) None) ≡ None
+        → (o : Option (Party T)) → party_of p t.world.latest ≡ o
+        → AreRight LivesRight t.events (events_of_next t.world p o)
+    next p passed None found = tt
+    next p passed (Some x) found = answered p None passed x (old_of t.world.words (ask_of_doing t.world.coding x.doing)) x.doing found refl
+
+    decided : (p : ℕ) (said : Bool)
+        → first_row (going_rows t.world.coding t.world.kept (flight_in t.world p) (Some said)) ≡ None
+        → (o : Option (Party T)) → party_of p t.world.latest ≡ o
+        → AreRight LivesRight t.events (events_of_decision t.world p said o)
+    decided p said passed None found = tt
+    decided p said passed (Some x) found = answered p (Some said) passed x (number_of said) x.doing found refl
+
+    -- ---- any turn
+
+    turn_right : (turn : Turn T) → call_refusal t.world turn ≡ None → AreRight LivesRight t.events (events_of t.world turn)
+    turn_right (Begin p start) e = (begins p start (may_begin t.world p start e), tt)
+    turn_right (Next p) e = next p (next_passes t.world p e) (party_of p t.world.latest) refl
+    turn_right (Decide p said) e = decided p said (decision_passes t.world p said e) (party_of p t.world.latest) refl
+    turn_right (Die o) e =
+        let is = kept_is t.world.kept t.world.words sound.state sound.fit in
+        (alive_by o (subst (λ kept. is_dead kept o ≡ false) is.0 (may_die t.world o e).lives), tt)
+
+    pub turn_lives : (turn : Turn T) → call_refusal t.world turn ≡ None → Each LivesRight t.events → Each LivesRight (after_turn t turn).events
+    turn_lives turn e all = Each-append LivesRight t.events (events_of t.world turn) all (turn_right turn e)

@@ -1,0 +1,130 @@
+-- A loan's acquire, as steps of the machine.
+use Rattle.std.specs.Prelude.{Ok, Err}
+use Rattle.std.proofs.Common.{◌≡◌, ℕ, ◌-◌, ◌^◌, ◌<◌, false, Bool, Option, Some, List, [], ◌∷◌, ◌++◌, fold, set, refl, sym, ap, subst, ◌∙◌}
+use Rattle.steps.specs.declared.ask.Ask.{Ask}
+use Rattle.steps.specs.declared.ask.After.{After}
+use Rattle.steps.specs.declared.ask.After.TheVariants.{GoOn, Done}
+use Rattle.steps.specs.declared.indices.enums.UniqueIndexSetAcquireFailure as failures
+use Rattle.steps.specs.declared.indices.unique.Acquire as acquire_calls
+use Rattle.steps.specs.declared.indices.unique.AcquireStage.{AcquireStage}
+use Rattle.steps.specs.Indices.Unique.{Acquired, acquire_asks, acquire_takes, acquire_goes_back}
+use Rattle.steps.specs.Routine.{went_on}
+use Rattle.model.specs.declared.event.Answer.{Answer}
+use Rattle.model.specs.declared.event.Answer.TheVariants as answers
+use Rattle.model.specs.declared.event.Event.{Event}
+use Rattle.model.specs.declared.event.Event.TheVariants.{Claimed, Finished}
+use Rattle.model.specs.declared.event.Start as starts
+use Rattle.model.specs.declared.families.Flight as flights
+use Rattle.model.specs.declared.families.loan.Book.{Book}
+use Rattle.model.specs.declared.families.loan.LoanStart.TheVariants as calls
+use Rattle.model.specs.declared.families.loan.calls.LoanFlight.{LoanFlight}
+use Rattle.model.specs.declared.families.loan.calls.LoanFlight.TheVariants.{Loan}
+use Rattle.model.specs.declared.families.loan.effects.Effect.TheVariants as effects
+use Rattle.model.specs.declared.party.Party.{Party}
+use Rattle.model.specs.Coding.{Coding}
+use Rattle.model.specs.Families.{ask_of}
+use Rattle.model.specs.Families.Indices.Calls.{acquire_answer}
+use Rattle.model.specs.Families.Loan.Steps.{ended_book, book_after, effects_of}
+use Rattle.model.specs.Families.Queues.Calls.{as_it_is}
+use Rattle.model.specs.Reading.{Open, span_of}
+use Rattle.model.specs.Step.{as_call, answer_in}
+use Rattle.model.specs.Turns.{old_of, words_after}
+use Rattle.model.specs.World.{Trace}
+use Rattle.model.proofs.Frame as frame
+use Rattle.laws_loan.proofs.Channel.{words_in}
+use Rattle.laws_loan.proofs.Invariant.{sends_at, counted_for}
+use Rattle.laws_loan.proofs.Loans.{loan_at, step, goes_steps, fails_steps, claims_steps}
+use Rattle.laws_loan.proofs.Parts.{set_old}
+use Rattle.laws_loan.proofs.Senders.{Stands, Comes, from_step}
+use Rattle.laws_loan.proofs.SetSteps.{AcquireLeads}
+use Rattle.laws_loan.proofs.StepLaw.{channel, holds_now, ComesWith}
+
+-- how a loan goes on whose acquire goes on so
+abbrev loaned_after : (T : Type 0) → After acquire_calls.Acquire Acquired → After LoanFlight (Answer T)
+loaned_after T acquire = as_call Loan acquire_answer (went_on as_it_is tt tt acquire)
+
+module _ {T : Type 0} (code : Coding T) (slots queue : ℕ) (t : Trace T)
+    (sound : frame.Sound (channel code slots queue) t) (small : t.world.turns < 2 ^ 64 - 2) (x : Party T) (since : ℕ)
+    (stage : AcquireStage)
+    (there : Stands code slots queue t sound small x since 0 (starts.TheVariants.Loan calls.Loan)
+    (flights.TheVariants.Loan (loan_at slots stage))) where
+  abbrev ask : Option Ask
+  ask = ask_of (acquire_asks slots stage)
+
+  abbrev call : acquire_calls.Acquire
+  call = record { capacity = slots; stage = stage }
+
+  abbrev words_then : List ℕ
+  words_then = words_after sound.state.set ask
+
+  from : span_of 0 sound.state.events ≡ Open (starts.TheVariants.Loan calls.Loan) []
+  from = ap (span_of 0) sound.holds.same ∙ (there.span ∙ ap (λ es. Open (starts.TheVariants.Loan calls.Loan) es) there.at.2)
+
+  abbrev With : Bool → After LoanFlight (Answer T) → Type 0
+  With back after =
+      ComesWith code slots queue t sound x since 0 calls.Loan ask back after
+      (effects_of 0 effects.Claims (answer_in after))
+      (ended_book {T = T} 0 calls.Loan (answer_in after)
+      (fold (book_after {T = T}) sound.state.book (effects_of 0 effects.Claims (answer_in after))))
+
+  abbrev told : ℕ → List (Event T)
+  told i = Claimed 0 i ∷ Finished 0 (starts.TheVariants.Loan calls.Loan) (answers.Index i) ∷ []
+
+  abbrev failed : List (Event T)
+  failed = Finished 0 (starts.TheVariants.Loan calls.Loan) (answers.NoIndex failures.TheVariants.OutOfIndices) ∷ []
+
+  abbrev claimed_book : ℕ → Book
+  claimed_book i = record (book_after {T = T} sound.state.book (Claimed 0 i)) { holders = set sound.state.book.holders i (Some 0) }
+
+  leads_on : (acquire : After acquire_calls.Acquire Acquired)
+      → AcquireLeads slots stage sound.state.set words_then sound.state.claims acquire
+      → With false (loaned_after T acquire)
+  leads_on (GoOn acquire) l =
+      subst (λ c. With false (GoOn (Loan (record { call = record { capacity = c; stage = acquire.stage }; given = tt; room = tt })))) (sym l.1)
+      (from_step code slots queue t sound small x since calls.Loan ask (GoOn (loan_at slots acquire.stage))
+      effects.Claims
+      (record sound.state { set = words_then; claims = sound.state.claims; book = sound.state.book; events = sound.state.events ++ [] })
+      [] from (
+        goes_steps code slots queue sound.state t.world.latest t.world.turns t.world.changes since x
+            (holds_now code slots queue t sound x since) stage there.found there.at.3 from there.steps there.knows
+            acquire.stage l.0 l.2 l.3,
+        refl,
+      ))
+  leads_on (Done (Ok i)) l =
+      from_step code slots queue t sound small x since calls.Loan ask (Done (answers.Index i)) effects.Claims
+      (record sound.state {
+        set = words_then;
+        claims = set sound.state.claims i (Some 0);
+        book = claimed_book i;
+        events = sound.state.events ++ told i;
+      }) [] from (
+        claims_steps code slots queue sound.state t.world.latest t.world.turns t.world.changes since x
+            (holds_now code slots queue t sound x since) stage there.found there.at.3 from there.steps there.knows i l.1
+            l.0 l.2 l.3,
+        refl,
+      )
+  leads_on (Done (Err failures.TheVariants.OutOfIndices)) l =
+      from_step code slots queue t sound small x since calls.Loan ask
+      (Done (answers.NoIndex failures.TheVariants.OutOfIndices)) effects.Claims (record sound.state {
+        set = words_then;
+        claims = sound.state.claims;
+        book = sound.state.book;
+        events = sound.state.events ++ failed;
+      }) [] from (
+        fails_steps code slots queue sound.state t.world.latest t.world.turns t.world.changes since x
+            (holds_now code slots queue t sound x since) stage there.found there.at.3 from there.steps there.knows l.0 l.1
+            l.2,
+        refl,
+      )
+  leads_on (Done (Err failures.TheVariants.IsLocked)) l = absurd l
+
+  pub loan_acquires : Comes code slots queue t sound small x since 0 (starts.TheVariants.Loan calls.Loan) (flights.TheVariants.Loan (loan_at slots stage))
+  loan_acquires =
+      let does =
+      step code slots queue sound.state t.world.latest t.world.turns t.world.changes since x
+      (holds_now code slots queue t sound x since) stage there.found there.at.3 from there.steps there.knows in
+      let value : old_of (words_in sound.state) ask ≡ old_of sound.state.set ask =
+      set_old slots queue sound.state (counted_for (sends_at t.world.latest)) sound.holds.parts (acquire_asks slots stage) does.on in
+      subst (λ v. With (acquire_goes_back slots stage v) (loaned_after T (acquire_takes call stage v))) (sym value)
+      (subst (λ b. With b (loaned_after T (acquire_takes call stage (old_of sound.state.set ask)))) (sym does.stays)
+      (leads_on (acquire_takes call stage (old_of sound.state.set ask)) does.leads))

@@ -1,0 +1,94 @@
+-- A step of the sender's call that changes no word of the indices, and those of the two queues so.
+use Rattle.std.proofs.Common.{◌≡◌, ℕ, ◌+◌, ◌≤◌, Bool, Some, List, [], ◌++◌, fold, sym, ap, subst, ◌∙◌, append-nil, refl}
+use Rattle.model.specs.declared.event.Event.{Event}
+use Rattle.model.specs.declared.families.loan.Book.{Book}
+use Rattle.model.specs.declared.party.Party.{Party}
+use Rattle.model.specs.Families.Loan.Promises.{MovesRight, BeginsRight, AnswersRight}
+use Rattle.model.specs.Families.Loan.Reading.{Passing, spot_of, receiver_of, given_back, taken_back, reclaims_after, as_queue}
+use Rattle.model.specs.Families.Queues.Calls.{words_of_index}
+use Rattle.model.specs.Families.Queues.Reading.{published, handed_out}
+use Rattle.model.specs.Parties.{put, doing_of, flight_of}
+use Rattle.model.specs.Reading.{span_of}
+use Rattle.model.proofs.Parties.{party_put_same}
+use Rattle.model.proofs.Readings.{AreRight}
+use Rattle.laws_indices.proofs.Core as indices
+use Rattle.laws_queues.proofs.Queues.Core.{Core, Good}
+use Rattle.laws_loan.proofs.Channel.{Channel, Holds}
+use Rattle.laws_loan.proofs.Invariant.{Hangs, sends_at, counted_for, hung, reclaims_in, Carries, HoldsNow}
+use Rattle.laws_loan.proofs.Placed.{Placed}
+use Rattle.laws_loan.proofs.Told.{items, is_reclaiming, Tells}
+use Rattle.laws_loan.proofs.Turns.{Shows}
+
+-- events that tell nothing of the submission queue, where of the completion queue they tell so
+pub silent_tells : {T : Type 0} (queue : ℕ) (reclaims : Bool) (sent back back' : List ℕ) (es : List (Event T))
+    → published es ≡ [] → handed_out es ≡ [] → as_queue reclaims es ≡ []
+    → back ++ given_back es ≡ taken_back es ++ back' → Tells queue reclaims sent sent back back' es
+silent_tells queue reclaims sent back back' es publishes hands_out acts given =
+    record {
+      book = ap (λ xs. items sent ++ xs) publishes ∙ (append-nil (items sent) ∙ sym (ap (λ xs. xs ++ items sent) hands_out));
+      given = given;
+      goes = rw acts refl;
+      answers = rw acts refl;
+    }
+
+module _ {T : Type 0} (slots queue : ℕ) (s : Channel T) (latest : List (ℕ × Party T)) (turns : ℕ) (y : Party T)
+    (submission' completion' : Core ℕ) (book' : Book) (es : List (Event T)) where
+  abbrev pub queues_then : Channel T
+  queues_then = record s { submission = submission'; completion = completion'; book = book'; events = s.events ++ es }
+
+  pub record OnQueues : Type 0 where
+    pub busy_before : counted_for (sends_at latest) ≡ 0
+    pub busy_after : counted_for (flight_of (Some y.doing)) ≡ 0
+    pub queue_stays : book'.queue ≡ s.book.queue
+    pub submission : Good 1 words_of_index (queue + 1) submission'
+    pub completion : Good 1 words_of_index slots completion'
+    pub placed : Placed slots s.claims submission'.waiting completion'.waiting book' (s.events ++ es)
+    pub tells : Tells queue (is_reclaiming s.events) s.submission.waiting submission'.waiting s.completion.waiting completion'.waiting es
+    pub hangs : Hangs queue submission' (hung submission'.read (flight_of (Some y.doing)))
+    pub sent : submission'.write ≤ turns + 1
+    pub given : completion'.write ≤ turns + 1
+    pub reclaiming : fold reclaims_after (is_reclaiming s.events) es ≡ reclaims_in (span_of 0 (s.events ++ es))
+    pub receivers : (receiver_of s.events ≤ receiver_of (s.events ++ es)) × (receiver_of (s.events ++ es) ≤ receiver_of s.events + 1)
+    pub moves : AreRight (MovesRight slots) s.events es
+    pub begins : AreRight BeginsRight s.events es
+    pub answers : AreRight (AnswersRight slots) s.events es
+    pub passing : (index q : ℕ) → spot_of index (s.events ++ es) ≡ Passing q → Carries index (span_of q (s.events ++ es))
+
+  module _ (h : HoldsNow slots queue s latest s.events turns) (on : OnQueues) where
+    sends_now : sends_at (put 0 y latest) ≡ flight_of (Some y.doing)
+    sends_now = ap (λ o. flight_of (doing_of o)) (party_put_same 0 y latest)
+
+    busy_now : counted_for (sends_at (put 0 y latest)) ≡ 0
+    busy_now = ap counted_for sends_now ∙ on.busy_after
+
+    parts_then : Holds slots queue queues_then (counted_for (sends_at (put 0 y latest)))
+    parts_then =
+        record {
+          capacity = on.queue_stays ∙ h.parts.capacity;
+          some = h.parts.some;
+          few = h.parts.few;
+          set =
+              subst (λ n. indices.Good slots s.set s.claims n) (sym busy_now)
+              (subst (λ n. indices.Good slots s.set s.claims n) on.busy_before h.parts.set);
+          submission = on.submission;
+          completion = on.completion;
+          unlocked = h.parts.unlocked;
+          placed = on.placed;
+        }
+
+    pub queues_show : Shows slots queue s queues_then 0 y latest turns es
+    queues_show =
+        record {
+          events = refl;
+          parts = parts_then;
+          tells = on.tells;
+          hangs = subst (λ o. Hangs queue submission' (hung submission'.read o)) (sym sends_now) on.hangs;
+          reclaiming = on.reclaiming;
+          sent = on.sent;
+          given = on.given;
+          receivers = on.receivers;
+          moves = on.moves;
+          begins = on.begins;
+          answers = on.answers;
+          passing = on.passing;
+        }

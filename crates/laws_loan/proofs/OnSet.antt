@@ -1,0 +1,98 @@
+-- A step of the sender's call that changes no word but those of the indices, and tells of neither queue.
+use Rattle.std.proofs.Common.{◌≡◌, ◌≢◌, ℕ, ◌+◌, ◌≤◌, Option, Some, None, List, [], ◌++◌, fold, sym, ap, subst, ◌∙◌, append-nil, refl, arith}
+use Rattle.steps.specs.Indices.Head.{locked}
+use Rattle.model.specs.declared.event.Event.{Event}
+use Rattle.model.specs.declared.families.loan.Book.{Book}
+use Rattle.model.specs.declared.party.Party.{Party}
+use Rattle.model.specs.Families.Loan.Promises.{MovesRight, BeginsRight, AnswersRight}
+use Rattle.model.specs.Families.Loan.Reading.{Passing, spot_of, receiver_of, given_back, taken_back, reclaims_after, as_queue}
+use Rattle.model.specs.Families.Queues.Reading.{published, handed_out}
+use Rattle.model.specs.Parties.{put, doing_of, flight_of}
+use Rattle.model.specs.Reading.{span_of}
+use Rattle.model.proofs.Parties.{party_put_same}
+use Rattle.model.proofs.Readings.{AreRight}
+use Rattle.laws_indices.proofs.Core as indices
+use Rattle.laws_loan.proofs.Channel.{Channel, Holds}
+use Rattle.laws_loan.proofs.Invariant.{Hangs, sends_at, counted_for, hung, reclaims_in, Carries, HoldsNow}
+use Rattle.laws_loan.proofs.Placed.{Placed}
+use Rattle.laws_loan.proofs.Told.{items, is_reclaiming, Tells}
+use Rattle.laws_loan.proofs.Turns.{Shows}
+
+module _ {T : Type 0} (slots queue : ℕ) (s : Channel T) (latest : List (ℕ × Party T)) (turns : ℕ) (y : Party T)
+    (set' : List ℕ) (claims' : List (Option ℕ)) (book' : Book) (es : List (Event T)) where
+  abbrev pub set_then : Channel T
+  set_then = record s { set = set'; claims = claims'; book = book'; events = s.events ++ es }
+
+  -- these events tell of neither queue
+  pub record Silent : Type 0 where
+    pub publishes : published es ≡ []
+    pub hands_out : handed_out es ≡ []
+    pub gives : given_back es ≡ []
+    pub takes : taken_back es ≡ []
+    pub acts : as_queue (is_reclaiming s.events) es ≡ []
+
+  pub record OnSet : Type 0 where
+    pub good : indices.Good slots set' claims' (counted_for (flight_of (Some y.doing)))
+    pub unlocked : indices.counted_in set' ≢ locked
+    pub queue_stays : book'.queue ≡ s.book.queue
+    pub placed : Placed slots claims' s.submission.waiting s.completion.waiting book' (s.events ++ es)
+    pub silent : Silent
+    pub calm_before : hung s.submission.read (sends_at latest) ≡ None
+    pub calm_after : hung s.submission.read (flight_of (Some y.doing)) ≡ None
+    pub reclaiming : fold reclaims_after (is_reclaiming s.events) es ≡ reclaims_in (span_of 0 (s.events ++ es))
+    pub receivers : (receiver_of s.events ≤ receiver_of (s.events ++ es)) × (receiver_of (s.events ++ es) ≤ receiver_of s.events + 1)
+    pub moves : AreRight (MovesRight slots) s.events es
+    pub begins : AreRight BeginsRight s.events es
+    pub answers : AreRight (AnswersRight slots) s.events es
+    pub passing : (index q : ℕ) → spot_of index (s.events ++ es) ≡ Passing q → Carries index (span_of q (s.events ++ es))
+
+  module _ (h : HoldsNow slots queue s latest s.events turns) (on : OnSet) where
+    sends_now : sends_at (put 0 y latest) ≡ flight_of (Some y.doing)
+    sends_now = ap (λ o. flight_of (doing_of o)) (party_put_same 0 y latest)
+
+    parts_then : Holds slots queue set_then (counted_for (sends_at (put 0 y latest)))
+    parts_then =
+        record {
+          capacity = on.queue_stays ∙ h.parts.capacity;
+          some = h.parts.some;
+          few = h.parts.few;
+          set = subst (λ o. indices.Good slots set' claims' (counted_for o)) (sym sends_now) on.good;
+          submission = h.parts.submission;
+          completion = h.parts.completion;
+          unlocked = on.unlocked;
+          placed = on.placed;
+        }
+
+    tells : Tells queue (is_reclaiming s.events) s.submission.waiting s.submission.waiting s.completion.waiting s.completion.waiting es
+    tells =
+        record {
+          book =
+              ap (λ xs. items s.submission.waiting ++ xs) on.silent.publishes
+              ∙ (append-nil (items s.submission.waiting) ∙ sym (ap (λ xs. xs ++ items s.submission.waiting) on.silent.hands_out));
+          given =
+              ap (λ xs. s.completion.waiting ++ xs) on.silent.gives
+              ∙ (append-nil s.completion.waiting ∙ sym (ap (λ xs. xs ++ s.completion.waiting) on.silent.takes));
+          goes = rw on.silent.acts refl;
+          answers = rw on.silent.acts refl;
+        }
+
+    pub set_shows : Shows slots queue s set_then 0 y latest turns es
+    set_shows =
+        let sent = h.sent in
+        let given = h.given in
+        record {
+          events = refl;
+          parts = parts_then;
+          tells = tells;
+          hangs =
+              subst (Hangs queue s.submission) (sym (ap (hung s.submission.read) sends_now ∙ on.calm_after))
+              (subst (Hangs queue s.submission) on.calm_before h.hangs);
+          reclaiming = on.reclaiming;
+          sent = omega arith;
+          given = omega arith;
+          receivers = on.receivers;
+          moves = on.moves;
+          begins = on.begins;
+          answers = on.answers;
+          passing = on.passing;
+        }

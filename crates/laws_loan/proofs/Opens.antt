@@ -1,0 +1,57 @@
+-- How a loan channel's machine opens, at any two numbers that are admitted.
+use Rattle.std.proofs.Common.{◌≡◌, ℕ, ◌^◌, ◌<◌, ◌≤◌, None, [], refl, arith}
+use Rattle.steps.specs.Indices.Head.{locked}
+use Rattle.model.specs.declared.turn.Kind as kinds
+use Rattle.model.specs.Coding.{Coding}
+use Rattle.model.specs.Families.Loan.Reading.{Free, Passing}
+use Rattle.model.specs.World.{opened, capacity_error, queue_error}
+use Rattle.model.proofs.Frame as frame
+use Rattle.model.proofs.Readings.{Each-nil}
+use Rattle.laws_loan.proofs.Channel as channels
+use Rattle.laws_loan.proofs.Channel.{opening_fits, opening_holds}
+use Rattle.laws_loan.proofs.Invariant.{HoldsNow, family}
+use Rattle.laws_loan.proofs.Told.{Told}
+
+-- ---- numbers that are admitted
+
+pub slots_are : (c : ℕ) → capacity_error kinds.TheVariants.Loan c ≡ None → (1 ≤ c) × (c < locked)
+slots_are x0 x1 = grind arith
+
+pub queue_is : (c : ℕ) → queue_error kinds.TheVariants.Loan c ≡ None → (1 ≤ c) × (c < 2 ^ 32)
+queue_is x0 x1 = grind arith
+
+-- ---- the opening
+
+module _ {T : Type 0} where
+  told_nothing : (queue : ℕ) → Told {T = T} queue [] [] []
+  told_nothing x0 = grind arith
+
+  module _ (slots queue : ℕ) (some : 1 ≤ slots) (few : slots < locked) (room : 1 ≤ queue) (fits : queue < 2 ^ 32) where
+    holds_now : HoldsNow {T = T} slots queue (channels.opened slots queue) [] [] 0
+    holds_now =
+        record {
+          same = refl;
+          parts = opening_holds slots queue some few room fits;
+          told = told_nothing queue;
+          hangs = omega arith;
+          reclaiming = refl;
+          sent = omega arith;
+          given = omega arith;
+          receivers = (omega arith, omega arith);
+          moves = Each-nil _;
+          begins = Each-nil _;
+          answers = Each-nil _;
+          passing = λ index p e. let never : Free ≡ Passing p = e in absurd (cc);
+        }
+
+    pub opening_sound : (code : Coding T) (parties : ℕ) → frame.Sound (family code slots queue) (opened code kinds.TheVariants.Loan slots queue parties)
+    opening_sound code parties =
+        record {
+          coding = refl;
+          kind = refl;
+          capacity = refl;
+          state = channels.opened slots queue;
+          fit = opening_fits T slots queue;
+          holds = holds_now;
+          inv = record { spans = Each-nil _; calls = λ p. refl; knows = λ p. tt };
+        }

@@ -1,0 +1,140 @@
+-- Where each index is by the events, beside what is kept: who has claimed it, which indices wait in the two queues, and the
+-- book; and what an event that moves one index leaves of them.
+use Rattle.std.proofs.Common.{◌≡◌, ◌≢◌, ℕ, ◌<◌, ◌≤◌, ◌⊎◌, ⊎_elim, Option, Some, None, List, [], ◌∷◌, ◌++◌, length, get_or, sym, ap, subst, ◌∙◌, arith}
+use Rattle.std.proofs.lemmas.Bool.{cases_eq}
+use Rattle.steps.specs.Loan.Places.{place_at}
+use Rattle.model.specs.declared.event.Event.{Event}
+use Rattle.model.specs.declared.families.loan.Book.{Book}
+use Rattle.model.specs.Families.Indices.Robust.Dead.{has_died}
+use Rattle.model.specs.Families.Loan.Promises.{holder_in, IsIn, KeepsBook}
+use Rattle.model.specs.Families.Loan.Reading.{Spot, Free, Passing, With, Move, move_of, spot_of, receiver_of, has_died_by}
+use Rattle.laws_indices.proofs.Core.{holder}
+use Rattle.laws_loan.proofs.Lists.{Lists}
+use Rattle.laws_loan.proofs.Spots.{is_waiting, is_returning, spot_stays, spot_other, spot_moved}
+
+-- the sender has claimed an index that is not free
+abbrev pub claim_of : Spot → Option ℕ
+claim_of Free = None
+claim_of spot = Some 0
+
+-- the party has the index, or it is in passing in its call
+abbrev pub IsBy : ℕ → Spot → Type 0
+IsBy p spot = (spot ≡ With p) ⊎ (spot ≡ Passing p)
+
+-- of a channel of so many slots, with these claims, with these indices waiting in the two queues, with this book
+pub record Placed {T : Type 0} (slots : ℕ) (claims : List (Option ℕ)) (sent back : List ℕ) (book : Book) (events : List (Event T)) : Type 0 where
+  pub claimed : (i : ℕ) → i < slots → holder claims i ≡ claim_of (spot_of i events)
+  pub past : (i : ℕ) → slots ≤ i → spot_of i events ≡ Free
+  pub waits : Lists is_waiting sent events
+  pub returns : Lists is_returning back events
+  pub parties : (i p : ℕ) → IsBy p (spot_of i events) → (p ≡ 0) ⊎ (p ≡ receiver_of events)
+  pub claims_long : length claims ≡ slots
+  pub places_long : length book.places ≡ slots
+  pub holders_long : length book.holders ≡ slots
+  pub keeps : KeepsBook book events
+
+-- ---- an event that moves an index
+
+module _ {T : Type 0} (slots : ℕ) (events : List (Event T)) (e : Event T) (m : Move) (is : move_of e ≡ Some m) where
+  abbrev pub later : List (Event T)
+  later = events ++ e ∷ []
+
+  -- what is so of the index that moves, and of the others
+  pub here_and_there : (P : ℕ → Type 0) → P m.index → ((i : ℕ) → m.index ≢ i → P i) → (i : ℕ) → P i
+  here_and_there P here there i = ⊎_elim (λ same. subst P same here) (λ ne. there i ne) (cases_eq m.index i)
+
+  -- what an event shows, after which the claims, the indices that wait and the book are these
+  pub record Shown (claims claims' : List (Option ℕ)) (sent' back' : List ℕ) (book book' : Book) : Type 0 where
+    pub below : m.index < slots
+    pub claim : holder claims' m.index ≡ claim_of m.to
+    pub other_claims : (i : ℕ) → m.index ≢ i → holder claims' i ≡ holder claims i
+    pub waits : Lists is_waiting sent' later
+    pub returns : Lists is_returning back' later
+    pub party : (p : ℕ) → IsBy p m.to → (p ≡ 0) ⊎ (p ≡ receiver_of events)
+    pub claims_long : length claims' ≡ length claims
+    pub places_long : length book'.places ≡ length book.places
+    pub holders_long : length book'.holders ≡ length book.holders
+    pub place : IsIn (place_at book'.places m.index) m.to
+    pub other_places : (i : ℕ) → m.index ≢ i → place_at book'.places i ≡ place_at book.places i
+    pub holds : get_or book'.holders m.index None ≡ holder_in m.to
+    pub other_holders : (i : ℕ) → m.index ≢ i → get_or book'.holders i None ≡ get_or book.holders i None
+    pub receiver : receiver_of later ≡ receiver_of events
+    pub receiver_stays : book'.receiver ≡ book.receiver
+    pub dead : (p : ℕ) → has_died_by p later ≡ has_died_by p events
+    pub dead_stay : book'.dead ≡ book.dead
+
+  module _ (claims claims' : List (Option ℕ)) (sent sent' back back' : List ℕ) (book book' : Book)
+      (h : Placed slots claims sent back book events) (s : Shown claims claims' sent' back' book book') where
+    keeps_more : KeepsBook book' later
+    keeps_more =
+        record {
+          places = here_and_there (λ i. IsIn (place_at book'.places i) (spot_of i later))
+              (subst (IsIn (place_at book'.places m.index)) (sym (spot_moved events e m is)) s.place)
+              (λ i ne. subst (λ place. IsIn place (spot_of i later)) (sym (s.other_places i ne))
+              (subst (IsIn (place_at book.places i)) (sym (spot_other events e m is i ne)) (h.keeps.places i)));
+          holders = here_and_there (λ i. get_or book'.holders i None ≡ holder_in (spot_of i later))
+              (s.holds ∙ sym (ap holder_in (spot_moved events e m is)))
+              (λ i ne. s.other_holders i ne ∙ (h.keeps.holders i ∙ sym (ap holder_in (spot_other events e m is i ne))));
+          receiver = s.receiver_stays ∙ (h.keeps.receiver ∙ sym s.receiver);
+          dead = λ p. ap (has_died p) s.dead_stay ∙ (h.keeps.dead p ∙ sym (s.dead p));
+        }
+
+    parties_more : (i : ℕ) → (p : ℕ) → IsBy p (spot_of i later) → (p ≡ 0) ⊎ (p ≡ receiver_of later)
+    parties_more =
+        here_and_there (λ i. (p : ℕ) → IsBy p (spot_of i later) → (p ≡ 0) ⊎ (p ≡ receiver_of later))
+        (λ p by. subst (λ r. (p ≡ 0) ⊎ (p ≡ r)) (sym s.receiver) (s.party p (subst (IsBy p) (spot_moved events e m is) by)))
+        (λ i ne p by. subst (λ r. (p ≡ 0) ⊎ (p ≡ r)) (sym s.receiver) (h.parties i p (subst (IsBy p) (spot_other events e m is i ne) by)))
+
+    pub placed_more : Placed slots claims' sent' back' book' later
+    placed_more =
+        record {
+          claimed = here_and_there (λ i. i < slots → holder claims' i ≡ claim_of (spot_of i later))
+              (λ below. s.claim ∙ sym (ap claim_of (spot_moved events e m is)))
+              (λ i ne below. s.other_claims i ne ∙ (h.claimed i below ∙ sym (ap claim_of (spot_other events e m is i ne))));
+          past = here_and_there (λ i. slots ≤ i → spot_of i later ≡ Free)
+              (λ beyond. let below = s.below in absurd (omega arith))
+              (λ i ne beyond. spot_other events e m is i ne ∙ h.past i beyond);
+          waits = s.waits;
+          returns = s.returns;
+          parties = parties_more;
+          claims_long = s.claims_long ∙ h.claims_long;
+          places_long = s.places_long ∙ h.places_long;
+          holders_long = s.holders_long ∙ h.holders_long;
+          keeps = keeps_more;
+        }
+
+-- ---- an event that moves none
+
+module _ {T : Type 0} (slots : ℕ) (events : List (Event T)) (e : Event T) (none : move_of e ≡ None) where
+  stays : (i : ℕ) → spot_of i (events ++ e ∷ []) ≡ spot_of i events
+  stays i = spot_stays events e i none
+
+  pub record Leaves (book book' : Book) : Type 0 where
+    pub places : book'.places ≡ book.places
+    pub holders : book'.holders ≡ book.holders
+    pub receiver : book'.receiver ≡ receiver_of (events ++ e ∷ [])
+    pub dead : (p : ℕ) → has_died p book'.dead ≡ has_died_by p (events ++ e ∷ [])
+    pub parties : (i p : ℕ) → IsBy p (spot_of i events) → (p ≡ 0) ⊎ (p ≡ receiver_of (events ++ e ∷ []))
+
+  module _ (claims : List (Option ℕ)) (sent back : List ℕ) (book book' : Book) (h : Placed slots claims sent back book events) (s : Leaves book book') where
+    pub placed_on : Lists is_waiting sent (events ++ e ∷ []) → Lists is_returning back (events ++ e ∷ [])
+        → Placed slots claims sent back book' (events ++ e ∷ [])
+    placed_on waits returns =
+        record {
+          claimed = λ i below. h.claimed i below ∙ sym (ap claim_of (stays i));
+          past = λ i beyond. stays i ∙ h.past i beyond;
+          waits = waits;
+          returns = returns;
+          parties = λ i p by. s.parties i p (subst (IsBy p) (stays i) by);
+          claims_long = h.claims_long;
+          places_long = ap length s.places ∙ h.places_long;
+          holders_long = ap length s.holders ∙ h.holders_long;
+          keeps =
+              record {
+                places = λ i. subst (λ places. IsIn (place_at places i) (spot_of i (events ++ e ∷ []))) (sym s.places)
+                    (subst (IsIn (place_at book.places i)) (sym (stays i)) (h.keeps.places i));
+                holders = λ i. ap (λ holders. get_or holders i None) s.holders ∙ (h.keeps.holders i ∙ sym (ap holder_in (stays i)));
+                receiver = s.receiver;
+                dead = s.dead;
+              };
+        }

@@ -1,0 +1,60 @@
+-- The words of a loan channel at which its sends and receives act: the positions of the submission queue.
+use Rattle.std.proofs.Common.{◌≡◌, ℕ, ◌+◌, ◌-◌, ◌^◌, ◌<◌, Some, List, ◌∷◌, ◌++◌, length, get_or, sym, ap, subst, ◌∙◌, arith}
+use Rattle.std.proofs.lemmas.List.{get_or-append-add}
+use Rattle.steps.specs.declared.ask.Op.TheVariants.{Exchange}
+use Rattle.steps.specs.declared.queues.overflow.PushStage as pushes
+use Rattle.steps.specs.Loan.Layout.{submission_word}
+use Rattle.steps.specs.Loan.Parts.{shifted}
+use Rattle.steps.specs.Queues.Overflow.{move, push_asks}
+use Rattle.steps.specs.Queues.Ring.{after_position}
+use Rattle.model.specs.Families.{ask_of}
+use Rattle.model.specs.Families.Loan.Promises.{read_word, AddsOne}
+use Rattle.model.specs.Turns.{old_of, words_after}
+use Rattle.laws_queues.proofs.Queues.Knows.{layout}
+use Rattle.laws_loan.proofs.Channel.{Channel, Holds, no_roles, words_in}
+use Rattle.laws_loan.proofs.Parts.{set_long, submission_long, submission_old, submission_words}
+use Rattle.laws_loan.proofs.Submission.{publish_words}
+
+module _ {T : Type 0} (slots queue : ℕ) (s : Channel T) (busy : ℕ) (h : Holds slots queue s busy) (reached : s.submission.write < 2 ^ 64 - 2) where
+  abbrev behind : List ℕ
+  behind = layout no_roles s.completion
+
+  abbrev queued : List ℕ
+  queued = layout no_roles s.submission
+
+  within : 1 < length queued
+  within = let long = submission_long slots queue s busy h in omega arith
+
+  there : (ys : List ℕ) (n : ℕ) → get_or (s.set ++ ys) (submission_word slots + n) 0 ≡ get_or ys n 0
+  there ys n = subst (λ w. get_or (s.set ++ ys) (w + n) 0 ≡ get_or ys n 0) (set_long slots queue s busy h) (get_or-append-add s.set ys n 0)
+
+  first : (ys : List ℕ) → get_or (s.set ++ ys) (submission_word slots) 0 ≡ get_or ys 0 0
+  first ys = let same : submission_word slots ≡ submission_word slots + 0 = omega arith in ap (λ w. get_or (s.set ++ ys) w 0) same ∙ there ys 0
+
+  -- the store of a push's next write position
+  pub adds_write : (read index : ℕ)
+      → AddsOne (submission_word slots) (words_in s)
+      (ask_of (shifted (submission_word slots) (push_asks queue (pushes.TheVariants.StoresWrite s.submission.write read) index)))
+  adds_write read index =
+      let on : 0 < length queued = (let two = within in omega arith) in
+      let words =
+      submission_words slots queue s busy h (push_asks queue (pushes.TheVariants.StoresWrite s.submission.write read) index) on
+      ∙ ap (λ ws. s.set ++ (ws ++ behind)) (publish_words queue h.some h.few s.submission h.submission reached index)
+      in
+      ap (λ ws. get_or ws (submission_word slots) 0) words
+      ∙ (first _ ∙ ap (λ n. n + 1) (sym (first (queued ++ behind))))
+
+  -- the move of the read position
+  moved_words : words_after queued (Some (record { word = 1; op = Exchange s.submission.read (after_position s.submission.read) }))
+      ≡ s.submission.write ∷ (s.submission.read + 1) ∷ 1 ∷ 1 ∷ s.submission.cells
+  moved_words = grind arith
+
+  pub adds_read : AddsOne (read_word slots) (words_in s) (ask_of (shifted (submission_word slots) (move 1 s.submission.read)))
+  adds_read =
+      let words = submission_words slots queue s busy h (move 1 s.submission.read) within ∙ ap (λ ws. s.set ++ (ws ++ behind)) moved_words in
+      ap (λ ws. get_or ws (read_word slots) 0) words
+      ∙ (there _ 1 ∙ ap (λ n. n + 1) (sym (there (queued ++ behind) 1)))
+
+  -- what a move finds there
+  pub finds_read : (read : ℕ) → old_of (words_in s) (ask_of (shifted (submission_word slots) (move 1 read))) ≡ s.submission.read
+  finds_read read = submission_old slots queue s busy h (move 1 read) within

@@ -1,0 +1,208 @@
+-- A receive's steps, at whatever stage it stands, as steps of the machine.
+use Rattle.std.proofs.Common.{◌≡◌, ℕ, ◌+◌, ◌-◌, ◌%◌, ◌^◌, ◌<◌, ◌==◌, Bool, true, false, Option, Some, [], ◌∷◌, length}
+use Rattle.std.proofs.Common.{get_or, set, fold, refl, sym, ap, subst, ◌∙◌, arith, eq-eqb}
+use Rattle.std.proofs.lemmas.Bool.Decides.{nat_tests}
+use Rattle.steps.specs.declared.ask.Ask.{Ask}
+use Rattle.steps.specs.declared.ask.After.{After}
+use Rattle.steps.specs.declared.ask.After.TheVariants.{Done}
+use Rattle.steps.specs.declared.copied.OneWord.{OneWord}
+use Rattle.steps.specs.declared.loan.parts.Part.{Part}
+use Rattle.steps.specs.declared.queues.overflow.Pop.{Pop}
+use Rattle.steps.specs.declared.queues.overflow.PopStage.{PopStage}
+use Rattle.steps.specs.declared.queues.overflow.PopStage as pops
+use Rattle.steps.specs.declared.routine.Running.{Running}
+use Rattle.steps.specs.Loan.Back.{index_in}
+use Rattle.steps.specs.Loan.Layout.{submission_word}
+use Rattle.steps.specs.Loan.Parts.{shifted}
+use Rattle.steps.specs.Queues.Overflow.{cell_word, pop_asks, pop_takes, pop_keeps, goes_back}
+use Rattle.steps.specs.Queues.Ring.{load}
+use Rattle.model.specs.declared.event.Answer.{Answer}
+use Rattle.model.specs.declared.event.Answer.TheVariants as answers
+use Rattle.model.specs.declared.event.Start as starts
+use Rattle.model.specs.declared.families.Flight.{Flight}
+use Rattle.model.specs.declared.families.Flight as flights
+use Rattle.model.specs.declared.families.loan.Book.{Book}
+use Rattle.model.specs.declared.families.loan.LoanStart.TheVariants as calls
+use Rattle.model.specs.declared.families.loan.calls.LoanFlight.{LoanFlight}
+use Rattle.model.specs.declared.families.loan.calls.LoanFlight.TheVariants.{Receive}
+use Rattle.model.specs.declared.families.loan.effects.Effect.{Effect}
+use Rattle.model.specs.declared.families.loan.effects.Effect.TheVariants as effects
+use Rattle.model.specs.declared.party.Party.{Party}
+use Rattle.model.specs.Coding.{Coding}
+use Rattle.model.specs.Families.{ask_of}
+use Rattle.model.specs.Families.Indices.Robust.Dead.{has_died}
+use Rattle.model.specs.Families.Loan.Steps.{beside, ended_book, book_after, receive_effect, effects_of, sent_at}
+use Rattle.model.specs.Reading.{Open, span_of}
+use Rattle.model.specs.Step.{answer_in}
+use Rattle.model.specs.Turns.{old_of}
+use Rattle.model.specs.World.{Trace}
+use Rattle.model.proofs.Frame as frame
+use Rattle.laws_queues.proofs.Overflow.Core.{oldest}
+use Rattle.laws_loan.proofs.Channel.{Channel, words_in}
+use Rattle.laws_loan.proofs.Hanging.{by_sender, beside_is}
+use Rattle.laws_loan.proofs.Invariant.{sends_at, counted_for, hung}
+use Rattle.laws_loan.proofs.Parts.{submission_long, submission_old}
+use Rattle.laws_loan.proofs.Received.{book_told}
+use Rattle.laws_loan.proofs.Receives.{receive_at, received_after, pop_on}
+use Rattle.laws_loan.proofs.ReceiveTakes.{es, s_then, take_words, take_shows, take_owes}
+use Rattle.laws_loan.proofs.Rooms.{sent_below, index_is}
+use Rattle.laws_loan.proofs.Senders.{Stands, Comes, receive_looks}
+use Rattle.laws_loan.proofs.StepLaw.{channel, holds_now, inv_now, comes, ComesWith}
+use Rattle.laws_loan.proofs.Submission as submission
+
+module _ {T : Type 0} (code : Coding T) (slots queue : ℕ) (t : Trace T)
+    (sound : frame.Sound (channel code slots queue) t) (small : t.world.turns < 2 ^ 64 - 2) (x : Party T)
+    (since : ℕ) where
+  abbrev s : Channel T
+  s = sound.state
+
+  abbrev busy : ℕ
+  busy = counted_for (sends_at t.world.latest)
+
+  -- ---- it takes an index out
+
+  module _ (p : ℕ) (room : OneWord) (alive : has_died p s.book.dead ≡ false)
+      (there : Stands code slots queue t sound small x since p (starts.TheVariants.Loan calls.Receive)
+      (flights.TheVariants.Loan (receive_at slots queue p (pops.TheVariants.MovesRead s.submission.read) room))) where
+    abbrev stage : PopStage
+    stage = pops.TheVariants.MovesRead s.submission.read
+
+    abbrev asks : Option Ask
+    asks = ask_of (shifted (submission_word slots) (pop_asks queue stage))
+
+    abbrev old : ℕ
+    old = old_of (words_in s) asks
+
+    abbrev goes : ℕ → After LoanFlight (Answer T)
+    goes value = received_after T slots p (pop_keeps room stage value) (pop_takes (pop_on queue stage) stage value)
+
+    abbrev does : ℕ → Effect
+    does value = receive_effect (submission_word slots) queue (words_in s) (beside s.book (words_in s) t.world.latest p) stage value
+
+    abbrev waits : Option ℕ
+    waits = hung s.submission.read (sends_at t.world.latest)
+
+    abbrev With : Bool → After LoanFlight (Answer T) → Effect → Type 0
+    With back after effect =
+        ComesWith code slots queue t sound x since p calls.Receive asks back after
+        (effects_of p effect (answer_in after))
+        (ended_book {T = T} p calls.Receive (answer_in after)
+        (fold (book_after {T = T}) s.book (effects_of p effect (answer_in after))))
+
+    from : span_of p s.events ≡ Open (starts.TheVariants.Loan calls.Receive) []
+    from = ap (span_of p) sound.holds.same ∙ (there.span ∙ ap (λ es. Open (starts.TheVariants.Loan calls.Receive) es) there.at.4)
+
+    takes : With false (Done (answers.PoppedIndex room.0)) (effects.Receives room.0 (by_sender waits))
+    takes =
+        let h = holds_now code slots queue t sound x since in
+        let inv = inv_now code slots queue t sound x since in
+        let known = there.at.5 alive in
+        let front = known.1.3 refl in
+        let few = h.parts.set.few in
+        let low : slots < 2 ^ 32 = omega arith in
+        let below = sent_below slots s.claims s.submission.waiting s.completion.waiting s.book s.events h.parts.placed room.0 front.0 front.1 in
+        let paid = there.knows.1 in
+        let kept : ended_book {T = T} p calls.Receive (Some (answers.PoppedIndex room.0))
+        (fold (book_after {T = T}) s.book
+        (effects_of p (effects.Receives room.0 (by_sender waits)) (Some (answers.PoppedIndex room.0))))
+        ≡ record s.book { holders = set s.book.holders room.0 (Some p) } =
+        ap (λ (b : Book). record b { holders = set b.holders (index_in room.0) (Some p) }) (book_told p room.0 s.events waits s.book)
+        ∙ ap (λ i. record s.book { holders = set s.book.holders i (Some p) }) (index_is room.0 slots below low)
+        in
+        comes code slots queue t sound x since p calls.Receive asks false (Done (answers.PoppedIndex room.0))
+        (es code slots queue s t.world.latest t.world.turns t.world.changes since x p h small there.at.0 alive
+        known.0 from inv room.0 front.0 front.1 there.steps (omega arith))
+        (ended_book {T = T} p calls.Receive (Some (answers.PoppedIndex room.0))
+        (fold (book_after {T = T}) s.book
+        (effects_of p (effects.Receives room.0 (by_sender waits)) (Some (answers.PoppedIndex room.0)))))
+        (s_then code slots queue s t.world.latest t.world.turns t.world.changes since x p h small there.at.0 alive
+        known.0 from inv room.0 front.0 front.1 there.steps (omega arith))
+        kept
+        (take_words code slots queue s t.world.latest t.world.turns t.world.changes since x p h small there.at.0
+        alive known.0 from inv room.0 front.0 front.1 there.steps (omega arith))
+        (take_shows code slots queue s t.world.latest t.world.turns t.world.changes since x p h small there.at.0
+        alive known.0 from inv room.0 front.0 front.1 there.steps (omega arith))
+        (take_owes code slots queue s t.world.latest t.world.turns t.world.changes since x p h small there.at.0
+        alive known.0 from inv room.0 front.0 front.1 there.steps (omega arith))
+
+    -- as the call computes it
+    takes_out : Comes code slots queue t sound small x since p (starts.TheVariants.Loan calls.Receive)
+        (flights.TheVariants.Loan (receive_at slots queue p stage room))
+    takes_out =
+        let h = holds_now code slots queue t sound x since in
+        let inv = inv_now code slots queue t sound x since in
+        let known = there.at.5 alive in
+        let front = known.1.3 refl in
+        let sent = h.sent in
+        let reached : s.submission.write < 2 ^ 64 - 2 = omega arith in
+        let wide = submission_long slots queue s busy h.parts in
+        let here : (s.submission.read == s.submission.read) ≡ true = eq-eqb s.submission.read s.submission.read refl in
+        let found : old ≡ s.submission.read = submission_old slots queue s busy h.parts (pop_asks queue stage) (omega arith) in
+        let back : goes_back stage old ≡ false = ap (goes_back stage) found ∙ (rw here refl) in
+        let is : goes old ≡ Done (answers.PoppedIndex room.0) = ap goes found ∙ (rw here refl) in
+        let first = oldest queue s.submission h.parts.submission (let longer = ap length front.1 in omega arith) in
+        let both : room.0 ∷ front.0 ≡ get_or s.submission.cells (s.submission.read % (queue + 1)) 0 ∷ first.0 = sym front.1 ∙ first.1 in
+        let same : get_or s.submission.cells (s.submission.read % (queue + 1)) 0 ≡ room.0 = cc in
+        let place : sent_at (submission_word slots) queue (words_in s) s.submission.read ≡ room.0 =
+        submission_old slots queue s busy h.parts (load (cell_word queue s.submission.read))
+        (submission.cell_on queue h.parts.some h.parts.few s.submission h.parts.submission reached s.submission.read)
+        ∙ (submission.cell_is queue h.parts.some h.parts.few s.submission h.parts.submission reached s.submission.read ∙ same)
+        in
+        let push = beside_is code slots queue s t.world.latest t.world.turns h p known.0 (span_of 0 s.events) (inv.calls 0) in
+        let effect : does old ≡ effects.Receives room.0 (by_sender waits) = ap does found ∙ (rw (here, place, push) refl) in
+        subst (λ b. With b (goes old) (does old)) (sym back)
+        (subst (λ a. With false a (does old)) (sym is)
+        (subst (λ e. With false (Done (answers.PoppedIndex room.0)) e) (sym effect) takes))
+
+  -- ---- any step
+
+  module _ (p : ℕ) (alive : has_died p s.book.dead ≡ false) where
+    abbrev StandsAt : PopStage → OneWord → Type 0
+    StandsAt stage room =
+        Stands code slots queue t sound small x since p (starts.TheVariants.Loan calls.Receive)
+        (flights.TheVariants.Loan (receive_at slots queue p stage room))
+
+    abbrev ComesAt : PopStage → OneWord → Type 0
+    ComesAt stage room =
+        Comes code slots queue t sound small x since p (starts.TheVariants.Loan calls.Receive)
+        (flights.TheVariants.Loan (receive_at slots queue p stage room))
+
+    moves_read : (read : ℕ) (room : OneWord) → StandsAt (pops.TheVariants.MovesRead read) room → ComesAt (pops.TheVariants.MovesRead read) room
+    moves_read read room there = go (s.submission.read == read) refl
+      where
+        go : (b : Bool) → (s.submission.read == read) ≡ b → ComesAt (pops.TheVariants.MovesRead read) room
+        go true e =
+            let same : read ≡ s.submission.read = grind (arith, nat_tests) in
+            subst (λ n. ComesAt (pops.TheVariants.MovesRead n) room) (sym same)
+            (takes_out p room alive (subst (λ n. StandsAt (pops.TheVariants.MovesRead n) room) same there))
+        go false e = receive_looks code slots queue t sound small x since p (pops.TheVariants.MovesRead read) room alive e there
+
+    at_stage : (stage : PopStage) (room : OneWord) → StandsAt stage room → ComesAt stage room
+    at_stage (pops.TheVariants.MovesRead read) room there = moves_read read room there
+    at_stage pops.TheVariants.FindsNone room there = receive_looks code slots queue t sound small x since p pops.TheVariants.FindsNone room alive tt there
+    at_stage pops.TheVariants.LoadsRead room there = receive_looks code slots queue t sound small x since p pops.TheVariants.LoadsRead room alive tt there
+    at_stage (pops.TheVariants.LoadsWrite read) room there =
+        receive_looks code slots queue t sound small x since p (pops.TheVariants.LoadsWrite read) room alive tt there
+    at_stage (pops.TheVariants.LoadsCell read) room there =
+        receive_looks code slots queue t sound small x since p (pops.TheVariants.LoadsCell read) room alive tt there
+
+    -- a receive of a party that lives
+    pub receive_comes : (by : ℕ) (run : Running (Part Pop) (Unit {0}) OneWord)
+        → Stands code slots queue t sound small x since p (starts.TheVariants.Loan calls.Receive)
+        (flights.TheVariants.Loan (Receive by run))
+        → Comes code slots queue t sound small x since p (starts.TheVariants.Loan calls.Receive) (flights.TheVariants.Loan (Receive by run))
+    receive_comes by run there =
+        let at = there.at in
+        let named : ℕ → ℕ → ℕ → Flight T =
+        λ n base capacity. flights.TheVariants.Loan (Receive n (record {
+          call = record { base = base; call = record { capacity = capacity; stage = run.call.call.stage } };
+          given = tt;
+          room = run.room;
+        })) in
+        let same : flights.TheVariants.Loan (Receive by run) ≡ flights.TheVariants.Loan (receive_at slots queue p run.call.call.stage run.room) =
+        ap (λ n. named n run.call.base run.call.call.capacity) at.1
+        ∙ (ap (λ base. named p base run.call.call.capacity) at.2 ∙ ap (λ c. named p (submission_word slots) c) at.3)
+        in
+        subst (λ flight. Comes code slots queue t sound small x since p (starts.TheVariants.Loan calls.Receive) flight) (sym same)
+        (at_stage run.call.call.stage run.room
+        (subst (λ flight. Stands code slots queue t sound small x since p (starts.TheVariants.Loan calls.Receive) flight) same there))

@@ -1,0 +1,275 @@
+-- The step of a receive that takes an index out: what it shows, and what it owes to the sender, whose send may have waited for it.
+use Rattle.std.proofs.Common.{◌≡◌, ◌≢◌, ℕ, suc, ◌+◌, ◌-◌, ◌*◌, ◌^◌, ◌<◌, ◌≤◌, ⊎_elim, inr, false, Option, Some, None}
+use Rattle.std.proofs.Common.{List, [], ◌∷◌, ◌++◌, length, set, refl, sym, ap, subst, ◌∙◌, arith}
+use Rattle.std.proofs.lemmas.Bool.{cases_eq}
+use Rattle.steps.specs.declared.ask.Ask.{Ask}
+use Rattle.steps.specs.declared.ask.After.TheVariants.{Done}
+use Rattle.steps.specs.declared.queues.overflow.PopStage as pops
+use Rattle.steps.specs.Loan.Layout.{submission_word}
+use Rattle.steps.specs.Loan.Parts.{shifted}
+use Rattle.steps.specs.Queues.Overflow.{pop_asks}
+use Rattle.model.specs.declared.event.Event.{Event}
+use Rattle.model.specs.declared.event.Start.{Start}
+use Rattle.model.specs.declared.event.Start.TheVariants as starts
+use Rattle.model.specs.declared.families.Flight.{Flight}
+use Rattle.model.specs.declared.families.Flight as flights
+use Rattle.model.specs.declared.families.loan.Book.{Book}
+use Rattle.model.specs.declared.families.loan.LoanStart.TheVariants as calls
+use Rattle.model.specs.declared.party.Party.{Party}
+use Rattle.model.specs.Coding.{Coding}
+use Rattle.model.specs.Families.{ask_of}
+use Rattle.model.specs.Families.Indices.Robust.Dead.{has_died}
+use Rattle.model.specs.Families.Loan.Reading.{Passing, With, Waiting, spot_of}
+use Rattle.model.specs.Parties.{party_of, put, doing_of, flight_of}
+use Rattle.model.specs.Reading.{Open, span_of}
+use Rattle.model.specs.Turns.{words_after, change_of}
+use Rattle.model.proofs.Frame as frame
+use Rattle.model.proofs.Parties.{party_put_other}
+use Rattle.laws_indices.proofs.Core as indices
+use Rattle.laws_queues.proofs.Queues.Core.{Core, GoesUp}
+use Rattle.laws_queues.proofs.Queues.Knows.{layout}
+use Rattle.laws_loan.proofs.Channel.{Channel, Holds, no_roles, words_in}
+use Rattle.laws_loan.proofs.Hanging.{made, reclaims_made, carries_made, past_none, hung_span}
+use Rattle.laws_loan.proofs.HungSends.{Takes, taken_out, taken_then, sender_fits, none_reclaims}
+use Rattle.laws_loan.proofs.Invariant.{Hangs, sends_at, counted_for, hung, reclaims_in, Carries, HoldsNow, family}
+use Rattle.laws_loan.proofs.Knows.{wrote_in, At}
+use Rattle.laws_loan.proofs.Lists.{first_there}
+use Rattle.laws_loan.proofs.Parts.{submission_long, submission_words, submission_change}
+use Rattle.laws_loan.proofs.Placed.{Placed}
+use Rattle.laws_loan.proofs.Received.{answer, hands, acts, told, run, whole, still, reclaims_told, receiver_told}
+use Rattle.laws_loan.proofs.Received.{passing_run, has_it, elsewhere, moves_told, begins_told, answers_told, mine_then}
+use Rattle.laws_loan.proofs.Received.{senders_then, others_then, stands_told, tells_told}
+use Rattle.laws_loan.proofs.Rooms.{sent_below}
+use Rattle.laws_loan.proofs.Sender.{party_then}
+use Rattle.laws_loan.proofs.Spots.{is_waiting, waits_there}
+use Rattle.laws_loan.proofs.Still.{placed_still}
+use Rattle.laws_loan.proofs.Submission as submission
+use Rattle.laws_loan.proofs.Table.{hands_it_out, receive_ends}
+use Rattle.laws_loan.proofs.Theirs.{Stays, theirs_stay, knows_keeps}
+use Rattle.laws_loan.proofs.Told.{is_reclaiming, Tells}
+use Rattle.laws_loan.proofs.Turns.{Shows}
+
+with_passes : (p q : ℕ) → With p ≡ Passing q → ⊥
+with_passes p q e = absurd (cc)
+
+waiting_passes : (q : ℕ) → Waiting ≡ Passing q → ⊥
+waiting_passes q e = absurd (cc)
+
+module _ {T : Type 0} (code : Coding T) (slots queue : ℕ) (s : Channel T) (latest : List (ℕ × Party T))
+    (turns changes since : ℕ) (x : Party T) (p : ℕ) (h : HoldsNow slots queue s latest s.events turns)
+    (small : turns < 2 ^ 64 - 2) (other : p ≢ 0) (alive : has_died p s.book.dead ≡ false)
+    (receives : p ≡ s.book.receiver)
+    (from : span_of p s.events ≡ Open (starts.Loan calls.Receive) [])
+    (inv : frame.Inv (family code slots queue) s latest s.events changes) (value : ℕ) (rest : List ℕ)
+    (first : s.submission.waiting ≡ value ∷ rest) (steps : x.steps ≤ 2 * x.backs + 3)
+    (paid : x.backs + since ≤ changes) where
+  abbrev channel : frame.Family T
+  channel = family code slots queue
+
+  abbrev pub asks : Option Ask
+  asks = ask_of (shifted (submission_word slots) (pop_asks queue (pops.TheVariants.MovesRead s.submission.read)))
+
+  -- the index whose send waits for this move
+  abbrev pub waits : Option ℕ
+  waits = hung s.submission.read (sends_at latest)
+
+  abbrev pub es : List (Event T)
+  es = told p value waits
+
+  abbrev pub book_then : Book
+  book_then = record s.book { holders = set s.book.holders value (Some p) }
+
+  abbrev pub s_then : Channel T
+  s_then = taken_then slots queue s rest book_then (s.events ++ es) p
+
+  abbrev k : Core ℕ
+  k = taken_out slots queue s rest book_then (s.events ++ es) p
+
+  abbrev pub y_then : Party T
+  y_then = party_then s x since changes calls.Receive asks false (Done (answer p value))
+
+  -- ---- the words
+
+  low_write : s.submission.write < 2 ^ 64 - 2
+  low_write = let sent = h.sent in omega arith
+
+  on : 1 < length (layout no_roles s.submission)
+  on = let wide = submission_long slots queue s (counted_for (sends_at latest)) h.parts in omega arith
+
+  pub take_words : words_after (words_in s) asks ≡ words_in s_then
+  take_words =
+      submission_words slots queue s (counted_for (sends_at latest)) h.parts (pop_asks queue (pops.TheVariants.MovesRead s.submission.read)) on
+      ∙ ap (λ ws. s.set ++ (ws ++ layout no_roles s.completion))
+      (submission.take_words queue h.parts.some h.parts.few s.submission h.parts.submission low_write value rest first)
+
+  one : change_of (words_in s) asks ≡ 1
+  one =
+      submission_change slots queue s (counted_for (sends_at latest)) h.parts (pop_asks queue (pops.TheVariants.MovesRead s.submission.read)) on
+      ∙ submission.take_changes queue h.parts.some h.parts.few s.submission h.parts.submission low_write value rest first
+
+  -- ---- where the index is
+
+  below : value < slots
+  below = sent_below slots s.claims s.submission.waiting s.completion.waiting s.book s.events h.parts.placed value rest first
+
+  was_waiting : spot_of value s.events ≡ Waiting
+  was_waiting = waits_there (spot_of value s.events) (first_there is_waiting s.submission.waiting rest s.events value first h.parts.placed.waits)
+
+  placed_run : Placed slots s.claims rest s.completion.waiting s.book (run p value s.events waits)
+  placed_run =
+      placed_still slots s.claims rest s.completion.waiting s.book (s.events ++ hands p value ∷ []) (acts p value ∷ made waits) (still p value s.events waits)
+      (hands_it_out slots s.claims s.submission.waiting s.completion.waiting s.book s.events h.parts.placed value
+      below p rest first (inr (receives ∙ h.parts.placed.keeps.receiver)))
+
+  placed_then : Placed slots s.claims rest s.completion.waiting book_then (s.events ++ es)
+  placed_then =
+      subst (Placed slots s.claims rest s.completion.waiting book_then) (whole p value s.events waits)
+      (receive_ends slots s.claims rest s.completion.waiting s.book (run p value s.events waits) placed_run value
+      below p other (receives ∙ placed_run.keeps.receiver) (passing_run p value s.events waits))
+
+  takes : Takes slots queue s rest book_then (s.events ++ es) p
+  takes =
+      record {
+        receiver = receives;
+        alive = alive;
+        passes = λ q i ne e.
+            let apart : value ≢ i = λ same. waiting_passes q (sym was_waiting ∙ (ap (λ n. spot_of n s.events) same ∙ e)) in
+            elsewhere p value s.events waits i apart ∙ e;
+      }
+
+  passing_then : (i q : ℕ) → spot_of i (s.events ++ es) ≡ Passing q → Carries i (span_of q (s.events ++ es))
+  passing_then i q e = ⊎_elim mine others (cases_eq value i)
+    where
+      mine : value ≡ i → Carries i (span_of q (s.events ++ es))
+      mine same = absurd (with_passes p q (sym (has_it p value s.events waits) ∙ (ap (λ n. spot_of n (s.events ++ es)) same ∙ e)))
+
+      others : value ≢ i → Carries i (span_of q (s.events ++ es))
+      others ne =
+          let carried = h.passing i q (sym (elsewhere p value s.events waits i ne) ∙ e) in
+          ⊎_elim
+          (λ (here : q ≡ p). absurd (subst (Carries i) from (subst (λ n. Carries i (span_of n s.events)) here carried)))
+          (λ (away : q ≢ p).
+          ⊎_elim
+          (λ (sender : q ≡ 0).
+          subst (λ n. Carries i (span_of n (s.events ++ es))) (sym sender)
+          (subst (Carries i) (sym (senders_then p value s.events other waits))
+          (carries_made waits i (span_of 0 s.events) (subst (λ n. Carries i (span_of n s.events)) sender carried))))
+          (λ (far : q ≢ 0). subst (Carries i) (sym (others_then p value s.events other waits q away far)) carried)
+          (cases_eq q 0))
+          (cases_eq q p)
+
+  -- ---- the queues
+
+  shorter : length s.submission.waiting ≡ suc (length rest)
+  shorter = ap length first
+
+  few_rest : length rest ≤ queue
+  few_rest = let few = h.parts.submission.few in let long = shorter in omega arith
+
+  -- no reclaim is under way
+  quiet : is_reclaiming s.events ≡ false
+  quiet = h.reclaiming ∙ none_reclaims slots queue s rest book_then (s.events ++ es) p takes other code (party_of 0 latest) (span_of 0 s.events) (inv.calls 0)
+
+  sends_still : sends_at (put p y_then latest) ≡ sends_at latest
+  sends_still = ap (λ o. flight_of (doing_of o)) (party_put_other 0 p y_then latest (λ e. other (sym e)))
+
+  -- no send waits for the next read position
+  hangs_then : Hangs queue k (hung (s.submission.read + 1) (sends_at (put p y_then latest)))
+  hangs_then =
+      let none : hung (s.submission.read + 1) (sends_at (put p y_then latest)) ≡ None =
+      ap (hung (s.submission.read + 1)) sends_still
+      ∙ past_none code slots queue s (s.submission.read + 1) (omega arith) latest (span_of 0 s.events) (inv.calls 0)
+      in
+      subst (Hangs queue k) (sym none) few_rest
+
+  parts_then : Holds slots queue s_then (counted_for (sends_at (put p y_then latest)))
+  parts_then =
+      record {
+        capacity = h.parts.capacity;
+        some = h.parts.some;
+        few = h.parts.few;
+        set = subst (λ o. indices.Good slots s.set s.claims (counted_for o)) (sym sends_still) h.parts.set;
+        submission = submission.take_good queue h.parts.some h.parts.few s.submission h.parts.submission low_write value rest first;
+        completion = h.parts.completion;
+        unlocked = h.parts.unlocked;
+        placed = placed_then;
+      }
+
+  pub take_shows : Shows slots queue s s_then p y_then latest turns es
+  take_shows =
+      let sent = h.sent in
+      let given = h.given in
+      let same = receiver_told p value s.events waits in
+      record {
+        events = refl;
+        parts = parts_then;
+        tells =
+            subst (λ b. Tells queue b s.submission.waiting rest s.completion.waiting s.completion.waiting es) (sym quiet)
+            (tells_told p value queue s.submission.waiting rest s.completion.waiting waits h.parts.some first s.submission refl h.hangs);
+        hangs = hangs_then;
+        reclaiming =
+            reclaims_told p value s.events waits (is_reclaiming s.events)
+            ∙ (h.reclaiming ∙ (sym (reclaims_made waits (span_of 0 s.events)) ∙ ap reclaims_in (sym (senders_then p value s.events other waits))));
+        sent = omega arith;
+        given = omega arith;
+        receivers = (omega arith, omega arith);
+        moves = moves_told p value s.events slots waits below was_waiting;
+        begins = begins_told p value s.events waits;
+        answers = answers_told p value s.events slots waits;
+        passing = passing_then;
+      }
+
+  -- ---- what it owes
+
+  stays : (q : ℕ) → q ≢ p → Stays slots queue s s_then q
+  stays x0 x1 = grind arith
+
+  still_at : (q : ℕ) → q ≢ p → q ≢ 0 → (start : Start T) (flight : Flight T) → channel.At s q start flight
+      → channel.At s_then q start flight × (channel.written s_then q flight ≡ channel.written s q flight)
+  still_at q ne far (starts.Loan start) (flights.TheVariants.Loan flight) known =
+      let same : span_of q (s.events ++ es) ≡ span_of q s.events = others_then p value s.events other waits q ne far in (
+        subst (λ wrote. At slots queue s_then q wrote start flight) (ap wrote_in (sym same))
+            (theirs_stay slots queue s s_then q far (stays q ne) (wrote_in (span_of q s.events)) start flight known),
+        ap wrote_in same,
+      )
+  still_at q ne far start flight known = absurd known
+
+  others_fit : (q : ℕ) → q ≢ p → frame.Fits channel s_then q (party_of q latest) (span_of q (s.events ++ es))
+  others_fit q ne =
+      ⊎_elim
+      (λ (sender : q ≡ 0).
+      subst (λ n. frame.Fits channel s_then n (party_of n latest) (span_of n (s.events ++ es))) (sym sender)
+      (sender_fits slots queue s rest book_then (s.events ++ es) p takes other code (party_of 0 latest)
+      (inv.calls 0) (senders_then p value s.events other waits)))
+      (λ (far : q ≢ 0).
+      subst (λ a. frame.Fits channel s_then q (party_of q latest) a) (sym (others_then p value s.events other waits q ne far))
+      (frame.still_fits channel s s_then q (still_at q ne far) (party_of q latest) (span_of q s.events) (inv.calls q)))
+      (cases_eq q 0)
+
+  goes_up : GoesUp s.submission k changes (changes + change_of (words_in s) asks)
+  goes_up = let change = one in record { write = omega arith; read = omega arith; paid = omega arith }
+
+  know_still : (q sooner backs : ℕ) (flight : Flight T) → channel.Knows s q s.events sooner changes backs flight
+      → channel.Knows s_then q (s.events ++ es) sooner (changes + change_of (words_in s) asks) backs flight
+  know_still q sooner backs (flights.TheVariants.Loan flight) known =
+      knows_keeps slots queue s s_then changes (changes + change_of (words_in s) asks) goes_up sooner backs flight known
+  know_still q sooner backs flight known = absurd known
+
+  pub take_owes : frame.Owes channel s_then p y_then latest s.events es (changes + change_of (words_in s) asks)
+  take_owes =
+      let change = one in
+      record {
+        stands = stands_told p value s.events other slots waits from (λ index e. hung_span code slots queue s index (party_of 0 latest) (inv.calls 0) e);
+        here =
+            record {
+              answer = answer p value;
+              wrote = hands p value ∷ acts p value ∷ [];
+              span = mine_then p value s.events other waits from;
+              steps = omega arith;
+            };
+        knows = omega arith;
+        others = others_fit;
+        others_know =
+            λ q ne. frame.still_knows channel s s_then q s.events es changes (changes + change_of (words_in s) asks)
+            (know_still q) (party_of q latest) (inv.knows q);
+      }

@@ -1,0 +1,222 @@
+-- The events of a receive that takes an index out: it moves the read position, and a send that waits for that acts with it.
+use Rattle.std.proofs.Common.{◌≡◌, ◌≢◌, ℕ, ◌<◌, ◌≤◌, Bool, false, Option, Some, None, List, [], ◌∷◌, ◌++◌, length, map}
+use Rattle.std.proofs.Common.{take, drop, fold, refl, sym, ap, subst, ◌∙◌, append-nil, append_assoc, arith}
+use Rattle.std.proofs.lemmas.List.Sums.{fold-append}
+use Rattle.model.specs.declared.event.Answer.{Answer}
+use Rattle.model.specs.declared.event.Answer.TheVariants as answers
+use Rattle.model.specs.declared.event.Event.{Event}
+use Rattle.model.specs.declared.event.Event.TheVariants.{Published, HandedOut, Acted, Finished}
+use Rattle.model.specs.declared.event.Item.{Item}
+use Rattle.model.specs.declared.event.Item.TheVariants.{Index}
+use Rattle.model.specs.declared.event.Start.{Start}
+use Rattle.model.specs.declared.event.Start.TheVariants as starts
+use Rattle.model.specs.declared.families.loan.Book.{Book}
+use Rattle.model.specs.declared.families.loan.LoanStart.TheVariants as calls
+use Rattle.model.specs.Families.Loan.Promises.{MovesRight, BeginsRight, AnswersRight, promise}
+use Rattle.model.specs.Families.Loan.Reading.{Passing, With, Waiting, spot_of, receiver_after, receiver_of, reclaims_after}
+use Rattle.model.specs.Families.Loan.Steps.{book_after}
+use Rattle.model.specs.Families.Queues.Objects.{answer_of_item, cut_off}
+use Rattle.model.specs.Promises.Spans.{Stands, StandsRight}
+use Rattle.model.specs.Reading.{Open, Ended, own_after, span_of}
+use Rattle.model.proofs.Readings.{AreRight, span_of-own, span_of-other}
+use Rattle.laws_queues.proofs.Overflow.Core.{pop_front, pop_room}
+use Rattle.laws_queues.proofs.Queues.Core.{Core}
+use Rattle.laws_loan.proofs.Hanging.{made, made_own, made_still}
+use Rattle.laws_loan.proofs.Invariant.{Hangs}
+use Rattle.laws_loan.proofs.Knows.{send_of}
+use Rattle.laws_loan.proofs.Spots.{spot_stays, spot_other, spot_moved}
+use Rattle.laws_loan.proofs.Still.{AreStill, spots_still}
+use Rattle.laws_loan.proofs.Told.{items, Tells}
+
+-- ---- its events
+
+module _ {T : Type 0} (p value : ℕ) where
+  abbrev pub call : Start T
+  call = starts.Loan calls.Receive
+
+  abbrev pub answer : Answer T
+  answer = answers.PoppedIndex value
+
+  abbrev pub hands : Event T
+  hands = HandedOut p (Index value)
+
+  abbrev pub acts : Event T
+  acts = Acted p call answer
+
+  abbrev pub ends : Event T
+  ends = Finished p call answer
+
+  -- beside the send that waits with this index, if one does
+  abbrev pub told : Option ℕ → List (Event T)
+  told waits = hands ∷ acts ∷ (made waits ++ ends ∷ [])
+
+  module _ (events : List (Event T)) where
+    -- before the end
+    abbrev pub run : Option ℕ → List (Event T)
+    run waits = (events ++ hands ∷ []) ++ acts ∷ made waits
+
+    pub whole : (waits : Option ℕ) → run waits ++ ends ∷ [] ≡ events ++ told waits
+    whole waits =
+        append_assoc (events ++ hands ∷ []) (acts ∷ made waits) (ends ∷ [])
+        ∙ append_assoc events (hands ∷ []) (acts ∷ (made waits ++ ends ∷ []))
+
+    parts : (waits : Option ℕ) → ((events ++ hands ∷ acts ∷ []) ++ made waits) ++ ends ∷ [] ≡ events ++ told waits
+    parts waits =
+        append_assoc (events ++ hands ∷ acts ∷ []) (made waits) (ends ∷ [])
+        ∙ append_assoc events (hands ∷ acts ∷ []) (made waits ++ ends ∷ [])
+
+    pub still : (waits : Option ℕ) → AreStill (acts ∷ made waits)
+    still waits = (record { moves = refl; receiver = λ r. refl; dead = λ q b. refl }, made_still T waits)
+
+    pub reclaims_told : (waits : Option ℕ) (b : Bool) → fold reclaims_after b (told waits) ≡ b
+    reclaims_told x0 x1 = grind arith
+
+    pub receiver_told : (waits : Option ℕ) → receiver_of (events ++ told waits) ≡ receiver_of events
+    receiver_told None = fold-append receiver_after 1 events (told None)
+    receiver_told (Some index) = fold-append receiver_after 1 events (told (Some index))
+
+    pub book_told : (waits : Option ℕ) (book : Book) → fold (book_after {T = T}) book (hands ∷ acts ∷ made waits) ≡ book
+    book_told x0 x1 = grind arith
+
+    -- ---- where the indices are
+
+    pub passing_run : (waits : Option ℕ) → spot_of value (run waits) ≡ Passing p
+    passing_run waits =
+        spots_still value (events ++ hands ∷ []) (acts ∷ made waits) (still waits)
+        ∙ spot_moved events hands (record { index = value; from = Waiting; to = Passing p }) refl
+
+    pub has_it : (waits : Option ℕ) → spot_of value (events ++ told waits) ≡ With p
+    has_it waits =
+        ap (spot_of value) (sym (whole waits))
+        ∙ spot_moved (run waits) ends (record { index = value; from = Passing p; to = With p }) refl
+
+    pub elsewhere : (waits : Option ℕ) (i : ℕ) → value ≢ i → spot_of i (events ++ told waits) ≡ spot_of i events
+    elsewhere waits i ne =
+        ap (spot_of i) (sym (whole waits))
+        ∙ (spot_other (run waits) ends (record { index = value; from = Passing p; to = With p }) refl i ne
+        ∙ (spots_still i (events ++ hands ∷ []) (acts ∷ made waits) (still waits)
+        ∙ spot_other events hands (record { index = value; from = Waiting; to = Passing p }) refl i ne))
+
+    pub moves_told : (slots : ℕ) (waits : Option ℕ) → value < slots → spot_of value events ≡ Waiting → AreRight (MovesRight slots) events (told waits)
+    moves_told slots None below waited =
+        let passing = spot_moved events hands (record { index = value; from = Waiting; to = Passing p }) refl in
+        ((below, waited), (tt, ((below, spot_stays (events ++ hands ∷ []) acts value refl ∙ passing), tt)))
+    moves_told slots (Some index) below waited =
+        let passing = spot_moved events hands (record { index = value; from = Waiting; to = Passing p }) refl in
+        let acted : Event T = Acted 0 (send_of index) answers.PoppedNone in (
+          (below, waited),
+          (
+            tt,
+            (
+              tt,
+              (
+                (
+                  below,
+                  spot_stays ((events ++ hands ∷ []) ++ acts ∷ []) acted value refl
+                      ∙ (spot_stays (events ++ hands ∷ []) acts value refl ∙ passing),
+                ),
+                tt,
+              ),
+            ),
+          ),
+        )
+
+    pub begins_told : (waits : Option ℕ) → AreRight BeginsRight events (told waits)
+    begins_told x0 = grind arith
+
+    pub answers_told : (slots : ℕ) (waits : Option ℕ) → AreRight (AnswersRight slots) events (told waits)
+    answers_told x0 x1 = grind arith
+
+    -- ---- the spans
+
+    module _ (other : p ≢ 0) where
+      pub mine_then : (waits : Option ℕ) → span_of p events ≡ Open call [] → span_of p (events ++ told waits) ≡ Ended call answer (hands ∷ acts ∷ [])
+      mine_then waits from =
+          ap (span_of p) (sym (parts waits))
+          ∙ (span_of-own p ((events ++ hands ∷ acts ∷ []) ++ made waits) (ends ∷ []) (refl, tt)
+          ∙ ap (λ span. fold own_after span (ends ∷ []))
+          (span_of-other 0 p (events ++ hands ∷ acts ∷ []) (made waits) other (made_own T waits)
+          ∙ (span_of-own p events (hands ∷ acts ∷ []) (refl, (refl, tt)) ∙ ap (λ span. fold own_after span (hands ∷ acts ∷ [])) from)))
+
+      pub senders_then : (waits : Option ℕ) → span_of 0 (events ++ told waits) ≡ fold own_after (span_of 0 events) (made waits)
+      senders_then waits =
+          ap (span_of 0) (sym (parts waits))
+          ∙ (span_of-other p 0 ((events ++ hands ∷ acts ∷ []) ++ made waits) (ends ∷ []) (λ e. other (sym e)) (refl, tt)
+          ∙ (span_of-own 0 (events ++ hands ∷ acts ∷ []) (made waits) (made_own T waits)
+          ∙ ap (λ span. fold own_after span (made waits)) (span_of-other p 0 events (hands ∷ acts ∷ []) (λ e. other (sym e)) (refl, (refl, tt)))))
+
+      pub others_then : (waits : Option ℕ) (q : ℕ) → q ≢ p → q ≢ 0 → span_of q (events ++ told waits) ≡ span_of q events
+      others_then waits q ne away =
+          ap (span_of q) (sym (parts waits))
+          ∙ (span_of-other p q ((events ++ hands ∷ acts ∷ []) ++ made waits) (ends ∷ []) ne (refl, tt)
+          ∙ (span_of-other 0 q (events ++ hands ∷ acts ∷ []) (made waits) away (made_own T waits)
+          ∙ span_of-other p q events (hands ∷ acts ∷ []) ne (refl, (refl, tt))))
+
+      -- each event stands right in its span
+      pub stands_told : (slots : ℕ) (waits : Option ℕ) → span_of p events ≡ Open call []
+          → ((index : ℕ) → waits ≡ Some index → span_of 0 events ≡ Open (send_of index) (Published 0 (Index index) ∷ []))
+          → AreRight (StandsRight promise slots) events (told waits)
+      stands_told slots waits from hangs = go waits refl
+        where
+          first : Stands promise slots hands (span_of p events)
+          first =
+              subst (λ span. Stands promise slots hands span) (sym from)
+              (record { claimed = refl; published = refl; handed_out = refl; given_back = refl; taken_back = refl; freed = refl })
+
+          p_1 : span_of p (events ++ hands ∷ []) ≡ Open call (hands ∷ [])
+          p_1 = span_of-own p events (hands ∷ []) (refl, tt) ∙ ap (λ span. fold own_after span (hands ∷ [])) from
+
+          second : Stands promise slots acts (span_of p (events ++ hands ∷ []))
+          second = subst (λ span. Stands promise slots acts span) (sym p_1) (refl, refl)
+
+          p_2 : span_of p ((events ++ hands ∷ []) ++ acts ∷ []) ≡ Open call (hands ∷ acts ∷ [])
+          p_2 = span_of-own p (events ++ hands ∷ []) (acts ∷ []) (refl, tt) ∙ ap (λ span. fold own_after span (acts ∷ [])) p_1
+
+          last : (before : List (Event T)) → span_of p before ≡ Open call (hands ∷ acts ∷ []) → Stands promise slots ends (span_of p before)
+          last before is =
+              subst (λ span. Stands promise slots ends span) (sym is) (
+                refl,
+                record {
+                  moments = refl;
+                  done = record { claimed = refl; published = refl; handed_out = refl; given_back = refl; taken_back = refl; freed = refl };
+                },
+              )
+
+          go : (o : Option ℕ) → waits ≡ o → AreRight (StandsRight promise slots) events (told o)
+          go None e = (first, (second, (last ((events ++ hands ∷ []) ++ acts ∷ []) p_2, tt)))
+          go (Some index) e =
+              let acted : Event T = Acted 0 (send_of index) answers.PoppedNone in
+              let sends : span_of 0 ((events ++ hands ∷ []) ++ acts ∷ []) ≡ Open (send_of index) (Published 0 (Index index) ∷ []) =
+              span_of-other p 0 (events ++ hands ∷ []) (acts ∷ []) (λ e. other (sym e)) (refl, tt)
+              ∙ (span_of-other p 0 events (hands ∷ []) (λ e. other (sym e)) (refl, tt) ∙ hangs index e)
+              in
+              let third : Stands promise slots acted (span_of 0 ((events ++ hands ∷ []) ++ acts ∷ [])) =
+              subst (λ span. Stands promise slots acted span) (sym sends) (refl, refl) in
+              let p_3 : span_of p (((events ++ hands ∷ []) ++ acts ∷ []) ++ acted ∷ []) ≡ Open call (hands ∷ acts ∷ []) =
+              span_of-other 0 p ((events ++ hands ∷ []) ++ acts ∷ []) (acted ∷ []) other (refl, tt) ∙ p_2 in
+              (first, (second, (third, (last (((events ++ hands ∷ []) ++ acts ∷ []) ++ acted ∷ []) p_3, tt))))
+
+  -- ---- what they tell of the two queues
+
+  pub tells_told : (queue : ℕ) (sent rest back : List ℕ) (waits : Option ℕ) → 1 ≤ queue → sent ≡ value ∷ rest
+      → (k : Core ℕ) → k.waiting ≡ sent → Hangs queue k waits → Tells queue false sent rest back back (told waits)
+  tells_told queue sent rest back None some first k is few =
+      let list = pop_front {T = T} queue sent value rest first (subst (λ xs. length xs ≤ queue) is few) in
+      record {
+        book = append-nil (items sent) ∙ ap items first;
+        given = append-nil back;
+        goes = list.0;
+        answers = ap (λ (o : Option (Item T)). answer_of_item o ∷ []) list.1;
+      }
+  tells_told queue sent rest back (Some index) some first k is over =
+      let list = pop_room {T = T} queue sent over.0 value index rest (omega arith) (sym is ∙ over.1) over.2 first in
+      record {
+        book = append-nil (items sent) ∙ ap items first;
+        given = append-nil back;
+        goes = list.1;
+        answers =
+            ap (λ (o : Option (Item T)). answer_of_item o
+            ∷ answer_of_item (cut_off queue (drop 1 (map Index (take queue sent)) ++ Index index ∷ [])) ∷ [])
+            list.0
+            ∙ ap (λ (o : Option (Item T)). answer ∷ answer_of_item o ∷ []) list.2;
+      }

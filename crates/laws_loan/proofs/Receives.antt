@@ -1,0 +1,410 @@
+-- The steps of a receive that take nothing out: the loads, a turn back where a send has moved the read position, and the end
+-- where nothing waits.
+use Rattle.std.proofs.Common.{◌≡◌, ◌≢◌, ℕ, ◌+◌, ◌-◌, ◌*◌, ◌%◌, ◌^◌, ◌<◌, ◌≤◌, ◌==◌, ⊎_elim, Bool, true, false, Option}
+use Rattle.std.proofs.Common.{List, [], ◌∷◌, ◌++◌, length, get_or, take, fold, refl, sym, ap, subst, ◌∙◌, append-nil}
+use Rattle.std.proofs.Common.{arith}
+use Rattle.std.proofs.lemmas.Bool.{cases_eq, cases_lt}
+use Rattle.std.proofs.lemmas.Bool.Decides.{nat_tests}
+use Rattle.std.proofs.lemmas.List.{nil_from_length, set-get_or}
+use Rattle.std.proofs.Math.Seq.{take-nil}
+use Rattle.steps.specs.declared.ask.Ask.{Ask}
+use Rattle.steps.specs.declared.ask.After.{After}
+use Rattle.steps.specs.declared.ask.After.TheVariants.{GoOn, Done}
+use Rattle.steps.specs.declared.copied.OneWord.{OneWord}
+use Rattle.steps.specs.declared.queues.overflow.Pop.{Pop}
+use Rattle.steps.specs.declared.queues.overflow.PopStage.{PopStage}
+use Rattle.steps.specs.declared.queues.overflow.PopStage as pops
+use Rattle.steps.specs.Loan.Layout.{submission_word}
+use Rattle.steps.specs.Loan.Parts.{shifted, part_after}
+use Rattle.steps.specs.Queues.Overflow.{cell_word, pop_asks, pop_takes, pop_keeps, pop_answer, goes_back}
+use Rattle.steps.specs.Routine.{went_on}
+use Rattle.model.specs.declared.event.Answer.{Answer}
+use Rattle.model.specs.declared.event.Answer.TheVariants as answers
+use Rattle.model.specs.declared.event.Event.{Event}
+use Rattle.model.specs.declared.event.Event.TheVariants.{Acted, Finished}
+use Rattle.model.specs.declared.event.Start.{Start}
+use Rattle.model.specs.declared.event.Start.TheVariants as starts
+use Rattle.model.specs.declared.families.loan.LoanStart.TheVariants as calls
+use Rattle.model.specs.declared.families.loan.calls.LoanFlight.{LoanFlight}
+use Rattle.model.specs.declared.families.loan.calls.LoanFlight.TheVariants.{Receive}
+use Rattle.model.specs.declared.families.loan.effects.Effect.{Effect}
+use Rattle.model.specs.declared.families.loan.effects.Effect.TheVariants as effects
+use Rattle.model.specs.declared.party.Party.{Party}
+use Rattle.model.specs.Coding.{Coding}
+use Rattle.model.specs.Families.{ask_of}
+use Rattle.model.specs.Families.Indices.Robust.Dead.{has_died}
+use Rattle.model.specs.Families.Loan.Reading.{Passing, spot_of, receiver_of}
+use Rattle.model.specs.Families.Loan.Steps.{ended_book, book_after, receive_effect, effects_of}
+use Rattle.model.specs.Families.Queues.Calls.{popped}
+use Rattle.model.specs.Reading.{Span, Open, span_of}
+use Rattle.model.specs.Step.{as_call, answer_in}
+use Rattle.model.specs.Turns.{old_of, words_after, change_of, one_if, step_count, ending_of}
+use Rattle.model.proofs.Readings.{span_of-other}
+use Rattle.laws_queues.proofs.Overflow.Core.{oldest}
+use Rattle.laws_queues.proofs.Overflow.Knows.{KnowsOverflowPop, KnowsBacks, overflow_pop_number}
+use Rattle.laws_queues.proofs.Queues.Knows.{layout}
+use Rattle.laws_loan.proofs.Channel.{Channel, no_roles, words_in}
+use Rattle.laws_loan.proofs.Cuts.{IsOn}
+use Rattle.laws_loan.proofs.Giving.{OnCompletion, GivingStep, given_to, given_shows}
+use Rattle.laws_loan.proofs.Invariant.{sends_at, counted_for, reclaims_in, Carries, HoldsNow}
+use Rattle.laws_loan.proofs.Knows.{wrote_in, At}
+use Rattle.laws_loan.proofs.OnQueues.{silent_tells}
+use Rattle.laws_loan.proofs.Parts.{submission_long, submission_old, submission_words}
+use Rattle.laws_loan.proofs.Placed.{Placed}
+use Rattle.laws_loan.proofs.Sender.{party_then}
+use Rattle.laws_loan.proofs.Still.{AreStill, spots_still, receiver_still, placed_still}
+use Rattle.laws_loan.proofs.Submission as submission
+use Rattle.laws_loan.proofs.Told.{items, is_reclaiming, Tells}
+
+abbrev pub receive_at : ℕ → ℕ → ℕ → PopStage → OneWord → LoanFlight
+receive_at slots queue p stage room =
+    Receive p (record { call = record { base = submission_word slots; call = record { capacity = queue; stage = stage } }; given = tt; room = room })
+
+abbrev pub pop_on : ℕ → PopStage → Pop
+pop_on queue stage = record { capacity = queue; stage = stage }
+
+-- how a receive goes on whose pop goes on so, with this room
+abbrev pub received_after : (T : Type 0) → ℕ → ℕ → OneWord → After Pop Bool → After LoanFlight (Answer T)
+received_after T slots p room pop =
+    as_call (λ r. Receive p r) popped (went_on (λ end given room. pop_answer room.0 end) tt room (part_after (submission_word slots) pop))
+
+abbrev pub word_of : ℕ → OneWord
+word_of v = record { 0 = v }
+
+-- a receive that takes nothing out with its next step
+abbrev pub IsLook : {T : Type 0} → Channel T → PopStage → Type 0
+IsLook s (pops.TheVariants.MovesRead read) = (s.submission.read == read) ≡ false
+IsLook s stage = Unit {0}
+
+module _ {T : Type 0} (code : Coding T) (slots queue : ℕ) (s : Channel T) (latest : List (ℕ × Party T))
+    (turns changes since : ℕ) (x : Party T) (p : ℕ) (h : HoldsNow slots queue s latest s.events turns)
+    (small : turns < 2 ^ 64 - 2) (other : p ≢ 0) (alive : has_died p s.book.dead ≡ false)
+    (receives : p ≡ s.book.receiver)
+    (from : span_of p s.events ≡ Open (starts.Loan calls.Receive) []) (beside : Option (ℕ × ℕ)) where
+  abbrev pub call : Start T
+  call = starts.Loan calls.Receive
+
+  abbrev pub spanned : Span T
+  spanned = Open call []
+
+  abbrev pub asked : PopStage → Option Ask
+  asked stage = ask_of (shifted (submission_word slots) (pop_asks queue stage))
+
+  abbrev pub old : PopStage → ℕ
+  old stage = old_of (words_in s) (asked stage)
+
+  abbrev pub queued : List ℕ
+  queued = layout no_roles s.submission
+
+  abbrev pub goes : PopStage → OneWord → ℕ → After LoanFlight (Answer T)
+  goes stage room value = received_after T slots p (pop_keeps room stage value) (pop_takes (pop_on queue stage) stage value)
+
+  abbrev pub effect_at : PopStage → ℕ → Effect
+  effect_at stage value = receive_effect (submission_word slots) queue (words_in s) beside stage value
+
+  abbrev pub events_by : Effect → After LoanFlight (Answer T) → List (Event T)
+  events_by effect after = effects_of p effect (answer_in after) ++ ending_of p call (answer_in after)
+
+  -- what is kept then
+  abbrev pub Keeps : Effect → After LoanFlight (Answer T) → Type 0
+  Keeps effect after = ended_book {T = T} p calls.Receive (answer_in after) (fold (book_after {T = T}) s.book (effects_of p effect (answer_in after))) ≡ s.book
+
+  -- a step that leaves every word
+  abbrev pub Looks : PopStage → Bool → After LoanFlight (Answer T) → Effect → Type 0
+  Looks stage back after effect =
+      GivingStep code slots queue s latest turns changes since x p s.completion spanned calls.Receive (asked stage)
+      back after (events_by effect after)
+      × Keeps effect after
+
+  -- the step of a receive that stands here with this room
+  abbrev pub LooksOf : PopStage → OneWord → Type 0
+  LooksOf stage room = Looks stage (goes_back stage (old stage)) (goes stage room (old stage)) (effect_at stage (old stage))
+
+  -- ---- what is so of the queue
+
+  pub reached : s.submission.write < 2 ^ 64 - 2
+  reached = let sent = h.sent in omega arith
+
+  pub long : length queued ≡ 5 + queue
+  long = submission_long slots queue s (counted_for (sends_at latest)) h.parts
+
+  pub old_is : (stage : PopStage) → IsOn queued (pop_asks queue stage) → old stage ≡ old_of queued (ask_of (pop_asks queue stage))
+  old_is stage on = submission_old slots queue s (counted_for (sends_at latest)) h.parts (pop_asks queue stage) on
+
+  words_are : (stage : PopStage) → IsOn queued (pop_asks queue stage)
+      → words_after queued (ask_of (pop_asks queue stage)) ≡ queued
+      → words_after (words_in s) (asked stage) ≡ words_in s
+  words_are stage on is =
+      submission_words slots queue s (counted_for (sends_at latest)) h.parts (pop_asks queue stage) on
+      ∙ ap (λ ws. s.set ++ (ws ++ layout no_roles s.completion)) is
+
+  -- ---- it goes on
+
+  module _ (now after_it : PopStage) (room : OneWord) (back : Bool) (on : IsOn queued (pop_asks queue now))
+      (words : words_after queued (ask_of (pop_asks queue now)) ≡ queued)
+      (known : KnowsOverflowPop queue s.submission room after_it) (one : step_count (asked now) ≡ 1)
+      (steps : x.steps + 1 ≤ 2 * (x.backs + one_if back) + overflow_pop_number after_it)
+      (paid : (n : ℕ) → KnowsBacks s.submission (since + n) (changes + n) (x.backs + one_if back) after_it) where
+    abbrev y_on : Party T
+    y_on = party_then s x since changes calls.Receive (asked now) back (GoOn (receive_at slots queue p after_it room))
+
+    abbrev s_on : Channel T
+    s_on = given_to slots queue s latest turns p y_on s.completion []
+
+    as_was : span_of p (s.events ++ []) ≡ spanned
+    as_was = ap (span_of p) (append-nil s.events) ∙ from
+
+    on_completion_goes : OnCompletion slots queue s latest turns p y_on s.completion []
+    on_completion_goes =
+        let given = h.given in
+        let same : receiver_of (s.events ++ []) ≡ receiver_of s.events = ap receiver_of (append-nil s.events) in
+        record {
+          other = other;
+          good = h.parts.completion;
+          placed = subst (Placed slots s.claims s.submission.waiting s.completion.waiting s.book) (sym (append-nil s.events)) h.parts.placed;
+          tells =
+              silent_tells queue (is_reclaiming s.events) s.submission.waiting s.completion.waiting s.completion.waiting
+              [] refl refl refl (append-nil s.completion.waiting);
+          reclaiming = h.reclaiming ∙ ap (λ es. reclaims_in (span_of 0 es)) (sym (append-nil s.events));
+          write = omega arith;
+          receivers = (omega arith, omega arith);
+          moves = tt;
+          begins = tt;
+          answers = tt;
+          passing =
+              λ i q e. subst (λ es. Carries i (span_of q es)) (sym (append-nil s.events))
+              (h.passing i q (ap (spot_of i) (sym (append-nil s.events)) ∙ e));
+        }
+
+    goes_on : Looks now back (GoOn (receive_at slots queue p after_it room)) effects.Quiet
+    goes_on =
+        let wrote_is : [] ≡ wrote_in (span_of p (s.events ++ [])) = sym (ap wrote_in as_was) in (
+          record {
+            words = words_are now on words;
+            shows = given_shows slots queue s latest turns p y_on s.completion [] h on_completion_goes;
+            own = tt;
+            stands = tt;
+            here =
+                record {
+                  span = ap (λ wrote. Open call wrote) wrote_is;
+                  steps = omega arith;
+                  at =
+                      subst (λ wrote. At slots queue s_on p wrote calls.Receive (receive_at slots queue p after_it room))
+                      wrote_is (other, refl, refl, refl, refl, λ lives. (receives, known));
+                };
+            knows = paid (change_of (words_in s) (asked now));
+            gives =
+                record {
+                  receiver = receives;
+                  alive = alive;
+                  pop = λ room stage known. known;
+                  passes = λ q i ne e. ap (spot_of i) (append-nil s.events) ∙ e;
+                };
+          },
+          refl,
+        )
+
+  -- ---- nothing waits
+
+  abbrev acted : Event T
+  acted = Acted p call answers.PoppedNone
+
+  abbrev ends : Event T
+  ends = Finished p call answers.PoppedNone
+
+  abbrev told : List (Event T)
+  told = acted ∷ ends ∷ []
+
+  told_still : AreStill told
+  told_still = (record { moves = refl; receiver = λ r. refl; dead = λ q b. refl }, (record { moves = refl; receiver = λ r. refl; dead = λ q b. refl }, tt))
+
+  module _ (read : ℕ) (empty : s.submission.waiting ≡ []) where
+    abbrev y_none : Party T
+    y_none = party_then s x since changes calls.Receive (asked (pops.TheVariants.LoadsWrite read)) false (Done answers.PoppedNone)
+
+    tells_none : Tells queue (is_reclaiming s.events) s.submission.waiting s.submission.waiting s.completion.waiting s.completion.waiting told
+    tells_none =
+        let list : items {T = T} (take queue s.submission.waiting) ≡ [] = ap (λ xs. items (take queue xs)) empty ∙ ap items (take-nil {A = ℕ} queue) in
+        record {
+          book = append-nil (items s.submission.waiting);
+          given = append-nil s.completion.waiting;
+          goes = rw list refl;
+          answers = rw list refl;
+        }
+
+    passing_none : (i q : ℕ) → spot_of i (s.events ++ told) ≡ Passing q → Carries i (span_of q (s.events ++ told))
+    passing_none i q e =
+        let carried = h.passing i q (sym (spots_still i s.events told told_still) ∙ e) in
+        ⊎_elim
+        (λ (mine : q ≡ p). absurd (subst (Carries i) from (subst (λ n. Carries i (span_of n s.events)) mine carried)))
+        (λ (theirs : q ≢ p). subst (Carries i) (sym (span_of-other p q s.events told theirs (refl, (refl, tt)))) carried)
+        (cases_eq q p)
+
+    on_completion_none : OnCompletion slots queue s latest turns p y_none s.completion told
+    on_completion_none =
+        let given = h.given in
+        let same = receiver_still s.events told told_still in
+        record {
+          other = other;
+          good = h.parts.completion;
+          placed = placed_still slots s.claims s.submission.waiting s.completion.waiting s.book s.events told told_still h.parts.placed;
+          tells = tells_none;
+          reclaiming = h.reclaiming ∙ ap reclaims_in (sym (span_of-other p 0 s.events told (λ e. other (sym e)) (refl, (refl, tt))));
+          write = omega arith;
+          receivers = (omega arith, omega arith);
+          moves = (tt, (tt, tt));
+          begins = (tt, (tt, tt));
+          answers = (tt, (tt, tt));
+          passing = passing_none;
+        }
+
+    finds_none : IsOn queued (pop_asks queue (pops.TheVariants.LoadsWrite read)) → x.steps ≤ 2 * x.backs + 1
+        → x.backs + since ≤ changes
+        → Looks (pops.TheVariants.LoadsWrite read) false (Done answers.PoppedNone) effects.FindsNone
+    finds_none on steps paid = (
+      record {
+        words = words_are (pops.TheVariants.LoadsWrite read) on refl;
+        shows = given_shows slots queue s latest turns p y_none s.completion told h on_completion_none;
+        own = (refl, (refl, tt));
+        stands = (
+          (refl, refl),
+          (
+            (
+              refl,
+              record {
+                moments = refl;
+                done = record { claimed = refl; published = refl; handed_out = refl; given_back = refl; taken_back = refl; freed = refl };
+              },
+            ),
+            tt,
+          ),
+        );
+        here = record { answer = answers.PoppedNone; wrote = acted ∷ []; span = refl; steps = omega arith };
+        knows = omega arith;
+        gives = record { receiver = receives; alive = alive; pop = λ room stage known. known; passes = λ q i ne e. spots_still i s.events told told_still ∙ e };
+      },
+      refl,
+    )
+
+  -- ---- each stage that takes nothing out
+
+  loads_read : (room : OneWord) → x.steps ≤ 2 * x.backs → x.backs + since ≤ changes → LooksOf pops.TheVariants.LoadsRead room
+  loads_read room steps paid =
+      let some = h.parts.some in
+      let on : 1 < length queued = (let wide = long in omega arith) in
+      let is : goes pops.TheVariants.LoadsRead room (old pops.TheVariants.LoadsRead)
+      ≡ GoOn (receive_at slots queue p (pops.TheVariants.LoadsWrite s.submission.read) room) =
+      ap (goes pops.TheVariants.LoadsRead room) (old_is pops.TheVariants.LoadsRead on) in
+      subst (λ a. Looks pops.TheVariants.LoadsRead false a effects.Quiet) (sym is)
+      (goes_on pops.TheVariants.LoadsRead (pops.TheVariants.LoadsWrite s.submission.read) room false on refl
+      (omega arith, omega arith, λ less. absurd (omega arith)) refl (omega arith) (λ n. (omega arith, omega arith)))
+
+  loads_write : (read : ℕ) (room : OneWord)
+      → KnowsOverflowPop queue s.submission room (pops.TheVariants.LoadsWrite read) → x.steps ≤ 2 * x.backs + 1
+      → x.backs + since + s.submission.read ≤ changes + read → LooksOf (pops.TheVariants.LoadsWrite read) room
+  loads_write read room known steps paid = go (s.submission.write == read) refl
+    where
+      on : 0 < length queued
+      on = let wide = long in omega arith
+
+      go : (b : Bool) → (s.submission.write == read) ≡ b → LooksOf (pops.TheVariants.LoadsWrite read) room
+      go true t =
+          let write = h.parts.submission.write in
+          let low = known.1 in
+          let same : s.submission.write ≡ read = grind (arith, nat_tests) in
+          let none : length s.submission.waiting ≡ 0 = omega arith in
+          let is : goes (pops.TheVariants.LoadsWrite read) room (old (pops.TheVariants.LoadsWrite read)) ≡ Done answers.PoppedNone =
+          ap (goes (pops.TheVariants.LoadsWrite read) room) (old_is (pops.TheVariants.LoadsWrite read) on) ∙ (rw t refl) in
+          let does : effect_at (pops.TheVariants.LoadsWrite read) (old (pops.TheVariants.LoadsWrite read)) ≡ effects.FindsNone =
+          ap (effect_at (pops.TheVariants.LoadsWrite read)) (old_is (pops.TheVariants.LoadsWrite read) on) ∙ (rw t refl) in
+          subst (λ a. Looks (pops.TheVariants.LoadsWrite read) false a
+          (effect_at (pops.TheVariants.LoadsWrite read) (old (pops.TheVariants.LoadsWrite read))))
+          (sym is)
+          (subst (λ e. Looks (pops.TheVariants.LoadsWrite read) false (Done answers.PoppedNone) e) (sym does)
+          (finds_none read (nil_from_length s.submission.waiting none) on steps (omega arith)))
+      go false t =
+          let write = h.parts.submission.write in
+          let some = h.parts.some in
+          let low = known.1 in
+          let apart : s.submission.write ≢ read = grind (arith, nat_tests) in
+          let ahead : s.submission.read < s.submission.write =
+          ⊎_elim known.2 (λ (still : s.submission.read ≤ read). omega arith) (cases_lt read s.submission.read) in
+          let is : goes (pops.TheVariants.LoadsWrite read) room (old (pops.TheVariants.LoadsWrite read))
+          ≡ GoOn (receive_at slots queue p (pops.TheVariants.LoadsCell read) room) =
+          ap (goes (pops.TheVariants.LoadsWrite read) room) (old_is (pops.TheVariants.LoadsWrite read) on) ∙ (rw t refl) in
+          let does : effect_at (pops.TheVariants.LoadsWrite read) (old (pops.TheVariants.LoadsWrite read)) ≡ effects.Quiet =
+          ap (effect_at (pops.TheVariants.LoadsWrite read)) (old_is (pops.TheVariants.LoadsWrite read) on) ∙ (rw t refl) in
+          subst (λ a. Looks (pops.TheVariants.LoadsWrite read) false a
+          (effect_at (pops.TheVariants.LoadsWrite read) (old (pops.TheVariants.LoadsWrite read))))
+          (sym is)
+          (subst (λ e. Looks (pops.TheVariants.LoadsWrite read) false (GoOn (receive_at slots queue p (pops.TheVariants.LoadsCell read) room)) e) (sym does)
+          (goes_on (pops.TheVariants.LoadsWrite read) (pops.TheVariants.LoadsCell read) room false on refl
+          (omega arith, low, ahead) refl (omega arith) (λ n. (low, omega arith))))
+
+  loads_cell : (read : ℕ) (room : OneWord)
+      → KnowsOverflowPop queue s.submission room (pops.TheVariants.LoadsCell read) → x.steps ≤ 2 * x.backs + 2
+      → x.backs + since + s.submission.read ≤ changes + read → LooksOf (pops.TheVariants.LoadsCell read) room
+  loads_cell read room known steps paid =
+      let write = h.parts.submission.write in
+      let some = h.parts.some in
+      let low = known.1 in
+      let ahead = known.2 in
+      let first = oldest queue s.submission h.parts.submission (omega arith) in
+      let on = submission.cell_on queue h.parts.some h.parts.few s.submission h.parts.submission reached read in
+      let found : old (pops.TheVariants.LoadsCell read) ≡ get_or s.submission.cells (read % (queue + 1)) 0 =
+      old_is (pops.TheVariants.LoadsCell read) on
+      ∙ submission.cell_is queue h.parts.some h.parts.few s.submission h.parts.submission reached read in
+      let is : goes (pops.TheVariants.LoadsCell read) room (old (pops.TheVariants.LoadsCell read))
+      ≡ GoOn (receive_at slots queue p (pops.TheVariants.MovesRead read) (word_of (get_or s.submission.cells (read % (queue + 1)) 0))) =
+      ap (goes (pops.TheVariants.LoadsCell read) room) found in
+      subst (λ a. Looks (pops.TheVariants.LoadsCell read) false a effects.Quiet) (sym is)
+      (goes_on (pops.TheVariants.LoadsCell read) (pops.TheVariants.MovesRead read)
+      (word_of (get_or s.submission.cells (read % (queue + 1)) 0)) false on
+      (set-get_or queued (cell_word queue read) 0) (
+        omega arith,
+        low,
+        ahead,
+        λ same. (first.0, subst (λ r. s.submission.waiting ≡ get_or s.submission.cells (r % (queue + 1)) 0 ∷ first.0) (sym same) first.1),
+      ) refl (omega arith) (λ n. (low, omega arith)))
+
+  -- a send has moved the read position: the cell is loaded again, at the position found
+  moves_back : (read : ℕ) (room : OneWord)
+      → KnowsOverflowPop queue s.submission room (pops.TheVariants.MovesRead read) → (s.submission.read == read) ≡ false
+      → x.steps ≤ 2 * x.backs + 3 → x.backs + since + s.submission.read ≤ changes + read
+      → LooksOf (pops.TheVariants.MovesRead read) room
+  moves_back read room known moved steps paid =
+      let some = h.parts.some in
+      let low = known.1 in
+      let ahead = known.2 in
+      let apart : s.submission.read ≢ read = grind (arith, nat_tests) in
+      let on : 1 < length queued = (let wide = long in omega arith) in
+      let found : old (pops.TheVariants.MovesRead read) ≡ s.submission.read = old_is (pops.TheVariants.MovesRead read) on in
+      let back : goes_back (pops.TheVariants.MovesRead read) (old (pops.TheVariants.MovesRead read)) ≡ true =
+      ap (goes_back (pops.TheVariants.MovesRead read)) found ∙ (rw moved refl) in
+      let is : goes (pops.TheVariants.MovesRead read) room (old (pops.TheVariants.MovesRead read))
+      ≡ GoOn (receive_at slots queue p (pops.TheVariants.LoadsCell s.submission.read) room) =
+      ap (goes (pops.TheVariants.MovesRead read) room) found ∙ (rw moved refl) in
+      let does : effect_at (pops.TheVariants.MovesRead read) (old (pops.TheVariants.MovesRead read)) ≡ effects.Quiet =
+      ap (effect_at (pops.TheVariants.MovesRead read)) found ∙ (rw moved refl) in
+      subst (λ b. Looks (pops.TheVariants.MovesRead read) b
+      (goes (pops.TheVariants.MovesRead read) room (old (pops.TheVariants.MovesRead read)))
+      (effect_at (pops.TheVariants.MovesRead read) (old (pops.TheVariants.MovesRead read))))
+      (sym back)
+      (subst (λ a. Looks (pops.TheVariants.MovesRead read) true a
+      (effect_at (pops.TheVariants.MovesRead read) (old (pops.TheVariants.MovesRead read))))
+      (sym is)
+      (subst (λ e. Looks (pops.TheVariants.MovesRead read) true
+      (GoOn (receive_at slots queue p (pops.TheVariants.LoadsCell s.submission.read) room)) e)
+      (sym does)
+      (goes_on (pops.TheVariants.MovesRead read) (pops.TheVariants.LoadsCell s.submission.read) room true on
+      (submission.stays_words queue h.parts.some h.parts.few s.submission h.parts.submission reached read moved)
+      (omega arith, omega arith, ahead) refl (omega arith) (λ n. (omega arith, omega arith)))))
+
+  pub looks : (stage : PopStage) (room : OneWord) → IsLook s stage → KnowsOverflowPop queue s.submission room stage
+      → x.steps ≤ 2 * x.backs + overflow_pop_number stage → KnowsBacks s.submission since changes x.backs stage
+      → LooksOf stage room
+  looks pops.TheVariants.FindsNone room is known steps paid = let some = h.parts.some in absurd (omega arith)
+  looks pops.TheVariants.LoadsRead room is known steps paid = loads_read room (omega arith) paid
+  looks (pops.TheVariants.LoadsWrite read) room is known steps paid = loads_write read room known steps paid.1
+  looks (pops.TheVariants.LoadsCell read) room is known steps paid = loads_cell read room known steps paid.1
+  looks (pops.TheVariants.MovesRead read) room is known steps paid = moves_back read room known is steps paid.1

@@ -1,0 +1,256 @@
+-- A step of a reclaim that changes no word of the indices, after which the reclaim goes on.
+use Rattle.std.proofs.Common.{◌≡◌, ◌≢◌, ℕ, ◌+◌, ◌≤◌, ⊎_elim, true, false, Option, Some, None, List, [], ◌++◌, length}
+use Rattle.std.proofs.Common.{fold, refl, sym, ap, subst, ◌∙◌, append-nil, arith}
+use Rattle.std.proofs.lemmas.Bool.{cases_eq}
+use Rattle.steps.specs.declared.ask.Ask.{Ask}
+use Rattle.steps.specs.declared.ask.After.{After}
+use Rattle.steps.specs.declared.ask.After.TheVariants.{GoOn}
+use Rattle.steps.specs.declared.loan.places.Place.TheVariants as places
+use Rattle.steps.specs.declared.loan.reclaim.ReclaimStage.{ReclaimStage}
+use Rattle.steps.specs.declared.queues.ring.PushStage.{PushStage}
+use Rattle.steps.specs.Loan.Places.{place_at}
+use Rattle.steps.specs.Loan.Reclaim.{reclaim_asks, reclaim_goes_back}
+use Rattle.model.specs.declared.event.Answer.{Answer}
+use Rattle.model.specs.declared.event.Event.{Event}
+use Rattle.model.specs.declared.event.Start.{Start}
+use Rattle.model.specs.declared.event.Start.TheVariants as starts
+use Rattle.model.specs.declared.families.Flight as flights
+use Rattle.model.specs.declared.families.loan.LoanStart.TheVariants as calls
+use Rattle.model.specs.declared.families.loan.calls.LoanFlight.{LoanFlight}
+use Rattle.model.specs.declared.families.loan.effects.Effect.{Effect}
+use Rattle.model.specs.declared.party.Party.{Party}
+use Rattle.model.specs.Coding.{Coding, one_word}
+use Rattle.model.specs.Families.{ask_of}
+use Rattle.model.specs.Families.Loan.Calls.{reclaim_goes}
+use Rattle.model.specs.Families.Loan.Promises.{MovesRight, BeginsRight, AnswersRight, promise}
+use Rattle.model.specs.Families.Loan.Reading.{Passing, spot_of, receiver_of, given_back, claimed, reclaims_after, gives_back, claims}
+use Rattle.model.specs.Families.Loan.Steps.{ended_book, book_after, reclaim_effect, effects_of}
+use Rattle.model.specs.Families.Queues.Calls.{words_of_index}
+use Rattle.model.specs.Families.Queues.Reading.{publishes, published}
+use Rattle.model.specs.Promises.Spans.{Stands}
+use Rattle.model.specs.Reading.{acts, moments, Open, own_after, span_of}
+use Rattle.model.specs.Step.{answer_in}
+use Rattle.model.specs.Turns.{old_of, words_after, change_of, step_count, ending_of}
+use Rattle.model.proofs.Readings.{AreRight, AreOwn, AllFollow, span_of-own, span_of-other}
+use Rattle.laws_queues.proofs.Queues.Core.{Core, Good, GoesUp}
+use Rattle.laws_queues.proofs.Queues.Knows.{layout}
+use Rattle.laws_queues.proofs.Ring.Knows.{KnowsPush}
+use Rattle.laws_loan.proofs.Channel.{Channel, no_roles, words_in}
+use Rattle.laws_loan.proofs.Invariant.{Hangs, sends_at, counted_for, hung, reclaims_in, Carries, HoldsNow}
+use Rattle.laws_loan.proofs.Knows.{reclaim_counts, reclaim_number, wrote_in, StageAt, ReclaimAt, At}
+use Rattle.laws_loan.proofs.OnQueues.{OnQueues, queues_then, queues_show, silent_tells}
+use Rattle.laws_loan.proofs.Placed.{Placed}
+use Rattle.laws_loan.proofs.Reclaiming.{reclaim_at, none_more}
+use Rattle.laws_loan.proofs.Reclaims.{dead_stays}
+use Rattle.laws_loan.proofs.Sender.{party_then, Steps}
+use Rattle.laws_loan.proofs.Told.{is_reclaiming, Tells}
+
+module _ {T : Type 0} (code : Coding T) (slots queue : ℕ) (s : Channel T) (latest : List (ℕ × Party T))
+    (turns changes since : ℕ) (x : Party T) (wrote : List (Event T)) where
+  abbrev pub start : Start T
+  start = starts.Loan calls.Reclaim
+
+  -- ---- a step of the call, by its stage
+
+  abbrev pub asked : ReclaimStage → Option Ask
+  asked stage = ask_of (reclaim_asks slots queue stage)
+
+  abbrev pub old : ReclaimStage → ℕ
+  old stage = old_of (words_in s) (asked stage)
+
+  abbrev pub goes : ReclaimStage → ℕ → After LoanFlight (Answer T)
+  goes stage value = reclaim_goes s.book.places (record { slots = slots; queue = queue; stage = stage }) value
+
+  abbrev pub effect_at : ReclaimStage → ℕ → Effect
+  effect_at stage value = reclaim_effect slots queue (words_in s) stage value
+
+  abbrev pub events_by : Effect → After LoanFlight (Answer T) → List (Event T)
+  events_by effect after = effects_of 0 effect (answer_in after) ++ ending_of 0 start (answer_in after)
+
+  -- what is kept then
+  abbrev pub Keeps : Channel T → Effect → After LoanFlight (Answer T) → Type 0
+  Keeps s' effect after =
+      ended_book {T = T} 0 calls.Reclaim (answer_in after) (fold (book_after {T = T}) s.book (effects_of 0 effect (answer_in after)))
+      ≡ s'.book
+
+  abbrev pub StepTo : Channel T → ReclaimStage → After LoanFlight (Answer T) → Effect → Type 0
+  StepTo s' stage after effect =
+      Steps code slots queue s latest turns changes since x s' (Open start wrote) calls.Reclaim (asked stage) false
+      after (events_by effect after)
+      × Keeps s' effect after
+
+  -- what a step of a reclaim that stands here comes to
+  pub record Does (stage : ReclaimStage) : Type 0 where
+    pub channel_then : Channel T
+    pub stays : reclaim_goes_back stage (old stage) ≡ false
+    pub step : StepTo channel_then stage (goes stage (old stage)) (effect_at stage (old stage))
+
+  -- ---- it goes on
+
+  module _ (h : HoldsNow slots queue s latest s.events turns) (under : ReclaimStage)
+      (here : sends_at latest ≡ Some (flights.TheVariants.Loan (reclaim_at slots queue under)))
+      (idle : reclaim_counts under ≡ 0) (from : span_of 0 s.events ≡ Open start wrote)
+      (known : ReclaimAt slots queue s wrote under) (straight : x.backs ≡ 0) where
+    pub calm : Hangs queue s.submission None
+    calm = subst (Hangs queue s.submission) (ap (hung s.submission.read) here) h.hangs
+
+    pub busy_none : counted_for (sends_at latest) ≡ 0
+    busy_none = ap counted_for here ∙ idle
+
+    pub reclaims : is_reclaiming s.events ≡ true
+    reclaims = h.reclaiming ∙ ap reclaims_in from
+
+    module _ (now : ReclaimStage) (k m : Core ℕ) (es : List (Event T)) (after_it : ReclaimStage) where
+      abbrev pub y_on : Party T
+      y_on = party_then s x since changes calls.Reclaim (asked now) false (GoOn (reclaim_at slots queue after_it))
+
+      abbrev pub s_on : Channel T
+      s_on = queues_then slots queue s latest turns y_on k m s.book es
+
+      -- what a step shows that writes these events, leaves the two queues so, and goes on there
+      pub record Leads : Type 0 where
+        pub words : words_after (words_in s) (asked now) ≡ s.set ++ (layout no_roles k ++ layout no_roles m)
+        pub own : AreOwn 0 es
+        pub stands : AllFollow (Stands promise slots) (Open start wrote) es
+        pub span : fold own_after (Open start wrote) es ≡ Open start (wrote ++ es)
+        pub submission : Good 1 words_of_index (queue + 1) k
+        pub completion : Good 1 words_of_index slots m
+        pub fewer : length k.waiting ≤ length s.submission.waiting
+        pub sent_write : k.write ≡ s.submission.write
+        pub given_write : m.write ≡ s.completion.write
+        pub placed : Placed slots s.claims k.waiting m.waiting s.book (s.events ++ es)
+        pub tells : Tells queue true s.submission.waiting k.waiting s.completion.waiting m.waiting es
+        pub counted : reclaim_counts after_it ≡ 0
+        pub moves : AreRight (MovesRight slots) s.events es
+        pub begins : AreRight BeginsRight s.events es
+        pub answers : AreRight (AnswersRight slots) s.events es
+        pub passing : (i q : ℕ) → q ≢ 0 → spot_of i (s.events ++ es) ≡ Passing q → spot_of i s.events ≡ Passing q
+        pub sent : (i : ℕ) → spot_of i (s.events ++ es) ≡ Passing 0 → place_at s.book.places i ≡ places.Sent
+        pub receiver : receiver_of (s.events ++ es) ≡ receiver_of s.events
+        pub reclaiming : fold reclaims_after true es ≡ true
+        pub claims : claimed es ≡ []
+        pub publishes : published es ≡ []
+        pub gives : given_back es ≡ []
+        pub acts : moments es ≡ []
+        pub stage_at : StageAt slots k m s.book.places (wrote ++ es) after_it
+        pub steps : x.steps + step_count (asked now) ≤ reclaim_number slots (wrote ++ es) after_it
+        pub push : (index : ℕ) (stage : PushStage) → KnowsPush one_word slots s.completion index stage → KnowsPush one_word slots m index stage
+        pub up : GoesUp s.submission k changes (changes + change_of (words_in s) (asked now))
+
+      module _ (leads : Leads) where
+        open_then : span_of 0 (s.events ++ es) ≡ Open start (wrote ++ es)
+        open_then = span_of-own 0 s.events es leads.own ∙ (ap (λ span. fold own_after span es) from ∙ leads.span)
+
+        passing_then : (i q : ℕ) → spot_of i (s.events ++ es) ≡ Passing q → Carries i (span_of q (s.events ++ es))
+        passing_then i q e =
+            ⊎_elim
+            (λ (mine : q ≡ 0). subst (λ n. Carries i (span_of n (s.events ++ es))) (sym mine) (subst (Carries i) (sym open_then) tt))
+            (λ (theirs : q ≢ 0). subst (Carries i) (sym (span_of-other 0 q s.events es theirs leads.own)) (h.passing i q (leads.passing i q theirs e)))
+            (cases_eq q 0)
+
+        on_queues : OnQueues slots queue s latest turns y_on k m s.book es
+        on_queues =
+            let sent = h.sent in
+            let given = h.given in
+            let same_sent = leads.sent_write in
+            let same_given = leads.given_write in
+            let same = leads.receiver in
+            let fewer = leads.fewer in
+            let few = calm in
+            record {
+              busy_before = busy_none;
+              busy_after = leads.counted;
+              queue_stays = refl;
+              submission = leads.submission;
+              completion = leads.completion;
+              placed = leads.placed;
+              tells = subst (λ b. Tells queue b s.submission.waiting k.waiting s.completion.waiting m.waiting es) (sym reclaims) leads.tells;
+              hangs = omega arith;
+              sent = omega arith;
+              given = omega arith;
+              reclaiming = ap (λ b. fold reclaims_after b es) reclaims ∙ (leads.reclaiming ∙ sym (ap reclaims_in open_then));
+              receivers = (omega arith, omega arith);
+              moves = leads.moves;
+              begins = leads.begins;
+              answers = leads.answers;
+              passing = passing_then;
+            }
+
+        known_then : ReclaimAt slots queue s_on (wrote ++ es) after_it
+        known_then =
+            record {
+              dead = known.dead;
+              sent = leads.sent;
+              claims = none_more claims wrote es known.claims leads.claims;
+              publishes = none_more publishes wrote es known.publishes leads.publishes;
+              gives = none_more gives_back wrote es known.gives leads.gives;
+              acts = none_more acts wrote es known.acts leads.acts;
+              stage_at = leads.stage_at;
+            }
+
+        pub leads_on : Steps code slots queue s latest turns changes since x s_on (Open start wrote) calls.Reclaim
+            (asked now) false (GoOn (reclaim_at slots queue after_it)) es
+        leads_on =
+            let wrote_is : wrote ++ es ≡ wrote_in (span_of 0 (s.events ++ es)) = sym (ap wrote_in open_then) in
+            record {
+              words = leads.words;
+              shows = queues_show slots queue s latest turns y_on k m s.book es h on_queues;
+              own = leads.own;
+              stands = leads.stands;
+              here =
+                  record {
+                    span = leads.span ∙ ap (λ es. Open start es) wrote_is;
+                    steps = subst (λ es. x.steps + step_count (asked now) ≤ reclaim_number slots es after_it) wrote_is leads.steps;
+                    at = subst (λ es. At slots queue s_on 0 es calls.Reclaim (reclaim_at slots queue after_it)) wrote_is (refl, refl, refl, known_then);
+                  };
+              knows = omega arith;
+              theirs = λ q ne. dead_stays slots queue s s_on known.dead refl leads.push q;
+              up = leads.up;
+            }
+
+    -- ---- a step that writes nothing, and changes no word
+
+    abbrev pub s_still : Channel T
+    s_still = record s { submission = s.submission; completion = s.completion; book = s.book; events = s.events ++ [] }
+
+    module _ (now after_it : ReclaimStage) (words : words_after (words_in s) (asked now) ≡ words_in s)
+        (counted : reclaim_counts after_it ≡ 0)
+        (stands : StageAt slots s.submission s.completion s.book.places wrote after_it)
+        (steps : x.steps + step_count (asked now) ≤ reclaim_number slots wrote after_it) where
+      still : Leads now s.submission s.completion [] after_it
+      still =
+          record {
+            words = words;
+            own = tt;
+            stands = tt;
+            span = ap (λ es. Open start es) (sym (append-nil wrote));
+            submission = h.parts.submission;
+            completion = h.parts.completion;
+            fewer = omega arith;
+            sent_write = refl;
+            given_write = refl;
+            placed = subst (Placed slots s.claims s.submission.waiting s.completion.waiting s.book) (sym (append-nil s.events)) h.parts.placed;
+            tells =
+                silent_tells {T = T} queue true s.submission.waiting s.completion.waiting s.completion.waiting [] refl
+                refl refl (append-nil s.completion.waiting);
+            counted = counted;
+            moves = tt;
+            begins = tt;
+            answers = tt;
+            passing = λ i q ne e. ap (spot_of i) (sym (append-nil s.events)) ∙ e;
+            sent = λ i e. known.sent i (ap (spot_of i) (sym (append-nil s.events)) ∙ e);
+            receiver = ap receiver_of (append-nil s.events);
+            reclaiming = refl;
+            claims = refl;
+            publishes = refl;
+            gives = refl;
+            acts = refl;
+            stage_at = subst (λ es. StageAt slots s.submission s.completion s.book.places es after_it) (sym (append-nil wrote)) stands;
+            steps = subst (λ es. x.steps + step_count (asked now) ≤ reclaim_number slots es after_it) (sym (append-nil wrote)) steps;
+            push = λ index stage known. known;
+            up = record { write = omega arith; read = omega arith; paid = omega arith };
+          }
+
+      pub goes_still : Steps code slots queue s latest turns changes since x s_still (Open start wrote)
+          calls.Reclaim (asked now) false (GoOn (reclaim_at slots queue after_it)) []
+      goes_still = leads_on now s.submission s.completion [] after_it still

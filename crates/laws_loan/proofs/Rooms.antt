@@ -1,0 +1,43 @@
+-- How many indices wait in the two queues: no more than there are slots, so each is below them, and where one index is in
+-- passing there is room for it.
+use Rattle.std.proofs.Common.{◌≡◌, ℕ, ◌^◌, ◌<◌, ◌≤◌, ⊎_elim, Option, List, ◌∷◌, length, sym, ap, ◌∙◌, arith}
+use Rattle.std.proofs.lemmas.Bool.{cases_lt}
+use Rattle.steps.specs.Loan.Back.{index_in}
+use Rattle.model.specs.declared.event.Event.{Event}
+use Rattle.model.specs.declared.families.loan.Book.{Book}
+use Rattle.model.specs.Families.Loan.Reading.{Free, Passing, Waiting, Returning, spot_of}
+use Rattle.laws_loan.proofs.Lists.{lists_few, lists_room, first_there}
+use Rattle.laws_loan.proofs.Placed.{Placed}
+use Rattle.laws_loan.proofs.Spots.{is_waiting, is_returning, waits_there, returns_there}
+
+-- an index below the slots lies whole in the low half of its word
+pub index_is : (i slots : ℕ) → i < slots → slots < 2 ^ 32 → index_in i ≡ i
+index_is i slots below few = let low : i < 2 ^ 32 = omega arith in omega arith
+
+module _ {T : Type 0} (slots : ℕ) (claims : List (Option ℕ)) (sent back : List ℕ) (book : Book)
+    (events : List (Event T)) (h : Placed slots claims sent back book events) where
+  pub waits_few : length sent ≤ slots
+  waits_few = lists_few is_waiting sent events slots h.waits (λ i beyond. ap is_waiting (h.past i beyond))
+
+  -- a give-back finds room
+  pub returns_room : (i p : ℕ) → i < slots → spot_of i events ≡ Passing p → length back < slots
+  returns_room i p below from =
+      lists_room is_returning back events slots i h.returns (λ j beyond. ap is_returning (h.past j beyond)) below (ap is_returning from)
+
+  pub sent_below : (i : ℕ) (rest : List ℕ) → sent ≡ i ∷ rest → i < slots
+  sent_below i rest front = ⊎_elim (λ (less : i < slots). less) past (cases_lt i slots)
+    where
+      past : slots ≤ i → i < slots
+      past beyond =
+          let there : spot_of i events ≡ Waiting = waits_there (spot_of i events) (first_there is_waiting sent rest events i front h.waits) in
+          let both : Waiting ≡ Free = sym there ∙ h.past i beyond in
+          absurd (cc)
+
+  pub back_below : (i : ℕ) (rest : List ℕ) → back ≡ i ∷ rest → i < slots
+  back_below i rest front = ⊎_elim (λ (less : i < slots). less) past (cases_lt i slots)
+    where
+      past : slots ≤ i → i < slots
+      past beyond =
+          let there : spot_of i events ≡ Returning = returns_there (spot_of i events) (first_there is_returning back rest events i front h.returns) in
+          let both : Returning ≡ Free = sym there ∙ h.past i beyond in
+          absurd (cc)

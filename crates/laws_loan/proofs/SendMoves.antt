@@ -1,0 +1,304 @@
+-- The last steps of a send's push over a full queue: it moves the read position, and loads the index that so leaves; or a receive
+-- has made room before.
+use Rattle.std.proofs.Common.{◌≡◌, ◌≢◌, ℕ, suc, ◌+◌, ◌-◌, ◌%◌, ◌^◌, ◌<◌, ◌≤◌, ◌==◌, ⊎_elim, inl, inr, true, false}
+use Rattle.std.proofs.Common.{Option, List, [], ◌∷◌, ◌++◌, length, get_or, fold, refl, sym, ap, subst, ◌∙◌}
+use Rattle.std.proofs.Common.{append-nil, append_assoc, length-append, arith}
+use Rattle.std.proofs.lemmas.Bool.{cases_eq}
+use Rattle.std.proofs.lemmas.Bool.Decides.{nat_tests}
+use Rattle.std.proofs.lemmas.List.Sums.{fold-append}
+use Rattle.steps.specs.declared.ask.Ask.{Ask}
+use Rattle.steps.specs.declared.ask.After.{After}
+use Rattle.steps.specs.declared.ask.After.TheVariants.{GoOn}
+use Rattle.steps.specs.declared.queues.overflow.PushStage.{PushStage}
+use Rattle.steps.specs.declared.queues.overflow.PushStage as pushes
+use Rattle.steps.specs.Loan.Layout.{submission_word}
+use Rattle.steps.specs.Queues.Overflow.{cell_word}
+use Rattle.steps.specs.Queues.Ring.{load}
+use Rattle.model.specs.declared.event.Answer.{Answer}
+use Rattle.model.specs.declared.event.Answer.TheVariants as answers
+use Rattle.model.specs.declared.event.Event.{Event}
+use Rattle.model.specs.declared.event.Event.TheVariants.{Published, HandedOut, Acted}
+use Rattle.model.specs.declared.event.Item.{Item}
+use Rattle.model.specs.declared.event.Item.TheVariants.{Index}
+use Rattle.model.specs.declared.event.Start.{Start}
+use Rattle.model.specs.declared.event.Start.TheVariants as starts
+use Rattle.model.specs.declared.families.loan.LoanStart.TheVariants as calls
+use Rattle.model.specs.declared.families.loan.calls.LoanFlight.{LoanFlight}
+use Rattle.model.specs.declared.families.loan.effects.Effect.{Effect}
+use Rattle.model.specs.declared.families.loan.effects.Effect.TheVariants as effects
+use Rattle.model.specs.declared.party.Party.{Party}
+use Rattle.model.specs.Coding.{Coding}
+use Rattle.model.specs.Families.Loan.Reading.{Passing, Waiting, spot_of, receiver_after, receiver_of}
+use Rattle.model.specs.Families.Loan.Steps.{sent_at}
+use Rattle.model.specs.Families.Queues.Calls.{words_of_index}
+use Rattle.model.specs.Families.Queues.Objects.{answer_of_item}
+use Rattle.model.specs.Families.Queues.Reading.{published, handed_out}
+use Rattle.model.specs.Reading.{Open, own_after, span_of}
+use Rattle.model.specs.Turns.{change_of}
+use Rattle.model.proofs.Readings.{span_of-own, span_of-other}
+use Rattle.laws_queues.proofs.Overflow.Core.{push_over}
+use Rattle.laws_queues.proofs.Overflow.Keeping.{take_keeps_pop}
+use Rattle.laws_queues.proofs.Queues.Core.{Core, taken}
+use Rattle.laws_loan.proofs.Channel.{Channel, words_in}
+use Rattle.laws_loan.proofs.Invariant.{sends_at, counted_for, reclaims_in, Carries, HoldsNow}
+use Rattle.laws_loan.proofs.Knows.{push_wrote, wrote_in, At}
+use Rattle.laws_loan.proofs.Lists.{first_there}
+use Rattle.laws_loan.proofs.OnQueues.{OnQueues, queues_show}
+use Rattle.laws_loan.proofs.Parts.{submission_old}
+use Rattle.laws_loan.proofs.Placed.{Placed}
+use Rattle.laws_loan.proofs.Rooms.{sent_below}
+use Rattle.laws_loan.proofs.Sender.{party_then}
+use Rattle.laws_loan.proofs.Sends.{pushes_at, asked, old, queued, goes, effect_at, StepTo, Does, Here, reached, long, old_is, words_are, change_is}
+use Rattle.laws_loan.proofs.Spots.{is_waiting, waits_there, spot_other, spot_moved}
+use Rattle.laws_loan.proofs.Still.{AreStill, spots_still, placed_still}
+use Rattle.laws_loan.proofs.Submission as submission
+use Rattle.laws_loan.proofs.Table.{hands_it_out}
+use Rattle.laws_loan.proofs.Told.{items, is_reclaiming, Tells}
+
+waiting_passes : (q : ℕ) → Waiting ≡ Passing q → ⊥
+waiting_passes q e = absurd (cc)
+
+module _ {T : Type 0} (code : Coding T) (slots queue : ℕ) (s : Channel T) (latest : List (ℕ × Party T))
+    (turns changes since : ℕ) (x : Party T) (h : HoldsNow slots queue s latest s.events turns)
+    (small : turns < 2 ^ 64 - 2) (index : ℕ) (straight : x.backs ≡ 0) where
+  abbrev call : Start T
+  call = starts.Loan (calls.Send index)
+
+  abbrev publishes : Event T
+  publishes = Published 0 (Index index)
+
+  abbrev asks : PushStage → Option Ask
+  asks stage = asked code slots queue s latest turns changes since x h small index straight stage
+
+  abbrev value : PushStage → ℕ
+  value stage = old code slots queue s latest turns changes since x h small index straight stage
+
+  abbrev then_of : PushStage → ℕ → After LoanFlight (Answer T)
+  then_of stage v = goes code slots queue s latest turns changes since x h small index straight stage v
+
+  abbrev effect_of : PushStage → ℕ → Effect
+  effect_of stage v = effect_at code slots queue s latest turns changes since x h small index straight stage v
+
+  abbrev To : Channel T → List (Event T) → PushStage → After LoanFlight (Answer T) → Effect → Type 0
+  To s' wrote stage after effect = StepTo code slots queue s latest turns changes since x h small index straight s' wrote stage after effect
+
+  abbrev Does_at : PushStage → Type 0
+  Does_at stage = Does code slots queue s latest turns changes since x h small index straight stage
+
+  abbrev party : PushStage → After LoanFlight (Answer T) → Party T
+  party stage after = party_then s x since changes (calls.Send index) (asks stage) false after
+
+  pub low_write : s.submission.write < 2 ^ 64 - 2
+  low_write = reached code slots queue s latest turns changes since x h small index straight
+
+  pub wide : length (queued code slots queue s latest turns changes since x h small index straight) ≡ 5 + queue
+  wide = long code slots queue s latest turns changes since x h small index straight
+
+  -- the index in the cell of this position
+  abbrev oldest_at : ℕ → ℕ
+  oldest_at read = get_or s.submission.cells (read % (queue + 1)) 0
+
+  -- the words of the whole have it
+  sent_is : (read : ℕ) → sent_at (submission_word slots) queue (words_in s) read ≡ oldest_at read
+  sent_is read =
+      submission_old slots queue s (counted_for (sends_at latest)) h.parts (load (cell_word queue read))
+      (submission.cell_on queue h.parts.some h.parts.few s.submission h.parts.submission low_write read)
+      ∙ submission.cell_is queue h.parts.some h.parts.few s.submission h.parts.submission low_write read
+
+  -- once it has published, a send carries none until it takes one out
+  pub none_carried : {A : Type 0} (i : ℕ) (wrote : List (Event T)) → handed_out wrote ≡ [] → Carries i (Open call (publishes ∷ wrote)) → A
+  none_carried x0 x1 x2 x3 = grind arith
+
+  -- ---- it takes the oldest index out
+
+  abbrev pub moves : PushStage
+  moves = pushes.TheVariants.MovesRead s.submission.read
+
+  abbrev loads : PushStage
+  loads = pushes.TheVariants.LoadsCell s.submission.read
+
+  module _ (here : Here code slots queue s latest turns changes since x h small index straight moves)
+      (from : span_of 0 s.events ≡ Open call (publishes ∷ [])) (others rest : List ℕ)
+      (is : s.submission.waiting ≡ others ++ index ∷ [])
+      (first : s.submission.waiting ≡ oldest_at s.submission.read ∷ rest)
+      (far : s.submission.write ≡ s.submission.read + queue + 1) (steps : x.steps ≤ 4) where
+    abbrev u : ℕ
+    u = oldest_at s.submission.read
+
+    abbrev k : Core ℕ
+    k = taken 1 words_of_index (queue + 1) s.submission rest
+
+    abbrev hands : Event T
+    hands = HandedOut 0 (Index u)
+
+    abbrev acts : Event T
+    acts = Acted 0 call (answers.PoppedIndex u)
+
+    abbrev told : List (Event T)
+    told = hands ∷ acts ∷ []
+
+    abbrev s_out : Channel T
+    s_out = record s { submission = k; completion = s.completion; book = s.book; events = s.events ++ told }
+
+    abbrev y_out : Party T
+    y_out = party moves (GoOn (pushes_at slots queue loads index))
+
+    on : 1 < length (queued code slots queue s latest turns changes since x h small index straight)
+    on = let all = wide in omega arith
+
+    below : u < slots
+    below = sent_below slots s.claims s.submission.waiting s.completion.waiting s.book s.events h.parts.placed u rest first
+
+    full : length others ≡ queue
+    full =
+        let write = h.parts.submission.write in
+        let longer = length-append others (index ∷ []) in
+        let all : length s.submission.waiting ≡ length (others ++ index ∷ []) = ap length is in
+        omega arith
+
+    was_waiting : spot_of u s.events ≡ Waiting
+    was_waiting = waits_there (spot_of u s.events) (first_there is_waiting s.submission.waiting rest s.events u first h.parts.placed.waits)
+
+    acts_still : AreStill (acts ∷ [])
+    acts_still = (record { moves = refl; receiver = λ r. refl; dead = λ q b. refl }, tt)
+
+    whole : (s.events ++ hands ∷ []) ++ acts ∷ [] ≡ s.events ++ told
+    whole = append_assoc s.events (hands ∷ []) (acts ∷ [])
+
+    now_passing : spot_of u (s.events ++ told) ≡ Passing 0
+    now_passing =
+        ap (spot_of u) (sym whole)
+        ∙ (spots_still u (s.events ++ hands ∷ []) (acts ∷ []) acts_still
+        ∙ spot_moved s.events hands (record { index = u; from = Waiting; to = Passing 0 }) refl)
+
+    elsewhere : (i : ℕ) → u ≢ i → spot_of i (s.events ++ told) ≡ spot_of i s.events
+    elsewhere i ne =
+        ap (spot_of i) (sym whole)
+        ∙ (spots_still i (s.events ++ hands ∷ []) (acts ∷ []) acts_still
+        ∙ spot_other s.events hands (record { index = u; from = Waiting; to = Passing 0 }) refl i ne)
+
+    open_then : span_of 0 (s.events ++ told) ≡ Open call (publishes ∷ told)
+    open_then = span_of-own 0 s.events told (refl, (refl, tt)) ∙ ap (λ span. fold own_after span told) from
+
+    receiver_stays : receiver_of (s.events ++ told) ≡ receiver_of s.events
+    receiver_stays = fold-append receiver_after 1 s.events told
+
+    placed_out : Placed slots s.claims rest s.completion.waiting s.book (s.events ++ told)
+    placed_out =
+        subst (Placed slots s.claims rest s.completion.waiting s.book) whole
+        (placed_still slots s.claims rest s.completion.waiting s.book (s.events ++ hands ∷ []) (acts ∷ []) acts_still
+        (hands_it_out slots s.claims s.submission.waiting s.completion.waiting s.book s.events h.parts.placed u below 0 rest first (inl refl)))
+
+    passing_out : (i q : ℕ) → spot_of i (s.events ++ told) ≡ Passing q → Carries i (span_of q (s.events ++ told))
+    passing_out i q e = ⊎_elim mine others_carry (cases_eq u i)
+      where
+        mine : u ≡ i → Carries i (span_of q (s.events ++ told))
+        mine same =
+            let both : Passing 0 ≡ Passing q = sym now_passing ∙ (ap (λ n. spot_of n (s.events ++ told)) same ∙ e) in
+            let zero : 0 ≡ q = cc in
+            let carried : Carries i (Open call (publishes ∷ told)) = inr (ap (λ n. Index n ∷ []) same, refl) in
+            subst (λ n. Carries i (span_of n (s.events ++ told))) zero (subst (Carries i) (sym open_then) carried)
+
+        others_carry : u ≢ i → Carries i (span_of q (s.events ++ told))
+        others_carry ne =
+            let carried = h.passing i q (sym (elsewhere i ne) ∙ e) in
+            ⊎_elim
+            (λ (sender : q ≡ 0). none_carried i [] refl (subst (Carries i) from (subst (λ n. Carries i (span_of n s.events)) sender carried)))
+            (λ (theirs : q ≢ 0). subst (Carries i) (sym (span_of-other 0 q s.events told theirs (refl, (refl, tt)))) carried)
+            (cases_eq q 0)
+
+    -- no reclaim is under way
+    quiet : is_reclaiming s.events ≡ false
+    quiet = h.reclaiming ∙ ap reclaims_in from
+
+    tells_out : Tells queue (is_reclaiming s.events) s.submission.waiting rest s.completion.waiting s.completion.waiting told
+    tells_out =
+        let list = push_over {T = T} queue s.submission.waiting others u index rest is full first in
+        subst (λ b. Tells queue b s.submission.waiting rest s.completion.waiting s.completion.waiting told) (sym quiet)
+        (record {
+          book = append-nil (items s.submission.waiting) ∙ ap items first;
+          given = append-nil s.completion.waiting;
+          goes = list.0;
+          answers = ap (λ (o : Option (Item T)). answer_of_item o ∷ []) list.1;
+        })
+
+    on_queues_out : OnQueues slots queue s latest turns y_out k s.completion s.book told
+    on_queues_out =
+        let sent = h.sent in
+        let given = h.given in
+        let same = receiver_stays in
+        let write = h.parts.submission.write in
+        let shorter : length s.submission.waiting ≡ suc (length rest) = ap length first in
+        record {
+          busy_before = ap counted_for here;
+          busy_after = refl;
+          queue_stays = refl;
+          submission = submission.take_good queue h.parts.some h.parts.few s.submission h.parts.submission low_write u rest first;
+          completion = h.parts.completion;
+          placed = placed_out;
+          tells = tells_out;
+          hangs = omega arith;
+          sent = omega arith;
+          given = omega arith;
+          reclaiming = quiet ∙ sym (ap reclaims_in open_then);
+          receivers = (omega arith, omega arith);
+          moves = ((below, was_waiting), (tt, tt));
+          begins = (tt, (tt, tt));
+          answers = (tt, (tt, tt));
+          passing = passing_out;
+        }
+
+    takes_out : To s_out (publishes ∷ []) moves (GoOn (pushes_at slots queue loads index)) (effects.TakesOut index u)
+    takes_out =
+        let some = h.parts.some in
+        let wrote_is : publishes ∷ told ≡ wrote_in (span_of 0 (s.events ++ told)) = sym (ap wrote_in open_then) in
+        let change : change_of (words_in s) (asks moves) ≡ 1 =
+        change_is code slots queue s latest turns changes since x h small index straight moves on
+        ∙ submission.take_changes queue h.parts.some h.parts.few s.submission h.parts.submission low_write u rest first in (
+          record {
+            words =
+                words_are code slots queue s latest turns changes since x h small index straight moves k on
+                (submission.take_words queue h.parts.some h.parts.few s.submission h.parts.submission low_write u rest first);
+            shows = queues_show slots queue s latest turns y_out k s.completion s.book told h on_queues_out;
+            own = (refl, (refl, tt));
+            stands = (record { claimed = refl; published = refl; handed_out = refl; given_back = refl; taken_back = refl; freed = refl }, ((refl, refl), tt));
+            here =
+                record {
+                  span = ap (λ wrote. Open call wrote) wrote_is;
+                  steps = omega arith;
+                  at =
+                      subst (λ wrote. At slots queue s_out 0 wrote (calls.Send index) (pushes_at slots queue loads index))
+                      wrote_is (refl, refl, refl, refl, refl, ((omega arith, omega arith, far), (below, now_passing)));
+                };
+            knows = omega arith;
+            theirs = λ q ne.
+                record {
+                  alive = λ alive. alive;
+                  receiver = λ alive e. e;
+                  pop = λ alive e room stage known. take_keeps_pop queue s.submission rest far room stage known;
+                  passes = λ alive e i other.
+                      let apart : u ≢ i = λ same. waiting_passes q (sym was_waiting ∙ (ap (λ n. spot_of n s.events) same ∙ other.1)) in
+                      (other.0, elsewhere i apart ∙ other.1);
+                  push = λ i stage known. known;
+                };
+            up = record { write = omega arith; read = omega arith; paid = omega arith };
+          },
+          refl,
+        )
+
+    -- as the call computes it
+    pub moves_read : Does_at moves
+    moves_read =
+        let t : (s.submission.read == s.submission.read) ≡ true = grind (arith, nat_tests) in
+        let found : value moves ≡ s.submission.read = old_is code slots queue s latest turns changes since x h small index straight moves on in
+        let wrote : push_wrote {T = T} queue s.submission index moves ≡ publishes ∷ [] = rw t refl in
+        let is_after : then_of moves (value moves) ≡ GoOn (pushes_at slots queue loads index) = ap (then_of moves) found ∙ (rw t refl) in
+        let is_effect : effect_of moves (value moves) ≡ effects.TakesOut index u =
+        ap (effect_of moves) found ∙ (let place = sent_is s.submission.read in rw (t, place) refl) in
+        record {
+          channel_then = s_out;
+          step =
+              subst (λ es. To s_out es moves (then_of moves (value moves)) (effect_of moves (value moves))) (sym wrote)
+              (subst (λ a. To s_out (publishes ∷ []) moves a (effect_of moves (value moves))) (sym is_after)
+              (subst (λ e. To s_out (publishes ∷ []) moves (GoOn (pushes_at slots queue loads index)) e) (sym is_effect) takes_out));
+        }

@@ -1,0 +1,70 @@
+-- A send, as steps of the machine: its push, and the release of the index that comes back.
+use native.Mathlib.Omega.{arith}
+use Rattle.std.proofs.Common.{◌≡◌, ℕ, ◌-◌, ◌^◌, ◌<◌, sym, ap, subst, ◌∙◌}
+use Rattle.steps.specs.declared.ask.After.{After}
+use Rattle.steps.specs.declared.indices.enums.ReleaseState.{ReleaseState}
+use Rattle.steps.specs.declared.indices.unique.DefaultMode.{DefaultMode}
+use Rattle.steps.specs.declared.indices.unique.Release.{Release}
+use Rattle.steps.specs.declared.indices.unique.ReleaseStage.{ReleaseStage}
+use Rattle.steps.specs.declared.loan.send.Send as send
+use Rattle.steps.specs.declared.loan.send.SendStage.{SendStage}
+use Rattle.steps.specs.declared.loan.send.SendStage as sends
+use Rattle.steps.specs.Loan.Back.{back_asks, back_takes}
+use Rattle.steps.specs.Loan.Send.{send_released}
+use Rattle.steps.specs.Routine.{went_on}
+use Rattle.model.specs.declared.event.Answer.{Answer}
+use Rattle.model.specs.declared.event.Answer.TheVariants.{PoppedIndex}
+use Rattle.model.specs.declared.event.Start as starts
+use Rattle.model.specs.declared.families.Flight as flights
+use Rattle.model.specs.declared.families.loan.LoanStart.TheVariants as calls
+use Rattle.model.specs.declared.families.loan.calls.LoanFlight.{LoanFlight}
+use Rattle.model.specs.declared.families.loan.calls.LoanFlight.TheVariants.{Send}
+use Rattle.model.specs.declared.party.Party.{Party}
+use Rattle.model.specs.Coding.{Coding}
+use Rattle.model.specs.Families.{ask_of}
+use Rattle.model.specs.Families.Loan.Steps.{release_effect}
+use Rattle.model.specs.Families.Queues.Calls.{as_it_is, popped}
+use Rattle.model.specs.Reading.{Open, span_of}
+use Rattle.model.specs.Step.{as_call}
+use Rattle.model.specs.Turns.{old_of}
+use Rattle.model.specs.World.{Trace}
+use Rattle.model.proofs.Frame as frame
+use Rattle.laws_loan.proofs.Channel.{words_in}
+use Rattle.laws_loan.proofs.Releases.{send_frees_at, sends_back}
+use Rattle.laws_loan.proofs.ReleaseSteps.{With, releases_on}
+use Rattle.laws_loan.proofs.Releasing.{embedded}
+use Rattle.laws_loan.proofs.Senders.{Stands, Comes, send_pushes}
+use Rattle.laws_loan.proofs.StepLaw.{channel}
+
+abbrev pub send_at : ℕ → ℕ → ℕ → SendStage → LoanFlight
+send_at slots queue index stage =
+    Send (record { call = record { slots = slots; queue = queue; stage = stage }; given = index; room = tt })
+
+module _ (T : Type 0) (slots queue index oldest : ℕ) where
+  abbrev call_at : ReleaseStage → send.Send
+  call_at stage = record { slots = slots; queue = queue; stage = sends.TheVariants.Releases oldest stage }
+
+  -- a send goes on as its release
+  goes_so : (stage : ReleaseStage) (release : After (Release DefaultMode) ReleaseState)
+      → as_call Send popped (went_on as_it_is index tt (send_released (call_at stage) oldest release))
+      ≡ embedded {A = Answer T} (send_frees_at slots queue index oldest) (PoppedIndex oldest) release
+  goes_so x0 x1 = grind arith
+
+module _ {T : Type 0} (code : Coding T) (slots queue : ℕ) (t : Trace T)
+    (sound : frame.Sound (channel code slots queue) t) (small : t.world.turns < 2 ^ 64 - 2) (x : Party T)
+    (since index : ℕ) where
+  pub send_steps : (stage : SendStage)
+      → Stands code slots queue t sound small x since 0 (starts.TheVariants.Loan (calls.Send index))
+      (flights.TheVariants.Loan (send_at slots queue index stage))
+      → Comes code slots queue t sound small x since 0 (starts.TheVariants.Loan (calls.Send index))
+      (flights.TheVariants.Loan (send_at slots queue index stage))
+  send_steps (sends.TheVariants.Pushes stage) there = send_pushes code slots queue t sound small x since index stage there
+  send_steps (sends.TheVariants.Releases oldest stage) there =
+      let at = there.at in
+      let from = ap (span_of 0) sound.holds.same ∙ (there.span ∙ ap (λ es. Open (starts.TheVariants.Loan (calls.Send index)) es) at.4) in
+      let value = old_of (words_in sound.state) (ask_of (back_asks slots oldest stage)) in
+      subst (With code slots queue t sound small x since oldest (sends_back T slots queue index oldest) there.knows stage
+      (release_effect oldest stage))
+      (sym (goes_so T slots queue index oldest stage (back_takes slots stage value)))
+      (releases_on code slots queue t sound small x since oldest (sends_back T slots queue index oldest) there.knows
+      stage (record { found = there.found; gives = at.5; from = from; few = there.steps }))

@@ -1,0 +1,93 @@
+-- A step of the sender's call, which writes events of its own alone: what it shows, and that it so comes to what the frame asks.
+use native.Mathlib.Omega.{arith}
+use Rattle.std.proofs.Common.{◌≡◌, ◌≢◌, ℕ, ◌+◌, Bool, Option, Some, List, [], ◌++◌, fold, sym, ap, subst, ◌∙◌}
+use Rattle.steps.specs.declared.ask.Ask.{Ask}
+use Rattle.steps.specs.declared.ask.After.{After}
+use Rattle.model.specs.declared.event.Answer.{Answer}
+use Rattle.model.specs.declared.event.Event.{Event}
+use Rattle.model.specs.declared.event.Start.{Start}
+use Rattle.model.specs.declared.event.Start.TheVariants as starts
+use Rattle.model.specs.declared.families.Flight.{Flight}
+use Rattle.model.specs.declared.families.Flight as flights
+use Rattle.model.specs.declared.families.Registry as registries
+use Rattle.model.specs.declared.families.loan.LoanStart.{LoanStart}
+use Rattle.model.specs.declared.families.loan.calls.LoanFlight.{LoanFlight}
+use Rattle.model.specs.declared.party.Party.{Party}
+use Rattle.model.specs.Coding.{Coding}
+use Rattle.model.specs.Families.Loan.Promises.{promise}
+use Rattle.model.specs.Promises.Spans.{Stands}
+use Rattle.model.specs.Reading.{Span, own_after, span_of}
+use Rattle.model.specs.Step.{as_call}
+use Rattle.model.specs.Turns.{words_after, change_of, step_count, party_after}
+use Rattle.model.proofs.Frame as frame
+use Rattle.model.proofs.Readings.{AreOwn, AllFollow, span_of-other}
+use Rattle.laws_queues.proofs.Queues.Core.{GoesUp}
+use Rattle.laws_loan.proofs.Channel.{Channel, words_in}
+use Rattle.laws_loan.proofs.Invariant.{family}
+use Rattle.laws_loan.proofs.Knows.{wrote_in, At}
+use Rattle.laws_loan.proofs.Theirs.{Stays, theirs_stay}
+use Rattle.laws_loan.proofs.Turns.{Shows}
+
+module _ {T : Type 0} where
+  -- a call of the channel as one of any family
+  abbrev pub any_call : After LoanFlight (Answer T) → After (Flight T) (Answer T)
+  any_call after = as_call flights.TheVariants.Loan (λ answer. answer) after
+
+  -- its party after a step that does this operation, in a channel that was so
+  abbrev pub party_then : Channel T → Party T → ℕ → ℕ → LoanStart → Option Ask → Bool → After LoanFlight (Answer T) → Party T
+  party_then s x since changes start ask back after =
+      party_after (record x { start = starts.Loan start }) since changes (step_count ask) (change_of (words_in s) ask)
+      (record { after = any_call after; back = back; wrote = []; kept = registries.TheVariants.Loan s.book })
+
+module _ {T : Type 0} (code : Coding T) (slots queue : ℕ) (s : Channel T) (latest : List (ℕ × Party T)) (turns changes since : ℕ) (x : Party T) where
+  abbrev channel : frame.Family T
+  channel = family code slots queue
+
+  -- what a step shows that leaves the channel so, where the span of the call was this
+  pub record Steps (s' : Channel T) (from : Span T) (start : LoanStart) (ask : Option Ask) (back : Bool)
+      (after : After LoanFlight (Answer T)) (es : List (Event T)) : Type 0 where
+    pub words : words_after (words_in s) ask ≡ words_in s'
+    pub shows : Shows slots queue s s' 0 (party_then s x since changes start ask back after) latest turns es
+    pub own : AreOwn 0 es
+    pub stands : AllFollow (Stands promise slots) from es
+    pub here : frame.Fits channel s' 0 (Some (party_then s x since changes start ask back after)) (fold own_after from es)
+    pub knows : frame.KnowsDoing channel s' 0 (s.events ++ es) (changes + change_of (words_in s) ask)
+        (party_then s x since changes start ask back after).backs
+        (party_then s x since changes start ask back after).doing
+    pub theirs : (q : ℕ) → q ≢ 0 → Stays slots queue s s' q
+    pub up : GoesUp s.submission s'.submission changes (changes + change_of (words_in s) ask)
+
+  module _ (s' : Channel T) (from : Span T) (start : LoanStart) (ask : Option Ask) (back : Bool)
+      (after : After LoanFlight (Answer T)) (es : List (Event T)) (steps : Steps s' from start ask back after es) where
+    abbrev then_party : Party T
+    then_party = party_then s x since changes start ask back after
+
+    same_span : (q : ℕ) → q ≢ 0 → span_of q s'.events ≡ span_of q s.events
+    same_span q ne = ap (span_of q) steps.shows.events ∙ span_of-other 0 q s.events es ne steps.own
+
+    others : (q : ℕ) → q ≢ 0 → (other : Start T) (call : Flight T) → channel.At s q other call
+        → channel.At s' q other call × (channel.written s' q call ≡ channel.written s q call)
+    others q ne (starts.Loan other) (flights.TheVariants.Loan call) known = (
+      subst (λ wrote. At slots queue s' q wrote other call) (ap wrote_in (sym (same_span q ne)))
+          (theirs_stay slots queue s s' q ne (steps.theirs q ne) (wrote_in (span_of q s.events)) other call known),
+      ap wrote_in (same_span q ne),
+    )
+    others q ne other call known = absurd known
+
+    others_know : (q : ℕ) → q ≢ 0 → (sooner backs : ℕ) (call : Flight T)
+        → channel.Knows s q s.events sooner changes backs call
+        → channel.Knows s' q (s.events ++ es) sooner (changes + change_of (words_in s) ask) backs call
+    others_know x0 x1 x2 x3 x4 x5 = grind arith
+
+    pub step_owes : span_of 0 s.events ≡ from → frame.Inv channel s latest s.events changes
+        → frame.Owes channel s' 0 then_party latest s.events es (changes + change_of (words_in s) ask)
+    step_owes is inv =
+        frame.owes channel s s' from 0 then_party latest s.events es changes (changes + change_of (words_in s) ask) is inv
+        (record {
+          own = steps.own;
+          stands = steps.stands;
+          here = steps.here;
+          knows = steps.knows;
+          others = others;
+          others_know = others_know;
+        })

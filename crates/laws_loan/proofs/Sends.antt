@@ -1,0 +1,320 @@
+-- The steps of a send until it releases an index: the sender pushes the submission queue.
+use Rattle.std.proofs.Common.{◌≡◌, ◌≢◌, ℕ, ◌+◌, ◌-◌, ◌^◌, ◌<◌, ◌≤◌, ◌==◌, false, Option, Some, None, List, [], ◌++◌}
+use Rattle.std.proofs.Common.{length, fold, refl, sym, ap, subst, ◌∙◌, append-nil, arith}
+use Rattle.std.proofs.lemmas.Bool.Decides.{nat_tests}
+use Rattle.steps.specs.declared.ask.Ask.{Ask}
+use Rattle.steps.specs.declared.ask.After.{After}
+use Rattle.steps.specs.declared.ask.After.TheVariants.{GoOn}
+use Rattle.steps.specs.declared.loan.send.Send as send
+use Rattle.steps.specs.declared.loan.send.SendStage as sends
+use Rattle.steps.specs.declared.copied.OneWord.{OneWord}
+use Rattle.steps.specs.declared.queues.overflow.PopStage.{PopStage}
+use Rattle.steps.specs.declared.queues.overflow.PushStage.{PushStage}
+use Rattle.steps.specs.declared.queues.overflow.PushStage as pushes
+use Rattle.steps.specs.Loan.Layout.{submission_word}
+use Rattle.steps.specs.Loan.Parts.{shifted}
+use Rattle.steps.specs.Loan.Send.{send_takes}
+use Rattle.steps.specs.Queues.Overflow.{push_asks}
+use Rattle.steps.specs.Queues.Ring.{load}
+use Rattle.steps.specs.Routine.{went_on}
+use Rattle.model.specs.declared.event.Answer.{Answer}
+use Rattle.model.specs.declared.event.Event.{Event}
+use Rattle.model.specs.declared.event.Start.{Start}
+use Rattle.model.specs.declared.event.Start.TheVariants as starts
+use Rattle.model.specs.declared.families.Flight as flights
+use Rattle.model.specs.declared.families.loan.LoanStart.TheVariants as calls
+use Rattle.model.specs.declared.families.loan.calls.LoanFlight.{LoanFlight}
+use Rattle.model.specs.declared.families.loan.calls.LoanFlight.TheVariants.{Send}
+use Rattle.model.specs.declared.families.loan.effects.Effect.{Effect}
+use Rattle.model.specs.declared.families.loan.effects.Effect.TheVariants as effects
+use Rattle.model.specs.declared.party.Party.{Party}
+use Rattle.model.specs.Coding.{Coding}
+use Rattle.model.specs.Families.{ask_of}
+use Rattle.model.specs.Families.Loan.Reading.{spot_of, receiver_of}
+use Rattle.model.specs.Families.Loan.Steps.{ended_book, book_after, read_in, push_effect, effects_of}
+use Rattle.model.specs.Families.Queues.Calls.{as_it_is, popped, words_of_index}
+use Rattle.model.specs.Reading.{Open, span_of}
+use Rattle.model.specs.Step.{as_call, answer_in}
+use Rattle.model.specs.Turns.{old_of, words_after, change_of, step_count, ending_of}
+use Rattle.laws_queues.proofs.Overflow.Keeping.{fill_keeps_pop}
+use Rattle.laws_queues.proofs.Overflow.Knows.{KnowsOverflowPush, KnowsOverflowPop, overflow_push_number}
+use Rattle.laws_queues.proofs.Queues.Core.{Core, Good, filled}
+use Rattle.laws_queues.proofs.Queues.Knows.{layout}
+use Rattle.laws_loan.proofs.Channel.{Channel, no_roles, words_in}
+use Rattle.laws_loan.proofs.Cuts.{IsOn}
+use Rattle.laws_loan.proofs.Invariant.{Hangs, sends_at, counted_for, hung, reclaims_in, Carries, HoldsNow}
+use Rattle.laws_loan.proofs.Knows.{Passes, PushAt, push_wrote, wrote_in, At}
+use Rattle.laws_loan.proofs.OnQueues.{OnQueues, queues_show, silent_tells}
+use Rattle.laws_loan.proofs.Parts.{submission_old, submission_words, submission_change}
+use Rattle.laws_loan.proofs.Placed.{Placed}
+use Rattle.laws_loan.proofs.Sender.{party_then, Steps}
+use Rattle.laws_loan.proofs.Submission as submission
+use Rattle.laws_loan.proofs.Told.{is_reclaiming, Tells}
+
+abbrev pub pushes_at : ℕ → ℕ → PushStage → ℕ → LoanFlight
+pushes_at slots queue stage index =
+    Send (record { call = record { slots = slots; queue = queue; stage = sends.TheVariants.Pushes stage }; given = index; room = tt })
+
+-- how a send goes on that goes on so
+abbrev pub sent_after : (T : Type 0) → ℕ → After send.Send (Option ℕ) → After LoanFlight (Answer T)
+sent_after T index after = as_call Send popped (went_on as_it_is index tt after)
+
+-- a push that waits for nothing
+abbrev pub IsCalm : PushStage → Type 0
+IsCalm (pushes.TheVariants.MovesRead read) = ⊥
+IsCalm stage = Unit {0}
+
+module _ {T : Type 0} (code : Coding T) (slots queue : ℕ) (s : Channel T) (latest : List (ℕ × Party T))
+    (turns changes since : ℕ) (x : Party T) (h : HoldsNow slots queue s latest s.events turns)
+    (small : turns < 2 ^ 64 - 2) (index : ℕ) (straight : x.backs ≡ 0) where
+  abbrev pub start : Start T
+  start = starts.Loan (calls.Send index)
+
+  abbrev pub asked : PushStage → Option Ask
+  asked stage = ask_of (shifted (submission_word slots) (push_asks queue stage index))
+
+  abbrev pub old : PushStage → ℕ
+  old stage = old_of (words_in s) (asked stage)
+
+  abbrev pub queued : List ℕ
+  queued = layout no_roles s.submission
+
+  abbrev pub goes : PushStage → ℕ → After LoanFlight (Answer T)
+  goes stage value =
+      sent_after T index (send_takes (record { slots = slots; queue = queue; stage = sends.TheVariants.Pushes stage })
+      (sends.TheVariants.Pushes stage) index value)
+
+  abbrev pub effect_at : PushStage → ℕ → Effect
+  effect_at stage value = push_effect (submission_word slots) queue (words_in s) index stage value
+
+  abbrev pub events_by : Effect → After LoanFlight (Answer T) → List (Event T)
+  events_by effect after = effects_of 0 effect (answer_in after) ++ ending_of 0 start (answer_in after)
+
+  -- what is kept then
+  abbrev pub Keeps : Channel T → Effect → After LoanFlight (Answer T) → Type 0
+  Keeps s' effect after =
+      ended_book {T = T} 0 (calls.Send index) (answer_in after) (fold (book_after {T = T}) s.book (effects_of 0 effect (answer_in after)))
+      ≡ s'.book
+
+  abbrev pub StepTo : Channel T → List (Event T) → PushStage → After LoanFlight (Answer T) → Effect → Type 0
+  StepTo s' wrote stage after effect =
+      Steps code slots queue s latest turns changes since x s' (Open start wrote) (calls.Send index) (asked stage) false
+      after (events_by effect after)
+      × Keeps s' effect after
+
+  -- what a step of a send that stands here comes to
+  pub record Does (stage : PushStage) : Type 0 where
+    pub channel_then : Channel T
+    pub step : StepTo channel_then (push_wrote queue s.submission index stage) stage (goes stage (old stage)) (effect_at stage (old stage))
+
+  abbrev pub Here : PushStage → Type 0
+  Here stage = sends_at latest ≡ Some (flights.TheVariants.Loan (pushes_at slots queue stage index))
+
+  -- ---- what is so of the queue
+
+  pub reached : s.submission.write < 2 ^ 64 - 2
+  reached = let sent = h.sent in omega arith
+
+  pub long : length queued ≡ 5 + queue
+  long = submission.long queue h.parts.some h.parts.few s.submission h.parts.submission reached
+
+  pub old_is : (stage : PushStage) → IsOn queued (push_asks queue stage index) → old stage ≡ old_of queued (ask_of (push_asks queue stage index))
+  old_is stage on = submission_old slots queue s (counted_for (sends_at latest)) h.parts (push_asks queue stage index) on
+
+  pub words_are : (stage : PushStage) (k : Core ℕ) → IsOn queued (push_asks queue stage index)
+      → words_after queued (ask_of (push_asks queue stage index)) ≡ layout no_roles k
+      → words_after (words_in s) (asked stage) ≡ s.set ++ (layout no_roles k ++ layout no_roles s.completion)
+  words_are stage k on is =
+      submission_words slots queue s (counted_for (sends_at latest)) h.parts (push_asks queue stage index) on
+      ∙ ap (λ ws. s.set ++ (ws ++ layout no_roles s.completion)) is
+
+  pub change_is : (stage : PushStage) → IsOn queued (push_asks queue stage index)
+      → change_of (words_in s) (asked stage) ≡ change_of queued (ask_of (push_asks queue stage index))
+  change_is stage on = submission_change slots queue s (counted_for (sends_at latest)) h.parts (push_asks queue stage index) on
+
+  -- the read position, as the words of the whole have it
+  pub read_is : read_in (submission_word slots) (words_in s) ≡ s.submission.read
+  read_is = submission_old slots queue s (counted_for (sends_at latest)) h.parts (load 1) (let wide = long in omega arith)
+
+  idle : (stage : PushStage) → Here stage → counted_for (sends_at latest) ≡ 0
+  idle stage here = ap counted_for here
+
+  -- a send carries no other index, until it takes one out
+  pub none_carried : {A : Type 0} (i : ℕ) → index ≢ i → Carries i (Open start []) → A
+  none_carried x0 x1 x2 = grind arith
+
+  -- ---- it goes on, and nothing has moved yet
+
+  module _ (now after_it : PushStage) (k : Core ℕ) (here : Here now) (calm : IsCalm now)
+      (from : span_of 0 s.events ≡ Open start []) (waits : k.waiting ≡ s.submission.waiting)
+      (write : k.write ≡ s.submission.write) (read : k.read ≡ s.submission.read)
+      (good : Good 1 words_of_index (queue + 1) k)
+      (on : IsOn queued (push_asks queue now index))
+      (words : words_after queued (ask_of (push_asks queue now index)) ≡ layout no_roles k)
+      (none : push_wrote {T = T} queue k index after_it ≡ [])
+      (calm_then : hung {T = T} k.read (Some (flights.TheVariants.Loan (pushes_at slots queue after_it index))) ≡ None)
+      (calm_now : hung {T = T} s.submission.read (Some (flights.TheVariants.Loan (pushes_at slots queue now index))) ≡ None)
+      (one : step_count (asked now) ≡ 1) (known : KnowsOverflowPush queue k index after_it)
+      (stands : PushAt slots queue
+      (record s { submission = k; completion = s.completion; book = s.book; events = s.events ++ [] }) index
+      after_it)
+      (steps : x.steps + 1 ≤ overflow_push_number after_it)
+      (pops : (room : OneWord) (stage : PopStage) → KnowsOverflowPop queue s.submission room stage
+      → KnowsOverflowPop queue k room stage) where
+    abbrev s_on : Channel T
+    s_on = record s { submission = k; completion = s.completion; book = s.book; events = s.events ++ [] }
+
+    abbrev y_on : Party T
+    y_on = party_then s x since changes (calls.Send index) (asked now) false (GoOn (pushes_at slots queue after_it index))
+
+    as_was : span_of 0 (s.events ++ []) ≡ Open start []
+    as_was = ap (span_of 0) (append-nil s.events) ∙ from
+
+    few_wait : length k.waiting ≤ queue
+    few_wait = subst (λ xs. length xs ≤ queue) (sym waits) (subst (Hangs queue s.submission) (ap (hung s.submission.read) here ∙ calm_now) h.hangs)
+
+    on_queues_goes : OnQueues slots queue s latest turns y_on k s.completion s.book []
+    on_queues_goes =
+        let sent = h.sent in
+        let given = h.given in
+        let same : receiver_of (s.events ++ []) ≡ receiver_of s.events = ap receiver_of (append-nil s.events) in
+        record {
+          busy_before = idle now here;
+          busy_after = refl;
+          queue_stays = refl;
+          submission = good;
+          completion = h.parts.completion;
+          placed =
+              subst (λ sent. Placed slots s.claims sent s.completion.waiting s.book (s.events ++ [])) (sym waits)
+              (subst (Placed slots s.claims s.submission.waiting s.completion.waiting s.book) (sym (append-nil s.events)) h.parts.placed);
+          tells =
+              subst (λ sent. Tells {T = T} queue (is_reclaiming s.events) s.submission.waiting sent s.completion.waiting s.completion.waiting []) (sym waits)
+              (silent_tells {T = T} queue (is_reclaiming s.events) s.submission.waiting s.completion.waiting
+              s.completion.waiting [] refl refl refl (append-nil s.completion.waiting));
+          hangs = subst (Hangs queue k) (sym calm_then) few_wait;
+          sent = omega arith;
+          given = omega arith;
+          reclaiming = h.reclaiming ∙ ap (λ es. reclaims_in (span_of 0 es)) (sym (append-nil s.events));
+          receivers = (omega arith, omega arith);
+          moves = tt;
+          begins = tt;
+          answers = tt;
+          passing =
+              λ i q e. subst (λ es. Carries i (span_of q es)) (sym (append-nil s.events))
+              (h.passing i q (ap (spot_of i) (sym (append-nil s.events)) ∙ e));
+        }
+
+    pub goes_on : StepTo s_on [] now (GoOn (pushes_at slots queue after_it index)) effects.Quiet
+    goes_on =
+        let wrote_is : [] ≡ wrote_in (span_of 0 (s.events ++ [])) = sym (ap wrote_in as_was) in (
+          record {
+            words = words_are now k on words;
+            shows = queues_show slots queue s latest turns y_on k s.completion s.book [] h on_queues_goes;
+            own = tt;
+            stands = tt;
+            here =
+                record {
+                  span = ap (λ wrote. Open start wrote) wrote_is;
+                  steps = omega arith;
+                  at =
+                      subst (λ wrote. At slots queue s_on 0 wrote (calls.Send index) (pushes_at slots queue after_it index))
+                      wrote_is (refl, refl, refl, refl, sym none, (known, stands));
+                };
+            knows = omega arith;
+            theirs = λ q ne.
+                record {
+                  alive = λ alive. alive;
+                  receiver = λ alive e. e;
+                  pop = λ alive e room stage known. pops room stage known;
+                  passes = λ alive e i passes. (passes.0, ap (spot_of i) (append-nil s.events) ∙ passes.1);
+                  push = λ i stage known. known;
+                };
+            up = record { write = omega arith; read = omega arith; paid = omega arith };
+          },
+          refl,
+        )
+
+  -- ---- the loads, and the store into the cell
+
+  module _ (passes : Passes slots queue s 0 index) (from : span_of 0 s.events ≡ Open start []) where
+    passes_on : Passes slots queue (record s { events = s.events ++ [] }) 0 index
+    passes_on = (passes.0, ap (spot_of index) (append-nil s.events) ∙ passes.1)
+
+    pub loads_write : Here pushes.TheVariants.LoadsWrite → x.steps ≤ 0 → Does pushes.TheVariants.LoadsWrite
+    loads_write here steps =
+        let some = h.parts.some in
+        let on : 0 < length queued = (let wide = long in omega arith) in
+        let is : goes pushes.TheVariants.LoadsWrite (old pushes.TheVariants.LoadsWrite)
+        ≡ GoOn (pushes_at slots queue (pushes.TheVariants.LoadsRead s.submission.write) index) =
+        ap (goes pushes.TheVariants.LoadsWrite) (old_is pushes.TheVariants.LoadsWrite on)
+        ∙ (let t : (s.submission.write == 2 ^ 64 - 1) ≡ false = (let low = reached in grind (arith, nat_tests)) in rw t refl)
+        in
+        record {
+          channel_then = record s { submission = s.submission; completion = s.completion; book = s.book; events = s.events ++ [] };
+          step =
+              subst
+              (λ a. StepTo (record s { submission = s.submission; completion = s.completion; book = s.book; events = s.events ++ [] })
+              [] pushes.TheVariants.LoadsWrite a effects.Quiet)
+              (sym is)
+              (goes_on pushes.TheVariants.LoadsWrite (pushes.TheVariants.LoadsRead s.submission.write) s.submission
+              here tt from refl refl refl h.parts.submission on refl refl refl refl refl
+              (omega arith, refl, (let low = reached in omega arith)) passes_on (omega arith)
+              (λ room stage known. known));
+        }
+
+    pub loads_read : Here (pushes.TheVariants.LoadsRead s.submission.write) → x.steps ≤ 1 → Does (pushes.TheVariants.LoadsRead s.submission.write)
+    loads_read here steps =
+        let some = h.parts.some in
+        let on : 1 < length queued = (let wide = long in omega arith) in
+        let is : goes (pushes.TheVariants.LoadsRead s.submission.write) (old (pushes.TheVariants.LoadsRead s.submission.write))
+        ≡ GoOn (pushes_at slots queue (pushes.TheVariants.StoresCell s.submission.write s.submission.read) index) =
+        ap (goes (pushes.TheVariants.LoadsRead s.submission.write)) (old_is (pushes.TheVariants.LoadsRead s.submission.write) on)
+        in
+        let few : length s.submission.waiting ≤ queue = subst (Hangs queue s.submission) (ap (hung s.submission.read) here) h.hangs in
+        let write = h.parts.submission.write in
+        record {
+          channel_then = record s { submission = s.submission; completion = s.completion; book = s.book; events = s.events ++ [] };
+          step =
+              subst
+              (λ a. StepTo (record s { submission = s.submission; completion = s.completion; book = s.book; events = s.events ++ [] })
+              [] (pushes.TheVariants.LoadsRead s.submission.write) a effects.Quiet)
+              (sym is)
+              (goes_on (pushes.TheVariants.LoadsRead s.submission.write)
+              (pushes.TheVariants.StoresCell s.submission.write s.submission.read) s.submission here tt from refl
+              refl refl h.parts.submission on refl refl refl refl refl
+              (omega arith, refl, omega arith, omega arith, (let low = reached in omega arith)) passes_on
+              (omega arith) (λ room stage known. known));
+        }
+
+    pub stores_cell : (read : ℕ) → read ≤ s.submission.read → s.submission.write ≤ read + queue
+        → Here (pushes.TheVariants.StoresCell s.submission.write read) → x.steps ≤ 2
+        → Does (pushes.TheVariants.StoresCell s.submission.write read)
+    stores_cell read low far here steps =
+        let some = h.parts.some in
+        let few : length s.submission.waiting ≤ queue = subst (Hangs queue s.submission) (ap (hung s.submission.read) here) h.hangs in
+        let below : length s.submission.waiting < queue + 1 = omega arith in
+        record {
+          channel_then =
+              record s {
+                submission = filled 1 words_of_index (queue + 1) s.submission 0 index;
+                completion = s.completion;
+                book = s.book;
+                events = s.events ++ [];
+              };
+          step =
+              goes_on (pushes.TheVariants.StoresCell s.submission.write read)
+              (pushes.TheVariants.StoresWrite s.submission.write read)
+              (filled 1 words_of_index (queue + 1) s.submission 0 index) here tt from refl refl refl
+              (submission.fill_good queue h.parts.some h.parts.few s.submission h.parts.submission reached index below)
+              (submission.cell_on queue h.parts.some h.parts.few s.submission h.parts.submission reached s.submission.write)
+              (submission.fill_words queue h.parts.some h.parts.few s.submission h.parts.submission reached index)
+              refl refl refl refl (
+                omega arith,
+                refl,
+                low,
+                far,
+                submission.fill_whole queue h.parts.some h.parts.few s.submission h.parts.submission reached index below,
+                (let up = reached in omega arith),
+              )
+              passes_on (omega arith) (fill_keeps_pop queue s.submission 0 index);
+        }

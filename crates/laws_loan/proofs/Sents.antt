@@ -1,0 +1,105 @@
+-- What a reclaim meets as it releases: which index it comes to next; where an index is by the events that is sent by the
+-- sender's table, while nothing waits in either queue; and where each index is once none is sent.
+use Rattle.std.proofs.Common.{◌≡◌, ◌≢◌, ℕ, zero, suc, ◌+◌, ◌-◌, ◌<◌, ◌≤◌, ◌⊎◌, inl, inr, ⊎_elim, Bool, true, false}
+use Rattle.std.proofs.Common.{true≢false, Option, Some, None, List, [], refl, sym, ap, subst, ◌∙◌, arith}
+use Rattle.steps.specs.declared.loan.places.Place.{Place}
+use Rattle.steps.specs.declared.loan.places.Place.TheVariants as places
+use Rattle.steps.specs.Loan.Places.{is_sent, place_at, sent_within, next_sent}
+use Rattle.steps.specs.Picks.{by_test}
+use Rattle.model.specs.declared.event.Event.{Event}
+use Rattle.model.specs.declared.families.loan.Book.{Book}
+use Rattle.model.specs.Families.Indices.Robust.Dead.{has_died}
+use Rattle.model.specs.Families.Loan.Promises.{IsIn, IsReclaiming, MayFree}
+use Rattle.model.specs.Families.Loan.Reading.{Spot, Free, Passing, With, Waiting, Returning, spot_of, receiver_of, has_died_by}
+use Rattle.model.specs.Reading.{span_of}
+use Rattle.model.specs.Turns.{one_if}
+use Rattle.laws_loan.proofs.Lists.{times, Lists}
+use Rattle.laws_loan.proofs.Placed.{IsBy, Placed}
+use Rattle.laws_loan.proofs.Spots.{is_waiting, is_returning}
+
+-- ---- the next index that is sent
+
+sent_is : (place : Place) → is_sent place ≡ true → place ≡ places.Sent
+sent_is x0 x1 = grind arith
+
+not_sent : (place : Place) → is_sent place ≡ false → place ≢ places.Sent
+not_sent place other e = true≢false (sym (ap is_sent e) ∙ other)
+
+-- it is the first one from this one on, or there is none
+abbrev pub ComesTo : List Place → ℕ → ℕ → Option ℕ → Type 0
+ComesTo table slots from None = (j : ℕ) → from ≤ j → j < slots → place_at table j ≢ places.Sent
+ComesTo table slots from (Some i) =
+    (from ≤ i) × (i < slots) × (place_at table i ≡ places.Sent) × ((j : ℕ) → from ≤ j → j < i → place_at table j ≢ places.Sent)
+
+module _ (table : List Place) (slots : ℕ) where
+  -- one that is not sent is passed over
+  module _ (from : ℕ) (ne : place_at table from ≢ places.Sent) where
+    passed : (P : ℕ → Type 0) → ((j : ℕ) → from + 1 ≤ j → P j → place_at table j ≢ places.Sent) → (j : ℕ) → from ≤ j → P j → place_at table j ≢ places.Sent
+    passed x0 x1 x2 x3 x4 = grind arith
+
+    later : (o : Option ℕ) → ComesTo table slots (from + 1) o → ComesTo table slots from o
+    later x0 x1 = grind arith
+
+  within : (left from : ℕ) → slots - from ≡ left → ComesTo table slots from (sent_within table from left)
+  within zero from e = λ j low high. absurd (omega arith)
+  within (suc left) from e =
+      by_test (ComesTo table slots from) (is_sent (place_at table from)) (Some from) (sent_within table (from + 1) left)
+      (λ sent. (omega arith, omega arith, sent_is (place_at table from) sent, λ j low high. absurd (omega arith)))
+      (λ other. later from (not_sent (place_at table from) other) (sent_within table (from + 1) left) (within left (from + 1) (omega arith)))
+
+  pub comes_to : (from : ℕ) → ComesTo table slots from (next_sent table slots from)
+  comes_to from = within (slots - from) from refl
+
+-- ---- where an index is by the events
+
+false_if_none : (b : Bool) → one_if b ≡ 0 → b ≡ false
+false_if_none x0 x1 = grind arith
+
+-- where nothing waits no index is there
+pub none_there : {T : Type 0} (is : Spot → Bool) (xs : List ℕ) (events : List (Event T)) → xs ≡ []
+    → Lists is xs events → (i : ℕ) → is (spot_of i events) ≡ false
+none_there is xs events none all i = false_if_none (is (spot_of i events)) (sym (all i) ∙ ap (times i) none)
+
+-- free, or with the sender
+abbrev pub IsHome : Spot → Type 0
+IsHome spot = (spot ≡ Free) ⊎ (spot ≡ With 0)
+
+pub home_by : (p : ℕ) (spot : Spot) → IsHome spot → IsBy p spot → p ≡ 0
+home_by x0 x1 x2 x3 = grind arith
+
+pub home_stays : (p : ℕ) (spot : Spot) → IsHome spot → spot ≡ Passing p → ⊥
+home_stays x0 x1 x2 x3 = grind arith
+
+module _ {T : Type 0} (slots : ℕ) (claims : List (Option ℕ)) (sent back : List ℕ) (book : Book)
+    (events : List (Event T)) (h : Placed slots claims sent back book events) where
+  stood : (i : ℕ) (place : Place) → place_at book.places i ≡ place → IsIn place (spot_of i events)
+  stood i place e = subst (λ p. IsIn p (spot_of i events)) e (h.keeps.places i)
+
+  -- it is in passing in the sender's call, or the receiver has it, in a call or in none
+  module _ (none : sent ≡ []) (nor : back ≡ []) (i : ℕ) (is : place_at book.places i ≡ places.Sent) where
+    abbrev IsThere : Spot → Type 0
+    IsThere spot = (spot ≡ Passing 0) ⊎ ((spot ≡ With (receiver_of events)) ⊎ (spot ≡ Passing (receiver_of events)))
+
+    there : (spot : Spot) → spot_of i events ≡ spot → IsThere spot
+    there Free e = absurd ((stood i places.Sent is).0 e)
+    there (Passing p) e =
+        ⊎_elim (λ (zero : p ≡ 0). inl (ap Passing zero))
+        (λ (theirs : p ≡ receiver_of events). inr (inr (ap Passing theirs))) (h.parties i p (inr e))
+    there (With p) e =
+        ⊎_elim (λ (zero : p ≡ 0). absurd ((stood i places.Sent is).1 (e ∙ ap With zero)))
+        (λ (theirs : p ≡ receiver_of events). inr (inl (ap With theirs))) (h.parties i p (inl e))
+    there Waiting e = absurd (true≢false (sym (ap is_waiting e) ∙ none_there is_waiting sent events none h.waits i))
+    there Returning e = absurd (true≢false (sym (ap is_returning e) ∙ none_there is_returning back events nor h.returns i))
+
+    -- so a reclaim may free it, since the receiver is dead
+    pub may_free : has_died book.receiver book.dead ≡ true → IsReclaiming (span_of 0 events) → MayFree 0 i events
+    may_free dead reclaims =
+        let died : has_died_by (receiver_of events) events ≡ true =
+        sym (h.keeps.dead (receiver_of events)) ∙ (ap (λ r. has_died r book.dead) (sym h.keeps.receiver) ∙ dead) in
+        ⊎_elim (λ mine. inl mine) (λ left. inr (reclaims, (died, left))) (there (spot_of i events) refl)
+
+  -- where no index is sent, and one in passing in the sender's call would be
+  pub all_home : ((j : ℕ) → j < slots → place_at book.places j ≢ places.Sent)
+      → ((j : ℕ) → spot_of j events ≡ Passing 0 → place_at book.places j ≡ places.Sent) → (i : ℕ)
+      → IsHome (spot_of i events)
+  all_home x0 x1 x2 = grind arith

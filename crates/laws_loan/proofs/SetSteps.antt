@@ -1,0 +1,376 @@
+-- What a step of the sender's does to the words of the indices, to who has claimed what, and to whether its call is counted in
+-- the head. Nobody else takes an index or gives one back, so the head stays as it was loaded.
+use Rattle.std.proofs.Common.{◌≡◌, ◌≢◌, ℕ, ◌+◌, ◌-◌, ◌%◌, ◌^◌, ◌<◌, ◌≤◌, ◌==◌, ⊎_elim, nat_lt, Bool, true, false}
+use Rattle.std.proofs.Common.{bit_or, Option, Some, None, List, length, get_or, set, refl, sym, ap, subst, ◌∙◌, arith}
+use Rattle.std.proofs.Common.{get_or-set_same}
+use Rattle.std.specs.Prelude.{Ok, Err}
+use Rattle.std.proofs.lemmas.Bool.{cases_lt}
+use Rattle.std.proofs.lemmas.Bool.Decides.{nat_tests}
+use Rattle.std.proofs.lemmas.List.{set-get_or}
+use Rattle.steps.specs.declared.ask.Ask.{Ask}
+use Rattle.steps.specs.declared.ask.Op.TheVariants.{Or}
+use Rattle.steps.specs.declared.ask.After.{After}
+use Rattle.steps.specs.declared.ask.After.TheVariants.{GoOn, Done}
+use Rattle.steps.specs.declared.indices.enums.ReleaseState.{ReleaseState}
+use Rattle.steps.specs.declared.indices.enums.ReleaseState.TheVariants.{Unlocked}
+use Rattle.steps.specs.declared.indices.enums.UniqueIndexSetAcquireFailure as failures
+use Rattle.steps.specs.declared.indices.unique.Acquire as acquire_calls
+use Rattle.steps.specs.declared.indices.unique.AcquireStage.{AcquireStage}
+use Rattle.steps.specs.declared.indices.unique.AcquireStage as acquires
+use Rattle.steps.specs.declared.indices.unique.DefaultMode.{DefaultMode}
+use Rattle.steps.specs.declared.indices.unique.Release.{Release}
+use Rattle.steps.specs.declared.indices.unique.ReleaseStage.{ReleaseStage}
+use Rattle.steps.specs.declared.indices.unique.ReleaseStage as releases
+use Rattle.steps.specs.Indices.Head.{next_word, flag_word, flag, has_flag, proposed, borrowed, locked, says_locked}
+use Rattle.steps.specs.Indices.Unique.{Acquired, at_acquire, acquire_asks, acquire_takes, acquire_sees}
+use Rattle.steps.specs.Indices.Unique.{acquire_goes_back, head_taken, head_given_back, first_claim}
+use Rattle.steps.specs.Loan.Back.{back_asks, back_takes, inner_release}
+use Rattle.steps.specs.Picks.{by_test, by_eq}
+use Rattle.model.specs.Families.{ask_of}
+use Rattle.model.specs.Turns.{old_of, words_after}
+use Rattle.laws_indices.proofs.Core.{head_of, counted_in, holder, one_held, held_below, flag_within, is_claimed, head_stays, Good}
+use Rattle.laws_indices.proofs.Count.{given_number, less_number}
+use Rattle.laws_indices.proofs.Knows.{acquire_counts, acquire_number, release_counts, release_number, ReleaseAt, IsOpen, AllClaimed}
+use Rattle.laws_indices.proofs.Moves.{counts_right, unlocked_for, stores_next, some_counted, gives, subtracts, frees}
+use Rattle.laws_indices.proofs.Moves.{takes, some_free, was_free, still_claimed, claims, claims_again}
+use Rattle.laws_loan.proofs.Cuts.{IsOn}
+use Rattle.laws_loan.proofs.Lists.{sum_less}
+
+-- ---- a release, in mode Default
+
+-- its first step clears the flag
+abbrev pub claims_then : ℕ → ReleaseStage → List (Option ℕ) → List (Option ℕ)
+claims_then index releases.TheVariants.ClearsFlag hs = set hs index None
+claims_then index releases.TheVariants.LoadsHead hs = hs
+claims_then index (releases.TheVariants.StoresNext head) hs = hs
+claims_then index (releases.TheVariants.ExchangesHead head) hs = hs
+claims_then index releases.TheVariants.Subtracts hs = hs
+
+-- it goes on and is counted, or is done and is not
+abbrev pub ReleaseLeads : ℕ → ReleaseStage → List ℕ → List (Option ℕ) → After (Release DefaultMode) ReleaseState → Type 0
+ReleaseLeads c stage ws hs (GoOn release) =
+    Good c ws hs 1 × (release_counts release.stage ≡ 1) × (release_number stage 0 + 1 ≤ release_number release.stage 0)
+ReleaseLeads c stage ws hs (Done state) = Good c ws hs 0 × (release_number stage 0 + 1 ≤ 5)
+
+module _ (c index : ℕ) (below : index < c) (ws : List ℕ) (hs : List (Option ℕ)) where
+  abbrev pub released_by : ReleaseStage → Option Ask
+  released_by stage = ask_of (back_asks c index stage)
+
+  pub record ReleaseStep (stage : ReleaseStage) : Type 0 where
+    pub on : IsOn ws (back_asks c index stage)
+    pub leads : ReleaseLeads c stage (words_after ws (released_by stage)) (claims_then index stage hs) (back_takes c stage (old_of ws (released_by stage)))
+    pub unlocked : counted_in (words_after ws (released_by stage)) ≢ locked
+
+  clears : holder hs index ≡ Some 0 → Good c ws hs 0 → ReleaseStep releases.TheVariants.ClearsFlag
+  clears holds g =
+      let wide = g.wide in
+      let low = flag_within c index below in
+      let good : Good c (words_after ws (released_by releases.TheVariants.ClearsFlag)) (set hs index None) 1 = frees c ws hs index below 0 0 holds g in
+      record {
+        on = omega arith;
+        leads = (good, refl, omega arith);
+        unlocked = unlocked_for c (words_after ws (released_by releases.TheVariants.ClearsFlag)) (set hs index None) 1 good (omega arith);
+      }
+
+  -- while it is counted the set is not locked
+  module _ (g : Good c ws hs 1) where
+    counted : (1 ≤ counted_in ws) × (counted_in ws ≤ c)
+    counted = let h = some_counted c ws hs 0 g in (h.0, h.2)
+
+    -- a head that counts one less is not locked
+    less_unlocked : (x : ℕ) → borrowed x + 1 ≡ counted_in ws → counted_in (set ws 0 x) ≢ locked
+    less_unlocked x less =
+        let wide = g.wide in
+        let few = g.few in
+        let most = counted.1 in
+        let is : counted_in (set ws 0 x) ≡ borrowed x = ap borrowed (get_or-set_same ws 0 x 0 (omega arith)) in
+        λ shut. absurd (omega arith)
+
+    loads : ReleaseStep releases.TheVariants.LoadsHead
+    loads =
+        let wide = g.wide in
+        let same : words_after ws (released_by releases.TheVariants.LoadsHead) ≡ ws = set-get_or ws 0 0 in
+        let good : Good c (words_after ws (released_by releases.TheVariants.LoadsHead)) hs 1 = subst (λ w. Good c w hs 1) (sym same) g in
+        record {
+          on = omega arith;
+          leads = (good, refl, omega arith);
+          unlocked = unlocked_for c (words_after ws (released_by releases.TheVariants.LoadsHead)) hs 1 good (omega arith);
+        }
+
+    stores : (head : ℕ) → ReleaseStep (releases.TheVariants.StoresNext head)
+    stores head =
+        let wide = g.wide in
+        let good : Good c (words_after ws (released_by (releases.TheVariants.StoresNext head))) hs 1 = stores_next c ws hs index (proposed head) 1 below g in
+        record {
+          on = omega arith;
+          leads = (good, refl, omega arith);
+          unlocked = unlocked_for c (words_after ws (released_by (releases.TheVariants.StoresNext head))) hs 1 good (omega arith);
+        }
+
+    exchanges : (head : ℕ) → ReleaseStep (releases.TheVariants.ExchangesHead head)
+    exchanges head = go (head_of ws == head) refl
+      where
+        go : (b : Bool) → (head_of ws == head) ≡ b → ReleaseStep (releases.TheVariants.ExchangesHead head)
+        go true t =
+            let wide = g.wide in
+            let is : head_of ws ≡ head = grind (arith, nat_tests) in
+            let goes : back_takes c (releases.TheVariants.ExchangesHead head) (head_of ws) ≡ Done Unlocked = rw t refl in
+            let new : words_after ws (released_by (releases.TheVariants.ExchangesHead head))
+            ≡ set ws 0 (head_given_back (head_of ws) index) =
+            rw t (ap (λ h. set ws 0 (head_given_back h index)) (sym is)) in
+            let good : Good c (words_after ws (released_by (releases.TheVariants.ExchangesHead head))) hs 0 =
+            subst (λ w. Good c w hs 0) (sym new) (gives c ws hs 0 g index) in
+            record {
+              on = omega arith;
+              leads =
+                  subst (ReleaseLeads c (releases.TheVariants.ExchangesHead head)
+                  (words_after ws (released_by (releases.TheVariants.ExchangesHead head))) hs)
+                  (sym goes) (good, omega arith);
+              unlocked =
+                  subst (λ w. counted_in w ≢ locked) (sym new)
+                  (less_unlocked (head_given_back (head_of ws) index) (given_number (head_of ws) index counted.0));
+            }
+        go false t =
+            let wide = g.wide in
+            let goes : back_takes c (releases.TheVariants.ExchangesHead head) (head_of ws)
+            ≡ GoOn (inner_release c releases.TheVariants.Subtracts) =
+            rw t refl in
+            let same : words_after ws (released_by (releases.TheVariants.ExchangesHead head)) ≡ ws = rw t (set-get_or ws 0 0) in
+            let good : Good c (words_after ws (released_by (releases.TheVariants.ExchangesHead head))) hs 1 = subst (λ w. Good c w hs 1) (sym same) g in
+            record {
+              on = omega arith;
+              leads =
+                  subst (ReleaseLeads c (releases.TheVariants.ExchangesHead head)
+                  (words_after ws (released_by (releases.TheVariants.ExchangesHead head))) hs)
+                  (sym goes) (good, refl, omega arith);
+              unlocked = unlocked_for c (words_after ws (released_by (releases.TheVariants.ExchangesHead head))) hs 1 good (omega arith);
+            }
+
+    subtracts_one : ReleaseStep releases.TheVariants.Subtracts
+    subtracts_one =
+        let wide = g.wide in
+        record {
+          on = omega arith;
+          leads = (subtracts c ws hs 0 g, omega arith);
+          unlocked = less_unlocked ((head_of ws + (2 ^ 64 - 1)) % 2 ^ 64) (less_number (head_of ws) counted.0);
+        }
+
+  pub release_step : (stage : ReleaseStage) → ReleaseAt hs 0 index stage → Good c ws hs (release_counts stage) → ReleaseStep stage
+  release_step releases.TheVariants.ClearsFlag at g = clears at g
+  release_step releases.TheVariants.LoadsHead at g = loads g
+  release_step (releases.TheVariants.StoresNext head) at g = stores g head
+  release_step (releases.TheVariants.ExchangesHead head) at g = exchanges g head
+  release_step releases.TheVariants.Subtracts at g = subtracts_one g
+
+-- ---- an acquire
+
+-- what it knows where it stands: the head is still the one that it loaded, and the flags that it tried stand
+abbrev pub TakesAt : ℕ → List ℕ → AcquireStage → Type 0
+TakesAt c ws acquires.TheVariants.LoadsHead = Unit {0}
+TakesAt c ws (acquires.TheVariants.LoadsNext head) =
+    IsOpen c head × (head_of ws ≡ head) × (proposed head < c)
+TakesAt c ws (acquires.TheVariants.ExchangesHead head next) = IsOpen c head × (head_of ws ≡ head)
+TakesAt c ws (acquires.TheVariants.Claims i) = i < c
+TakesAt c ws (acquires.TheVariants.Scans i) = (i < c) × AllClaimed c ws i
+
+-- it goes on; it claims an index that nobody has; or each index is claimed
+abbrev pub AcquireLeads : ℕ → AcquireStage → List ℕ → List ℕ → List (Option ℕ) → After acquire_calls.Acquire Acquired → Type 0
+AcquireLeads c stage ws ws' hs (GoOn acquire) =
+    Good c ws' hs (acquire_counts acquire.stage) × (acquire.capacity ≡ c) × TakesAt c ws' acquire.stage
+    × (acquire_number c stage 0 + 1 ≤ acquire_number c acquire.stage 0)
+AcquireLeads c stage ws ws' hs (Done (Ok i)) =
+    Good c ws' (set hs i (Some 0)) 0 × (i < c) × (holder hs i ≡ None) × (acquire_number c stage 0 + 1 ≤ 4 + c)
+AcquireLeads c stage ws ws' hs (Done (Err failures.TheVariants.OutOfIndices)) =
+    Good c ws' hs 0 × ((i : ℕ) → i < c → holder hs i ≢ None) × (acquire_number c stage 0 + 1 ≤ 4 + c)
+AcquireLeads c stage ws ws' hs (Done (Err failures.TheVariants.IsLocked)) = ⊥
+
+one_held_most : (o : Option ℕ) → one_held o ≤ 1
+one_held_most x0 = grind arith
+
+-- where as many are held as there are, each is
+all_held : (hs : List (Option ℕ)) (c i : ℕ) → held_below hs c ≡ c → i < c → holder hs i ≢ None
+all_held hs c i full below none =
+    let less = sum_less (λ j. one_held (holder hs j)) c i (λ j. one_held_most (holder hs j)) below (ap one_held none) in
+    absurd (omega arith)
+
+module _ (c : ℕ) (ws : List ℕ) (hs : List (Option ℕ)) (opened : counted_in ws ≢ locked) where
+  abbrev pub acquired_by : AcquireStage → Option Ask
+  acquired_by stage = ask_of (acquire_asks c stage)
+
+  abbrev call_at : AcquireStage → acquire_calls.Acquire
+  call_at stage = record { capacity = c; stage = stage }
+
+  abbrev Leads : AcquireStage → After acquire_calls.Acquire Acquired → Type 0
+  Leads stage a = AcquireLeads c stage ws (words_after ws (acquired_by stage)) hs a
+
+  pub record AcquireStep (stage : AcquireStage) : Type 0 where
+    pub on : IsOn ws (acquire_asks c stage)
+    pub leads : Leads stage (acquire_takes (call_at stage) stage (old_of ws (acquired_by stage)))
+    pub stays : acquire_goes_back c stage (old_of ws (acquired_by stage)) ≡ false
+    pub unlocked : counted_in (words_after ws (acquired_by stage)) ≢ locked
+
+  -- ---- the load of the head
+
+  module _ (g : Good c ws hs 0) where
+    loaded : words_after ws (acquired_by acquires.TheVariants.LoadsHead) ≡ ws
+    loaded = set-get_or ws 0 0
+
+    good_loaded : Good c (words_after ws (acquired_by acquires.TheVariants.LoadsHead)) hs 0
+    good_loaded = subst (λ w. Good c w hs 0) (sym loaded) g
+
+    full : borrowed (head_of ws) ≡ c → (i : ℕ) → i < c → holder hs i ≢ None
+    full is i below = let right = counts_right c ws hs 0 g opened in let same = right.0 in all_held hs c i (omega arith) below
+
+    sees : Leads acquires.TheVariants.LoadsHead (acquire_sees (call_at acquires.TheVariants.LoadsHead) (head_of ws))
+    sees =
+        by_test (Leads acquires.TheVariants.LoadsHead) (says_locked (head_of ws)) (Done (Err failures.TheVariants.IsLocked)) _
+        (λ t. let shut : borrowed (head_of ws) ≡ locked = grind (arith, nat_tests) in opened shut)
+        (λ t. by_eq (Leads acquires.TheVariants.LoadsHead) (borrowed (head_of ws)) c (Done (Err failures.TheVariants.OutOfIndices)) _
+        (λ all. (good_loaded, full all, omega arith))
+        (λ less. by_test (Leads acquires.TheVariants.LoadsHead) (nat_lt (proposed (head_of ws)) c)
+        (GoOn (at_acquire (call_at acquires.TheVariants.LoadsHead) (acquires.TheVariants.LoadsNext (head_of ws))))
+        (GoOn
+        (at_acquire (call_at acquires.TheVariants.LoadsHead) (acquires.TheVariants.ExchangesHead (head_of ws) (proposed (head_of ws)))))
+        (λ own. let below : proposed (head_of ws) < c = grind (arith, nat_tests) in
+        (good_loaded, refl, ((opened, less), ap head_of loaded, below), omega arith))
+        (λ none. (good_loaded, refl, ((opened, less), ap head_of loaded), omega arith))))
+
+    loads_head : AcquireStep acquires.TheVariants.LoadsHead
+    loads_head =
+        let wide = g.wide in
+        record {
+          on = omega arith;
+          leads = sees;
+          stays = refl;
+          unlocked = subst (λ w. counted_in w ≢ locked) (sym loaded) opened;
+        }
+
+    -- ---- the load of the next index
+
+    loads_next : (head : ℕ) → IsOpen c head → head_of ws ≡ head → proposed head < c → AcquireStep (acquires.TheVariants.LoadsNext head)
+    loads_next head at is below =
+        let wide = g.wide in
+        let same : words_after ws (acquired_by (acquires.TheVariants.LoadsNext head)) ≡ ws = set-get_or ws (next_word (proposed head)) 0 in
+        record {
+          on = omega arith;
+          leads = (subst (λ w. Good c w hs 0) (sym same) g, refl, (at, ap head_of same ∙ is), omega arith);
+          stays = refl;
+          unlocked = subst (λ w. counted_in w ≢ locked) (sym same) opened;
+        }
+
+    -- ---- the exchange of the head, which finds it as it was
+
+    exchanges_head : (head next : ℕ) → IsOpen c head → head_of ws ≡ head → AcquireStep (acquires.TheVariants.ExchangesHead head next)
+    exchanges_head head next at is =
+        let wide = g.wide in
+        let some = g.some in
+        let t : (head_of ws == head) ≡ true = grind (arith, nat_tests) in
+        let goes : acquire_takes (call_at (acquires.TheVariants.ExchangesHead head next))
+        (acquires.TheVariants.ExchangesHead head next) (head_of ws)
+        ≡ GoOn (at_acquire (call_at (acquires.TheVariants.ExchangesHead head next)) (first_claim c head)) =
+        rw t refl in
+        let new : words_after ws (acquired_by (acquires.TheVariants.ExchangesHead head next))
+        ≡ set ws 0 (head_taken (head_of ws) next) =
+        rw t (ap (λ h. set ws 0 (head_taken h next)) (sym is)) in
+        let good : Good c (words_after ws (acquired_by (acquires.TheVariants.ExchangesHead head next))) hs 1 =
+        subst (λ w. Good c w hs 1) (sym new) (takes c ws hs 0 next g opened (λ all. at.1 (ap borrowed (sym is) ∙ all))) in
+        record {
+          on = omega arith;
+          leads = subst (Leads (acquires.TheVariants.ExchangesHead head next)) (sym goes)
+              (by_test (λ stage. Leads (acquires.TheVariants.ExchangesHead head next)
+              (GoOn (at_acquire (call_at (acquires.TheVariants.ExchangesHead head next)) stage)))
+              (nat_lt (proposed head) c) (acquires.TheVariants.Claims (proposed head))
+              (acquires.TheVariants.Scans 0)
+              (λ own. let below : proposed head < c = grind (arith, nat_tests) in (good, refl, below, omega arith))
+              (λ none. (good, refl, (omega arith, λ i less. absurd (omega arith)), omega arith)));
+          stays = rw t refl;
+          unlocked = unlocked_for c (words_after ws (acquired_by (acquires.TheVariants.ExchangesHead head next))) hs 1 good (omega arith);
+        }
+
+  -- ---- the claim of a flag
+
+  module _ (g : Good c ws hs 1) (i : ℕ) (below : i < c) where
+    abbrev claims_by : Option Ask
+    claims_by = Some (record { word = flag_word c i; op = Or (flag i) })
+
+    abbrev old : ℕ
+    old = get_or ws (flag_word c i) 0
+
+    -- the flag was clear
+    claimed : has_flag old i ≡ false → Good c (words_after ws claims_by) (set hs i (Some 0)) 0
+    claimed clear = claims c ws hs i below 0 0 clear g
+
+    -- it stood
+    stood_good : has_flag old i ≡ true → Good c (words_after ws claims_by) hs 1
+    stood_good stood = claims_again c ws hs i below 1 stood g
+
+    head_same : head_of (words_after ws claims_by) ≡ head_of ws
+    head_same = head_stays c ws (flag_word c i) (bit_or old (flag i)) (omega arith)
+
+    still_unlocked : counted_in (words_after ws claims_by) ≢ locked
+    still_unlocked shut = opened (ap borrowed (sym head_same) ∙ shut)
+
+    is_on : flag_word c i < length ws
+    is_on = let wide = g.wide in let low = flag_within c i below in omega arith
+
+    claims_proposed : AcquireStep (acquires.TheVariants.Claims i)
+    claims_proposed =
+        let some = g.some in
+        record {
+          on = is_on;
+          leads =
+              by_test (Leads (acquires.TheVariants.Claims i)) (has_flag old i)
+              (GoOn (at_acquire (call_at (acquires.TheVariants.Claims i)) (acquires.TheVariants.Scans 0)))
+              (Done (Ok i))
+              (λ stood. (stood_good stood, refl, (omega arith, λ j less. absurd (omega arith)), omega arith))
+              (λ clear. (claimed clear, below, was_free c ws hs i below 1 clear g, omega arith));
+          stays = refl;
+          unlocked = still_unlocked;
+        }
+
+    module _ (all : AllClaimed c ws i) where
+      one_more : is_claimed c ws i ≡ true → AllClaimed c ws (i + 1)
+      one_more stood j less = ⊎_elim (λ before. all j before) (λ last. let same : j ≡ i = omega arith in ap (is_claimed c ws) same ∙ stood) (cases_lt j i)
+
+      -- some flag is free, so the last one to be tried does not stand
+      not_last : has_flag old i ≡ true → i + 1 < c
+      not_last stood = ⊎_elim (λ (less : i + 1 < c). less) past (cases_lt (i + 1) c)
+        where
+          past : c ≤ i + 1 → i + 1 < c
+          past more =
+              let end : i + 1 ≡ c = omega arith in
+              absurd (some_free c ws hs 1 g (omega arith) (subst (AllClaimed c ws) end (one_more stood)))
+
+      scans : AcquireStep (acquires.TheVariants.Scans i)
+      scans = go (has_flag old i) refl
+        where
+          go : (b : Bool) → has_flag old i ≡ b → AcquireStep (acquires.TheVariants.Scans i)
+          go true t =
+              let more = not_last t in
+              let u : nat_lt (i + 1) c ≡ true = grind (arith, nat_tests) in
+              let goes : acquire_takes (call_at (acquires.TheVariants.Scans i)) (acquires.TheVariants.Scans i) old
+              ≡ GoOn (at_acquire (call_at (acquires.TheVariants.Scans i)) (acquires.TheVariants.Scans (i + 1))) =
+              rw (t, u) refl in
+              record {
+                on = is_on;
+                leads =
+                    subst (Leads (acquires.TheVariants.Scans i)) (sym goes)
+                    (stood_good t, refl, (more, λ j less. still_claimed c ws hs i below 1 j g (one_more t j less)), omega arith);
+                stays = rw (t, u) refl;
+                unlocked = still_unlocked;
+              }
+          go false t =
+              let goes : acquire_takes (call_at (acquires.TheVariants.Scans i)) (acquires.TheVariants.Scans i) old ≡ Done (Ok i) = rw t refl in
+              record {
+                on = is_on;
+                leads = subst (Leads (acquires.TheVariants.Scans i)) (sym goes) (claimed t, below, was_free c ws hs i below 1 t g, omega arith);
+                stays = rw t refl;
+                unlocked = still_unlocked;
+              }
+
+  pub acquire_step : (stage : AcquireStage) → TakesAt c ws stage → Good c ws hs (acquire_counts stage) → AcquireStep stage
+  acquire_step acquires.TheVariants.LoadsHead at g = loads_head g
+  acquire_step (acquires.TheVariants.LoadsNext head) at g = loads_next g head at.0 at.1 at.2
+  acquire_step (acquires.TheVariants.ExchangesHead head next) at g = exchanges_head g head next at.0 at.1
+  acquire_step (acquires.TheVariants.Claims i) at g = claims_proposed g i at
+  acquire_step (acquires.TheVariants.Scans i) at g = scans g i at.0 at.1

@@ -1,0 +1,129 @@
+-- From what a step shows to what it comes to for the frame.
+use Rattle.std.proofs.Common.{◌≡◌, ℕ, ◌+◌, Bool, Option, List, ◌++◌, sym, subst}
+use Rattle.steps.specs.declared.ask.Ask.{Ask}
+use Rattle.steps.specs.declared.ask.After.{After}
+use Rattle.steps.specs.declared.ask.After.TheVariants.{GoOn, Done}
+use Rattle.model.specs.declared.event.Answer.{Answer}
+use Rattle.model.specs.declared.event.Event.{Event}
+use Rattle.model.specs.declared.event.Start as starts
+use Rattle.model.specs.declared.families.Registry as registries
+use Rattle.model.specs.declared.families.loan.Book.{Book}
+use Rattle.model.specs.declared.families.loan.LoanStart.{LoanStart}
+use Rattle.model.specs.declared.families.loan.calls.LoanFlight.{LoanFlight}
+use Rattle.model.specs.declared.party.Party.{Party}
+use Rattle.model.specs.Coding.{Coding}
+use Rattle.model.specs.Parties.{put}
+use Rattle.model.specs.Reading.{Span, span_of}
+use Rattle.model.specs.Step.{answer_in}
+use Rattle.model.specs.Turns.{words_after, change_of, step_count, party_after, ending_of}
+use Rattle.model.specs.World.{Trace}
+use Rattle.model.proofs.Frame as frame
+use Rattle.laws_queues.proofs.Queues.Core.{Core}
+use Rattle.laws_loan.proofs.Channel.{Channel, words_in}
+use Rattle.laws_loan.proofs.Giving.{GivingStep, giving_owes, s_given}
+use Rattle.laws_loan.proofs.Invariant.{HoldsNow, family}
+use Rattle.laws_loan.proofs.Sender.{any_call, party_then, Steps, step_owes}
+use Rattle.laws_loan.proofs.Turns.{Shows, now_more}
+
+module _ {T : Type 0} (code : Coding T) (slots queue : ℕ) where
+  abbrev pub channel : frame.Family T
+  channel = family code slots queue
+
+  module _ (t : Trace T) (sound : frame.Sound channel t) (x : Party T) (since : ℕ) where
+    abbrev pub now : Channel T
+    now = sound.state
+
+    -- what holds, by the events of the state, which are those of the run
+    pub holds_now : HoldsNow slots queue now t.world.latest now.events t.world.turns
+    holds_now = subst (λ es. HoldsNow slots queue now t.world.latest es t.world.turns) (sym sound.holds.same) sound.holds
+
+    pub inv_now : frame.Inv channel now t.world.latest now.events t.world.changes
+    inv_now = subst (λ es. frame.Inv channel now t.world.latest es t.world.changes) (sym sound.holds.same) sound.inv
+
+    -- what is done by this party with this operation, after which it goes on so, has written this and leaves this book
+    abbrev pub ComesWith : ℕ → LoanStart → Option Ask → Bool → After LoanFlight (Answer T) → List (Event T) → Book → Type 0
+    ComesWith p start ask back after wrote book =
+        frame.Comes channel t p (registries.TheVariants.Loan book) (words_after (words_in now) ask)
+        (party_after (record x { start = starts.TheVariants.Loan start }) since t.world.changes (step_count ask)
+        (change_of (words_in now) ask)
+        (record { after = any_call after; back = back; wrote = wrote; kept = registries.TheVariants.Loan book }))
+        (wrote ++ ending_of p (starts.TheVariants.Loan start) (answer_in (any_call after)))
+        (t.world.changes + change_of (words_in now) ask)
+
+    -- any step that shows this and owes this
+    pub comes : (p : ℕ) (start : LoanStart) (ask : Option Ask) (back : Bool) (after : After LoanFlight (Answer T))
+        (es : List (Event T)) (book : Book) (s' : Channel T)
+        → book ≡ s'.book → words_after (words_in now) ask ≡ words_in s'
+        → Shows slots queue now s' p (party_then now x since t.world.changes start ask back after) t.world.latest t.world.turns es
+        → frame.Owes channel s' p (party_then now x since t.world.changes start ask back after) t.world.latest
+        now.events es (t.world.changes + change_of (words_in now) ask)
+        → frame.Comes channel t p (registries.TheVariants.Loan book) (words_after (words_in now) ask)
+        (party_then now x since t.world.changes start ask back after) es
+        (t.world.changes + change_of (words_in now) ask)
+    comes p start ask back after es book s' kept words shows owes =
+        record {
+          state = s';
+          fit = (kept, words);
+          holds =
+              subst (λ events. HoldsNow slots queue s'
+              (put p (party_then now x since t.world.changes start ask back after) t.world.latest) (events ++ es)
+              (t.world.turns + 1))
+              sound.holds.same
+              (now_more slots queue now s' p (party_then now x since t.world.changes start ask back after) t.world.latest t.world.turns es holds_now shows);
+          owes =
+              subst (λ events. frame.Owes channel s' p (party_then now x since t.world.changes start ask back after)
+              t.world.latest events es (t.world.changes + change_of (words_in now) ask))
+              sound.holds.same owes;
+        }
+
+    -- of the sender
+    pub sender_comes : (start : LoanStart) (ask : Option Ask) (back : Bool) (after : After LoanFlight (Answer T))
+        (wrote : List (Event T)) (book : Book) (s' : Channel T) (from : Span T)
+        → span_of 0 now.events ≡ from → book ≡ s'.book
+        → Steps code slots queue now t.world.latest t.world.turns t.world.changes since x s' from start ask back
+        after (wrote ++ ending_of 0 (starts.TheVariants.Loan start) (answer_in after))
+        → ComesWith 0 start ask back after wrote book
+    sender_comes start ask back (GoOn flight) wrote book s' from is kept steps =
+        comes 0 start ask back (GoOn flight)
+        (wrote ++ ending_of 0 (starts.TheVariants.Loan start) (answer_in (any_call {T = T} (GoOn flight)))) book s'
+        kept steps.words steps.shows
+        (step_owes code slots queue now t.world.latest t.world.turns t.world.changes since x s' from start ask back
+        (GoOn flight)
+        (wrote ++ ending_of 0 (starts.TheVariants.Loan start) (answer_in (any_call {T = T} (GoOn flight)))) steps is
+        inv_now)
+    sender_comes start ask back (Done answer) wrote book s' from is kept steps =
+        comes 0 start ask back (Done answer)
+        (wrote ++ ending_of 0 (starts.TheVariants.Loan start) (answer_in (any_call {T = T} (Done answer)))) book s'
+        kept steps.words steps.shows
+        (step_owes code slots queue now t.world.latest t.world.turns t.world.changes since x s' from start ask back
+        (Done answer)
+        (wrote ++ ending_of 0 (starts.TheVariants.Loan start) (answer_in (any_call {T = T} (Done answer)))) steps is
+        inv_now)
+
+    -- of the receiver, which changes the completion queue alone
+    pub receiver_comes : (p : ℕ) (start : LoanStart) (ask : Option Ask) (back : Bool)
+        (after : After LoanFlight (Answer T)) (wrote : List (Event T)) (book : Book) (k : Core ℕ) (from : Span T)
+        → span_of p now.events ≡ from → book ≡ now.book
+        → GivingStep code slots queue now t.world.latest t.world.turns t.world.changes since x p k from start ask
+        back after (wrote ++ ending_of p (starts.TheVariants.Loan start) (answer_in after))
+        → ComesWith p start ask back after wrote book
+    receiver_comes p start ask back (GoOn flight) wrote book k from is kept steps =
+        comes p start ask back (GoOn flight) (wrote ++ ending_of p (starts.TheVariants.Loan start) (answer_in (any_call {T = T} (GoOn flight)))) book
+        (s_given code slots queue now t.world.latest t.world.turns t.world.changes since x p k from start ask back
+        (GoOn flight)
+        (wrote ++ ending_of p (starts.TheVariants.Loan start) (answer_in (any_call {T = T} (GoOn flight)))))
+        kept steps.words steps.shows
+        (giving_owes code slots queue now t.world.latest t.world.turns t.world.changes since x p k from start ask
+        back (GoOn flight)
+        (wrote ++ ending_of p (starts.TheVariants.Loan start) (answer_in (any_call {T = T} (GoOn flight)))) steps is
+        inv_now)
+    receiver_comes p start ask back (Done answer) wrote book k from is kept steps =
+        comes p start ask back (Done answer) (wrote ++ ending_of p (starts.TheVariants.Loan start) (answer_in (any_call {T = T} (Done answer)))) book
+        (s_given code slots queue now t.world.latest t.world.turns t.world.changes since x p k from start ask back
+        (Done answer)
+        (wrote ++ ending_of p (starts.TheVariants.Loan start) (answer_in (any_call {T = T} (Done answer)))))
+        kept steps.words steps.shows
+        (giving_owes code slots queue now t.world.latest t.world.turns t.world.changes since x p k from start ask
+        back (Done answer)
+        (wrote ++ ending_of p (starts.TheVariants.Loan start) (answer_in (any_call {T = T} (Done answer)))) steps is
+        inv_now)

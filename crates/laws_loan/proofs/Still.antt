@@ -1,0 +1,54 @@
+-- Events that move no index, end no reclaim and are no death.
+use Rattle.std.proofs.Common.{◌≡◌, ℕ, ◌⊎◌, Bool, false, Option, None, List, [], ◌∷◌, ◌++◌, refl, sym, ap, subst, ◌∙◌, append-nil, append_assoc}
+use Rattle.std.proofs.lemmas.List.Sums.{fold-append}
+use Rattle.model.specs.declared.event.Event.{Event}
+use Rattle.model.specs.declared.families.loan.Book.{Book}
+use Rattle.model.specs.Families.Loan.Reading.{Move, move_of, spot_of, receiver_after, receiver_of, died_after, has_died_by}
+use Rattle.laws_loan.proofs.Lists.{lists_stay}
+use Rattle.laws_loan.proofs.Placed.{Placed, placed_on}
+use Rattle.laws_loan.proofs.Spots.{is_waiting, is_returning, spot_stays}
+
+module _ {T : Type 0} where
+  pub record Still (e : Event T) : Type 0 where
+    pub moves : ◌≡◌ {A = Option Move} (move_of e) None
+    pub receiver : (r : ℕ) → receiver_after r e ≡ r
+    pub dead : (q : ℕ) (b : Bool) → died_after q b e ≡ b
+
+  abbrev pub AreStill : List (Event T) → Type 0
+  AreStill [] = Unit {0}
+  AreStill (e ∷ es) = Still e × AreStill es
+
+  pub spots_still : (i : ℕ) (events es : List (Event T)) → AreStill es → spot_of i (events ++ es) ≡ spot_of i events
+  spots_still i events [] still = ap (spot_of i) (append-nil events)
+  spots_still i events (e ∷ es) still =
+      ap (spot_of i) (sym (append_assoc events (e ∷ []) es))
+      ∙ (spots_still i (events ++ e ∷ []) es still.1 ∙ spot_stays events e i still.0.moves)
+
+  pub receiver_still : (events es : List (Event T)) → AreStill es → receiver_of (events ++ es) ≡ receiver_of events
+  receiver_still events [] still = ap receiver_of (append-nil events)
+  receiver_still events (e ∷ es) still =
+      ap receiver_of (sym (append_assoc events (e ∷ []) es))
+      ∙ (receiver_still (events ++ e ∷ []) es still.1 ∙ (fold-append receiver_after 1 events (e ∷ []) ∙ still.0.receiver (receiver_of events)))
+
+  module _ (slots : ℕ) (claims : List (Option ℕ)) (sent back : List ℕ) (book : Book) where
+    one_still : (events : List (Event T)) (e : Event T) → Still e → Placed slots claims sent back book events
+        → Placed slots claims sent back book (events ++ e ∷ [])
+    one_still events e still placed =
+        let same : receiver_of (events ++ e ∷ []) ≡ receiver_of events = fold-append receiver_after 1 events (e ∷ []) ∙ still.receiver (receiver_of events) in
+        placed_on slots events e still.moves claims sent back book book placed
+        (record {
+          places = refl;
+          holders = refl;
+          receiver = placed.keeps.receiver ∙ sym same;
+          dead = λ q. placed.keeps.dead q ∙ sym (fold-append (died_after q) false events (e ∷ []) ∙ still.dead q (has_died_by q events));
+          parties = λ i q by. subst (λ n. (q ≡ 0) ⊎ (q ≡ n)) (sym same) (placed.parties i q by);
+        })
+        (lists_stay is_waiting sent events e placed.waits still.moves)
+        (lists_stay is_returning back events e placed.returns still.moves)
+
+    pub placed_still : (events es : List (Event T)) → AreStill es → Placed slots claims sent back book events
+        → Placed slots claims sent back book (events ++ es)
+    placed_still events [] still placed = subst (Placed slots claims sent back book) (sym (append-nil events)) placed
+    placed_still events (e ∷ es) still placed =
+        subst (Placed slots claims sent back book) (append_assoc events (e ∷ []) es)
+        (placed_still (events ++ e ∷ []) es still.1 (one_still events e still.0 placed))

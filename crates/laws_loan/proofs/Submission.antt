@@ -1,0 +1,103 @@
+-- What each operation of a push and of a pop does to the submission queue: the words then, the queue that they hold, and what
+-- the call finds.
+use Rattle.std.proofs.Common.{◌≡◌, ℕ, ◌+◌, ◌-◌, ◌*◌, ◌%◌, ◌^◌, ◌<◌, ◌≤◌, ◌==◌, Bool, true, false, Option, Some, List, ◌∷◌, length, get_or, refl, arith}
+use Rattle.std.proofs.lemmas.Bool.Decides.{nat_tests}
+use Rattle.steps.specs.declared.ask.Ask.{Ask}
+use Rattle.steps.specs.declared.ask.Op.TheVariants.{Store, Exchange}
+use Rattle.steps.specs.declared.ask.After.TheVariants.{GoOn}
+use Rattle.steps.specs.declared.queues.overflow.PushStage as overflow_pushes
+use Rattle.steps.specs.Loan.Send.{inner_push}
+use Rattle.steps.specs.Queues.Overflow.{cell_word, push_takes}
+use Rattle.steps.specs.Queues.Ring.{after_position, distance}
+use Rattle.model.specs.Families.Queues.Calls.{words_of_index}
+use Rattle.model.specs.Turns.{words_after, change_of}
+use Rattle.laws_queues.proofs.Queues.Core.{Core, Good, Holds, filled, published, taken, fills, one_filled, publishes, takes, word_at, set_at}
+use Rattle.laws_queues.proofs.Queues.Knows.{layout}
+use Rattle.laws_loan.proofs.Channel.{no_roles}
+
+module _ (queue : ℕ) (some : 1 ≤ queue) (few : queue < 2 ^ 32) (k : Core ℕ) (g : Good 1 words_of_index (queue + 1) k) (reached : k.write < 2 ^ 64 - 2) where
+  abbrev pub ws : List ℕ
+  ws = layout no_roles k
+
+  -- ---- its words
+
+  pub long : length ws ≡ 5 + queue
+  long = let cells = g.cells in omega arith
+
+  pub cell_is : (position : ℕ) → get_or ws (cell_word queue position) 0 ≡ get_or k.cells (position % (queue + 1)) 0
+  cell_is position = word_at k.write k.read 1 1 k.cells (cell_word queue position) (position % (queue + 1)) refl
+
+  pub cell_on : (position : ℕ) → cell_word queue position < length ws
+  cell_on x0 = grind arith
+
+  -- ---- the load of the write position by a push
+
+  pub loads_write : push_takes (inner_push queue overflow_pushes.TheVariants.LoadsWrite) overflow_pushes.TheVariants.LoadsWrite k.write
+      ≡ GoOn (inner_push queue (overflow_pushes.TheVariants.LoadsRead k.write))
+  loads_write = let t : (k.write == 2 ^ 64 - 1) ≡ false = grind (arith, nat_tests) in rw t refl
+
+  -- ---- the stores of a push
+
+  module _ (v : ℕ) where
+    abbrev pub fill : Core ℕ
+    fill = filled 1 words_of_index (queue + 1) k 0 v
+
+    abbrev pub fills_cell : Option Ask
+    fills_cell = Some (record { word = cell_word queue k.write; op = Store v })
+
+    pub fill_words : words_after ws fills_cell ≡ layout no_roles fill
+    fill_words = set_at k.write k.read 1 1 k.cells (cell_word queue k.write) (1 * (k.write % (queue + 1)) + 0) v (omega arith)
+
+    module _ (below : length k.waiting < queue + 1) where
+      pub fill_good : Good 1 words_of_index (queue + 1) fill
+      fill_good = fills 1 words_of_index (queue + 1) k 0 v below (omega arith) g
+
+      pub fill_whole : Holds 1 words_of_index (queue + 1) fill.cells fill.write v 1
+      fill_whole = one_filled 1 words_of_index (queue + 1) k v 0 below (omega arith) g (λ i h. absurd (omega arith))
+
+    abbrev pub publish : Core ℕ
+    publish = published 1 words_of_index (queue + 1) k v
+
+    abbrev pub next_write : Option Ask
+    next_write = Some (record { word = 0; op = Store (after_position k.write) })
+
+    pub publish_words : words_after ws next_write ≡ layout no_roles publish
+    publish_words = grind arith
+
+    pub publish_changes : change_of ws next_write ≡ 1
+    publish_changes = let moved : (after_position k.write == k.write) ≡ false = grind (arith, nat_tests) in rw moved refl
+
+    pub publish_good : length k.waiting < queue + 1 → Holds 1 words_of_index (queue + 1) k.cells k.write v 1 → Good 1 words_of_index (queue + 1) publish
+    publish_good below whole = publishes 1 words_of_index (queue + 1) k v below g whole
+
+  -- what a push finds as it stores the next write position, once it has loaded this read position: there is room; the queue is
+  -- full; or it was, and a pop has made room since
+  pub data Room (read : ℕ) : Type 0 where
+    HasRoom : (distance k.write read == queue) ≡ false → length k.waiting < queue → Room read
+    IsFull : (distance k.write read == queue) ≡ true → (k.read == read) ≡ true → length k.waiting ≡ queue → Room read
+    HasMoved : (distance k.write read == queue) ≡ true → (k.read == read) ≡ false → read < k.read → length k.waiting < queue → Room read
+
+  pub finds : (read : ℕ) → read ≤ k.read → k.write ≤ read + queue → Room read
+  finds x0 x1 x2 = grind arith
+
+  -- ---- the move of the read position, by a push or by a pop
+
+  abbrev pub moves_from : ℕ → Option Ask
+  moves_from read = Some (record { word = 1; op = Exchange read (after_position read) })
+
+  module _ (value : ℕ) (rest : List ℕ) (first : k.waiting ≡ value ∷ rest) where
+    abbrev pub take_out : Core ℕ
+    take_out = taken 1 words_of_index (queue + 1) k rest
+
+    pub take_words : words_after ws (moves_from k.read) ≡ layout no_roles take_out
+    take_words = grind arith
+
+    pub take_changes : change_of ws (moves_from k.read) ≡ 1
+    take_changes = grind arith
+
+    pub take_good : Good 1 words_of_index (queue + 1) take_out
+    take_good = takes 1 words_of_index (queue + 1) k value rest first g
+
+  -- where it has moved already, nothing changes
+  pub stays_words : (read : ℕ) → (k.read == read) ≡ false → words_after ws (moves_from read) ≡ ws
+  stays_words read t = rw t refl

@@ -1,0 +1,176 @@
+-- The sender's table says of each index what the events say, since both go on by the events of a turn.
+use Rattle.std.proofs.Common.{◌≡◌, ◌≢◌, ℕ, ◌<◌, ◌==◌, if◌then◌else◌, ⊎_elim, Bool, true, false, Option, Some, None}
+use Rattle.std.proofs.Common.{List, [], ◌∷◌, ◌++◌, length, set, fold, refl, sym, ap, subst, ◌∙◌, append-nil}
+use Rattle.std.proofs.Common.{append_assoc, length-set, arith}
+use Rattle.std.proofs.lemmas.Bool.{cases_eq}
+use Rattle.std.proofs.lemmas.Bool.Decides.{nat_tests}
+use Rattle.std.proofs.lemmas.List.{get_or-set_same, get_or-set_other}
+use Rattle.std.proofs.lemmas.List.Sums.{fold-append}
+use Rattle.steps.specs.declared.ask.Ask.{Ask}
+use Rattle.steps.specs.declared.loan.places.Place.{Place}
+use Rattle.steps.specs.declared.loan.places.Place.TheVariants as places
+use Rattle.steps.specs.Loan.Places.{place_at}
+use Rattle.model.specs.declared.event.Answer.{Answer}
+use Rattle.model.specs.declared.event.Event.{Event}
+use Rattle.model.specs.declared.event.Event.TheVariants.{Begun, Published, Claimed, Freed, Died}
+use Rattle.model.specs.declared.event.Item.TheVariants.{Index}
+use Rattle.model.specs.declared.event.Start.{Start}
+use Rattle.model.specs.declared.event.Start.TheVariants as starts
+use Rattle.model.specs.declared.families.Flight.{Flight}
+use Rattle.model.specs.declared.families.Flight as flights
+use Rattle.model.specs.declared.families.Registry.{Registry}
+use Rattle.model.specs.declared.families.Registry as registries
+use Rattle.model.specs.declared.families.loan.Book.{Book}
+use Rattle.model.specs.declared.families.loan.LoanStart.{LoanStart}
+use Rattle.model.specs.declared.party.Doing.{Doing}
+use Rattle.model.specs.declared.party.Doing.TheVariants.{Going, Over}
+use Rattle.model.specs.declared.party.Party.{Party}
+use Rattle.model.specs.declared.turn.Turn.{Turn}
+use Rattle.model.specs.declared.turn.Turn.TheVariants.{Begin, Next, Decide, Die}
+use Rattle.model.specs.Coding.{Coding}
+use Rattle.model.specs.Families.{first_of, step_of, kept_after_death}
+use Rattle.model.specs.Families.Loan.Calls as rows
+use Rattle.model.specs.Families.Loan.Promises.{MovesRight}
+use Rattle.model.specs.Families.Loan.Reading.{place_after, place_of}
+use Rattle.model.specs.Families.Loan.Steps.{book_after, ended_book, effect_of, effects_of}
+use Rattle.model.specs.Parties.{party_of}
+use Rattle.model.specs.Reading.{Each}
+use Rattle.model.specs.Step.{as_call, answer_in}
+use Rattle.model.specs.Turns.{events_of_step, events_of_answer, events_of_next, events_of_decision, events_of}
+use Rattle.model.specs.Turns.{ending_of, old_of, ask_of_doing, number_of, after_begin, after_answer, after_next}
+use Rattle.model.specs.Turns.{after_decision, after_turn}
+use Rattle.model.specs.World.{Trace}
+use Rattle.model.proofs.Frame as frame
+use Rattle.model.proofs.Readings.{AreRight}
+use Rattle.model.proofs.Scenes.{stands_there}
+use Rattle.laws_loan.proofs.Channel.{Channel, Represents, kept_is}
+use Rattle.laws_loan.proofs.StepLaw.{channel}
+
+-- one cell of a table is set
+set_at : (table : List Place) (index i : ℕ) (v : Place) → index < length table → place_at (set table index v) i ≡ (if index == i then v else place_at table i)
+set_at table index i v within = ⊎_elim here there (cases_eq index i)
+  where
+    here : index ≡ i → place_at (set table index v) i ≡ (if index == i then v else place_at table i)
+    here same =
+        let t : (index == i) ≡ true = grind (arith, nat_tests) in
+        rw t (subst (λ n. place_at (set table index v) n ≡ v) same (get_or-set_same table index v places.Free within))
+
+    there : index ≢ i → place_at (set table index v) i ≡ (if index == i then v else place_at table i)
+    there ne =
+        let t : (index == i) ≡ false = grind (arith, nat_tests) in
+        rw t (get_or-set_other table index i v places.Free (λ e. ne (sym e)))
+
+module _ {T : Type 0} where
+  -- what the table that is kept says of an index
+  abbrev pub place_in : Registry T → ℕ → Place
+  place_in (registries.TheVariants.Loan book) i = place_at book.places i
+  place_in kept i = places.Free
+
+  abbrev pub IsTabled : Trace T → Type 0
+  IsTabled t = (i : ℕ) → place_in t.world.kept i ≡ place_of i t.events
+
+  -- ---- events
+
+  one : (slots i : ℕ) (book : Book) (before : List (Event T)) (e : Event T) → length book.places ≡ slots
+      → MovesRight slots before e → place_at (book_after book e).places i ≡ place_after i (place_at book.places i) e
+  one slots i book before (Claimed p index) long right = let below = right.0 in set_at book.places index i places.Loaned (omega arith)
+  one slots i book before (Published p (Index index)) long right = let below = right.0 in set_at book.places index i places.Sent (omega arith)
+  one slots i book before (Freed p index) long right = let below = right.0 in set_at book.places index i places.Free (omega arith)
+  one slots i book before e long right = refl
+
+  long_after : (book : Book) (e : Event T) → length (book_after book e).places ≡ length book.places
+  long_after book (Claimed p index) = length-set book.places index places.Loaned
+  long_after book (Published p (Index index)) = length-set book.places index places.Sent
+  long_after book (Freed p index) = length-set book.places index places.Free
+  long_after book e = refl
+
+  each : (slots i : ℕ) (book : Book) (before es : List (Event T)) → length book.places ≡ slots
+      → AreRight (MovesRight slots) before es
+      → place_at (fold book_after book es).places i ≡ fold (place_after i) (place_at book.places i) es
+  each slots i book before [] long right = refl
+  each slots i book before (e ∷ es) long right =
+      each slots i (book_after book e) (before ++ e ∷ []) es (long_after book e ∙ long) right.1
+      ∙ ap (λ place. fold (place_after i) place es) (one slots i book before e long right.0)
+
+  pub right_of : (P : List (Event T) → Event T → Type 0) (before es : List (Event T)) → Each P (before ++ es) → AreRight P before es
+  right_of P before [] all = tt
+  right_of P before (e ∷ es) all =
+      (all before es e refl, right_of P (before ++ e ∷ []) es (subst (Each P) (sym (append_assoc before (e ∷ []) es)) all))
+
+  -- ---- the end of a call changes no place
+
+  ended_places : (p : ℕ) (start : LoanStart) (outcome : Option (Answer T)) (book : Book) → (ended_book p start outcome book).places ≡ book.places
+  ended_places x0 x1 x2 x3 = grind arith
+
+  ending_keeps : (p : ℕ) (start : Start T) (outcome : Option (Answer T)) (book : Book) → fold book_after book (ending_of p start outcome) ≡ book
+  ending_keeps x0 x1 x2 x3 = grind arith
+
+module _ {T : Type 0} (code : Coding T) (slots queue : ℕ) where
+  step_tabled : (i : ℕ) (before : List (Event T)) (z : Coding T) (words : List ℕ) (push : Option (ℕ × ℕ))
+      (s : Channel T) (p : ℕ) (start : Start T) (flight : Flight T) (old : ℕ) (kept : Registry T)
+      → Represents kept words s → length s.book.places ≡ slots
+      → (channel code slots queue).At s p start flight
+      → AreRight (MovesRight slots) before (events_of_step p start (step_of z words push p start flight old kept))
+      → place_in (step_of z words push p start flight old kept).kept i
+      ≡ fold (place_after i) (place_in kept i) (events_of_step p start (step_of z words push p start flight old kept))
+  step_tabled i before z words push s p (starts.Loan start) (flights.TheVariants.Loan flight) old (registries.TheVariants.Loan book) fit long at right =
+      let then_so = rows.after {T = T} book.places flight old in
+      let wrote = effects_of p (effect_of words push flight old) (answer_in then_so) in
+      let ending = ending_of p (starts.Loan start) (answer_in (as_call flights.TheVariants.Loan (λ answer. answer) then_so)) in
+      let same : fold book_after book (wrote ++ ending) ≡ fold book_after book wrote =
+      fold-append book_after book wrote ending
+      ∙ ending_keeps p (starts.Loan start) (answer_in (as_call flights.TheVariants.Loan (λ answer. answer) then_so))
+      (fold book_after book wrote)
+      in
+      ap (λ table. place_at table i) (ended_places p start (answer_in then_so) (fold book_after book wrote))
+      ∙ (ap (λ b. place_at b.places i) (sym same)
+      ∙ each slots i book before (wrote ++ ending) (ap (λ b. length b.places) fit.0 ∙ long) right)
+  step_tabled i before z words push s p (starts.Loan start) (flights.TheVariants.Loan flight) old kept fit long at right = absurd fit
+  step_tabled i before z words push s p start flight old kept fit long at right = absurd at
+
+  module _ (t : Trace T) (sound : frame.Sound (channel code slots queue) t) (tabled : IsTabled t) where
+    is_kept : t.world.kept ≡ registries.TheVariants.Loan sound.state.book
+    is_kept = (kept_is t.world.kept t.world.words sound.state sound.fit).0
+
+    -- what the events of a turn that moves no index leave
+    as_before : (i : ℕ) (e : Event T) → ((place : Place) → place_after i place e ≡ place) → place_of i (t.events ++ e ∷ []) ≡ place_of i t.events
+    as_before i e none = fold-append (place_after i) places.Free t.events (e ∷ []) ∙ none (place_of i t.events)
+
+    begun : (p : ℕ) (start : Start T) (o : Option (Flight T)) (i : ℕ) → place_in (after_begin t.world p start o).kept i ≡ place_of i t.events
+    begun x0 x1 x2 x3 = grind arith
+
+    died : (owner i : ℕ) → place_in (kept_after_death t.world.kept owner) i ≡ place_in t.world.kept i
+    died owner i = subst (λ kept. place_in (kept_after_death kept owner) i ≡ place_in kept i) (sym is_kept) refl
+
+    answered : (p : ℕ) (x : Party T) (ask : Option Ask) (answer : ℕ) (doing : Doing T)
+        → party_of p t.world.latest ≡ Some x → x.doing ≡ doing
+        → AreRight (MovesRight slots) t.events (events_of_answer t.world p x answer doing)
+        → (i : ℕ) → place_in (after_answer t.world p x ask answer doing).kept i ≡ place_of i (t.events ++ events_of_answer t.world p x answer doing)
+    answered p x ask answer (Over others) found d right i = tabled i ∙ sym (ap (place_of i) (append-nil t.events))
+    answered p x ask answer (Going flight since) found d right i =
+        let there = stands_there (channel code slots queue) t sound p x since flight found d in
+        let es = events_of_answer t.world p x answer (Going flight since) in
+        step_tabled i t.events t.world.coding t.world.words _ sound.state p x.start flight answer t.world.kept
+        sound.fit sound.holds.parts.placed.places_long there.at right
+        ∙ (ap (λ place. fold (place_after i) place es) (tabled i) ∙ sym (fold-append (place_after i) places.Free t.events es))
+
+    pub turn_tabled : (turn : Turn T) → Each (MovesRight slots) (after_turn t turn).events → IsTabled (after_turn t turn)
+    turn_tabled (Begin p start) moves =
+        λ i. begun p start (first_of t.world.kind t.world.capacity start t.world.kept) i ∙ sym (as_before i (Begun p start) (λ place. refl))
+    turn_tabled (Next p) moves = go (party_of p t.world.latest) refl (right_of (MovesRight slots) t.events (events_of t.world (Next p)) moves)
+      where
+        go : (o : Option (Party T)) → party_of p t.world.latest ≡ o
+            → AreRight (MovesRight slots) t.events (events_of_next t.world p o) → (i : ℕ)
+            → place_in (after_next t.world p o).kept i ≡ place_of i (t.events ++ events_of_next t.world p o)
+        go None found right i = tabled i ∙ sym (ap (place_of i) (append-nil t.events))
+        go (Some x) found right i =
+            answered p x (ask_of_doing t.world.coding x.doing)
+            (old_of t.world.words (ask_of_doing t.world.coding x.doing)) x.doing found refl right i
+    turn_tabled (Decide p said) moves = go (party_of p t.world.latest) refl (right_of (MovesRight slots) t.events (events_of t.world (Decide p said)) moves)
+      where
+        go : (o : Option (Party T)) → party_of p t.world.latest ≡ o
+            → AreRight (MovesRight slots) t.events (events_of_decision t.world p said o) → (i : ℕ)
+            → place_in (after_decision t.world p said o).kept i ≡ place_of i (t.events ++ events_of_decision t.world p said o)
+        go None found right i = tabled i ∙ sym (ap (place_of i) (append-nil t.events))
+        go (Some x) found right i = answered p x None (number_of said) x.doing found refl right i
+    turn_tabled (Die owner) moves = λ i. died owner i ∙ (tabled i ∙ sym (as_before i (Died owner) (λ place. refl)))

@@ -1,0 +1,393 @@
+-- A take back takes the first index out of the queue, stage by stage.
+use Rattle.std.proofs.Common.{◌≡◌, ◌≢◌, ℕ, ◌+◌, ◌-◌, ◌^◌, ◌<◌, ◌≤◌, ◌==◌, ◌||◌, ◌⊎◌, ⊎_elim, Bool, true, false, Option}
+use Rattle.std.proofs.Common.{Some, List, [], ◌∷◌, ◌++◌, length, fold, refl, sym, ap, subst, ◌∙◌, append-nil}
+use Rattle.std.proofs.Common.{arith}
+use Rattle.std.proofs.lemmas.Bool.{cases_eq}
+use Rattle.std.proofs.lemmas.Bool.Decides.{nat_tests}
+use Rattle.std.proofs.lemmas.List.{set-get_or}
+use Rattle.std.proofs.lemmas.List.Sums.{fold-append}
+use Rattle.steps.specs.declared.ask.Ask.{Ask}
+use Rattle.steps.specs.declared.ask.After.{After}
+use Rattle.steps.specs.declared.ask.After.TheVariants.{GoOn, Done}
+use Rattle.steps.specs.declared.copied.OneWord.{OneWord}
+use Rattle.steps.specs.declared.indices.unique.ReleaseStage as releases
+use Rattle.steps.specs.declared.loan.take_back.TakeBackStage as take_backs
+use Rattle.steps.specs.declared.queues.ring.PopStage.{PopStage}
+use Rattle.steps.specs.declared.queues.ring.PopStage as pops
+use Rattle.steps.specs.Loan.Layout.{completion_word}
+use Rattle.steps.specs.Loan.Parts.{shifted}
+use Rattle.steps.specs.Loan.TakeBack.{take_back_takes}
+use Rattle.steps.specs.Queues.Ring.{cell_word, word_at, pop_asks}
+use Rattle.steps.specs.Routine.{went_on}
+use Rattle.model.specs.declared.event.Answer.{Answer}
+use Rattle.model.specs.declared.event.Answer.TheVariants as answers
+use Rattle.model.specs.declared.event.Event.{Event}
+use Rattle.model.specs.declared.event.Event.TheVariants.{TakenBack, Finished}
+use Rattle.model.specs.declared.event.Start.{Start}
+use Rattle.model.specs.declared.event.Start.TheVariants as starts
+use Rattle.model.specs.declared.families.Flight as flights
+use Rattle.model.specs.declared.families.loan.LoanStart.TheVariants as calls
+use Rattle.model.specs.declared.families.loan.calls.LoanFlight.{LoanFlight}
+use Rattle.model.specs.declared.families.loan.calls.LoanFlight.TheVariants.{TakeBack}
+use Rattle.model.specs.declared.families.loan.effects.Effect.{Effect}
+use Rattle.model.specs.declared.families.loan.effects.Effect.TheVariants as effects
+use Rattle.model.specs.declared.party.Party.{Party}
+use Rattle.model.specs.Coding.{Coding, one_word}
+use Rattle.model.specs.Families.{ask_of}
+use Rattle.model.specs.Families.Loan.Reading.{Passing, Returning, spot_of, receiver_after, receiver_of, given_back, taken_back}
+use Rattle.model.specs.Families.Loan.Steps.{ended_book, book_after, effects_of}
+use Rattle.model.specs.Families.Queues.Calls.{as_it_is, popped, words_of_index}
+use Rattle.model.specs.Reading.{Span, Open, own_after, span_of}
+use Rattle.model.specs.Step.{as_call, answer_in}
+use Rattle.model.specs.Turns.{old_of, ending_of}
+use Rattle.model.proofs.Readings.{span_of-own, span_of-other}
+use Rattle.laws_queues.proofs.Queues.Core.{Core, taken}
+use Rattle.laws_queues.proofs.Queues.Knows.{layout, in_one}
+use Rattle.laws_queues.proofs.Ring.Knows.{KnowsPop, pop_number}
+use Rattle.laws_loan.proofs.Channel.{Channel, no_roles, words_in}
+use Rattle.laws_loan.proofs.Completion as completion
+use Rattle.laws_loan.proofs.Cuts.{IsOn}
+use Rattle.laws_loan.proofs.Invariant.{sends_at, reclaims_in, Carries, HoldsNow}
+use Rattle.laws_loan.proofs.Knows.{wrote_in, At}
+use Rattle.laws_loan.proofs.Lists.{first_there}
+use Rattle.laws_loan.proofs.OnQueues.{OnQueues, queues_then, queues_show, silent_tells}
+use Rattle.laws_loan.proofs.Receives.{word_of}
+use Rattle.laws_loan.proofs.Releases.{take_back_frees_at}
+use Rattle.laws_loan.proofs.Rooms.{back_below, index_is}
+use Rattle.laws_loan.proofs.Sender.{party_then, Steps}
+use Rattle.laws_loan.proofs.Spots.{is_returning, returns_there, spot_other, spot_moved}
+use Rattle.laws_loan.proofs.Table.{takes_it_back}
+use Rattle.laws_loan.proofs.TakenOff.{take_keeps, first_of}
+use Rattle.laws_loan.proofs.Told.{is_reclaiming}
+use Rattle.laws_loan.proofs.TakeBacks.{Does, calm, few, finds_none, goes_on, idle, long, none_carried, not_passing, old_is, reached, some, words_are, pops_at}
+
+module _ {T : Type 0} (code : Coding T) (slots queue : ℕ) (s : Channel T) (latest : List (ℕ × Party T))
+    (turns changes since : ℕ) (x : Party T) (h : HoldsNow slots queue s latest s.events turns)
+    (small : turns < 2 ^ 64 - 2) (under : PopStage) (had : OneWord)
+    (here : sends_at latest ≡ Some (flights.TheVariants.Loan (pops_at slots queue under had)))
+    (from : span_of 0 s.events ≡ Open (starts.Loan calls.TakeBack) []) (straight : x.backs ≡ 0) where
+  abbrev start : Start T
+  start = starts.Loan calls.TakeBack
+
+  abbrev spanned : Span T
+  spanned = Open start []
+
+  abbrev pub asked : PopStage → Option Ask
+  asked stage = ask_of (shifted (completion_word slots queue) (pop_asks stage))
+
+  abbrev pub old : PopStage → ℕ
+  old stage = old_of (words_in s) (asked stage)
+
+  abbrev queued : List ℕ
+  queued = layout no_roles s.completion
+
+  abbrev pub goes : PopStage → OneWord → ℕ → After LoanFlight (Answer T)
+  goes stage found value =
+      as_call TakeBack popped
+      (went_on as_it_is tt tt (take_back_takes (record { slots = slots; queue = queue; stage = take_backs.TheVariants.Pops stage found })
+      (take_backs.TheVariants.Pops stage found) value))
+
+  abbrev events_by : Effect → After LoanFlight (Answer T) → List (Event T)
+  events_by effect after = effects_of 0 effect (answer_in after) ++ ending_of 0 start (answer_in after)
+
+  abbrev Keeps : Channel T → Effect → After LoanFlight (Answer T) → Type 0
+  Keeps s' effect after =
+      ended_book {T = T} 0 calls.TakeBack (answer_in after) (fold (book_after {T = T}) s.book (effects_of 0 effect (answer_in after)))
+      ≡ s'.book
+
+  abbrev StepTo : Channel T → PopStage → After LoanFlight (Answer T) → Effect → Type 0
+  StepTo s' stage after effect =
+      Steps code slots queue s latest turns changes since x s' spanned calls.TakeBack (asked stage) false after (events_by effect after)
+      × Keeps s' effect after
+
+  abbrev still : Channel T
+  still = record s { submission = s.submission; completion = s.completion; book = s.book; events = s.events ++ [] }
+
+  abbrev load_of_write : PopStage
+  load_of_write = pops.TheVariants.LoadsWrite s.completion.read
+
+  abbrev ends : Event T
+  ends = Finished 0 start answers.PoppedNone
+
+  abbrev y_none : Party T
+  y_none = party_then s x since changes calls.TakeBack (asked load_of_write) false (Done answers.PoppedNone)
+
+  abbrev s_none : Channel T
+  s_none = queues_then slots queue s latest turns y_none s.submission s.completion s.book (ends ∷ [])
+
+  -- ---- the first one leaves the queue
+
+  module _ (index : ℕ) (rest : List ℕ) (first : s.completion.waiting ≡ index ∷ rest) where
+    abbrev store_of_read : PopStage
+    store_of_read = pops.TheVariants.StoresRead s.completion.read
+
+    abbrev takes : Event T
+    takes = TakenBack 0 index
+
+    abbrev without : Core ℕ
+    without = taken 1 words_of_index slots s.completion rest
+
+    abbrev frees_at : LoanFlight
+    frees_at = take_back_frees_at slots queue index releases.TheVariants.ClearsFlag
+
+    abbrev y_taken : Party T
+    y_taken = party_then s x since changes calls.TakeBack (asked store_of_read) false (GoOn frees_at)
+
+    abbrev s_taken : Channel T
+    s_taken = queues_then slots queue s latest turns y_taken s.submission without s.book (takes ∷ [])
+
+    below : index < slots
+    below = back_below slots s.claims s.submission.waiting s.completion.waiting s.book s.events h.parts.placed index rest first
+
+    was_returning : spot_of index s.events ≡ Returning
+    was_returning = returns_there (spot_of index s.events) (first_there is_returning s.completion.waiting rest s.events index first h.parts.placed.returns)
+
+    now_passing : spot_of index (s.events ++ takes ∷ []) ≡ Passing 0
+    now_passing = spot_moved s.events takes (record { index = index; from = Returning; to = Passing 0 }) refl
+
+    elsewhere : (i : ℕ) → index ≢ i → spot_of i (s.events ++ takes ∷ []) ≡ spot_of i s.events
+    elsewhere i ne = spot_other s.events takes (record { index = index; from = Returning; to = Passing 0 }) refl i ne
+
+    open_then : span_of 0 (s.events ++ takes ∷ []) ≡ Open start (takes ∷ [])
+    open_then = span_of-own 0 s.events (takes ∷ []) (refl, tt) ∙ ap (λ span. fold own_after span (takes ∷ [])) from
+
+    receiver_stays : receiver_of (s.events ++ takes ∷ []) ≡ receiver_of s.events
+    receiver_stays = fold-append receiver_after 1 s.events (takes ∷ [])
+
+    passing_taken : (i q : ℕ) → spot_of i (s.events ++ takes ∷ []) ≡ Passing q → Carries i (span_of q (s.events ++ takes ∷ []))
+    passing_taken i q e = ⊎_elim mine others (cases_eq index i)
+      where
+        mine : index ≡ i → Carries i (span_of q (s.events ++ takes ∷ []))
+        mine same =
+            let both : Passing 0 ≡ Passing q = sym now_passing ∙ (ap (λ n. spot_of n (s.events ++ takes ∷ [])) same ∙ e) in
+            let zero : 0 ≡ q = cc in
+            let carried : Carries i (Open start (takes ∷ [])) = (ap (λ n. n ∷ []) same, refl) in
+            subst (λ n. Carries i (span_of n (s.events ++ takes ∷ []))) zero (subst (Carries i) (sym open_then) carried)
+
+        others : index ≢ i → Carries i (span_of q (s.events ++ takes ∷ []))
+        others ne =
+            let carried = h.passing i q (sym (elsewhere i ne) ∙ e) in
+            ⊎_elim
+            (λ (sender : q ≡ 0). (none_carried code slots queue s latest turns changes since x h small under had here from straight)
+            i (subst (Carries i) from (subst (λ n. Carries i (span_of n s.events)) sender carried)))
+            (λ (theirs : q ≢ 0). subst (Carries i) (sym (span_of-other 0 q s.events (takes ∷ []) theirs (refl, tt))) carried)
+            (cases_eq q 0)
+
+    on_queues_taken : OnQueues slots queue s latest turns y_taken s.submission without s.book (takes ∷ [])
+    on_queues_taken =
+        let sent = h.sent in
+        let given = h.given in
+        let same = receiver_stays in
+        record {
+          busy_before = (idle code slots queue s latest turns changes since x h small under had here from straight);
+          busy_after = refl;
+          queue_stays = refl;
+          submission = h.parts.submission;
+          completion =
+              completion.take_good slots
+              (some code slots queue s latest turns changes since x h small under had here from straight)
+              (few code slots queue s latest turns changes since x h small under had here from straight) s.completion
+              h.parts.completion
+              (reached code slots queue s latest turns changes since x h small under had here from straight) index rest
+              first;
+          placed = takes_it_back slots s.claims s.submission.waiting s.completion.waiting s.book s.events h.parts.placed index below rest first;
+          tells =
+              silent_tells queue (is_reclaiming s.events) s.submission.waiting s.completion.waiting rest (takes ∷ [])
+              refl refl refl (append-nil s.completion.waiting ∙ first);
+          hangs = (calm code slots queue s latest turns changes since x h small under had here from straight);
+          sent = omega arith;
+          given = omega arith;
+          reclaiming = h.reclaiming ∙ (ap reclaims_in from ∙ sym (ap reclaims_in open_then));
+          receivers = (omega arith, omega arith);
+          moves = ((below, was_returning), tt);
+          begins = (tt, tt);
+          answers = (tt, tt);
+          passing = passing_taken;
+        }
+
+    takes_it : IsOn queued (pop_asks store_of_read) → x.steps ≤ 3 → StepTo s_taken store_of_read (GoOn frees_at) (effects.TakesBack index)
+    takes_it on steps =
+        let wrote_is : takes ∷ [] ≡ wrote_in (span_of 0 (s.events ++ takes ∷ [])) = sym (ap wrote_in open_then) in (
+          record {
+            words =
+                (words_are code slots queue s latest turns changes since x h small under had here from straight)
+                store_of_read without on
+                (completion.take_words slots
+                (some code slots queue s latest turns changes since x h small under had here from straight)
+                (few code slots queue s latest turns changes since x h small under had here from straight) s.completion
+                h.parts.completion
+                (reached code slots queue s latest turns changes since x h small under had here from straight) index
+                rest first);
+            shows = queues_show slots queue s latest turns y_taken s.submission without s.book (takes ∷ []) h on_queues_taken;
+            own = (refl, tt);
+            stands = (record { claimed = refl; published = refl; handed_out = refl; given_back = refl; taken_back = refl; freed = refl }, tt);
+            here =
+                record {
+                  span = ap (λ wrote. Open start wrote) wrote_is;
+                  steps = omega arith;
+                  at = subst (λ wrote. At slots queue s_taken 0 wrote calls.TakeBack frees_at) wrote_is (refl, refl, refl, refl, (below, now_passing));
+                };
+            knows = omega arith;
+            theirs = λ q ne.
+                record {
+                  alive = λ alive. alive;
+                  receiver = λ alive e. e;
+                  pop = λ alive e room stage known. known;
+                  passes = λ alive e i passes.
+                      let apart : index ≢ i = λ same. not_passing q (sym passes.1 ∙ (ap (λ n. spot_of n s.events) (sym same) ∙ was_returning)) in
+                      (passes.0, elsewhere i apart ∙ passes.1);
+                  push = λ i stage known. take_keeps slots s.completion index rest first i stage known;
+                };
+            up = record { write = omega arith; read = omega arith; paid = omega arith };
+          },
+          refl,
+        )
+
+  -- ---- each of its stages
+
+  loads_read : (room : OneWord) → x.steps ≤ 0
+      → (Does code slots queue s latest turns changes since x h small under had here from straight) pops.TheVariants.LoadsRead room
+  loads_read room steps =
+      let on : 1 < length queued = (let wide = (long code slots queue s latest turns changes since x h small under had here from straight) in omega arith) in
+      let is : goes pops.TheVariants.LoadsRead room (old pops.TheVariants.LoadsRead) ≡ GoOn (pops_at slots queue load_of_write room) =
+      ap (goes pops.TheVariants.LoadsRead room)
+      ((old_is code slots queue s latest turns changes since x h small under had here from straight) pops.TheVariants.LoadsRead on) in
+      record {
+        channel_then = still;
+        step =
+            subst (λ a. StepTo still pops.TheVariants.LoadsRead a effects.Quiet) (sym is)
+            ((goes_on code slots queue s latest turns changes since x h small under had here from straight)
+            pops.TheVariants.LoadsRead load_of_write room on refl (omega arith, refl) (omega arith));
+      }
+
+  abbrev load_of_cell : PopStage
+  load_of_cell = pops.TheVariants.LoadsCell s.completion.read (cell_word slots 1 s.completion.read) 0
+
+  loads_write : (room : OneWord) → x.steps ≤ 1 → (Does code slots queue s latest turns changes since x h small under had here from straight) load_of_write room
+  loads_write room steps = go (s.completion.write == s.completion.read) refl
+    where
+      on : 0 < length queued
+      on = let wide = (long code slots queue s latest turns changes since x h small under had here from straight) in omega arith
+
+      go : (same : Bool) → (s.completion.write == s.completion.read) ≡ same
+          → (Does code slots queue s latest turns changes since x h small under had here from straight) load_of_write room
+      go true e =
+          let none : (slots == 0) ≡ false =
+          (let most = (some code slots queue s latest turns changes since x h small under had here from straight) in
+          grind (arith, nat_tests)) in
+          let both : (slots == 0 || s.completion.write == s.completion.read) ≡ true = rw (none, e) refl in
+          let is : goes load_of_write room (old load_of_write) ≡ Done answers.PoppedNone =
+          ap (goes load_of_write room)
+          ((old_is code slots queue s latest turns changes since x h small under had here from straight) load_of_write on)
+          ∙ (rw both refl) in
+          record {
+            channel_then = s_none;
+            step =
+                subst (λ a. StepTo s_none load_of_write a effects.Quiet) (sym is)
+                ((finds_none code slots queue s latest turns changes since x h small under had here from straight)
+                (completion.finds_none slots
+                (some code slots queue s latest turns changes since x h small under had here from straight)
+                (few code slots queue s latest turns changes since x h small under had here from straight)
+                s.completion h.parts.completion
+                (reached code slots queue s latest turns changes since x h small under had here from straight) e)
+                on steps);
+          }
+      go false e =
+          let none : (slots == 0) ≡ false =
+          (let most = (some code slots queue s latest turns changes since x h small under had here from straight) in
+          grind (arith, nat_tests)) in
+          let both : (slots == 0 || s.completion.write == s.completion.read) ≡ false = rw (none, e) refl in
+          let is : goes load_of_write room (old load_of_write) ≡ GoOn (pops_at slots queue load_of_cell room) =
+          ap (goes load_of_write room)
+          ((old_is code slots queue s latest turns changes since x h small under had here from straight) load_of_write on)
+          ∙ (rw both refl) in
+          let ahead =
+          completion.finds_some slots
+          (some code slots queue s latest turns changes since x h small under had here from straight)
+          (few code slots queue s latest turns changes since x h small under had here from straight) s.completion
+          h.parts.completion
+          (reached code slots queue s latest turns changes since x h small under had here from straight) e in
+          let write = h.parts.completion.write in
+          let front = first_of s.completion.waiting (omega arith) in
+          let known : KnowsPop one_word slots s.completion (in_one room) load_of_cell =
+          (omega arith, front.0, front.1, refl, front.2, refl, omega arith, λ i below. absurd (omega arith)) in
+          record {
+            channel_then = still;
+            step =
+                subst (λ a. StepTo still load_of_write a effects.Quiet) (sym is)
+                ((goes_on code slots queue s latest turns changes since x h small under had here from straight)
+                load_of_write load_of_cell room on refl known (omega arith));
+          }
+
+  -- the cell has the first value
+  loads_cell : (room : OneWord) (v : ℕ) (rest : List ℕ) → s.completion.waiting ≡ v ∷ rest → x.steps ≤ 2
+      → (Does code slots queue s latest turns changes since x h small under had here from straight) load_of_cell room
+  loads_cell room v rest first steps =
+      let on =
+      completion.cell_on slots (some code slots queue s latest turns changes since x h small under had here from straight)
+      (few code slots queue s latest turns changes since x h small under had here from straight) s.completion
+      h.parts.completion
+      (reached code slots queue s latest turns changes since x h small under had here from straight)
+      s.completion.read in
+      let value : old load_of_cell ≡ v =
+      (old_is code slots queue s latest turns changes since x h small under had here from straight) load_of_cell on
+      ∙ completion.first_is slots
+      (some code slots queue s latest turns changes since x h small under had here from straight)
+      (few code slots queue s latest turns changes since x h small under had here from straight) s.completion
+      h.parts.completion
+      (reached code slots queue s latest turns changes since x h small under had here from straight) v rest first in
+      let is : goes load_of_cell room (old load_of_cell)
+      ≡ GoOn (pops_at slots queue (pops.TheVariants.StoresRead s.completion.read) (word_of v)) =
+      ap (goes load_of_cell room) value in
+      record {
+        channel_then = still;
+        step =
+            subst (λ a. StepTo still load_of_cell a effects.Quiet) (sym is)
+            ((goes_on code slots queue s latest turns changes since x h small under had here from straight)
+            load_of_cell (pops.TheVariants.StoresRead s.completion.read) (word_of v) on
+            (set-get_or queued (word_at (cell_word slots 1 s.completion.read) 0) 0) (rest, refl, first)
+            (omega arith));
+      }
+
+  stores_read : (room : OneWord) (rest : List ℕ) → s.completion.waiting ≡ room.0 ∷ rest → x.steps ≤ 3
+      → (Does code slots queue s latest turns changes since x h small under had here from straight) (pops.TheVariants.StoresRead s.completion.read) room
+  stores_read room rest first steps =
+      let on : 1 < length queued = (let wide = (long code slots queue s latest turns changes since x h small under had here from straight) in omega arith) in
+      let low : slots < 2 ^ 32 = (let less = (few code slots queue s latest turns changes since x h small under had here from straight) in omega arith) in
+      let is : goes (pops.TheVariants.StoresRead s.completion.read) room (old (pops.TheVariants.StoresRead s.completion.read))
+      ≡ GoOn (take_back_frees_at slots queue room.0 releases.TheVariants.ClearsFlag) =
+      ap (λ i. GoOn (take_back_frees_at slots queue i releases.TheVariants.ClearsFlag)) (index_is room.0 slots (below room.0 rest first) low)
+      in
+      record {
+        channel_then = s_taken room.0 rest first;
+        step =
+            subst (λ a. StepTo (s_taken room.0 rest first) (pops.TheVariants.StoresRead s.completion.read) a (effects.TakesBack room.0)) (sym is)
+            (takes_it room.0 rest first on steps);
+      }
+
+  -- what a take-back knows leads on
+  pub does : (now : PopStage) (room : OneWord) → KnowsPop one_word slots s.completion (in_one room) now
+      → x.steps ≤ pop_number 1 now
+      → (Does code slots queue s latest turns changes since x h small under had here from straight) now room
+  does pops.TheVariants.LoadsRead room known steps = loads_read room steps
+  does (pops.TheVariants.LoadsWrite read) room known steps =
+      subst (λ n. (Does code slots queue s latest turns changes since x h small under had here from straight)
+      (pops.TheVariants.LoadsWrite n) room)
+      (sym known.1) (loads_write room steps)
+  does (pops.TheVariants.LoadsCell read cell at) room known steps =
+      let first : at ≡ 0 = (let low = known.6 in omega arith) in
+      subst (λ n. (Does code slots queue s latest turns changes since x h small under had here from straight)
+      (pops.TheVariants.LoadsCell read cell n) room)
+      (sym first)
+      (subst (λ n. (Does code slots queue s latest turns changes since x h small under had here from straight)
+      (pops.TheVariants.LoadsCell read n 0) room)
+      (sym known.5)
+      (subst (λ n. (Does code slots queue s latest turns changes since x h small under had here from straight)
+      (pops.TheVariants.LoadsCell n (cell_word slots 1 s.completion.read) 0) room)
+      (sym known.3)
+      (loads_cell room known.1 known.2 known.4 (omega arith))))
+  does (pops.TheVariants.StoresRead read) room known steps =
+      subst (λ n. (Does code slots queue s latest turns changes since x h small under had here from straight)
+      (pops.TheVariants.StoresRead n) room)
+      (sym known.1)
+      (stores_read room known.0 known.2 steps)

@@ -1,0 +1,70 @@
+-- A take-back, as steps of the machine: its pop, and the release of the index that it has taken.
+use native.Mathlib.Omega.{arith}
+use Rattle.std.proofs.Common.{◌≡◌, ℕ, ◌-◌, ◌^◌, ◌<◌, sym, ap, subst, ◌∙◌}
+use Rattle.steps.specs.declared.ask.After.{After}
+use Rattle.steps.specs.declared.indices.enums.ReleaseState.{ReleaseState}
+use Rattle.steps.specs.declared.indices.unique.DefaultMode.{DefaultMode}
+use Rattle.steps.specs.declared.indices.unique.Release.{Release}
+use Rattle.steps.specs.declared.indices.unique.ReleaseStage.{ReleaseStage}
+use Rattle.steps.specs.declared.loan.take_back.TakeBack as take_back
+use Rattle.steps.specs.declared.loan.take_back.TakeBackStage.{TakeBackStage}
+use Rattle.steps.specs.declared.loan.take_back.TakeBackStage as take_backs
+use Rattle.steps.specs.Loan.Back.{back_asks, back_takes}
+use Rattle.steps.specs.Loan.TakeBack.{take_back_released}
+use Rattle.steps.specs.Routine.{went_on}
+use Rattle.model.specs.declared.event.Answer.{Answer}
+use Rattle.model.specs.declared.event.Answer.TheVariants.{PoppedIndex}
+use Rattle.model.specs.declared.event.Start as starts
+use Rattle.model.specs.declared.families.Flight as flights
+use Rattle.model.specs.declared.families.loan.LoanStart.TheVariants as calls
+use Rattle.model.specs.declared.families.loan.calls.LoanFlight.{LoanFlight}
+use Rattle.model.specs.declared.families.loan.calls.LoanFlight.TheVariants.{TakeBack}
+use Rattle.model.specs.declared.party.Party.{Party}
+use Rattle.model.specs.Coding.{Coding}
+use Rattle.model.specs.Families.{ask_of}
+use Rattle.model.specs.Families.Loan.Steps.{release_effect}
+use Rattle.model.specs.Families.Queues.Calls.{as_it_is, popped}
+use Rattle.model.specs.Reading.{Open, span_of}
+use Rattle.model.specs.Step.{as_call}
+use Rattle.model.specs.Turns.{old_of}
+use Rattle.model.specs.World.{Trace}
+use Rattle.model.proofs.Frame as frame
+use Rattle.laws_loan.proofs.Channel.{words_in}
+use Rattle.laws_loan.proofs.Releases.{take_back_frees_at, takes_back}
+use Rattle.laws_loan.proofs.ReleaseSteps.{With, releases_on}
+use Rattle.laws_loan.proofs.Releasing.{embedded}
+use Rattle.laws_loan.proofs.Senders.{Stands, Comes, take_back_pops}
+use Rattle.laws_loan.proofs.StepLaw.{channel}
+
+abbrev pub take_back_at : ℕ → ℕ → TakeBackStage → LoanFlight
+take_back_at slots queue stage =
+    TakeBack (record { call = record { slots = slots; queue = queue; stage = stage }; given = tt; room = tt })
+
+module _ (T : Type 0) (slots queue index : ℕ) where
+  abbrev call_at : ReleaseStage → take_back.TakeBack
+  call_at stage = record { slots = slots; queue = queue; stage = take_backs.TheVariants.Releases index stage }
+
+  -- a take-back goes on as its release
+  goes_so : (stage : ReleaseStage) (release : After (Release DefaultMode) ReleaseState)
+      → as_call TakeBack popped (went_on as_it_is tt tt (take_back_released (call_at stage) index release))
+      ≡ embedded {A = Answer T} (take_back_frees_at slots queue index) (PoppedIndex index) release
+  goes_so x0 x1 = grind arith
+
+module _ {T : Type 0} (code : Coding T) (slots queue : ℕ) (t : Trace T)
+    (sound : frame.Sound (channel code slots queue) t) (small : t.world.turns < 2 ^ 64 - 2) (x : Party T)
+    (since : ℕ) where
+  pub take_back_steps : (stage : TakeBackStage)
+      → Stands code slots queue t sound small x since 0 (starts.TheVariants.Loan calls.TakeBack)
+      (flights.TheVariants.Loan (take_back_at slots queue stage))
+      → Comes code slots queue t sound small x since 0 (starts.TheVariants.Loan calls.TakeBack)
+      (flights.TheVariants.Loan (take_back_at slots queue stage))
+  take_back_steps (take_backs.TheVariants.Pops stage found) there = take_back_pops code slots queue t sound small x since stage found there
+  take_back_steps (take_backs.TheVariants.Releases index stage) there =
+      let at = there.at in
+      let from = ap (span_of 0) sound.holds.same ∙ (there.span ∙ ap (λ es. Open (starts.TheVariants.Loan calls.TakeBack) es) at.3) in
+      let value = old_of (words_in sound.state) (ask_of (back_asks slots index stage)) in
+      subst (With code slots queue t sound small x since index (takes_back T slots queue index) there.knows stage
+      (release_effect index stage))
+      (sym (goes_so T slots queue index stage (back_takes slots stage value)))
+      (releases_on code slots queue t sound small x since index (takes_back T slots queue index) there.knows stage
+      (record { found = there.found; gives = at.4; from = from; few = there.steps }))

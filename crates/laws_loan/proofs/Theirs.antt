@@ -1,0 +1,65 @@
+-- What a receiver's call goes on to know where the sender takes a step.
+use native.Mathlib.Omega.{arith}
+use Rattle.std.proofs.Common.{◌≡◌, ◌≢◌, ℕ, false, List}
+use Rattle.steps.specs.declared.copied.OneWord.{OneWord}
+use Rattle.steps.specs.declared.queues.overflow.PopStage.{PopStage}
+use Rattle.steps.specs.declared.queues.ring.PushStage.{PushStage}
+use Rattle.model.specs.declared.event.Event.{Event}
+use Rattle.model.specs.declared.families.loan.LoanStart.{LoanStart}
+use Rattle.model.specs.declared.families.loan.LoanStart.TheVariants as calls
+use Rattle.model.specs.declared.families.loan.calls.LoanFlight.{LoanFlight}
+use Rattle.model.specs.declared.families.loan.calls.LoanFlight.TheVariants.{Loan, Send, GiveUp, TakeBack, Receive, GiveBack, Reclaim}
+use Rattle.model.specs.Coding.{one_word}
+use Rattle.model.specs.Families.Indices.Robust.Dead.{has_died}
+use Rattle.laws_queues.proofs.Overflow.Knows.{KnowsOverflowPop}
+use Rattle.laws_queues.proofs.Queues.Core.{GoesUp}
+use Rattle.laws_queues.proofs.Ring.Knows.{KnowsPush}
+use Rattle.laws_loan.proofs.Channel.{Channel}
+use Rattle.laws_loan.proofs.Knows.{Passes, At, FlightKnows}
+
+module _ {T : Type 0} (slots queue : ℕ) (s s' : Channel T) where
+  -- a receiver that lives still is the receiver, and knows of the queues and of its index what it knew
+  pub record Stays (q : ℕ) : Type 0 where
+    pub alive : has_died q s'.book.dead ≡ false → has_died q s.book.dead ≡ false
+    pub receiver : has_died q s'.book.dead ≡ false → q ≡ s.book.receiver → q ≡ s'.book.receiver
+    pub pop : has_died q s'.book.dead ≡ false → q ≡ s.book.receiver → (room : OneWord) (stage : PopStage)
+        → KnowsOverflowPop queue s.submission room stage → KnowsOverflowPop queue s'.submission room stage
+    pub passes : has_died q s'.book.dead ≡ false → q ≡ s.book.receiver → (index : ℕ) → Passes slots queue s q index → Passes slots queue s' q index
+    pub push : (index : ℕ) (stage : PushStage) → KnowsPush one_word slots s.completion index stage → KnowsPush one_word slots s'.completion index stage
+
+  pub theirs_stay : (q : ℕ) → q ≢ 0 → Stays q → (wrote : List (Event T)) (start : LoanStart) (flight : LoanFlight)
+      → At slots queue s q wrote start flight → At slots queue s' q wrote start flight
+  theirs_stay q ne stays wrote calls.Loan (Loan run) h = absurd (ne h.0)
+  theirs_stay q ne stays wrote (calls.Send index) (Send run) h = absurd (ne h.0)
+  theirs_stay q ne stays wrote (calls.GiveUp index) (GiveUp run) h = absurd (ne h.0)
+  theirs_stay q ne stays wrote calls.TakeBack (TakeBack run) h = absurd (ne h.0)
+  theirs_stay q ne stays wrote calls.Receive (Receive by run) h = (
+    h.0,
+    h.1,
+    h.2,
+    h.3,
+    h.4,
+    λ alive.
+        let known = h.5 (stays.alive alive) in
+        (stays.receiver alive known.0, stays.pop alive known.0 run.room run.call.call.stage known.1),
+  )
+  theirs_stay q ne stays wrote (calls.GiveBack index) (GiveBack by run) h = (
+    h.0,
+    h.1,
+    h.2,
+    h.3,
+    h.4,
+    h.5,
+    h.6,
+    λ alive.
+        let known = h.7 (stays.alive alive) in
+        (stays.receiver alive known.0, stays.passes alive known.0 index known.1, stays.push index run.call.call.stage known.2),
+  )
+  theirs_stay q ne stays wrote calls.Reclaim (Reclaim call) h = absurd (ne h.0)
+  theirs_stay q ne stays wrote start flight h = absurd h
+
+  -- its turns back are paid still, since each move of a position is a change
+  module _ (changes changes' : ℕ) (up : GoesUp s.submission s'.submission changes changes') where
+    pub knows_keeps : (since backs : ℕ) (flight : LoanFlight) → FlightKnows slots queue s since changes backs flight
+        → FlightKnows slots queue s' since changes' backs flight
+    knows_keeps x0 x1 x2 x3 = grind arith

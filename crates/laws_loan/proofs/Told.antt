@@ -1,0 +1,71 @@
+-- What the events tell of the two queues, beside the indices that wait in them; and how a turn's events go on with it.
+use Rattle.std.proofs.Common.{◌≡◌, ℕ, Bool, false, List, [], ◌∷◌, ◌++◌, map, take, flat_map, fold, refl, sym, ap, subst, ◌∙◌, append_assoc}
+use Rattle.std.proofs.lemmas.List.Concat.{flat_map-append}
+use Rattle.model.specs.declared.event.Event.{Event}
+use Rattle.model.specs.declared.event.Item.{Item}
+use Rattle.model.specs.declared.event.Item.TheVariants.{Index}
+use Rattle.model.specs.Families.Loan.Reading.{gives_back, takes_back, given_back, taken_back, reclaims_after, queue_acts, as_queue, queue_moments}
+use Rattle.model.specs.Families.Queues.Objects.{overflowing_list}
+use Rattle.model.specs.Families.Queues.Reading.{publishes, hands_out, published, handed_out}
+use Rattle.model.specs.Objects.{IsLegal, standing, answers_from}
+use Rattle.model.proofs.Replays.{calls_of, answers_of, standing_more, legal_more}
+
+-- what goes in behind a list that another list left, and what comes out of it
+module _ {A X : Type 0} (goes_in comes_out : A → List X) (events es : List A) (old new : List X) where
+  pub rest_more : flat_map goes_in events ≡ flat_map comes_out events ++ old → old ++ flat_map goes_in es ≡ flat_map comes_out es ++ new
+      → flat_map goes_in (events ++ es) ≡ flat_map comes_out (events ++ es) ++ new
+  rest_more rest more =
+      flat_map-append goes_in events es
+      ∙ (ap (λ xs. xs ++ flat_map goes_in es) rest
+      ∙ (append_assoc (flat_map comes_out events) old (flat_map goes_in es)
+      ∙ (ap (λ xs. flat_map comes_out events ++ xs) more
+      ∙ (sym (append_assoc (flat_map comes_out events) (flat_map comes_out es) new)
+      ∙ ap (λ xs. xs ++ new) (sym (flat_map-append comes_out events es))))))
+
+module _ {T : Type 0} where
+  abbrev pub items : List ℕ → List (Item T)
+  items xs = map Index xs
+
+  -- whether a reclaim is under way after these events
+  abbrev pub is_reclaiming : List (Event T) → Bool
+  is_reclaiming events = fold reclaims_after false events
+
+  as_queue_more : (b : Bool) (xs ys : List (Event T)) → as_queue b (xs ++ ys) ≡ as_queue b xs ++ as_queue (fold reclaims_after b xs) ys
+  as_queue_more b [] ys = refl
+  as_queue_more b (x ∷ xs) ys =
+      ap (λ l. queue_acts b x ++ l) (as_queue_more (reclaims_after b x) xs ys)
+      ∙ sym (append_assoc (queue_acts b x) (as_queue (reclaims_after b x) xs) (as_queue (fold reclaims_after (reclaims_after b x) xs) ys))
+
+  moments_more : (events es : List (Event T)) → queue_moments (events ++ es) ≡ queue_moments events ++ as_queue (is_reclaiming events) es
+  moments_more events es = as_queue_more false events es
+
+  -- with a submission queue of this capacity, in which these wait, and a completion queue in which these do
+  pub record Told (queue : ℕ) (sent back : List ℕ) (events : List (Event T)) : Type 0 where
+    pub book : published events ≡ handed_out events ++ items sent
+    pub given : given_back events ≡ taken_back events ++ back
+    pub stand : standing (overflowing_list queue) (queue_moments events) ≡ items (take queue sent)
+    pub legal : IsLegal (overflowing_list queue) (queue_moments events)
+
+  -- what a turn's events tell, before which a reclaim was under way or not, and after which these wait
+  pub record Tells (queue : ℕ) (reclaims : Bool) (sent sent' back back' : List ℕ) (es : List (Event T)) : Type 0 where
+    pub book : items sent ++ published es ≡ handed_out es ++ items sent'
+    pub given : back ++ given_back es ≡ taken_back es ++ back'
+    pub goes : fold (overflowing_list queue).after (items (take queue sent)) (calls_of (as_queue reclaims es)) ≡ items (take queue sent')
+    pub answers : answers_from (overflowing_list queue) (items (take queue sent)) (calls_of (as_queue reclaims es)) ≡ answers_of (as_queue reclaims es)
+
+  module _ (queue : ℕ) (sent sent' back back' : List ℕ) (events es : List (Event T)) where
+    pub told_more : Told queue sent back events → Tells queue (is_reclaiming events) sent sent' back back' es → Told queue sent' back' (events ++ es)
+    told_more h s =
+        let more = moments_more events es in
+        record {
+          book = rest_more publishes hands_out events es (items sent) (items sent') h.book s.book;
+          given = rest_more gives_back takes_back events es back back' h.given s.given;
+          stand =
+              ap (standing (overflowing_list queue)) more
+              ∙ standing_more (overflowing_list queue) (queue_moments events) (as_queue (is_reclaiming events) es)
+              (items (take queue sent)) (items (take queue sent')) h.stand s.goes;
+          legal =
+              subst (IsLegal (overflowing_list queue)) (sym more)
+              (legal_more (overflowing_list queue) (queue_moments events) (as_queue (is_reclaiming events) es)
+              (items (take queue sent)) h.legal h.stand s.answers);
+        }

@@ -1,0 +1,52 @@
+-- What a turn of a loan channel shows, and that it so keeps what holds between two turns.
+use Rattle.std.proofs.Common.{◌≡◌, ℕ, ◌+◌, ◌≤◌, false, List, ◌++◌, fold, sym, subst, ◌∙◌, arith}
+use Rattle.std.proofs.lemmas.List.Sums.{fold-append}
+use Rattle.model.specs.declared.event.Event.{Event}
+use Rattle.model.specs.declared.party.Party.{Party}
+use Rattle.model.specs.Families.Loan.Promises.{MovesRight, BeginsRight, AnswersRight}
+use Rattle.model.specs.Families.Loan.Reading.{Passing, spot_of, receiver_of, reclaims_after}
+use Rattle.model.specs.Parties.{put}
+use Rattle.model.specs.Reading.{span_of}
+use Rattle.model.proofs.Readings.{AreRight, Each-append}
+use Rattle.laws_loan.proofs.Channel.{Channel, Holds}
+use Rattle.laws_loan.proofs.Invariant.{Hangs, sends_at, counted_for, hung, reclaims_in, Carries, HoldsNow}
+use Rattle.laws_loan.proofs.Told.{is_reclaiming, Told, Tells, told_more}
+
+module _ {T : Type 0} (slots queue : ℕ) (s s' : Channel T) (p : ℕ) (y : Party T) (latest : List (ℕ × Party T)) (turns : ℕ) (es : List (Event T)) where
+  -- by a turn of this party, whose call is then this, with these events
+  pub record Shows : Type 0 where
+    pub events : s'.events ≡ s.events ++ es
+    pub parts : Holds slots queue s' (counted_for (sends_at (put p y latest)))
+    pub tells : Tells queue (is_reclaiming s.events) s.submission.waiting s'.submission.waiting s.completion.waiting s'.completion.waiting es
+    pub hangs : Hangs queue s'.submission (hung s'.submission.read (sends_at (put p y latest)))
+    pub reclaiming : fold reclaims_after (is_reclaiming s.events) es ≡ reclaims_in (span_of 0 (s.events ++ es))
+    pub sent : s'.submission.write ≤ turns + 1
+    pub given : s'.completion.write ≤ turns + 1
+    pub receivers : (receiver_of s.events ≤ receiver_of (s.events ++ es)) × (receiver_of (s.events ++ es) ≤ receiver_of s.events + 1)
+    pub moves : AreRight (MovesRight slots) s.events es
+    pub begins : AreRight BeginsRight s.events es
+    pub answers : AreRight (AnswersRight slots) s.events es
+    pub passing : (index q : ℕ) → spot_of index (s.events ++ es) ≡ Passing q → Carries index (span_of q (s.events ++ es))
+
+  pub now_more : HoldsNow slots queue s latest s.events turns → Shows → HoldsNow slots queue s' (put p y latest) (s.events ++ es) (turns + 1)
+  now_more h shows =
+      let low = shows.receivers.0 in
+      let high = shows.receivers.1 in
+      let some = h.receivers.0 in
+      let most = h.receivers.1 in
+      record {
+        same = shows.events;
+        parts = shows.parts;
+        told =
+            subst (Told queue s'.submission.waiting s'.completion.waiting) (sym shows.events)
+            (told_more queue s.submission.waiting s'.submission.waiting s.completion.waiting s'.completion.waiting s.events es h.told shows.tells);
+        hangs = shows.hangs;
+        reclaiming = fold-append reclaims_after false s.events es ∙ shows.reclaiming;
+        sent = shows.sent;
+        given = shows.given;
+        receivers = (omega arith, omega arith);
+        moves = Each-append (MovesRight slots) s.events es h.moves shows.moves;
+        begins = Each-append BeginsRight s.events es h.begins shows.begins;
+        answers = Each-append (AnswersRight slots) s.events es h.answers shows.answers;
+        passing = shows.passing;
+      }

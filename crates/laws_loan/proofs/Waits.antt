@@ -1,0 +1,162 @@
+-- What waits in the two queues by the words is what waits in them, and these are the indices that are there by the events.
+use Rattle.std.proofs.Common.{◌≡◌, ◌≢◌, ℕ, zero, suc, ◌+◌, ◌-◌, ◌*◌, ◌%◌, ◌<◌, ◌≤◌, ◌==◌, ⊎_elim, Bool, true, Some}
+use Rattle.std.proofs.Common.{Contains, AllPairs, List, [], ◌∷◌, ◌++◌, length, get_or, map, slice_get, refl, sym, ap}
+use Rattle.std.proofs.Common.{◌∙◌, append_assoc, append-nil, drop_at, arith}
+use Rattle.std.proofs.lemmas.Bool.{cases_eq}
+use Rattle.std.proofs.lemmas.List.{get_or_append_left, get_or-map, length-map}
+use Rattle.steps.specs.Loan.Layout.{submission_word, completion_word}
+use Rattle.steps.specs.Queues.Ring.{cell_word}
+use Rattle.model.specs.declared.event.Event.{Event}
+use Rattle.model.specs.declared.event.Item.{Item}
+use Rattle.model.specs.declared.event.Item.TheVariants.{Index}
+use Rattle.model.specs.declared.families.queues.QueueKind.{QueueKind}
+use Rattle.model.specs.declared.families.queues.QueueKind.TheVariants.{IndexQueue, Overflow}
+use Rattle.model.specs.Coding.{Coding}
+use Rattle.model.specs.Families.Loan.Promises.{sent_in, given_back_in, AreThose}
+use Rattle.model.specs.Families.Loan.Reading.{Spot, spot_of}
+use Rattle.model.specs.Families.Queues.Book.{item_at, cell_of, stored, waiting_in}
+use Rattle.model.specs.Families.Queues.Calls.{words_of_index}
+use Rattle.model.specs.Families.Queues.Opening.{cells_of, words_of_cell}
+use Rattle.model.specs.Turns.{one_if}
+use Rattle.laws_queues.proofs.Queues.Core.{Core, Good, at_below, word_at}
+use Rattle.laws_queues.proofs.Queues.Knows.{layout}
+use Rattle.laws_loan.proofs.Channel.{Channel, Holds, no_roles, words_in}
+use Rattle.laws_loan.proofs.Lists.{times, same_one, other_none, one_at_most, true_if_one, Lists}
+use Rattle.laws_loan.proofs.Parts.{set_long, both_long}
+
+-- ---- by the words
+
+-- the place of a cell of one word
+pub cell_place : (c position : ℕ) → 0 < c → cell_word c 1 position ≡ 4 + 1 * (position % c)
+cell_place x0 x1 x2 = grind arith
+
+module _ {T : Type 0} (code : Coding T) (kd : QueueKind)
+    (reads : (words : List ℕ) (cell : ℕ) → item_at code kd words cell ≡ Index (get_or words cell 0))
+    (one : words_of_cell code.size kd ≡ 1) where
+  stored_is : (c : ℕ) (words : List ℕ) (position : ℕ) (xs : List ℕ)
+      → ((i v : ℕ) → slice_get xs i ≡ Some v → get_or words (cell_of code kd c (position + i)) 0 ≡ v)
+      → stored code kd c words position (length xs) ≡ map Index xs
+  stored_is c words position [] held = refl
+  stored_is c words position (x ∷ xs) held =
+      let here : get_or words (cell_of code kd c position) 0 ≡ x = (let same : position + 0 ≡ position = omega arith in rw same at (held 0 x refl)) in
+      let first : item_at code kd words (cell_of code kd c position) ≡ Index x = reads words (cell_of code kd c position) ∙ ap (λ (n : ℕ). Index n) here in
+      let rest = stored_is c words (position + 1) xs (λ i v e. let same : position + 1 + i ≡ position + suc i = omega arith in rw same (held (suc i) v e)) in
+      rw (first, rest) refl
+
+  -- in a queue whose words have others behind them
+  waits_in : (c : ℕ) (k : Core ℕ) (zs : List ℕ) → Good 1 words_of_index (cells_of kd c) k → waiting_in code kd c (layout no_roles k ++ zs) ≡ map Index k.waiting
+  waits_in c k zs g =
+      let write = g.write in
+      let many : k.write - k.read ≡ length k.waiting = omega arith in
+      rw many (stored_is c (layout no_roles k ++ zs) k.read k.waiting held)
+    where
+      n : ℕ
+      n = cells_of kd c
+
+      held : (i v : ℕ) → slice_get k.waiting i ≡ Some v → get_or (layout no_roles k ++ zs) (cell_of code kd c (k.read + i)) 0 ≡ v
+      held i v e =
+          let below = at_below 1 words_of_index n k.waiting i v e in
+          let few = g.few in
+          let some : 0 < n = omega arith in
+          let first : cell_of code kd c (k.read + i) ≡ 4 + 1 * ((k.read + i) % n) = ap (λ m. cell_word n m (k.read + i)) one ∙ cell_place n (k.read + i) some in
+          let low : (k.read + i) % n < n = omega arith in
+          let all = g.cells in
+          ap (λ m. get_or (layout no_roles k ++ zs) m 0) first
+          ∙ (get_or_append_left (layout no_roles k) zs 0 (4 + 1 * ((k.read + i) % n)) (omega arith)
+          ∙ (word_at k.write k.read 1 1 k.cells (4 + 1 * ((k.read + i) % n)) (1 * ((k.read + i) % n) + 0) (omega arith)
+          ∙ g.held i v e 0 (omega arith)))
+
+module _ {T : Type 0} (code : Coding T) (slots queue : ℕ) (s : Channel T) (busy : ℕ) (h : Holds slots queue s busy) where
+  pub sent_is : sent_in code slots queue (words_in s) ≡ map Index s.submission.waiting
+  sent_is =
+      ap (waiting_in code Overflow queue)
+      (drop_at s.set (layout no_roles s.submission ++ layout no_roles s.completion) (submission_word slots)
+      (set_long slots queue s busy h))
+      ∙ waits_in code Overflow (λ words cell. refl) refl queue s.submission (layout no_roles s.completion) h.submission
+
+  pub back_is : given_back_in code slots queue (words_in s) ≡ map Index s.completion.waiting
+  back_is =
+      let one : words_in s ≡ (s.set ++ layout no_roles s.submission) ++ layout no_roles s.completion =
+      sym (append_assoc s.set (layout no_roles s.submission) (layout no_roles s.completion)) in
+      ap (given_back_in code slots queue) one
+      ∙ (ap (waiting_in code IndexQueue slots)
+      (drop_at (s.set ++ layout no_roles s.submission) (layout no_roles s.completion) (completion_word slots queue)
+      (both_long slots queue s busy h))
+      ∙ (ap (waiting_in code IndexQueue slots) (sym (append-nil (layout no_roles s.completion)))
+      ∙ waits_in code IndexQueue (λ words cell. refl) refl slots s.completion [] h.completion))
+
+-- ---- by the events
+
+-- one that stands at two places stands there twice
+stands_once : (i : ℕ) (xs : List ℕ) (k : ℕ) → k < length xs → get_or xs k 0 ≡ i → 1 ≤ times i xs
+stands_once i [] k below e = absurd (omega arith)
+stands_once i (x ∷ xs) zero below e =
+    let one : one_if (x == i) ≡ 1 = ap (λ n. one_if (n == i)) e ∙ same_one i in
+    omega arith
+stands_once i (x ∷ xs) (suc k) below e = let rest = stands_once i xs k (omega arith) e in omega arith
+
+stands_twice : (i : ℕ) (xs : List ℕ) (a b : ℕ) → a < b → b < length xs → get_or xs a 0 ≡ i → get_or xs b 0 ≡ i → 2 ≤ times i xs
+stands_twice i [] a b less below e f = absurd (omega arith)
+stands_twice i (x ∷ xs) a zero less below e f = absurd (omega arith)
+stands_twice i (x ∷ xs) zero (suc b) less below e f =
+    let one : one_if (x == i) ≡ 1 = ap (λ n. one_if (n == i)) e ∙ same_one i in
+    let rest = stands_once i xs b (omega arith) f in
+    omega arith
+stands_twice i (x ∷ xs) (suc a) (suc b) less below e f = let rest = stands_twice i xs a b (omega arith) (omega arith) e f in omega arith
+
+module _ {T : Type 0} where
+  abbrev items : List ℕ → List (Item T)
+  items xs = map Index xs
+
+  -- an index that stands in a list is one of its items
+  there : (i : ℕ) (xs : List ℕ) → 1 ≤ times i xs → Contains (items xs) (Index i)
+  there i [] h = absurd (omega arith)
+  there i (x ∷ xs) h = ⊎_elim here (later (there i xs)) (cases_eq x i)
+    where
+      here : x ≡ i → Contains (items (x ∷ xs)) (Index i)
+      here e = (0, omega arith, ap (λ (n : ℕ). Index n) e)
+
+      later : (1 ≤ times i xs → Contains (items xs) (Index i)) → x ≢ i → Contains (items (x ∷ xs)) (Index i)
+      later rest ne =
+          let none = other_none x i ne in
+          let found = rest (omega arith) in
+          (suc found.0, (let below = found.1 in omega arith), found.2)
+
+  stands : (i : ℕ) (xs : List ℕ) (k : ℕ) → k < length (items xs) → get_or (items xs) k (Index i) ≡ Index i → 1 ≤ times i xs
+  stands i [] k below e = absurd (omega arith)
+  stands i (x ∷ xs) zero below e =
+      let head : ◌≡◌ {A = Item T} (Index x) (Index i) = e in
+      let same : x ≡ i = cc in
+      let one : one_if (x == i) ≡ 1 = ap (λ n. one_if (n == i)) same ∙ same_one i in
+      omega arith
+  stands i (x ∷ xs) (suc k) below e = let rest = stands i xs k (omega arith) e in omega arith
+
+  -- the indices at a spot, of which a test tells which it is
+  pub are_those : (spot : Spot) (is : Spot → Bool) → is spot ≡ true
+      → ((other : Spot) → is other ≡ true → other ≡ spot) → (xs : List ℕ) (events : List (Event T)) → Lists is xs events
+      → AreThose spot (items xs) events
+  are_those spot is self only xs events all = record { each = λ i. (from i, to i); once = once }
+    where
+      from : (i : ℕ) → Contains (items xs) (Index i) → spot_of i events ≡ spot
+      from i found =
+          let some = stands i xs found.0 found.1 found.2 in
+          let count = all i in
+          only (spot_of i events) (true_if_one (is (spot_of i events)) (omega arith))
+
+      to : (i : ℕ) → spot_of i events ≡ spot → Contains (items xs) (Index i)
+      to i e =
+          let yes : one_if (is (spot_of i events)) ≡ 1 = ap (λ other. one_if (is other)) e ∙ ap one_if self in
+          let count = all i in
+          there i xs (omega arith)
+
+      once : AllPairs (λ x y. x ≢ y) (items xs)
+      once a b d less below same =
+          let long : length (items xs) ≡ length xs = length-map xs Index in
+          let first : ◌≡◌ {A = Item T} (get_or (items xs) a d) (Index (get_or xs a 0)) = get_or-map Index xs a 0 d (omega arith) in
+          let second : ◌≡◌ {A = Item T} (get_or (items xs) b d) (Index (get_or xs b 0)) = get_or-map Index xs b 0 d (omega arith) in
+          let both : ◌≡◌ {A = Item T} (Index (get_or xs a 0)) (Index (get_or xs b 0)) = sym first ∙ (same ∙ second) in
+          let equal : get_or xs a 0 ≡ get_or xs b 0 = cc in
+          let twice = stands_twice (get_or xs b 0) xs a b less (omega arith) equal refl in
+          let count = all (get_or xs b 0) in
+          let most = one_at_most (is (spot_of (get_or xs b 0) events)) in
+          absurd (omega arith)

@@ -1,0 +1,110 @@
+-- The overflowing list beside the values that wait: it is as many of them as the capacity, from the oldest on.
+use Rattle.std.proofs.Common.{◌≡◌, ℕ, suc, ◌+◌, ◌*◌, ◌%◌, ◌<◌, ◌≤◌, nat_lt, true, false, Some, None, List, [], ◌∷◌}
+use Rattle.std.proofs.Common.{◌++◌, length, get_or, map, take, drop, slice_get, refl, sym, ap, ◌∙◌, arith}
+use Rattle.std.proofs.Common.{length-append}
+use Rattle.std.proofs.lemmas.Bool.Decides.{nat_tests}
+use Rattle.std.proofs.lemmas.List.{map-append, length-map, take-append-le}
+use Rattle.std.proofs.Math.Seq.{take-append_seam}
+use Rattle.model.specs.declared.event.Item.{Item}
+use Rattle.model.specs.declared.event.Item.TheVariants.{Index}
+use Rattle.model.specs.declared.families.queues.QueueKind.TheVariants.{Overflow}
+use Rattle.model.specs.Families.Queues.Objects.{cut, cut_off}
+use Rattle.model.specs.Families.Queues.Calls.{words_of_index}
+use Rattle.model.specs.Families.Queues.Spans.{through_cells}
+use Rattle.laws_queues.proofs.Queues.Core.{Core, Good, take_all, front}
+use Rattle.laws_queues.proofs.Queues.Stages.{first_of_some}
+
+-- the oldest value stands in the cell of the read position
+pub oldest : (c : ℕ) (k : Core ℕ) → Good 1 words_of_index (c + 1) k → 0 < length k.waiting
+    → (rest : List ℕ) × (k.waiting ≡ get_or k.cells (k.read % (c + 1)) 0 ∷ rest)
+oldest c k g some =
+    let front_is = first_of_some k.waiting some in
+    let old : get_or k.cells (1 * (k.read % (c + 1)) + 0) 0 ≡ front_is.0 =
+    front 1 words_of_index (c + 1) k front_is.0 front_is.1 front_is.2 g 0 (omega arith) in
+    let place : 1 * (k.read % (c + 1)) + 0 ≡ k.read % (c + 1) = omega arith in
+    let cell : get_or k.cells (k.read % (c + 1)) 0 ≡ front_is.0 = rw (← place) old in
+    (front_is.1, front_is.2 ∙ ap (λ (n : ℕ). n ∷ front_is.1) (sym cell))
+
+-- the list while a push waits
+list_is : (c : ℕ) (xs others : List ℕ) (v : ℕ) → xs ≡ others ++ v ∷ [] → length others ≡ c → take c xs ≡ others
+list_is c xs others v is full = ap (take c) is ∙ (ap (λ n. take n (others ++ v ∷ [])) (sym full) ∙ take-append_seam others (v ∷ []))
+
+module _ {T : Type 0} where
+  pub none_passes : (c : ℕ) (item : Item T) → c ≡ 0 → through_cells Overflow c item ≡ []
+  none_passes x0 x1 x2 = grind arith
+
+  pub one_passes : (c : ℕ) (item : Item T) → 0 < c → through_cells Overflow c item ≡ item ∷ []
+  one_passes x0 x1 x2 = grind arith
+
+  abbrev pub items : List ℕ → List (Item T)
+  items xs = map Index xs
+
+  more : (xs : List ℕ) (v : ℕ) → items xs ++ Index v ∷ [] ≡ items (xs ++ v ∷ [])
+  more xs v = sym (map-append Index xs (v ∷ []))
+
+  -- a push that leaves the list short enough
+  pub fits : (c : ℕ) (xs : List ℕ) (v : ℕ) → length xs < c
+      → (cut c (items xs ++ Index v ∷ []) ≡ items (xs ++ v ∷ [])) × (cut_off c (items xs ++ Index v ∷ []) ≡ None)
+  fits c xs v room =
+      let longer = length-append xs (v ∷ []) in
+      let long : length (items (xs ++ v ∷ [])) ≡ length (xs ++ v ∷ []) = length-map (xs ++ v ∷ []) Index in
+      let t : nat_lt c (length (items (xs ++ v ∷ []))) ≡ false = (let few : length (items (xs ++ v ∷ [])) ≤ c = omega arith in grind (arith, nat_tests)) in
+      (rw (more xs v, t) refl, rw (more xs v, t) refl)
+
+  -- a push that finds room
+  pub push_room :
+      (c : ℕ) (xs : List ℕ) (v : ℕ) → length xs < c
+      → (cut c (items (take c xs) ++ Index v ∷ []) ≡ items (take c (xs ++ v ∷ []))) × (cut_off c (items (take c xs) ++ Index v ∷ []) ≡ None)
+  push_room c xs v room =
+      let longer = length-append xs (v ∷ []) in
+      let all : take c xs ≡ xs = take_all c xs (omega arith) in
+      let too : take c (xs ++ v ∷ []) ≡ xs ++ v ∷ [] = take_all c (xs ++ v ∷ []) (omega arith) in
+      rw (all, too) (fits c xs v room)
+
+  -- a push that has published over a full queue
+  pub push_waits : (c : ℕ) (xs : List ℕ) (v : ℕ) → length xs ≡ c → items (take c xs) ≡ items (take c (xs ++ v ∷ []))
+  push_waits c xs v full = ap items (sym (take-append-le c xs (v ∷ []) (omega arith)))
+
+  -- it takes the oldest value out itself
+  pub push_over :
+      (c : ℕ) (xs others : List ℕ) (u v : ℕ) (rest : List ℕ) → xs ≡ others ++ v ∷ [] → length others ≡ c → xs ≡ u ∷ rest
+      → (cut c (items (take c xs) ++ Index v ∷ []) ≡ items (take c rest)) × (cut_off c (items (take c xs) ++ Index v ∷ []) ≡ Some (Index u))
+  push_over c xs others u v rest is full front =
+      let longer = length-append others (v ∷ []) in
+      let long : length xs ≡ suc c = ap length is ∙ (omega arith) in
+      let shorter : suc (length rest) ≡ length xs = sym (ap length front) in
+      let all : items (take c xs) ++ Index v ∷ [] ≡ Index u ∷ items rest =
+      ap (λ ys. items ys ++ Index v ∷ []) (list_is c xs others v is full) ∙ (more others v ∙ (ap items (sym is) ∙ ap items front))
+      in
+      let many : length (items rest) ≡ length rest = length-map rest Index in
+      let t : nat_lt c (suc (length (items rest))) ≡ true = (let over : c < suc (length (items rest)) = omega arith in grind (arith, nat_tests)) in
+      let kept : take c rest ≡ rest = take_all c rest (omega arith) in
+      (rw (all, t, kept) refl, rw (all, t) refl)
+
+  -- a pop while no push waits
+  pub pop_front :
+      (c : ℕ) (xs : List ℕ) (u : ℕ) (rest : List ℕ) → xs ≡ u ∷ rest → length xs ≤ c
+      → (drop 1 (items (take c xs)) ≡ items (take c rest)) × (slice_get (items (take c xs)) 0 ≡ Some (Index u))
+  pop_front c xs u rest front few =
+      let shorter : suc (length rest) ≡ length xs = sym (ap length front) in
+      let all : take c xs ≡ u ∷ rest = take_all c xs few ∙ front in
+      let kept : take c rest ≡ rest = take_all c rest (omega arith) in
+      (rw (all, kept) refl, rw all refl)
+
+  -- a pop that makes room for a push, and then the push
+  pub pop_room :
+      (c : ℕ) (xs others : List ℕ) (u v : ℕ) (rest : List ℕ) → 0 < c → xs ≡ others ++ v ∷ [] → length others ≡ c → xs ≡ u ∷ rest
+      → (slice_get (items (take c xs)) 0 ≡ Some (Index u))
+      × (cut c (drop 1 (items (take c xs)) ++ Index v ∷ []) ≡ items (take c rest))
+      × (cut_off c (drop 1 (items (take c xs)) ++ Index v ∷ []) ≡ None)
+  pop_room c xs [] u v rest some is full front = absurd (omega arith)
+  pop_room c xs (o ∷ others) u v rest some is full front =
+      let same : u ∷ rest ≡ o ∷ (others ++ v ∷ []) = sym front ∙ is in
+      let first : o ≡ u = cc in
+      let rest_is : rest ≡ others ++ v ∷ [] = cc in
+      let all : take c xs ≡ o ∷ others = list_is c xs (o ∷ others) v is full in
+      let longer = length-append others (v ∷ []) in
+      let short : length others < c = omega arith in
+      let kept : take c rest ≡ others ++ v ∷ [] = ap (take c) rest_is ∙ take_all c (others ++ v ∷ []) (omega arith) in
+      let both = fits c others v short in
+      (rw all (ap (λ (n : ℕ). Some (Index n)) first), rw (all, kept) both.0, rw all both.1)

@@ -1,0 +1,45 @@
+-- What a call of another party goes on to know in an overflowing queue.
+use Rattle.std.proofs.Common.{◌≡◌, ℕ, ◌+◌, ◌≤◌, List, [], ◌∷◌, ◌++◌, length, ap, arith}
+use Rattle.steps.specs.declared.copied.OneWord.{OneWord}
+use Rattle.steps.specs.declared.queues.overflow.PushStage as overflow_pushes
+use Rattle.steps.specs.declared.queues.overflow.PopStage as overflow_pops
+use Rattle.model.specs.Families.Queues.Calls.{words_of_index}
+use Rattle.laws_queues.proofs.Queues.Core as core
+use Rattle.laws_queues.proofs.Queues.Core.{Core, Good, filled, taken}
+use Rattle.laws_queues.proofs.Overflow.Knows.{KnowsOverflowPush, KnowsOverflowPop, overflow_wrote}
+
+-- ---- a pop, where a push takes a step
+
+-- a store into a cell
+pub fill_keeps_pop : (c : ℕ) (k : Core ℕ) (at word : ℕ) (room : OneWord) (stage : overflow_pops.PopStage)
+    → KnowsOverflowPop c k room stage → KnowsOverflowPop c (filled 1 words_of_index (c + 1) k at word) room stage
+fill_keeps_pop x0 x1 x2 x3 x4 x5 x6 = grind arith
+
+-- the next write position
+pub publish_keeps_pop : (c : ℕ) (k : Core ℕ) (v : ℕ) (room : OneWord) (stage : overflow_pops.PopStage)
+    → KnowsOverflowPop c k room stage → KnowsOverflowPop c (core.published 1 words_of_index (c + 1) k v) room stage
+publish_keeps_pop c k v room overflow_pops.TheVariants.FindsNone h = h
+publish_keeps_pop c k v room overflow_pops.TheVariants.LoadsRead h = h
+publish_keeps_pop c k v room (overflow_pops.TheVariants.LoadsWrite read) h =
+    (h.0, h.1, λ moved. let waits = h.2 moved in omega arith)
+publish_keeps_pop c k v room (overflow_pops.TheVariants.LoadsCell read) h =
+    let waits = h.2 in
+    (h.0, h.1, omega arith)
+publish_keeps_pop c k v room (overflow_pops.TheVariants.MovesRead read) h =
+    let waits = h.2 in
+    (h.0, h.1, omega arith, λ same. let first = h.3 same in (first.0 ++ v ∷ [], ap (λ xs. xs ++ v ∷ []) first.1))
+
+-- the next read position, where at least the newest value stays
+pub take_keeps_pop :
+    (c : ℕ) (k : Core ℕ) (rest : List ℕ) → k.write ≡ k.read + c + 1 → (room : OneWord) (stage : overflow_pops.PopStage) → KnowsOverflowPop c k room stage
+    → KnowsOverflowPop c (taken 1 words_of_index (c + 1) k rest) room stage
+take_keeps_pop x0 x1 x2 x3 x4 x5 x6 = grind arith
+
+-- ---- a push, where a pop moves the read position and no push was pending
+
+pub take_keeps_push :
+    {T : Type 0} → (c : ℕ) (k : Core ℕ) (q : ℕ) (rest : List ℕ) → Good 1 words_of_index (c + 1) k
+    → length k.waiting ≤ c → (w : ℕ) (stage : overflow_pushes.PushStage) → KnowsOverflowPush c k w stage
+    → KnowsOverflowPush c (taken 1 words_of_index (c + 1) k rest) w stage
+    × (overflow_wrote {T = T} c (taken 1 words_of_index (c + 1) k rest) q w stage ≡ overflow_wrote c k q w stage)
+take_keeps_push x0 x1 x2 x3 x4 x5 x6 x7 x8 = grind arith

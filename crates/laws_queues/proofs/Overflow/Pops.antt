@@ -1,0 +1,270 @@
+-- The steps of an overflowing queue's pop. The one that moves the read position can make a push of another party act.
+use Rattle.std.proofs.Common.{◌≡◌, ◌≢◌, ℕ, ◌+◌, ◌*◌, ◌%◌, ◌^◌, ◌<◌, ◌≤◌, ◌==◌, Bool, true, false, ⊎_elim, Option, Some}
+use Rattle.std.proofs.Common.{None, [], ◌∷◌, length, get_or, map, take, refl, sym, ap, subst, ◌∙◌, append-nil, arith}
+use Rattle.std.proofs.lemmas.Bool.{cases_lt}
+use Rattle.std.proofs.lemmas.Bool.Decides.{nat_tests}
+use Rattle.std.proofs.lemmas.List.{nil_from_length, set-get_or}
+use Rattle.std.proofs.Math.Seq.{take-nil}
+use Rattle.steps.specs.declared.ask.Ask.{Ask}
+use Rattle.steps.specs.declared.ask.Op.TheVariants.{Load, Exchange}
+use Rattle.steps.specs.declared.ask.After.{After}
+use Rattle.steps.specs.declared.ask.After.TheVariants.{GoOn, Done}
+use Rattle.steps.specs.declared.copied.OneWord.{OneWord}
+use Rattle.steps.specs.declared.queues.overflow.PopStage as overflow_pops
+use Rattle.steps.specs.Queues.Ring.{after_position}
+use Rattle.steps.specs.Queues.Overflow.{cell_word}
+use Rattle.model.specs.declared.families.queues.calls.QueueFlight.{QueueFlight}
+use Rattle.model.specs.declared.families.queues.calls.QueueFlight.TheVariants.{Overflow}
+use Rattle.model.specs.declared.families.queues.effects.Effect.{Effect}
+use Rattle.model.specs.declared.families.queues.effects.Effect.TheVariants.{Quiet, Acts}
+use Rattle.model.specs.declared.event.Item.{Item}
+use Rattle.model.specs.declared.event.Item.TheVariants.{Index}
+use Rattle.model.specs.declared.families.queues.QueueStart.TheVariants.{Pop}
+use Rattle.model.specs.declared.event.Answer.{Answer}
+use Rattle.model.specs.declared.event.Answer.TheVariants.{PoppedNone, PoppedIndex}
+use Rattle.model.specs.declared.event.Start.TheVariants.{Queues}
+use Rattle.model.specs.declared.event.Event.TheVariants.{Acted}
+use Rattle.model.specs.declared.families.Flight.{Flight}
+use Rattle.model.specs.declared.families.Flight as flights
+use Rattle.model.specs.declared.party.Party.{Party}
+use Rattle.model.specs.declared.families.queues.QueueKind as kinds
+use Rattle.model.specs.Coding.{Coding}
+use Rattle.model.specs.Families.Queues.Calls.{read_word, after, goes_back}
+use Rattle.model.specs.Families.Queues.Steps.{pending_at, pending, beside, takes_effect, effect_of}
+use Rattle.model.specs.Parties.{party_of, doing_of, flight_of}
+use Rattle.model.specs.Reading.{Open, span_of}
+use Rattle.model.specs.Turns.{words_after, step_count}
+use Rattle.laws_queues.proofs.Queues.Invariant.{Scene, Inv, waiting_is}
+use Rattle.model.specs.Families.Queues.Promises.{load_of_write, load_of_read}
+use Rattle.laws_queues.proofs.Overflow.Core.{oldest}
+use Rattle.laws_queues.proofs.Queues.Core.{word_at}
+use Rattle.laws_queues.proofs.Overflow.Knows.{overflow_pop_at, KnowsOverflowPop, KnowsBacks, overflow_pop_number}
+use Rattle.laws_queues.proofs.Queues.Knows.{free, layout}
+use Rattle.laws_queues.proofs.Queues.Pending.{nothing_waits}
+use Rattle.laws_queues.proofs.Queues.Stages.{party_then, DoesStep, Moves, MovesOf, still_hangs, quiet, alone}
+use Rattle.laws_queues.proofs.Overflow.Takes.{takes_it}
+
+module _ {T : Type 0} (en : Coding T) (scene : Scene T kinds.TheVariants.Overflow)
+    (inv : Inv en kinds.TheVariants.Overflow scene) (small : scene.core.write < 2 ^ 64) (room : OneWord)
+    (holds : scene.roles.consumer ≡ Some scene.party) where
+  open scene use {capacity as c, roles as ro, core as k, party as p, steps, backs, since, changes, latest, events}
+
+  -- the push that acts where this party moves the read position
+  abbrev waits : Option (ℕ × ℕ)
+  waits = beside ro (layout ro k) latest p
+
+  abbrev at : overflow_pops.PopStage → QueueFlight T
+  at stage = Overflow (overflow_pop_at c room stage)
+
+  -- once it has read this value
+  abbrev with_value : ℕ → overflow_pops.PopStage → QueueFlight T
+  with_value value stage = Overflow (overflow_pop_at c (record { 0 = value }) stage)
+
+  abbrev Does : Option Ask → Bool → After (QueueFlight T) (Answer T) → Effect T → Type 0
+  Does ask back after effect = DoesStep en kinds.TheVariants.Overflow scene [] Pop ask back after effect
+
+  abbrev MovesBy : Option Ask → Bool → After (QueueFlight T) (Answer T) → Effect T → Type 0
+  MovesBy ask back after effect = Moves en kinds.TheVariants.Overflow scene Pop ask back after effect
+
+  abbrev Moved : overflow_pops.PopStage → Type 0
+  Moved stage = MovesOf en kinds.TheVariants.Overflow scene Pop (at stage)
+
+  abbrev after_it : Option Ask → Bool → After (QueueFlight T) (Answer T) → Party T
+  after_it ask back after = party_then en kinds.TheVariants.Overflow scene Pop ask back after
+
+  module _ (calm : (position : ℕ) → pending_at position (flight_of (doing_of (party_of p latest))) ≡ None) where
+    finds_none : (ask : Option Ask) → words_after (layout ro k) ask ≡ layout ro k → k.waiting ≡ []
+        → steps + step_count ask ≤ 4 + 2 * backs → backs + since ≤ changes → Does ask false (Done PoppedNone) Acts
+    finds_none ask same empty s paid =
+        let none : map {B = Item T} Index k.waiting ≡ [] = ap (map Index) empty in
+        let list : map {B = Item T} Index (take c k.waiting) ≡ [] = ap (λ xs. map Index (take c xs)) empty ∙ ap (map Index) (take-nil {A = ℕ} c) in
+        let reached = inv.queue.reached in
+        let zero : backs + 0 ≡ backs = omega arith in (
+          k,
+          same,
+          record {
+            own = (refl, (refl, tt));
+            stands = ((refl, refl), ((refl, record { moments = refl; published = refl; handed_out = refl }), tt));
+            grants = (tt, (tt, tt));
+            producers = refl;
+            consumers = refl;
+            right = (waiting_is events (map Index k.waiting) inv.queue.book ∙ none, (tt, tt));
+            lengths = (tt, (tt, tt));
+            good = inv.queue.good;
+            hangs = still_hangs en kinds.TheVariants.Overflow scene inv small k (after_it ask false (Done PoppedNone)) refl refl refl (calm k.read);
+            out = omega arith;
+            book = append-nil (map Index k.waiting);
+            goes = rw list refl;
+            answers = rw list refl;
+            here = record { answer = PoppedNone; wrote = Acted p (Queues Pop) PoppedNone ∷ []; span = refl; steps = rw zero s };
+            knows = omega arith;
+            up = record { write = omega arith; read = omega arith; paid = omega arith };
+            others = λ q ne st f h. (h, refl);
+            reached = omega arith;
+            within = omega arith;
+          },
+        )
+
+    loads_read : 0 < c → steps ≤ 2 * backs + 0 → backs + since ≤ changes
+        → Does (Some load_of_read) false (GoOn (at (overflow_pops.TheVariants.LoadsWrite k.read))) Quiet
+    loads_read some s paid =
+        quiet en kinds.TheVariants.Overflow scene inv small (calm k.read) false Pop (Some load_of_read)
+        (at (overflow_pops.TheVariants.LoadsWrite k.read)) k refl refl refl refl inv.queue.good refl
+        (record { span = refl; steps = omega arith; at = (holds, refl, (some, omega arith, λ less. absurd (omega arith))) })
+        (omega arith, omega arith)
+        (λ q ne st f h. (h, refl))
+
+    goes_on : (read : ℕ) → 0 < c → read ≤ k.read → k.read < k.write → steps ≤ 2 * backs + 1 → backs + since + k.read ≤ changes + read
+        → Does (Some load_of_write) false (GoOn (at (overflow_pops.TheVariants.LoadsCell read))) Quiet
+    goes_on read some low waits s paid =
+        quiet en kinds.TheVariants.Overflow scene inv small (calm k.read) false Pop (Some load_of_write)
+        (at (overflow_pops.TheVariants.LoadsCell read)) k refl refl refl refl inv.queue.good refl
+        (record { span = refl; steps = omega arith; at = (holds, refl, (some, low, waits)) })
+        (low, omega arith)
+        (λ q ne st f h. (h, refl))
+
+    loads_write : (read : ℕ) → 0 < c → read ≤ k.read → (read < k.read → k.read < k.write) → steps ≤ 2 * backs + 1 → backs + since + k.read ≤ changes + read
+        → Does (Some load_of_write) false (after en (at (overflow_pops.TheVariants.LoadsWrite read)) k.write) Acts
+    loads_write read some low ahead s paid = go (k.write == read) refl
+      where
+        go : (b : Bool) → (k.write == read) ≡ b → Does (Some load_of_write) false (after en (at (overflow_pops.TheVariants.LoadsWrite read)) k.write) Acts
+        go true t =
+            let g = inv.queue.good in
+            let write = g.write in
+            let same : k.write ≡ read = grind (arith, nat_tests) in
+            let goes : after en (at (overflow_pops.TheVariants.LoadsWrite read)) k.write ≡ Done PoppedNone = rw t refl in
+            let none : length k.waiting ≡ 0 = omega arith in
+            subst (λ a. Does (Some load_of_write) false a Acts) (sym goes)
+            (finds_none (Some load_of_write) refl (nil_from_length k.waiting none) (omega arith) (omega arith))
+        go false t =
+            let g = inv.queue.good in
+            let write = g.write in
+            let other : k.write ≢ read = grind (arith, nat_tests) in
+            let goes : after en (at (overflow_pops.TheVariants.LoadsWrite read)) k.write ≡ GoOn (at (overflow_pops.TheVariants.LoadsCell read)) = rw t refl in
+            let moved : read < k.read → k.read < k.write = ahead in
+            let still : k.read ≤ read → k.read < k.write = λ h. omega arith in
+            let waits : k.read < k.write = ⊎_elim moved still (cases_lt read k.read) in
+            subst (λ a. Does (Some load_of_write) false a Acts) (sym goes) (goes_on read some low waits s paid)
+
+    loads_cell : (read : ℕ) → 0 < c → read ≤ k.read → k.read < k.write → steps ≤ 2 * backs + 2 → backs + since + k.read ≤ changes + read
+        → Does (Some (record { word = cell_word c read; op = Load })) false
+        (GoOn (with_value (get_or k.cells (read % (c + 1)) 0) (overflow_pops.TheVariants.MovesRead read))) Quiet
+    loads_cell read some low waits s paid =
+        let g = inv.queue.good in
+        let write = g.write in
+        let old = oldest c k g (omega arith) in
+        let same : words_after (layout ro k) (Some (record { word = cell_word c read; op = Load })) ≡ layout ro k =
+        set-get_or (layout ro k) (cell_word c read) 0 in
+        quiet en kinds.TheVariants.Overflow scene inv small (calm k.read) false Pop
+        (Some (record { word = cell_word c read; op = Load }))
+        (with_value (get_or k.cells (read % (c + 1)) 0) (overflow_pops.TheVariants.MovesRead read)) k refl refl refl
+        refl inv.queue.good same
+        (record {
+          span = refl;
+          steps = omega arith;
+          at = (
+            holds,
+            refl,
+            (some, low, waits, λ here. (old.0, subst (λ r. k.waiting ≡ get_or k.cells (r % (c + 1)) 0 ∷ old.0) (sym here) old.1)),
+          );
+        })
+        (low, omega arith)
+        (λ q ne st f h. (h, refl))
+
+    abbrev asks_move : ℕ → Option Ask
+    asks_move read = Some (record { word = read_word; op = Exchange read (after_position read) })
+
+    -- a push has moved the read position, and the cell is loaded again
+    moves_back : (read : ℕ) → 0 < c → read < k.read → k.read < k.write → steps ≤ 2 * backs + 3 → backs + since + k.read ≤ changes + read
+        → Does (asks_move read) true (GoOn (at (overflow_pops.TheVariants.LoadsCell k.read))) Quiet
+    moves_back read some moved waits s paid =
+        let t : (k.read == read) ≡ false = (let apart : k.read ≢ read = λ e. absurd (omega arith) in grind (arith, nat_tests)) in
+        quiet en kinds.TheVariants.Overflow scene inv small (calm k.read) true Pop (asks_move read)
+        (at (overflow_pops.TheVariants.LoadsCell k.read)) k refl refl refl refl inv.queue.good (rw t refl)
+        (record { span = refl; steps = omega arith; at = (holds, refl, (some, omega arith, waits)) })
+        (omega arith, omega arith)
+        (λ q ne st f h. (h, refl))
+
+    moves_read : (read : ℕ) → KnowsOverflowPop c k room (overflow_pops.TheVariants.MovesRead read)
+        → steps ≤ 2 * backs + 3 → backs + since + k.read ≤ changes + read → span_of p events ≡ Open (Queues Pop) []
+        → Moved (overflow_pops.TheVariants.MovesRead read)
+    moves_read read knows s paid seen = go (k.read == read) refl
+      where
+        go : (here : Bool) → (k.read == read) ≡ here → Moved (overflow_pops.TheVariants.MovesRead read)
+        go true e =
+            let same : read ≡ k.read = grind (arith, nat_tests) in
+            let t : (k.read == k.read) ≡ true = grind (arith, nat_tests) in
+            let last = knows.3 same in
+            let more = knows.2 in
+            let g = inv.queue.good in
+            let write = g.write in
+            let old = oldest c k g (omega arith) in
+            let both : get_or k.cells (k.read % (c + 1)) 0 ∷ old.0 ≡ room.0 ∷ last.0 = sym old.1 ∙ last.1 in
+            let cell : get_or k.cells (k.read % (c + 1)) 0 ≡ room.0 = cc in
+            let place : get_or (layout ro k) (cell_word c k.read) 0 ≡ room.0 =
+            word_at k.write k.read (free ro.producer) (free ro.consumer) k.cells (cell_word c k.read) (k.read % (c + 1)) refl ∙ cell in
+            let goes : after en (at (overflow_pops.TheVariants.MovesRead k.read)) k.read ≡ Done (PoppedIndex room.0) = rw t refl in
+            let back : goes_back (at (overflow_pops.TheVariants.MovesRead k.read)) k.read ≡ false = rw t refl in
+            let told : effect_of en (layout ro k) waits (at (overflow_pops.TheVariants.MovesRead k.read)) k.read
+            ≡ takes_effect (Index room.0) waits =
+            rw (t, place) refl in
+            subst (λ r. Moved (overflow_pops.TheVariants.MovesRead r)) (sym same)
+            (subst (λ n. MovesBy (asks_move k.read) n (after en (at (overflow_pops.TheVariants.MovesRead k.read)) k.read)
+            (effect_of en (layout ro k) waits (at (overflow_pops.TheVariants.MovesRead k.read)) k.read))
+            (sym back)
+            (subst (λ a. MovesBy (asks_move k.read) false a
+            (effect_of en (layout ro k) waits (at (overflow_pops.TheVariants.MovesRead k.read)) k.read))
+            (sym goes)
+            (subst (λ f. MovesBy (asks_move k.read) false (Done (PoppedIndex room.0)) f) (sym told)
+            (takes_it en scene inv small room holds calm room.0 last.0 knows.0 last.1 s (omega arith) seen))))
+        go false e =
+            let apart : k.read ≢ read = grind (arith, nat_tests) in
+            let low = knows.1 in
+            let goes : after en (at (overflow_pops.TheVariants.MovesRead read)) k.read ≡ GoOn (at (overflow_pops.TheVariants.LoadsCell k.read)) = rw e refl in
+            let back : goes_back (at (overflow_pops.TheVariants.MovesRead read)) k.read ≡ true = rw e refl in
+            let told : effect_of en (layout ro k) waits (at (overflow_pops.TheVariants.MovesRead read)) k.read ≡ Quiet = rw e refl in
+            subst (λ n. MovesBy (asks_move read) n (after en (at (overflow_pops.TheVariants.MovesRead read)) k.read)
+            (effect_of en (layout ro k) waits (at (overflow_pops.TheVariants.MovesRead read)) k.read))
+            (sym back)
+            (subst (λ a. MovesBy (asks_move read) true a (effect_of en (layout ro k) waits (at (overflow_pops.TheVariants.MovesRead read)) k.read)) (sym goes)
+            (subst (λ f. MovesBy (asks_move read) true (GoOn (at (overflow_pops.TheVariants.LoadsCell k.read))) f) (sym told)
+            (alone en kinds.TheVariants.Overflow scene inv [] Pop (asks_move read) true
+            (GoOn (at (overflow_pops.TheVariants.LoadsCell k.read))) Quiet seen
+            (moves_back read knows.0 (omega arith) knows.2 s paid))))
+
+  -- ---- every step
+
+  by_itself : (ask : Option Ask) (after : After (QueueFlight T) (Answer T)) (effect : Effect T)
+      → span_of p events ≡ Open (Queues Pop) [] → Does ask false after effect → MovesBy ask false after effect
+  by_itself ask after effect seen step = alone en kinds.TheVariants.Overflow scene inv [] Pop ask false after effect seen step
+
+  calm_at : (stage : overflow_pops.PopStage)
+      → flight_of (doing_of (party_of p latest)) ≡ Some (flights.TheVariants.Queues (at stage)) → (position : ℕ)
+      → pending_at position (flight_of (doing_of (party_of p latest))) ≡ None
+  calm_at stage found position = ap (pending_at position) found
+
+  pub overflow_pop_step :
+      (stage : overflow_pops.PopStage) → KnowsOverflowPop c k room stage
+      → steps ≤ 2 * backs + overflow_pop_number stage → KnowsBacks k since changes backs stage
+      → flight_of (doing_of (party_of p latest)) ≡ Some (flights.TheVariants.Queues (at stage)) → span_of p events ≡ Open (Queues Pop) [] → Moved stage
+  overflow_pop_step overflow_pops.TheVariants.FindsNone knows s b found seen =
+      let none = nothing_waits en kinds.TheVariants.Overflow c k (pending k.read ro.producer latest) knows inv.queue.good inv.queue.hangs in
+      by_itself None (Done PoppedNone) Acts seen
+      (finds_none (calm_at overflow_pops.TheVariants.FindsNone found) None refl (nil_from_length k.waiting none) (omega arith) b)
+  overflow_pop_step overflow_pops.TheVariants.LoadsRead knows s b found seen =
+      by_itself (Some load_of_read) (GoOn (at (overflow_pops.TheVariants.LoadsWrite k.read))) Quiet seen
+      (loads_read (calm_at overflow_pops.TheVariants.LoadsRead found) knows s b)
+  overflow_pop_step (overflow_pops.TheVariants.LoadsWrite read) knows s b found seen =
+      by_itself (Some load_of_write) (after en (at (overflow_pops.TheVariants.LoadsWrite read)) k.write) Acts seen
+      (loads_write (calm_at (overflow_pops.TheVariants.LoadsWrite read) found) read knows.0 knows.1 knows.2 s b.1)
+  overflow_pop_step (overflow_pops.TheVariants.LoadsCell read) knows s b found seen =
+      let old : get_or (layout ro k) (cell_word c read) 0 ≡ get_or k.cells (read % (c + 1)) 0 =
+      word_at k.write k.read (free ro.producer) (free ro.consumer) k.cells (cell_word c read) (read % (c + 1)) refl in
+      subst (λ n. MovesBy (Some (record { word = cell_word c read; op = Load })) false
+      (GoOn (with_value n (overflow_pops.TheVariants.MovesRead read))) Quiet)
+      (sym old)
+      (by_itself (Some (record { word = cell_word c read; op = Load }))
+      (GoOn (with_value (get_or k.cells (read % (c + 1)) 0) (overflow_pops.TheVariants.MovesRead read))) Quiet seen
+      (loads_cell (calm_at (overflow_pops.TheVariants.LoadsCell read) found) read knows.0 knows.1 knows.2 s b.1))
+  overflow_pop_step (overflow_pops.TheVariants.MovesRead read) knows s b found seen =
+      moves_read (calm_at (overflow_pops.TheVariants.MovesRead read) found) read knows s b.1 seen

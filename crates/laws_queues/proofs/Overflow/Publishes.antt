@@ -1,0 +1,244 @@
+-- The store of the next write position by a push of the overflowing queue.
+use Rattle.std.proofs.Common.{◌≡◌, ◌≢◌, ℕ, ◌+◌, ◌-◌, ◌^◌, ◌<◌, ◌≤◌, ◌==◌, Bool, true, false, Option, Some, None, List}
+use Rattle.std.proofs.Common.{[], ◌∷◌, ◌++◌, length, map, refl, sym, ap, subst, ◌∙◌, arith, length-append}
+use Rattle.std.proofs.lemmas.Bool.Decides.{nat_tests}
+use Rattle.std.proofs.lemmas.List.{map-append}
+use Rattle.steps.specs.declared.ask.Ask.{Ask}
+use Rattle.steps.specs.declared.ask.Op.TheVariants.{Store}
+use Rattle.steps.specs.declared.ask.After.{After}
+use Rattle.steps.specs.declared.ask.After.TheVariants.{GoOn, Done}
+use Rattle.steps.specs.declared.copied.OneWord.{OneWord}
+use Rattle.steps.specs.declared.queues.overflow.PushStage as overflow_pushes
+use Rattle.steps.specs.Queues.Ring.{distance, after_position}
+use Rattle.model.specs.declared.families.queues.calls.QueueFlight.{QueueFlight}
+use Rattle.model.specs.declared.families.queues.calls.QueueFlight.TheVariants.{Overflow}
+use Rattle.model.specs.declared.families.queues.effects.Effect.{Effect}
+use Rattle.model.specs.declared.families.queues.effects.Effect.TheVariants.{Publishes, PublishesAndActs}
+use Rattle.model.specs.declared.event.Item.{Item}
+use Rattle.model.specs.declared.event.Item.TheVariants.{Index}
+use Rattle.model.specs.declared.families.queues.QueueStart.TheVariants.{PushIndex}
+use Rattle.model.specs.declared.event.Answer.{Answer}
+use Rattle.model.specs.declared.event.Answer.TheVariants.{PoppedNone}
+use Rattle.model.specs.declared.event.Event.{Event}
+use Rattle.model.specs.declared.event.Start.TheVariants.{Queues}
+use Rattle.model.specs.declared.event.Event.TheVariants.{Published, Acted}
+use Rattle.model.specs.declared.party.Party.{Party}
+use Rattle.model.specs.declared.families.queues.QueueKind as kinds
+use Rattle.model.specs.Coding.{Coding}
+use Rattle.model.specs.Families.Queues.Objects.{answer_of_item}
+use Rattle.model.specs.Families.Queues.Calls.{write_word, after, words_of_index}
+use Rattle.model.specs.Families.Queues.Steps.{pending, effect_of}
+use Rattle.model.specs.Parties.{put}
+use Rattle.model.specs.Turns.{words_after, change_of}
+use Rattle.laws_queues.proofs.Queues.Invariant.{Scene, Inv}
+use Rattle.laws_queues.proofs.Overflow.Core.{one_passes, push_room, push_waits}
+use Rattle.laws_queues.proofs.Queues.Core as core
+use Rattle.laws_queues.proofs.Queues.Core.{Core, Holds, Good, publishes}
+use Rattle.laws_queues.proofs.Overflow.Knows.{overflow_push_at}
+use Rattle.laws_queues.proofs.Queues.Knows.{free, layout, Hangs}
+use Rattle.laws_queues.proofs.Queues.Invariant.{Inv}
+use Rattle.laws_queues.proofs.Queues.Keeping.{clash, kept}
+use Rattle.laws_queues.proofs.Queues.Pending.{pending_after, none_hangs}
+use Rattle.laws_queues.proofs.Queues.Stages.{party_then, DoesStep}
+use Rattle.laws_queues.proofs.Overflow.Keeping.{publish_keeps_pop}
+
+module _ {T : Type 0} (en : Coding T) (scene : Scene T kinds.TheVariants.Overflow)
+    (inv : Inv en kinds.TheVariants.Overflow scene) (small : scene.core.write < 2 ^ 64) (v : ℕ) (room : OneWord)
+    (holds : scene.roles.producer ≡ Some scene.party) (b : scene.backs ≡ 0) where
+  open scene use {capacity as c, roles as ro, core as k, party as p, steps, since, latest, events}
+
+  abbrev at : overflow_pushes.PushStage → QueueFlight T
+  at stage = Overflow (overflow_push_at c v room stage)
+
+  abbrev Does : List (Event T) → Option Ask → After (QueueFlight T) (Answer T) → Effect T → Type 0
+  Does wrote ask after effect = DoesStep en kinds.TheVariants.Overflow scene wrote (PushIndex v) ask false after effect
+
+  -- the party after a step of this operation
+  abbrev after_it : Option Ask → After (QueueFlight T) (Answer T) → Party T
+  after_it ask after = party_then en kinds.TheVariants.Overflow scene (PushIndex v) ask false after
+
+  -- ---- the store of the next write position
+
+  module _ (read : ℕ) (some : 0 < c) (low : read ≤ k.read) (far : k.write ≤ read + c)
+      (whole : Holds 1 words_of_index (c + 1) k.cells k.write v 1) (fresh : k.write < 2 ^ 64 - 1) (s : steps ≤ 3) where
+    abbrev next_write : Option Ask
+    next_write = Some (record { word = write_word; op = Store (after_position k.write) })
+
+    abbrev after_publish : Core ℕ
+    after_publish = core.published 1 words_of_index (c + 1) k v
+
+    good_publish : Good 1 words_of_index (c + 1) after_publish
+    good_publish = let g = inv.queue.good in let write = g.write in publishes 1 words_of_index (c + 1) k v (omega arith) g whole
+
+    next_is : after_position k.write ≡ k.write + 1
+    next_is = let reached = inv.queue.reached in omega arith
+
+    words_publish : words_after (layout ro k) next_write ≡ layout ro after_publish
+    words_publish = ap (λ n. n ∷ k.read ∷ free ro.producer ∷ free ro.consumer ∷ k.cells) next_is
+
+    one : change_of (layout ro k) next_write ≡ 1
+    one = grind arith
+
+    joined : map {B = Item T} Index k.waiting ++ Index v ∷ [] ≡ map Index (k.waiting ++ v ∷ [])
+    joined = sym (map-append Index k.waiting (v ∷ []))
+
+    -- there is room now, as when the read position was loaded or since
+    publishes_done : length k.waiting < c → Does [] next_write (Done PoppedNone) (Publishes (Index v))
+    publishes_done below =
+        let list = push_room {T = T} c k.waiting v below in
+        let longer = length-append k.waiting (v ∷ []) in
+        let change = one in
+        let reached = inv.queue.reached in (
+          after_publish,
+          words_publish,
+          record {
+            own = (refl, (refl, (refl, tt)));
+            stands = ((refl, refl), ((refl, refl), ((refl, record { moments = refl; published = sym (one_passes c (Index v) some); handed_out = refl }), tt)));
+            grants = (tt, (tt, (tt, tt)));
+            producers = refl;
+            consumers = refl;
+            right = (tt, (tt, (tt, tt)));
+            lengths = (tt, (tt, (tt, tt)));
+            good = good_publish;
+            hangs =
+                none_hangs T kinds.TheVariants.Overflow c after_publish
+                (pending k.read ro.producer (put p (after_it next_write (Done PoppedNone)) latest))
+                (pending_after k.read p ro.producer holds (after_it next_write (Done PoppedNone)) latest) (omega arith);
+            out = omega arith;
+            book = joined;
+            goes = list.0;
+            answers = ap (λ (o : Option (Item T)). answer_of_item o ∷ []) list.1;
+            here =
+                record {
+                  answer = PoppedNone;
+                  wrote = Published p (Index v) ∷ Acted p (Queues (PushIndex v)) PoppedNone ∷ [];
+                  span = refl;
+                  steps = omega arith;
+                };
+            knows = omega arith;
+            up = record { write = omega arith; read = omega arith; paid = omega arith };
+            others =
+                λ q ne. kept ro ro q (λ h. h) (λ h. h) en c kinds.TheVariants.Overflow k after_publish (record {
+                  push = λ mine w stage h. absurd (clash ro.producer p q ne holds mine);
+                  pop = λ mine other stage h. publish_keeps_pop c k v other stage h;
+                });
+            reached = omega arith;
+            within = omega arith;
+          },
+        )
+
+    -- the queue is full, and the value waits as one more than the capacity
+    publishes_over : read ≡ k.read → k.write ≡ read + c → Does [] next_write (GoOn (at (overflow_pushes.TheVariants.MovesRead read))) (Publishes (Index v))
+    publishes_over here full =
+        let g = inv.queue.good in
+        let write = g.write in
+        let change = one in
+        let reached = inv.queue.reached in
+        let t : (read == k.read) ≡ true = grind (arith, nat_tests) in
+        let hung : pending k.read ro.producer (put p (after_it next_write (GoOn (at (overflow_pushes.TheVariants.MovesRead read)))) latest) ≡ Some (p, v) =
+        pending_after k.read p ro.producer holds (after_it next_write (GoOn (at (overflow_pushes.TheVariants.MovesRead read)))) latest ∙ (rw t refl)
+        in
+        let many : length k.waiting ≡ c = omega arith in (
+          after_publish,
+          words_publish,
+          record {
+            own = (refl, tt);
+            stands = ((refl, refl), tt);
+            grants = (tt, tt);
+            producers = refl;
+            consumers = refl;
+            right = (tt, tt);
+            lengths = (tt, tt);
+            good = good_publish;
+            hangs = subst (Hangs T kinds.TheVariants.Overflow c after_publish) (sym hung) (some, k.waiting, refl, many);
+            out = omega arith;
+            book = joined;
+            goes = push_waits c k.waiting v many;
+            answers = refl;
+            here = record { span = rw t refl; steps = omega arith; at = (holds, refl, refl, (some, omega arith, omega arith, λ same. (k.waiting, refl))) };
+            knows = omega arith;
+            up = record { write = omega arith; read = omega arith; paid = omega arith };
+            others =
+                λ q ne. kept ro ro q (λ h. h) (λ h. h) en c kinds.TheVariants.Overflow k after_publish (record {
+                  push = λ mine w stage h. absurd (clash ro.producer p q ne holds mine);
+                  pop = λ mine other stage h. publish_keeps_pop c k v other stage h;
+                });
+            reached = omega arith;
+            within = omega arith;
+          },
+        )
+
+    -- the queue was full, and a pop has made room since
+    publishes_late : read < k.read → k.write ≡ read + c
+        → Does [] next_write (GoOn (at (overflow_pushes.TheVariants.MovesRead read))) (PublishesAndActs (Index v))
+    publishes_late moved full =
+        let g = inv.queue.good in
+        let write = g.write in
+        let change = one in
+        let reached = inv.queue.reached in
+        let below : length k.waiting < c = omega arith in
+        let list = push_room {T = T} c k.waiting v below in
+        let longer = length-append k.waiting (v ∷ []) in
+        let t : (read == k.read) ≡ false = grind (arith, nat_tests) in
+        let calm : pending k.read ro.producer (put p (after_it next_write (GoOn (at (overflow_pushes.TheVariants.MovesRead read)))) latest) ≡ None =
+        pending_after k.read p ro.producer holds (after_it next_write (GoOn (at (overflow_pushes.TheVariants.MovesRead read)))) latest ∙ (rw t refl)
+        in (
+          after_publish,
+          words_publish,
+          record {
+            own = (refl, (refl, tt));
+            stands = ((refl, refl), ((refl, refl), tt));
+            grants = (tt, (tt, tt));
+            producers = refl;
+            consumers = refl;
+            right = (tt, (tt, tt));
+            lengths = (tt, (tt, tt));
+            good = good_publish;
+            hangs =
+                none_hangs T kinds.TheVariants.Overflow c after_publish
+                (pending k.read ro.producer (put p (after_it next_write (GoOn (at (overflow_pushes.TheVariants.MovesRead read)))) latest))
+                calm (omega arith);
+            out = omega arith;
+            book = joined;
+            goes = list.0;
+            answers = ap (λ (o : Option (Item T)). answer_of_item o ∷ []) list.1;
+            here = record { span = rw t refl; steps = omega arith; at = (holds, refl, refl, (some, omega arith, omega arith, λ same. absurd (omega arith))) };
+            knows = omega arith;
+            up = record { write = omega arith; read = omega arith; paid = omega arith };
+            others =
+                λ q ne. kept ro ro q (λ h. h) (λ h. h) en c kinds.TheVariants.Overflow k after_publish (record {
+                  push = λ mine w stage h. absurd (clash ro.producer p q ne holds mine);
+                  pop = λ mine other stage h. publish_keeps_pop c k v other stage h;
+                });
+            reached = omega arith;
+            within = omega arith;
+          },
+        )
+
+    pub stores_write : Does [] next_write
+        (after en (at (overflow_pushes.TheVariants.StoresWrite k.write read)) k.write)
+        (effect_of en (layout ro k) (pending k.read ro.producer latest) (at (overflow_pushes.TheVariants.StoresWrite k.write read)) k.write)
+    stores_write = go (distance k.write read == c) (k.read == read) refl refl
+      where
+        go : (full here : Bool) → (distance k.write read == c) ≡ full → (k.read == read) ≡ here
+            → Does [] next_write (after en (at (overflow_pushes.TheVariants.StoresWrite k.write read)) k.write)
+            (effect_of en (layout ro k) (pending k.read ro.producer latest)
+            (at (overflow_pushes.TheVariants.StoresWrite k.write read)) k.write)
+        go false here t e =
+            let g = inv.queue.good in
+            let write = g.write in
+            let reached = inv.queue.reached in
+            let apart : distance k.write read ≢ c = grind (arith, nat_tests) in
+            let behind : distance k.write read ≡ k.write - read = omega arith in
+            let below : length k.waiting < c = (let other : k.write - read ≢ c = λ h. apart (behind ∙ h) in omega arith) in
+            rw t (publishes_done below)
+        go true true t e =
+            let reached = inv.queue.reached in
+            let full : distance k.write read ≡ c = grind (arith, nat_tests) in
+            let same : k.read ≡ read = grind (arith, nat_tests) in
+            rw (t, e) (publishes_over (sym same) (omega arith))
+        go true false t e =
+            let reached = inv.queue.reached in
+            let full : distance k.write read ≡ c = grind (arith, nat_tests) in
+            let other : k.read ≢ read = grind (arith, nat_tests) in
+            rw (t, e) (publishes_late (omega arith) (omega arith))

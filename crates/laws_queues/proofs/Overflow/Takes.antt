@@ -1,0 +1,363 @@
+-- The move of the read position by a pop of the overflowing queue, alone or with a push that waits for it.
+use Rattle.std.proofs.Common.{Bool, ◌≡◌, ◌≢◌, ℕ, suc, ◌+◌, ◌*◌, ◌^◌, ◌<◌, ◌≤◌, ◌==◌, true, false, ⊎_elim, inl, Option}
+use Rattle.std.proofs.Common.{Some, None, List, [], ◌∷◌, ◌++◌, length, map, take, drop, fold, refl, sym, ap, subst}
+use Rattle.std.proofs.Common.{◌∙◌, append-nil, append_assoc, arith}
+use Rattle.std.proofs.lemmas.Bool.{cases_eq}
+use Rattle.std.proofs.lemmas.Bool.Decides.{nat_tests}
+use Rattle.steps.specs.declared.ask.Ask.{Ask}
+use Rattle.steps.specs.declared.ask.Op.TheVariants.{Exchange}
+use Rattle.steps.specs.declared.ask.After.{After}
+use Rattle.steps.specs.declared.ask.After.TheVariants.{Done}
+use Rattle.steps.specs.declared.copied.OneWord.{OneWord}
+use Rattle.steps.specs.declared.queues.overflow.PushStage as overflow_pushes
+use Rattle.steps.specs.Queues.Ring.{after_position}
+use Rattle.model.specs.declared.families.queues.calls.OverflowCall as overflows
+use Rattle.model.specs.declared.families.queues.calls.QueueFlight.{QueueFlight}
+use Rattle.model.specs.declared.families.queues.calls.QueueFlight.TheVariants.{Overflow}
+use Rattle.model.specs.declared.families.queues.effects.Effect.{Effect}
+use Rattle.model.specs.declared.families.queues.effects.Effect.TheVariants.{HandsOut, MakesRoom}
+use Rattle.model.specs.declared.event.Item.{Item}
+use Rattle.model.specs.declared.event.Item.TheVariants.{Index}
+use Rattle.model.specs.declared.families.queues.QueueStart.TheVariants.{PushIndex, Pop}
+use Rattle.model.specs.declared.event.Answer.{Answer}
+use Rattle.model.specs.declared.event.Answer.TheVariants.{PoppedNone, PoppedIndex}
+use Rattle.model.specs.declared.event.Event.{Event}
+use Rattle.model.specs.declared.event.Start.TheVariants.{Queues}
+use Rattle.model.specs.declared.event.Event.TheVariants.{Published, HandedOut, Acted, Finished}
+use Rattle.model.specs.declared.event.Start.{Start}
+use Rattle.model.specs.declared.families.Flight.{Flight}
+use Rattle.model.specs.declared.families.Flight as flights
+use Rattle.model.specs.declared.party.Party.{Party}
+use Rattle.model.specs.declared.families.queues.QueueKind as kinds
+use Rattle.model.specs.Coding.{Coding}
+use Rattle.model.specs.Families.Queues.Objects.{answer_of_item}
+use Rattle.model.specs.Families.Queues.Calls.{read_word, after, words_of_index}
+use Rattle.model.specs.Families.Queues.Objects.{cut_off}
+use Rattle.model.specs.Families.Queues.Promises.{promise}
+use Rattle.model.specs.Families.Queues.Steps.{pending_at, pending, beside, takes_effect}
+use Rattle.model.specs.Parties.{party_of, put, doing_of, flight_of}
+use Rattle.model.specs.Promises.Spans.{Stands}
+use Rattle.model.specs.Reading.{Open, Ended, own_after, span_of}
+use Rattle.model.specs.Turns.{words_after, change_of}
+use Rattle.model.proofs.Readings.{span_of-own, span_of-other}
+use Rattle.model.proofs.Frame as frame
+use Rattle.laws_queues.proofs.Queues.Invariant.{Queue, Scene, Inv, family, queue_in, any_stays, any_knows}
+use Rattle.laws_queues.proofs.Overflow.Core.{one_passes, pop_front, pop_room}
+use Rattle.laws_queues.proofs.Overflow.Waiting.{past_none, Pushing, IsPending, pending_is}
+use Rattle.laws_queues.proofs.Queues.Core.{Core, Good, GoesUp, taken, takes}
+use Rattle.laws_queues.proofs.Queues.Knows.{layout, Hangs, has_written}
+use Rattle.laws_queues.proofs.Queues.Keeping.{clash, kept}
+use Rattle.laws_queues.proofs.Queues.Pending.{pending_put, few_wait, none_hangs}
+use Rattle.laws_queues.proofs.Queues.Stages.{party_then, DoesStep, Moves, alone}
+use Rattle.laws_queues.proofs.Overflow.Keeping.{take_keeps_push}
+
+module _ {T : Type 0} (en : Coding T) (scene : Scene T kinds.TheVariants.Overflow)
+    (inv : Inv en kinds.TheVariants.Overflow scene) (small : scene.core.write < 2 ^ 64) (room : OneWord)
+    (holds : scene.roles.consumer ≡ Some scene.party) where
+  open scene use {capacity as c, roles as ro, core as k, party as p, steps, backs, since, changes, latest, events}
+
+  -- the push that acts where this party moves the read position
+  abbrev pub waits : Option (ℕ × ℕ)
+  waits = beside ro (layout ro k) latest p
+
+  waits_is : waits ≡ pending k.read ro.producer latest
+  waits_is = let t : (p == p) ≡ true = grind (arith, nat_tests) in rw (holds, t) refl
+
+  abbrev Does : Option Ask → Bool → After (QueueFlight T) (Answer T) → Effect T → Type 0
+  Does ask back after effect = DoesStep en kinds.TheVariants.Overflow scene [] Pop ask back after effect
+
+  abbrev MovesBy : Option Ask → Bool → After (QueueFlight T) (Answer T) → Effect T → Type 0
+  MovesBy ask back after effect = Moves en kinds.TheVariants.Overflow scene Pop ask back after effect
+
+  abbrev after_it : Option Ask → Bool → After (QueueFlight T) (Answer T) → Party T
+  after_it ask back after = party_then en kinds.TheVariants.Overflow scene Pop ask back after
+
+  abbrev pub asks_move : ℕ → Option Ask
+  asks_move read = Some (record { word = read_word; op = Exchange read (after_position read) })
+
+  module _ (calm : (position : ℕ) → pending_at position (flight_of (doing_of (party_of p latest))) ≡ None) where
+    -- ---- the move of the read position
+
+    module _ (value : ℕ) (rest : List ℕ) (some : 0 < c) (first : k.waiting ≡ value ∷ rest) (s : steps ≤ 2 * backs + 3) (paid : backs + since ≤ changes) where
+      abbrev after_take : Core ℕ
+      after_take = taken 1 words_of_index (c + 1) k rest
+
+      abbrev answer : Answer T
+      answer = PoppedIndex value
+
+      words_take : words_after (layout ro k) (asks_move k.read) ≡ layout ro after_take
+      words_take = grind arith
+
+      one : change_of (layout ro k) (asks_move k.read) ≡ 1
+      one = grind arith
+
+      good_take : Good 1 words_of_index (c + 1) after_take
+      good_take = takes 1 words_of_index (c + 1) k value rest first inv.queue.good
+
+      shorter : length k.waiting ≡ suc (length rest)
+      shorter = ap length first
+
+      few_rest : length rest ≤ c
+      few_rest = let g = inv.queue.good in let few = g.few in let long = shorter in omega arith
+
+      -- no push waits for the next read position
+      hangs_take : Hangs T kinds.TheVariants.Overflow c after_take
+          (pending (k.read + 1) ro.producer (put p (after_it (asks_move k.read) false (Done answer)) latest))
+      hangs_take =
+          let y = after_it (asks_move k.read) false (Done answer) in
+          let stays : pending (k.read + 1) ro.producer (put p y latest) ≡ pending (k.read + 1) ro.producer latest =
+          pending_put (k.read + 1) ro.producer p y latest refl (calm (k.read + 1)) in
+          let none : pending (k.read + 1) ro.producer latest ≡ None =
+          past_none en c ro k (k.read + 1) (omega arith) latest events inv.frame.calls ro.producer in
+          none_hangs T kinds.TheVariants.Overflow c after_take (pending (k.read + 1) ro.producer (put p y latest)) (stays ∙ none) few_rest
+
+      -- no push is pending
+      takes_alone : pending k.read ro.producer latest ≡ None → Does (asks_move k.read) false (Done answer) (HandsOut (Index value))
+      takes_alone none =
+          let g = inv.queue.good in
+          let write = g.write in
+          let few = few_wait en kinds.TheVariants.Overflow c k (pending k.read ro.producer latest) none inv.queue.good inv.queue.hangs in
+          let list = pop_front {T = T} c k.waiting value rest first few in
+          let change = one in
+          let reached = inv.queue.reached in (
+            after_take,
+            words_take,
+            record {
+              own = (refl, (refl, (refl, tt)));
+              stands = (
+                (inl refl, refl),
+                (
+                  (refl, refl),
+                  ((refl, record { moments = refl; published = refl; handed_out = sym (one_passes c (Index value) some) }), tt),
+                ),
+              );
+              grants = (tt, (tt, (tt, tt)));
+              producers = refl;
+              consumers = refl;
+              right = (tt, (tt, (tt, tt)));
+              lengths = (tt, (tt, (tt, tt)));
+              good = good_take;
+              hangs = hangs_take;
+              out = omega arith;
+              book = append-nil (map Index k.waiting) ∙ ap (map Index) first;
+              goes = list.0;
+              answers = ap (λ (o : Option (Item T)). answer_of_item o ∷ []) list.1;
+              here =
+                  record {
+                    answer = answer;
+                    wrote = HandedOut p (Index value) ∷ Acted p (Queues Pop) answer ∷ [];
+                    span = refl;
+                    steps = omega arith;
+                  };
+              knows = omega arith;
+              up = record { write = omega arith; read = omega arith; paid = omega arith };
+              others =
+                  λ q ne. kept ro ro q (λ h. h) (λ h. h) en c kinds.TheVariants.Overflow k after_take (record {
+                    push = λ mine w stage h. take_keeps_push c k q rest g few w stage h;
+                    pop = λ mine other stage h. absurd (clash ro.consumer p q ne holds mine);
+                  });
+              reached = omega arith;
+              within = omega arith;
+            },
+          )
+
+      -- ---- a push of another party waits for this move
+
+      module _ (seen : span_of p events ≡ Open (Queues Pop) []) (q w : ℕ) (hung : pending k.read ro.producer latest ≡ Some (q, w)) where
+        -- the events, and the runs that they lead to
+        abbrev hands : Event T
+        hands = HandedOut p (Index value)
+
+        abbrev acts_p : Event T
+        acts_p = Acted p (Queues Pop) answer
+
+        abbrev acts_q : Event T
+        acts_q = Acted q (Queues (PushIndex w)) PoppedNone
+
+        abbrev ends_p : Event T
+        ends_p = Finished p (Queues Pop) answer
+
+        abbrev told : List (Event T)
+        told = hands ∷ acts_p ∷ acts_q ∷ ends_p ∷ []
+
+        abbrev run_1 : List (Event T)
+        run_1 = events ++ hands ∷ []
+
+        abbrev run_2 : List (Event T)
+        run_2 = run_1 ++ acts_p ∷ []
+
+        abbrev run_3 : List (Event T)
+        run_3 = run_2 ++ acts_q ∷ []
+
+        whole : run_3 ++ ends_p ∷ [] ≡ events ++ told
+        whole =
+            append_assoc run_2 (acts_q ∷ []) (ends_p ∷ [])
+            ∙ (append_assoc run_1 (acts_p ∷ []) (acts_q ∷ ends_p ∷ []) ∙ append_assoc events (hands ∷ []) (acts_p ∷ acts_q ∷ ends_p ∷ []))
+
+        abbrev pushing : Pushing → QueueFlight T
+        pushing run = Overflow (overflows.TheVariants.Push run)
+
+        abbrev after_queue : Queue ℕ
+        after_queue = record { roles = ro; core = after_take }
+
+        abbrev IsAt : Queue ℕ → Start T → Pushing → Type 0
+        IsAt state start run = (family en kinds.TheVariants.Overflow c).At state q start (flights.TheVariants.Queues (pushing run))
+
+        start_is : (start : Start T) (run : Pushing) → IsAt (queue_in scene) start run → run.given ≡ w → start ≡ Queues (PushIndex w)
+        start_is x0 x1 x2 x3 = grind arith
+
+        still_at : (start : Start T) (run : Pushing) → run.call.stage ≡ overflow_pushes.TheVariants.MovesRead k.read
+            → IsAt (queue_in scene) start run → IsAt after_queue start run
+        still_at x0 x1 x2 x3 = grind arith
+
+        module _ (producer : ro.producer ≡ Some q) (x : Party T) (run : Pushing) (begun : ℕ) (is : IsPending k.read latest q w x run begun) where
+          other : q ≢ p
+          other x0 = grind arith
+
+          under : frame.IsUnderWay (family en kinds.TheVariants.Overflow c) (queue_in scene) q x (flights.TheVariants.Queues (pushing run)) (span_of q events)
+          under = grind arith
+
+          start : x.start ≡ Queues (PushIndex w)
+          start = start_is x.start run under.at is.value
+
+          wrote : has_written {T = T} c k q (pushing run) ≡ Published q (Index w) ∷ []
+          wrote = let t : (k.read == k.read) ≡ true = grind (arith, nat_tests) in rw (is.value, is.stage, t) refl
+
+          writes : has_written {T = T} c after_take q (pushing run) ≡ Published q (Index w) ∷ acts_q ∷ []
+          writes = grind arith
+
+          -- the spans of both parties
+          p_1 : span_of p run_1 ≡ Open (Queues Pop) (hands ∷ [])
+          p_1 = span_of-own p events (hands ∷ []) (refl, tt) ∙ ap (λ a. fold own_after a (hands ∷ [])) seen
+
+          p_2 : span_of p run_2 ≡ Open (Queues Pop) (hands ∷ acts_p ∷ [])
+          p_2 = span_of-own p run_1 (acts_p ∷ []) (refl, tt) ∙ ap (λ a. fold own_after a (acts_p ∷ [])) p_1
+
+          p_3 : span_of p run_3 ≡ Open (Queues Pop) (hands ∷ acts_p ∷ [])
+          p_3 = span_of-other q p run_2 (acts_q ∷ []) (λ e. other (sym e)) (refl, tt) ∙ p_2
+
+          p_4 : span_of p (events ++ told) ≡ Ended (Queues Pop) answer (hands ∷ acts_p ∷ [])
+          p_4 = ap (span_of p) (sym whole) ∙ (span_of-own p run_3 (ends_p ∷ []) (refl, tt) ∙ ap (λ a. fold own_after a (ends_p ∷ [])) p_3)
+
+          q_2 : span_of q run_2 ≡ Open (Queues (PushIndex w)) (Published q (Index w) ∷ [])
+          q_2 =
+              span_of-other p q run_1 (acts_p ∷ []) other (refl, tt)
+              ∙ (span_of-other p q events (hands ∷ []) other (refl, tt)
+              ∙ (under.span ∙ (ap (λ st. Open st (has_written c k q (pushing run))) start ∙ ap (λ es. Open (Queues (PushIndex w)) es) wrote)))
+
+          q_4 : span_of q (events ++ told) ≡ Open (Queues (PushIndex w)) (Published q (Index w) ∷ acts_q ∷ [])
+          q_4 =
+              ap (span_of q) (sym whole)
+              ∙ (span_of-other p q run_3 (ends_p ∷ []) other (refl, tt)
+              ∙ (span_of-own q run_2 (acts_q ∷ []) (refl, tt) ∙ ap (λ a. fold own_after a (acts_q ∷ [])) q_2))
+
+          theirs : (r : ℕ) → r ≢ p → r ≢ q → span_of r (events ++ told) ≡ span_of r events
+          theirs r np nq =
+              ap (span_of r) (sym whole)
+              ∙ (span_of-other p r run_3 (ends_p ∷ []) np (refl, tt)
+              ∙ (span_of-other q r run_2 (acts_q ∷ []) nq (refl, tt)
+              ∙ (span_of-other p r run_1 (acts_p ∷ []) np (refl, tt) ∙ span_of-other p r events (hands ∷ []) np (refl, tt))))
+
+          pushing_fits : frame.Fits (family en kinds.TheVariants.Overflow c) after_queue q (party_of q latest) (span_of q (events ++ told))
+          pushing_fits =
+              let now : frame.IsUnderWay (family en kinds.TheVariants.Overflow c) after_queue q x
+              (flights.TheVariants.Queues (pushing run)) (span_of q (events ++ told)) =
+              record {
+                span =
+                    q_4 ∙ (ap (λ es. Open (Queues (PushIndex w)) es) (sym writes)
+                    ∙ ap (λ st. Open st (has_written c after_take q (pushing run))) (sym start));
+                steps = under.steps;
+                at = still_at x.start run is.stage under.at;
+              }
+              in
+              subst (λ o. frame.Fits (family en kinds.TheVariants.Overflow c) after_queue q o (span_of q (events ++ told))) (sym is.found)
+              (subst (λ d. frame.FitsDoing (family en kinds.TheVariants.Overflow c) after_queue q x d (span_of q (events ++ told))) (sym is.doing) now)
+
+          other_fits : (r : ℕ) → r ≢ p → r ≢ q
+              → frame.Fits (family en kinds.TheVariants.Overflow c) after_queue r (party_of r latest) (span_of r (events ++ told))
+          other_fits r np nq =
+              subst (λ a. frame.Fits (family en kinds.TheVariants.Overflow c) after_queue r (party_of r latest) a) (sym (theirs r np nq))
+              (frame.still_fits (family en kinds.TheVariants.Overflow c) (queue_in scene) after_queue r
+              (any_stays en kinds.TheVariants.Overflow c ro ro k after_take r
+              (kept ro ro r (λ h. h) (λ h. h) en c kinds.TheVariants.Overflow k after_take (record {
+                push = λ mine v stage h. absurd (clash ro.producer q r nq producer mine);
+                pop = λ mine other stage h. absurd (clash ro.consumer p r np holds mine);
+              })))
+              (party_of r latest) (span_of r events) (inv.frame.calls r))
+
+          takes_for : MovesBy (asks_move k.read) false (Done answer) (MakesRoom (Index value) q w)
+          takes_for =
+              let g = inv.queue.good in
+              let write = g.write in
+              let over = subst (Hangs T kinds.TheVariants.Overflow c k) hung inv.queue.hangs in
+              let list = pop_room {T = T} c k.waiting over.1 value w rest some over.2 over.3 first in
+              let change = one in
+              let reached = inv.queue.reached in
+              let zero : backs + 0 ≡ backs = omega arith in
+              let up : GoesUp k after_take changes (changes + change_of (layout ro k) (asks_move k.read)) =
+              record { write = omega arith; read = omega arith; paid = omega arith } in (
+                after_take,
+                words_take,
+                record {
+                  right = (tt, (tt, (tt, (tt, tt))));
+                  lengths = (tt, (tt, (tt, (tt, tt))));
+                  grants = (tt, (tt, (tt, (tt, tt))));
+                  good = good_take;
+                  hangs = hangs_take;
+                  book = append-nil (map Index k.waiting) ∙ ap (map Index) first;
+                  out = omega arith;
+                  producers = refl;
+                  consumers = refl;
+                  goes = list.1;
+                  answers =
+                      ap (λ (o : Option (Item T)). answer_of_item o
+                      ∷ answer_of_item (cut_off c (drop 1 (map Index (take c k.waiting)) ++ Index w ∷ [])) ∷ [])
+                      list.0
+                      ∙ ap (λ (o : Option (Item T)). answer ∷ answer_of_item o ∷ []) list.2;
+                  up = up;
+                  reached = omega arith;
+                  within = omega arith;
+                },
+                record {
+                  stands = (
+                    subst (λ a. Stands (promise kinds.TheVariants.Overflow) c hands a) (sym seen) (inl refl, refl),
+                    (
+                      subst (λ a. Stands (promise kinds.TheVariants.Overflow) c acts_p a) (sym p_1) (refl, refl),
+                      (
+                        subst (λ a. Stands (promise kinds.TheVariants.Overflow) c acts_q a) (sym q_2) (refl, refl),
+                        (
+                          subst (λ a. Stands (promise kinds.TheVariants.Overflow) c ends_p a) (sym p_3)
+                              (refl, record { moments = refl; published = refl; handed_out = sym (one_passes c (Index value) some) }),
+                          tt,
+                        ),
+                      ),
+                    ),
+                  );
+                  here = record { answer = answer; wrote = hands ∷ acts_p ∷ []; span = p_4; steps = omega arith };
+                  knows = omega arith;
+                  others =
+                      λ r np. ⊎_elim (λ e. subst (λ n. frame.Fits (family en kinds.TheVariants.Overflow c) after_queue n (party_of n latest)
+                      (span_of n (events ++ told)))
+                      (sym e) pushing_fits)
+                      (other_fits r np) (cases_eq r q);
+                  others_know =
+                      λ r np. frame.still_knows (family en kinds.TheVariants.Overflow c) (queue_in scene) after_queue r
+                      events told changes (changes + change_of (layout ro k) (asks_move k.read))
+                      (any_knows en c k after_take r events told changes (changes + change_of (layout ro k) (asks_move k.read)) up tt)
+                      (party_of r latest) (inv.frame.knows r);
+                },
+              )
+
+        makes_room : MovesBy (asks_move k.read) false (Done answer) (MakesRoom (Index value) q w)
+        makes_room =
+            let is = pending_is k.read latest q w ro.producer hung in
+            takes_for is.0 is.1 is.2 is.3 is.4
+
+      pub takes_it : span_of p events ≡ Open (Queues Pop) [] → MovesBy (asks_move k.read) false (Done answer) (takes_effect (Index value) waits)
+      takes_it seen =
+          subst (λ o. MovesBy (asks_move k.read) false (Done answer) (takes_effect (Index value) o)) (sym waits_is)
+          (go (pending k.read ro.producer latest) refl)
+        where
+          go : (o : Option (ℕ × ℕ)) → pending k.read ro.producer latest ≡ o → MovesBy (asks_move k.read) false (Done answer) (takes_effect (Index value) o)
+          go None e = alone en kinds.TheVariants.Overflow scene inv [] Pop (asks_move k.read) false (Done answer) (HandsOut (Index value)) seen (takes_alone e)
+          go (Some push) e = makes_room seen push.0 push.1 e

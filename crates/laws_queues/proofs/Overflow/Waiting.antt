@@ -1,0 +1,66 @@
+-- Which push waits for the read position to go on.
+use Rattle.std.proofs.Common.{◌≡◌, ℕ, ◌<◌, Option, Some, None, option_map, List, refl, ap, subst, arith}
+use Rattle.steps.specs.declared.queues.overflow.Push as overflow_push
+use Rattle.steps.specs.declared.copied.OneWord.{OneWord}
+use Rattle.steps.specs.declared.queues.overflow.PushStage as overflow_pushes
+use Rattle.steps.specs.declared.routine.Running.{Running}
+use Rattle.model.specs.declared.families.queues.calls.OverflowCall as overflows
+use Rattle.model.specs.declared.families.queues.calls.QueueFlight.TheVariants.{Overflow}
+use Rattle.model.specs.declared.event.Event.{Event}
+use Rattle.model.specs.declared.party.Doing.{Doing}
+use Rattle.model.specs.declared.party.Doing.TheVariants.{Going}
+use Rattle.model.specs.declared.party.Party.{Party}
+use Rattle.model.specs.declared.event.Start.{Start}
+use Rattle.model.specs.declared.families.Flight.{Flight}
+use Rattle.model.specs.declared.families.Flight as flights
+use Rattle.model.specs.declared.families.queues.Roles.{Roles}
+use Rattle.model.specs.declared.families.queues.QueueKind as kinds
+use Rattle.model.specs.Coding.{Coding}
+use Rattle.model.specs.Families.Queues.Steps.{pending_at, pending}
+use Rattle.model.specs.Parties.{party_of, doing_of, flight_of}
+use Rattle.model.specs.Reading.{span_of}
+use Rattle.laws_queues.proofs.Queues.Core.{Core}
+use Rattle.model.proofs.Frame as frame
+use Rattle.laws_queues.proofs.Queues.Invariant.{family}
+
+-- ---- no push waits for a read position that is still to come
+
+module _ {T : Type 0} (en : Coding T) (c : ℕ) (ro : Roles) (k : Core ℕ) (position : ℕ) (past : k.read < position) where
+  pub past_none : (latest : List (ℕ × Party T)) (events : List (Event T))
+      → ((q : ℕ)
+      → frame.Fits (family en kinds.TheVariants.Overflow c) (record { roles = ro; core = k }) q (party_of q latest) (span_of q events))
+      → (o : Option ℕ) → pending position o latest ≡ None
+  past_none x0 x1 x2 x3 = grind arith
+
+-- ---- the push that waits for the read position
+
+-- a push under way
+abbrev pub Pushing : Type 0
+Pushing = Running overflow_push.Push ℕ OneWord
+
+pub record IsPending {T : Type 0} (position : ℕ) (latest : List (ℕ × Party T)) (q w : ℕ) (x : Party T) (run : Pushing) (since : ℕ) : Type 0 where
+  pub waits : pending_at position (flight_of (doing_of (party_of q latest))) ≡ Some w
+  pub found : party_of q latest ≡ Some x
+  pub doing : x.doing ≡ Going (flights.TheVariants.Queues (Overflow (overflows.TheVariants.Push run))) since
+  pub value : run.given ≡ w
+  pub stage : run.call.stage ≡ overflow_pushes.TheVariants.MovesRead position
+
+module _ {T : Type 0} (position : ℕ) (latest : List (ℕ × Party T)) (q w : ℕ) where
+  party_is : (o : Option (Party T)) → pending_at position (flight_of (doing_of (party_of q latest))) ≡ Some w
+      → party_of q latest ≡ o → pending_at position (flight_of (doing_of o)) ≡ Some w
+      → (y : Party T) × (run : Pushing) × (since : ℕ) × IsPending position latest q w y run since
+  party_is x0 x1 x2 x3 = grind arith
+
+some_mapped : (q r w : ℕ) (o : Option ℕ) → option_map {U = ℕ × ℕ} (λ (n : ℕ). (r, n)) o ≡ Some (q, w) → (r ≡ q) × (o ≡ Some w)
+some_mapped x0 x1 x2 x3 x4 = grind arith
+
+module _ {T : Type 0} (position : ℕ) (latest : List (ℕ × Party T)) (q w : ℕ) where
+  pub pending_is : (pr : Option ℕ) → pending position pr latest ≡ Some (q, w)
+      → (pr ≡ Some q) × (y : Party T) × (run : Pushing) × (since : ℕ) × IsPending position latest q w y run since
+  pending_is None e = absurd (cc)
+  pending_is (Some r) e =
+      let both = some_mapped q r w (pending_at position (flight_of (doing_of (party_of r latest)))) e in
+      let here : pending_at position (flight_of (doing_of (party_of q latest))) ≡ Some w =
+      subst (λ n. pending_at position (flight_of (doing_of (party_of n latest))) ≡ Some w) both.0 both.1 in
+      let push = party_is position latest q w (party_of q latest) here refl here in
+      (ap Some both.0, push.0, push.1, push.2, push.3)

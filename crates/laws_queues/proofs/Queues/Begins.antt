@@ -1,0 +1,35 @@
+-- What the first stage of a queue's call knows; it has written nothing.
+use Rattle.std.proofs.Common.{◌≡◌, ℕ, false, Some, None, List, [], arith}
+use Rattle.model.specs.declared.event.Event.{Event}
+use Rattle.model.specs.declared.families.Flight.{Flight}
+use Rattle.model.specs.declared.families.Flight as flights
+use Rattle.model.specs.declared.families.queues.QueueStart.{QueueStart}
+use Rattle.model.specs.declared.families.queues.Roles.{Roles}
+use Rattle.model.specs.declared.families.queues.calls.LengthOf.{LengthOf}
+use Rattle.model.specs.declared.families.queues.calls.QueueFlight.{QueueFlight}
+use Rattle.model.specs.declared.families.queues.calls.QueueFlight.TheVariants.{Values}
+use Rattle.model.specs.declared.families.queues.QueueKind.{QueueKind}
+use Rattle.model.specs.Coding.{Coding, IsCoding}
+use Rattle.model.specs.Families.Queues.Calls.{first}
+use Rattle.model.specs.Families.Queues.Opening.{lacks_role}
+use Rattle.model.specs.Families.Queues.Steps.{pending_at}
+use Rattle.laws_queues.proofs.Queues.Core.{Core}
+use Rattle.laws_queues.proofs.Queues.Knows.{has_written, KnowsFlight, At}
+use Rattle.laws_queues.proofs.Queues.Values.{Val}
+
+-- ---- what the first stage of a call knows; it has written nothing
+
+pub record IsFirst {T : Type 0} (en : Coding T) (kd : QueueKind) (c : ℕ) (ro : Roles) (k : Core (Val T kd)) (p : ℕ)
+    (events : List (Event T)) (changes : ℕ) (start : QueueStart T) (flight : QueueFlight T) : Type 0 where
+  pub at : At en kd c ro k p start flight
+  pub knows : KnowsFlight c k p events changes changes 0 flight
+  pub calm : pending_at k.read (Some (flights.TheVariants.Queues flight)) ≡ None
+  pub wrote : has_written {T = T} c k p flight ≡ []
+
+module _ {T : Type 0} (en : Coding T) (law : IsCoding en) (c : ℕ) (ro : Roles) (p : ℕ) (events : List (Event T)) (changes : ℕ) where
+  abbrev First : (kd : QueueKind) → Core (Val T kd) → QueueStart T → QueueFlight T → Type 0
+  First kd k start flight = IsFirst en kd c ro k p events changes start flight
+
+  pub first_is : (kd : QueueKind) (k : Core (Val T kd)) (start : QueueStart T) (flight : QueueFlight T)
+      → first kd c start ≡ Some flight → lacks_role ro p start ≡ false → First kd k start flight
+  first_is x0 x1 x2 x3 x4 x5 = grind arith

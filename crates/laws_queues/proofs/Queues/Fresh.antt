@@ -1,0 +1,54 @@
+-- Runs in which no push finds the last position, and no store of the single value the last version.
+use native.Mathlib.Omega.{arith}
+use Rattle.std.proofs.Common.{◌≡◌, ℕ, None, List, [], ◌∷◌, ◌++◌, get_or, refl, sym, ap, subst, ◌∙◌}
+use Rattle.model.specs.declared.families.Flight.{Flight}
+use Rattle.model.specs.declared.families.queues.calls.QueueFlight.{QueueFlight}
+use Rattle.model.specs.Coding.{Coding}
+use Rattle.model.specs.Families.{want_of, ask_of}
+use Rattle.model.specs.Families.Queues.Calls.{want}
+use Rattle.model.specs.Turns.{old_of, run_on, attempt_on, unless_refused, after_turn}
+use Rattle.model.specs.Refusals.{call_refusal}
+use Rattle.model.specs.declared.turn.Kind.{Kind}
+use Rattle.model.proofs.Reached.{turn_making}
+use Rattle.model.specs.declared.turn.Turn.{Turn}
+use Rattle.laws_queues.proofs.Queues.Runs.{AllMay}
+use Rattle.model.specs.World.{Trace, opening}
+use Rattle.laws_queues.proofs.Queues.Knows.{IsFreshAt, IsFreshCall}
+pub use Rattle.laws_queues.specs.Fresh.{IsFreshTurn, IsFreshRun}
+
+-- a push loads the write position first
+module _ {T : Type 0} (z : Coding T) where
+  pub fresh_there : (words : List ℕ) (flight : QueueFlight T)
+      → IsFreshAt {T = T} (old_of words (ask_of (want z flight))) flight → IsFreshAt {T = T} (get_or words 0 0) flight
+  fresh_there x0 x1 x2 = grind arith
+
+  pub fresh_any : (words : List ℕ) (flight : Flight T) → IsFreshCall (get_or words 0 0) flight → IsFreshCall (old_of words (ask_of (want_of z flight))) flight
+  fresh_any x0 x1 x2 = grind arith
+
+module _ {T : Type 0} where
+  run_more : (turns : List (Turn T)) (turn : Turn T) (t : Trace T) → run_on (turns ++ turn ∷ []) t ≡ attempt_on (run_on turns t) turn
+  run_more [] turn t = refl
+  run_more (x ∷ xs) turn t = run_more xs turn (attempt_on t x)
+
+  may_more : (turns : List (Turn T)) (turn : Turn T) (t : Trace T) → AllMay IsFreshTurn turns t
+      → IsFreshTurn (run_on turns t) turn → AllMay IsFreshTurn (turns ++ turn ∷ []) t
+  may_more [] turn t all one = (λ e. one, tt)
+  may_more (x ∷ xs) turn t all one = (all.0, may_more xs turn (attempt_on t x) all.1 one)
+
+  pub fresh_more : (t : Trace T) (turn : Turn T) → call_refusal t.world turn ≡ None → IsFreshTurn t turn → IsFreshRun t → IsFreshRun (after_turn t turn)
+  fresh_more t turn e one r =
+      let w = t.world in
+      let making = turn_making t.world turn in
+      let first = opening w.coding w.kind w.capacity w.parties in
+      let same : attempt_on t turn ≡ after_turn t turn = ap (unless_refused t (after_turn t turn)) e in
+      let more : after_turn t turn ≡ run_on (r.turns ++ turn ∷ []) first = sym same ∙ (ap (λ u. attempt_on u turn) r.is ∙ sym (run_more r.turns turn first)) in
+      record {
+        turns = r.turns ++ turn ∷ [];
+        is = rw (making.coding, making.kind, making.capacity, making.parties) more;
+        fresh =
+            rw (making.coding, making.kind, making.capacity, making.parties)
+            (may_more r.turns turn first r.fresh (subst (λ z. IsFreshTurn z turn) r.is one));
+      }
+
+  pub fresh_opening : (code : Coding T) (kind : Kind) (capacity parties : ℕ) → IsFreshRun (opening code kind capacity parties)
+  fresh_opening code kind capacity parties = record { turns = []; is = refl; fresh = tt }

@@ -1,0 +1,266 @@
+-- What holds of a queue's machine between any two turns beside what the frame says of every machine, and what a turn
+-- must show to keep it. An overflowing queue with a capacity is, as far as its words go, a queue with one cell more.
+use Rattle.std.proofs.Common.{◌≡◌, ◌≢◌, ℕ, ◌+◌, ◌^◌, ◌<◌, ◌≤◌, Some, None, List, [], ◌++◌, length, drop, map, fold}
+use Rattle.std.proofs.Common.{refl, sym, ap, subst, ◌∙◌, append_assoc, length-append, arith}
+use Rattle.std.proofs.lemmas.List.{drop_at}
+use Rattle.std.proofs.lemmas.List.Concat.{flat_map-append}
+use Rattle.std.proofs.lemmas.List.Sums.{fold-append}
+use Rattle.model.specs.declared.event.Event.{Event}
+use Rattle.model.specs.declared.event.Item.{Item}
+use Rattle.model.specs.declared.event.Start.{Start}
+use Rattle.model.specs.declared.event.Start as starts
+use Rattle.model.specs.declared.families.Flight.{Flight}
+use Rattle.model.specs.declared.families.Flight as flights
+use Rattle.model.specs.declared.families.Registry.{Registry}
+use Rattle.model.specs.declared.families.Registry as registries
+use Rattle.model.specs.declared.families.queues.QueueStart.{QueueStart}
+use Rattle.model.specs.declared.families.queues.Roles.{Roles}
+use Rattle.model.specs.declared.families.queues.calls.QueueFlight.{QueueFlight}
+use Rattle.model.specs.declared.party.Party.{Party}
+use Rattle.model.specs.declared.families.queues.QueueKind.{QueueKind}
+use Rattle.model.specs.declared.families.queues.QueueKind as kinds
+use Rattle.model.specs.declared.turn.Kind.{Kind}
+use Rattle.model.specs.declared.turn.Kind as any_kinds
+use Rattle.model.specs.Coding.{Coding}
+use Rattle.model.specs.Families.Queues.Book.{AnswersRight}
+use Rattle.model.specs.Families.Queues.Lengths.{TellsLength}
+use Rattle.model.specs.Families.Queues.Objects.{list_of}
+use Rattle.model.specs.Families.Queues.Opening.{cells_of}
+use Rattle.model.specs.Families.Queues.Promises.{promise}
+use Rattle.model.specs.Families.Queues.Reading.{publishes, hands_out, published, handed_out, waiting, producer_after, consumer_after, producer_of, consumer_of}
+use Rattle.model.specs.Families.Queues.Roles.{GrantsRight}
+use Rattle.model.specs.Families.Queues.Steps.{pending}
+use Rattle.model.specs.Moments.{BeginsNone}
+use Rattle.model.specs.Objects.{IsLegal, standing, answers_from}
+use Rattle.model.specs.Parties.{put}
+use Rattle.model.specs.Promises.Spans.{Stands}
+use Rattle.model.specs.Reading.{Each, acts, moments, Span, own_after, span_of}
+use Rattle.model.proofs.Frame as frame
+use Rattle.model.proofs.Frame.{Family}
+use Rattle.model.proofs.Moments.{others_begin_none}
+use Rattle.model.proofs.Readings.{AreRight, Each-append, AreOwn, AllFollow}
+use Rattle.model.proofs.Replays.{calls_of, answers_of, standing_more, legal_more}
+use Rattle.laws_queues.proofs.Queues.Core.{Core, Good, GoesUp}
+use Rattle.laws_queues.proofs.Queues.Knows.{layout, number_of, Hangs, listed, has_written, KnowsFlight, flight_keeps, At}
+use Rattle.laws_queues.proofs.Queues.Values.{Val, encoded, item}
+
+-- what the words and the roles of a queue hold
+pub record Queue (V : Type 0) : Type 0 where
+  pub roles : Roles
+  pub core : Core V
+
+abbrev pub Represents : {T V : Type 0} → Registry T → List ℕ → Queue V → Type 0
+Represents (registries.TheVariants.Queues ro) words s = (words ≡ layout s.roles s.core) × (ro ≡ s.roles)
+Represents kept words s = ⊥
+
+abbrev number : {T : Type 0} → Coding T → Flight T → ℕ → ℕ
+number en (flights.TheVariants.Queues flight) backs = number_of en flight backs
+number en flight backs = 0
+
+-- ---- where a party's call stands, with the machine around it
+
+pub record Scene (T : Type 0) (kd : QueueKind) : Type 0 where
+  pub capacity : ℕ
+  pub roles : Roles
+  pub core : Core (Val T kd)
+  pub party : ℕ
+  pub steps : ℕ
+  pub backs : ℕ
+  pub since : ℕ
+  pub changes : ℕ
+  pub latest : List (ℕ × Party T)
+  pub events : List (Event T)
+  pub turns : ℕ
+
+module _ {T : Type 0} where
+  -- what was published and not handed out is what waits
+  pub waiting_is : (events : List (Event T)) (items : List (Item T)) → published events ≡ handed_out events ++ items → waiting events ≡ items
+  waiting_is events items book = ap (drop (length (handed_out events))) book ∙ drop_at (handed_out events) items (length (handed_out events)) refl
+
+  book_more :
+      (events es : List (Event T)) (old new : List (Item T)) → published events ≡ handed_out events ++ old → old ++ published es ≡ handed_out es ++ new
+      → published (events ++ es) ≡ handed_out (events ++ es) ++ new
+  book_more events es old new book more =
+      flat_map-append publishes events es
+      ∙ (ap (λ xs. xs ++ published es) book
+      ∙ (append_assoc (handed_out events) old (published es)
+      ∙ (ap (λ xs. handed_out events ++ xs) more
+      ∙ (sym (append_assoc (handed_out events) (handed_out es) new)
+      ∙ ap (λ xs. xs ++ new) (sym (flat_map-append hands_out events es))))))
+
+  out_more : (events es : List (Event T)) (old new : ℕ) → old ≡ length (handed_out events)
+      → new ≡ old + length (handed_out es) → new ≡ length (handed_out (events ++ es))
+  out_more events es old new is more =
+      let both : handed_out (events ++ es) ≡ handed_out events ++ handed_out es = flat_map-append hands_out events es in
+      let long = length-append (handed_out events) (handed_out es) in
+      rw both (omega arith)
+
+  abbrev pub queue_in : {kd : QueueKind} → Scene T kd → Queue (Val T kd)
+  queue_in scene = record { roles = scene.roles; core = scene.core }
+
+-- the kind of a machine that has this queue
+abbrev pub machine_kind : QueueKind → Kind
+machine_kind kinds.TheVariants.IndexQueue = any_kinds.TheVariants.IndexQueue
+machine_kind kinds.TheVariants.Overflow = any_kinds.TheVariants.Overflow
+machine_kind kinds.TheVariants.Queue = any_kinds.TheVariants.Queue
+
+module _ {T : Type 0} (en : Coding T) where
+  -- what is so of the queue and of the events
+  pub record Holds (kd : QueueKind) (c : ℕ) (ro : Roles) (k : Core (Val T kd)) (latest : List (ℕ × Party T))
+      (events : List (Event T)) (turns : ℕ) : Type 0 where
+    pub fits : c < 2 ^ 32
+    pub good : Good (encoded en kd).size (encoded en kd).words_of (cells_of kd c) k
+    pub hangs : Hangs T kd c k (pending k.read ro.producer latest)
+    pub book : published events ≡ handed_out events ++ map (item kd) k.waiting
+    pub out : k.read ≡ length (handed_out events)
+    pub producers : producer_of events ≡ ro.producer
+    pub consumers : consumer_of events ≡ ro.consumer
+    pub stand : standing (list_of kd c) (moments events) ≡ listed kd c k.waiting
+    pub legal : IsLegal (list_of kd c) (moments events)
+    pub answers : Each (AnswersRight c) events
+    pub lengths : Each (TellsLength c) events
+    pub grants : Each GrantsRight events
+    pub reached : k.write ≤ turns
+    pub within : k.write < 2 ^ 64
+
+  -- ---- the family of the queues
+
+  abbrev written : {V : Type 0} → ℕ → Core V → ℕ → Flight T → List (Event T)
+  written c k p (flights.TheVariants.Queues flight) = has_written c k p flight
+  written c k p flight = []
+
+  abbrev FlightAt : (kd : QueueKind) → ℕ → Roles → Core (Val T kd) → ℕ → Start T → Flight T → Type 0
+  FlightAt kd c ro k p (starts.TheVariants.Queues start) (flights.TheVariants.Queues flight) = At en kd c ro k p start flight
+  FlightAt kd c ro k p start flight = ⊥
+
+  abbrev Knowing : {V : Type 0} → ℕ → Core V → ℕ → List (Event T) → ℕ → ℕ → ℕ → Flight T → Type 0
+  Knowing c k p events since changes backs (flights.TheVariants.Queues flight) = KnowsFlight c k p events since changes backs flight
+  Knowing c k p events since changes backs flight = ⊥
+
+  abbrev pub family : QueueKind → ℕ → Family T
+  family kd c =
+      record {
+        coding = en;
+        kind = machine_kind kd;
+        promise = promise kd;
+        capacity = c;
+        State = Queue (Val T kd);
+        Represents = Represents;
+        Holds = λ s latest events turns. Holds kd c s.roles s.core latest events turns;
+        written = λ s p flight. written c s.core p flight;
+        number = λ wrote. number en;
+        At = λ s p start flight. FlightAt kd c s.roles s.core p start flight;
+        Knows = λ s p events since changes backs flight. Knowing c s.core p events since changes backs flight;
+      }
+
+  pub record Inv (kd : QueueKind) (scene : Scene T kd) : Type 0 where
+    pub queue : Holds kd scene.capacity scene.roles scene.core scene.latest scene.events scene.turns
+    pub frame : frame.Inv (family kd scene.capacity) (queue_in scene) scene.latest scene.events scene.changes
+
+  -- what a turn shows of the queue itself, where it becomes k'
+  pub record ShowsQueue (kd : QueueKind) (scene : Scene T kd) (ro' : Roles) (k' : Core (Val T kd)) (y : Party T)
+      (es : List (Event T)) (changes' : ℕ) : Type 0 where
+    pub right : AreRight (AnswersRight scene.capacity) scene.events es
+    pub lengths : AreRight (TellsLength scene.capacity) scene.events es
+    pub grants : AreRight GrantsRight scene.events es
+    pub good : Good (encoded en kd).size (encoded en kd).words_of (cells_of kd scene.capacity) k'
+    pub hangs : Hangs T kd scene.capacity k' (pending k'.read ro'.producer (put scene.party y scene.latest))
+    pub book : map (item kd) scene.core.waiting ++ published es ≡ handed_out es ++ map (item kd) k'.waiting
+    pub out : k'.read ≡ scene.core.read + length (handed_out es)
+    pub producers : fold producer_after scene.roles.producer es ≡ ro'.producer
+    pub consumers : fold consumer_after scene.roles.consumer es ≡ ro'.consumer
+    pub goes : fold (list_of kd scene.capacity).after (listed kd scene.capacity scene.core.waiting) (calls_of (moments es))
+        ≡ listed kd scene.capacity k'.waiting
+    pub answers : answers_from (list_of kd scene.capacity) (listed kd scene.capacity scene.core.waiting) (calls_of (moments es)) ≡ answers_of (moments es)
+    pub up : GoesUp scene.core k' scene.changes changes'
+    pub reached : k'.write ≤ scene.turns + 1
+    pub within : k'.write < 2 ^ 64
+
+  module _ (kd : QueueKind) (scene : Scene T kd) (ro' : Roles) (k' : Core (Val T kd)) (y : Party T) (es : List (Event T)) (changes' : ℕ) where
+    pub holds_more : Holds kd scene.capacity scene.roles scene.core scene.latest scene.events scene.turns → ShowsQueue kd scene ro' k' y es changes'
+        → Holds kd scene.capacity ro' k' (put scene.party y scene.latest) (scene.events ++ es) (scene.turns + 1)
+    holds_more inv s =
+        let c = scene.capacity in
+        let more = flat_map-append acts scene.events es in
+        record {
+          fits = inv.fits;
+          good = s.good;
+          hangs = s.hangs;
+          book = book_more scene.events es (map (item kd) scene.core.waiting) (map (item kd) k'.waiting) inv.book s.book;
+          out = out_more scene.events es scene.core.read k'.read inv.out s.out;
+          producers = fold-append producer_after None scene.events es ∙ (ap (λ o. fold producer_after o es) inv.producers ∙ s.producers);
+          consumers = fold-append consumer_after None scene.events es ∙ (ap (λ o. fold consumer_after o es) inv.consumers ∙ s.consumers);
+          stand =
+              ap (standing (list_of kd c)) more
+              ∙ standing_more (list_of kd c) (moments scene.events) (moments es) (listed kd c scene.core.waiting) (listed kd c k'.waiting) inv.stand s.goes;
+          legal =
+              subst (IsLegal (list_of kd c)) (sym more)
+              (legal_more (list_of kd c) (moments scene.events) (moments es) (listed kd c scene.core.waiting) inv.legal inv.stand s.answers);
+          answers = Each-append (AnswersRight c) scene.events es inv.answers s.right;
+          lengths = Each-append (TellsLength c) scene.events es inv.lengths s.lengths;
+          grants = Each-append GrantsRight scene.events es inv.grants s.grants;
+          reached = s.reached;
+          within = s.within;
+        }
+
+  -- what a turn shows that writes events of its own party alone, where its span was this
+  pub record Shows (kd : QueueKind) (scene : Scene T kd) (ro' : Roles) (k' : Core (Val T kd)) (from : Span T)
+      (y : Party T) (es : List (Event T)) (changes' : ℕ) : Type 0 where
+    pub right : AreRight (AnswersRight scene.capacity) scene.events es
+    pub lengths : AreRight (TellsLength scene.capacity) scene.events es
+    pub grants : AreRight GrantsRight scene.events es
+    pub good : Good (encoded en kd).size (encoded en kd).words_of (cells_of kd scene.capacity) k'
+    pub hangs : Hangs T kd scene.capacity k' (pending k'.read ro'.producer (put scene.party y scene.latest))
+    pub book : map (item kd) scene.core.waiting ++ published es ≡ handed_out es ++ map (item kd) k'.waiting
+    pub out : k'.read ≡ scene.core.read + length (handed_out es)
+    pub producers : fold producer_after scene.roles.producer es ≡ ro'.producer
+    pub consumers : fold consumer_after scene.roles.consumer es ≡ ro'.consumer
+    pub goes : fold (list_of kd scene.capacity).after (listed kd scene.capacity scene.core.waiting) (calls_of (moments es))
+        ≡ listed kd scene.capacity k'.waiting
+    pub answers : answers_from (list_of kd scene.capacity) (listed kd scene.capacity scene.core.waiting) (calls_of (moments es)) ≡ answers_of (moments es)
+    pub up : GoesUp scene.core k' scene.changes changes'
+    pub reached : k'.write ≤ scene.turns + 1
+    pub within : k'.write < 2 ^ 64
+    pub own : AreOwn scene.party es
+    pub stands : AllFollow (Stands (promise kd) scene.capacity) from es
+    pub here : frame.Fits (family kd scene.capacity) (record { roles = ro'; core = k' }) scene.party (Some y) (fold own_after from es)
+    pub knows : frame.KnowsDoing (family kd scene.capacity) (record { roles = ro'; core = k' }) scene.party (scene.events ++ es) changes' y.backs y.doing
+    pub others : (q : ℕ) → q ≢ scene.party → (start : QueueStart T) (flight : QueueFlight T) → At en kd scene.capacity scene.roles scene.core q start flight
+        → At en kd scene.capacity ro' k' q start flight
+        × (has_written {T = T} scene.capacity k' q flight ≡ has_written {T = T} scene.capacity scene.core q flight)
+
+  -- what stays of a queue's call, as of one of any family
+  pub any_stays : (kd : QueueKind) (c : ℕ) (ro ro' : Roles) (k k' : Core (Val T kd)) (q : ℕ)
+      → ((start : QueueStart T) (flight : QueueFlight T) → At en kd c ro k q start flight
+      → At en kd c ro' k' q start flight × (has_written {T = T} c k' q flight ≡ has_written {T = T} c k q flight))
+      → (start : Start T) (flight : Flight T) → FlightAt kd c ro k q start flight
+      → FlightAt kd c ro' k' q start flight × (written c k' q flight ≡ written c k q flight)
+  any_stays x0 x1 x2 x3 x4 x5 x6 x7 x8 x9 x10 = grind arith
+
+  pub any_knows : {V : Type 0} → (c : ℕ) (k k' : Core V) (q : ℕ) (events es : List (Event T)) (changes changes' : ℕ)
+      → GoesUp k k' changes changes' → BeginsNone q es
+      → (since backs : ℕ) (flight : Flight T) → Knowing c k q events since changes backs flight → Knowing c k' q (events ++ es) since changes' backs flight
+  any_knows c k k' q events es changes changes' up none since backs (flights.TheVariants.Queues flight) h =
+      flight_keeps c k k' q events es changes changes' up none since backs flight h
+  any_knows c k k' q events es changes changes' up none since backs flight h = absurd h
+
+  module _ (kd : QueueKind) (scene : Scene T kd) (ro' : Roles) (k' : Core (Val T kd)) (from : Span T) (y : Party T)
+      (es : List (Event T)) (changes' : ℕ) (s : Shows kd scene ro' k' from y es changes') where
+    pub owes : span_of scene.party scene.events ≡ from → Inv kd scene
+        → frame.Owes (family kd scene.capacity) (record { roles = ro'; core = k' }) scene.party y scene.latest scene.events es changes'
+    owes is inv =
+        frame.owes (family kd scene.capacity) (queue_in scene) (record { roles = ro'; core = k' }) from scene.party
+        y scene.latest scene.events es scene.changes changes' is inv.frame
+        (record {
+          own = s.own;
+          stands = s.stands;
+          here = s.here;
+          knows = s.knows;
+          others = λ q ne. any_stays kd scene.capacity scene.roles ro' scene.core k' q (s.others q ne);
+          others_know =
+              λ q ne. any_knows scene.capacity scene.core k' q scene.events es scene.changes changes' s.up
+              (others_begin_none q scene.party es ne s.own);
+        })
+
+    pub queue_part : ShowsQueue kd scene ro' k' y es changes'
+    queue_part = grind arith

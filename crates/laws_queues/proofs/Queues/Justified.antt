@@ -1,0 +1,397 @@
+-- What a turn writes down: what its step did to the queue, then the acts, then the end. A push that answers false, and a
+-- pop that answers None, did so in its own turn, as it loaded the other position; without capacity, an overflowing queue's
+-- pop loads none. A push that is taken, and a pop that answers a value, acts as its position goes on.
+use Rattle.std.proofs.Common.{◌≡◌, ℕ, ◌+◌, ◌-◌, ◌^◌, ◌<◌, ◌≤◌, ◌==◌, Bool, true, false, cond, inr, Option, Some, None}
+use Rattle.std.proofs.Common.{List, [], ◌∷◌, ◌++◌, get_or, refl, sym, ap, subst, ◌∙◌, arith}
+use Rattle.std.proofs.lemmas.Bool.Decides.{nat_tests}
+use Rattle.std.specs.List.{AllByRecursion}
+use Rattle.steps.specs.declared.ask.Ask.{Ask}
+use Rattle.steps.specs.declared.ask.Op.TheVariants.{Exchange}
+use Rattle.steps.specs.declared.ask.After.{After}
+use Rattle.steps.specs.declared.ask.After.TheVariants.{GoOn, Done}
+use Rattle.steps.specs.declared.copied.OneWord.{OneWord}
+use Rattle.steps.specs.declared.queues.overflow.Push as overflow_push
+use Rattle.steps.specs.declared.queues.overflow.Pop as overflow_pop
+use Rattle.steps.specs.declared.queues.overflow.PushStage as overflow_pushes
+use Rattle.steps.specs.declared.queues.overflow.PopStage as overflow_pops
+use Rattle.steps.specs.declared.queues.overflow.PushEnd.{PushEnd}
+use Rattle.steps.specs.declared.copied.Buffer as cells
+use Rattle.steps.specs.Queues.Ring.{after_position}
+use Rattle.steps.specs.Queues.Overflow.{cell_word, push_answer, pop_answer}
+use Rattle.steps.specs.Routine.{went_on}
+use Rattle.model.specs.declared.event.Answer.{Answer}
+use Rattle.model.specs.declared.event.Answer as answers
+use Rattle.model.specs.declared.event.Event.{Event}
+use Rattle.model.specs.declared.event.Event.TheVariants.{Published, HandedOut, Acted}
+use Rattle.model.specs.declared.event.Item.{Item}
+use Rattle.model.specs.declared.event.Item.TheVariants.{Index}
+use Rattle.model.specs.declared.event.Start.{Start}
+use Rattle.model.specs.declared.event.Start.TheVariants.{Queues}
+use Rattle.model.specs.declared.families.Flight.{Flight}
+use Rattle.model.specs.declared.families.Flight as flights
+use Rattle.model.specs.declared.families.Registry.{Registry}
+use Rattle.model.specs.declared.families.Registry as registries
+use Rattle.model.specs.declared.families.queues.QueueStart.{QueueStart}
+use Rattle.model.specs.declared.families.queues.QueueStart.TheVariants.{PushIndex, Push, Pop}
+use Rattle.model.specs.declared.families.queues.Roles.{Roles}
+use Rattle.model.specs.declared.families.queues.calls.OverflowCall as overflows
+use Rattle.model.specs.declared.families.queues.calls.QueueFlight.{QueueFlight}
+use Rattle.model.specs.declared.families.queues.calls.QueueFlight.TheVariants.{Role, Indices, Values, Overflow, Length}
+use Rattle.model.specs.declared.families.queues.calls.RingCall as rings
+use Rattle.model.specs.declared.families.queues.effects.Effect.{Effect}
+use Rattle.model.specs.declared.families.queues.effects.Effect.TheVariants.{Quiet, Acts, Publishes, PublishesAndActs, HandsOut, TakesOut, MakesRoom}
+use Rattle.model.specs.declared.party.Doing.TheVariants.{Going}
+use Rattle.model.specs.declared.party.Party.{Party}
+use Rattle.model.specs.declared.families.queues.QueueKind.{QueueKind}
+use Rattle.model.specs.declared.families.queues.QueueKind as kinds
+use Rattle.model.specs.declared.turn.Turn.{Turn}
+use Rattle.model.specs.declared.turn.Turn.TheVariants.{Next}
+use Rattle.model.specs.Coding.{Coding, IsCoding}
+use Rattle.model.specs.Families.{ask_of, beside_of, step_of, goes_of}
+use Rattle.model.specs.Families.Queues.Book.{AnswersRight}
+use Rattle.model.specs.Families.Queues.Calls.{read_word, want, after, popped}
+use Rattle.model.specs.Families.Queues.Opening.{holds}
+use Rattle.model.specs.Families.Queues.Promises.{load_of_write, finding_none, AddsOne, HandsBack, promise}
+use Rattle.model.specs.Families.Queues.Steps.{pending_at, pending, beside, takes_effect, effect_of, acts_if_done, effects_of}
+use Rattle.model.specs.Parties.{party_of, doing_of, flight_of}
+use Rattle.model.specs.Promises.{IsTurnBy}
+use Rattle.model.specs.Promises.Turns.{ask_in, IsParty, IsEffectOf, IsAct, ActsRight}
+use Rattle.model.specs.Step.{as_call, answer_in}
+use Rattle.model.specs.Turns.{old_of, ending_of, after_turn}
+use Rattle.model.specs.World.{Trace}
+use Rattle.model.proofs.Frame as frame
+use Rattle.model.proofs.Orders.{Orders, Keeps, ends_end, turn_is}
+use Rattle.model.proofs.Readings.{AreRight}
+use Rattle.model.proofs.Scenes.{StandsThere, stands_there, InOrder, in_order_from}
+use Rattle.laws_queues.proofs.Overflow.Knows.{overflow_push_at, overflow_pop_at, KnowsOverflowPush, KnowsOverflowPop, OverflowAt}
+use Rattle.laws_queues.proofs.Queues.Core.{Core}
+use Rattle.laws_queues.proofs.Queues.Invariant.{Queue, Represents, machine_kind, family}
+use Rattle.laws_queues.proofs.Queues.Knows.{all_fresh, layout, IndexAt, ValueAt, At}
+use Rattle.laws_queues.proofs.Queues.Sound.{kept_is, step_moves, scene_of, inv_of, asks_nothing, reached_sound}
+use Rattle.laws_queues.proofs.Queues.Kept.{kept, promised_by}
+use Rattle.laws_queues.proofs.Queues.Stages.{told_after, any_call}
+use Rattle.laws_queues.proofs.Queues.Values.{Val, encoded, item}
+use Rattle.laws_queues.proofs.Ring.Kinds.{Ring, of_indices, of_values, kind_of, push}
+
+-- where a pop finds nothing
+ring_finds : (r : Ring) (c : ℕ) → finding_none (kind_of r) c ≡ Some load_of_write
+ring_finds x0 x1 = grind arith
+
+overflow_finds : (c : ℕ) → (0 < c → finding_none kinds.TheVariants.Overflow c ≡ Some load_of_write) × (c ≡ 0 → finding_none kinds.TheVariants.Overflow c ≡ None)
+overflow_finds x0 = grind arith
+
+module _ {T : Type 0} where
+  -- ---- the order
+
+  -- what a step did to the queue
+  abbrev did : ℕ → Effect T → List (Event T)
+  did p Quiet = []
+  did p Acts = []
+  did p (Publishes item) = Published p item ∷ []
+  did p (PublishesAndActs item) = Published p item ∷ []
+  did p (HandsOut item) = HandedOut p item ∷ []
+  did p (TakesOut index) = HandedOut p (Index index) ∷ []
+  did p (MakesRoom item q pushed) = HandedOut p item ∷ []
+
+  -- who acts there
+  abbrev acts_of : ℕ → QueueStart T → Effect T → Option (Answer T) → List (Event T)
+  acts_of p start Quiet outcome = []
+  acts_of p start Acts outcome = acts_if_done p start outcome
+  acts_of p start (Publishes item) outcome = acts_if_done p start outcome
+  acts_of p start (PublishesAndActs item) outcome = Acted p (Queues start) answers.TheVariants.PoppedNone ∷ []
+  acts_of p start (HandsOut item) outcome = acts_if_done p start outcome
+  acts_of p start (TakesOut index) outcome = Acted p (Queues start) (answers.TheVariants.PoppedIndex index) ∷ []
+  acts_of p start (MakesRoom item q pushed) outcome = acts_if_done p start outcome ++ Acted q (Queues (PushIndex pushed)) answers.TheVariants.PoppedNone ∷ []
+
+  effects_are : (p : ℕ) (start : QueueStart T) (effect : Effect T) (outcome : Option (Answer T))
+      → effects_of p start effect outcome ≡ did p effect ++ acts_of p start effect outcome
+  effects_are x0 x1 x2 x3 = grind arith
+
+  did_effects : (turn : Turn T) (p : ℕ) (effect : Effect T) → IsParty turn p → AllByRecursion (IsEffectOf turn) (did p effect)
+  did_effects x0 x1 x2 x3 = grind arith
+
+  joined : (P : Event T → Type 0) (xs ys : List (Event T)) → AllByRecursion P xs → AllByRecursion P ys → AllByRecursion P (xs ++ ys)
+  joined P [] ys h r = r
+  joined P (x ∷ xs) ys h r = (h.0, joined P xs ys h.1 r)
+
+  all_act : (p : ℕ) (start : QueueStart T) (effect : Effect T) (outcome : Option (Answer T)) → AllByRecursion IsAct (acts_of p start effect outcome)
+  all_act x0 x1 x2 x3 = grind arith
+
+-- ---- what an act tells
+
+module _ {T : Type 0} (own : QueueKind) (t : Trace T) (turn : Turn T) (p : ℕ) (mine : IsParty turn p) (alone : (q : ℕ) → IsParty turn q → q ≡ p) where
+  abbrev en : Coding T
+  en = t.world.coding
+
+  abbrev c : ℕ
+  c = t.world.capacity
+
+  abbrev asked : Option Ask
+  asked = ask_in t.world turn
+
+  abbrev Right : List (Event T) → Type 0
+  Right es = AreRight (AnswersRight c) t.events es
+
+  abbrev Justified : List (Event T) → Type 0
+  Justified es = AllByRecursion (ActsRight (promise own) t turn) es
+
+  -- the turn adds 1 to this word
+  abbrev Adds : ℕ → Type 0
+  Adds word = AddsOne word t.world.words asked
+
+  -- it goes on, or it is done with None
+  abbrev FindsNone : After (QueueFlight T) (Answer T) → Type 0
+  FindsNone (GoOn flight) = Unit {0}
+  FindsNone (Done answer) = answer ≡ answers.TheVariants.PoppedNone
+
+  pop_acts : (after : After (QueueFlight T) (Answer T)) → FindsNone after → asked ≡ finding_none own c
+      → Right (told_after p Pop Acts after) → Justified (acts_if_done p Pop (answer_in after))
+  pop_acts x0 x1 x2 x3 = grind arith
+
+  -- ---- the positions
+
+  -- as the words hold them
+  record Positions (write read : ℕ) : Type 0 where
+    pub rest : List ℕ
+    pub words : t.world.words ≡ write ∷ read ∷ rest
+    pub few : write < 2 ^ 64 - 1
+    pub low : read ≤ write
+
+  module _ (write read : ℕ) (at : Positions write read) where
+    moves_read : asked ≡ Some (record { word = read_word; op = Exchange read (after_position read) }) → Adds read_word
+    moves_read x0 = grind arith
+
+  module _ (words : List ℕ) (waits : Option (ℕ × ℕ)) where
+    abbrev Tells : QueueStart T → QueueFlight T → ℕ → Type 0
+    Tells start flight old = Right (told_after p start (effect_of en words waits flight old) (after en flight old))
+
+    -- who acts in a step of a call, where these are the words
+    abbrev Acting : QueueStart T → QueueFlight T → ℕ → Type 0
+    Acting start flight old = Justified (acts_of p start (effect_of en words waits flight old) (answer_in (after en flight old)))
+
+    module _ (r : Ring) where
+      abbrev coded : Coding (Val T (kind_of r))
+      coded = encoded en (kind_of r)
+
+    -- a push of an overflowing queue
+    module _ (k : Core ℕ) (place : Positions k.write k.read) (v : ℕ) (room : OneWord) where
+      abbrev answered : After overflow_push.Push PushEnd → Option (Answer T)
+      answered after =
+          answer_in {C = QueueFlight T}
+          (as_call (λ r. Overflow (overflows.TheVariants.Push r)) popped
+          (went_on (λ end given room. push_answer given room.0 end) v room after))
+
+      hands_back : (capacity : ℕ) → 0 < capacity → Adds read_word → HandsBack capacity t.world.words asked
+      hands_back x0 x1 x2 = grind arith
+
+      overflow_push_right : (stage : overflow_pushes.PushStage) (old : ℕ) → KnowsOverflowPush c k v stage
+          → asked ≡ ask_of (want en (Overflow (overflow_push_at c v room stage)))
+          → old ≡ old_of (k.write ∷ k.read ∷ place.rest) asked
+          → Acting (PushIndex v) (Overflow (overflow_push_at c v room stage)) old
+      overflow_push_right x0 x1 x2 x3 x4 = grind arith
+
+    -- a pop that moves the read position answers a value, and then the push acts that waits for it
+    taking : (item : Item T) (push : Option (ℕ × ℕ)) → ((q w : ℕ) → push ≡ Some (q, w) → q ≡ p → ⊥)
+        → (room : OneWord) (on : overflow_pop.Pop) (b : Bool) → (b ≡ true → Adds read_word)
+        → Justified (acts_of p Pop (cond b (takes_effect item push) Quiet)
+        (answer_in {C = QueueFlight T}
+        (as_call (λ r. Overflow (overflows.TheVariants.Pop r)) popped
+        (went_on (λ end given room. pop_answer room.0 end) tt room (cond b (Done true) (GoOn on))))))
+    taking item None other room on true adds = ((mine, adds refl), tt)
+    taking item (Some push) other room on true adds = ((mine, adds refl), (inr ((λ his. other push.0 push.1 refl (alone push.0 his)), adds refl), tt))
+    taking item push other room on false adds = tt
+
+    -- the push that waits is not this call
+    abbrev Waits : QueueFlight T → Type 0
+    Waits flight = (q w : ℕ) → waits ≡ Some (q, w) → q ≡ p → pending_at (get_or words 1 0) (Some (flights.TheVariants.Queues flight)) ≡ Some w
+
+    overflow_pop_right :
+        (k : Core ℕ) (place : Positions k.write k.read) (room : OneWord) (stage : overflow_pops.PopStage) (old : ℕ)
+        → KnowsOverflowPop c k room stage → asked ≡ ask_of (want en (Overflow (overflow_pop_at c room stage)))
+        → old ≡ old_of (k.write ∷ k.read ∷ place.rest) asked
+        → Waits (Overflow (overflow_pop_at c room stage)) → (0 < c → finding_none own c ≡ Some load_of_write)
+        → (c ≡ 0 → finding_none own c ≡ None) → Tells Pop (Overflow (overflow_pop_at c room stage)) old
+        → Acting Pop (Overflow (overflow_pop_at c room stage)) old
+    overflow_pop_right k place room overflow_pops.TheVariants.FindsNone old knows asks handed waiter some none h =
+        pop_acts (after en (Overflow (overflow_pop_at c room overflow_pops.TheVariants.FindsNone)) old) refl (asks ∙ sym (none knows)) h
+    overflow_pop_right k place room overflow_pops.TheVariants.LoadsRead old knows asks handed waiter some none h = tt
+    overflow_pop_right k place room (overflow_pops.TheVariants.LoadsWrite read) old knows asks handed waiter some none h =
+        pop_acts (after en flight old) (finds (old == read) refl) (asks ∙ sym (some knows.0)) h
+      where
+        flight : QueueFlight T
+        flight = Overflow (overflow_pop_at c room (overflow_pops.TheVariants.LoadsWrite read))
+
+        finds : (b : Bool) → (old == read) ≡ b → FindsNone (after en flight old)
+        finds true e = rw e refl
+        finds false e = rw e tt
+    overflow_pop_right k place room (overflow_pops.TheVariants.LoadsCell read) old knows asks handed waiter some none h = tt
+    overflow_pop_right k place room (overflow_pops.TheVariants.MovesRead read) old knows asks handed waiter some none h =
+        taking (Index (get_or words (cell_word c read) 0)) waits
+        (λ q w is same. let here = waiter q w is same in absurd (cc)) room
+        (record { capacity = c; stage = overflow_pops.TheVariants.LoadsCell old }) (old == read)
+        (λ e.
+        let found : old ≡ read = grind (arith, nat_tests) in
+        let now : old ≡ k.read = handed ∙ ap (old_of (k.write ∷ k.read ∷ place.rest)) asks in
+        let same : read ≡ k.read = sym found ∙ now in
+        moves_read k.write k.read place (asks ∙ ap (λ n. Some (record { word = read_word; op = Exchange n (after_position n) })) same))
+
+    index_right : (ro : Roles) (k : Core ℕ) → Positions k.write k.read
+        → (start : QueueStart T) (call : rings.RingCall ℕ OneWord) (old : ℕ)
+        → IndexAt kinds.TheVariants.IndexQueue c ro k p start call → finding_none own c ≡ Some load_of_write
+        → asked ≡ ask_of (want en (Indices call)) → Tells start (Indices call) old → Acting start (Indices call) old
+    index_right x0 x1 x2 x3 x4 x5 x6 x7 x8 x9 = grind arith
+
+    value_right : (ro : Roles) (k : Core T) → Positions k.write k.read
+        → (start : QueueStart T) (call : rings.RingCall T (cells.Buffer 128)) (old : ℕ)
+        → ValueAt en kinds.TheVariants.Queue c ro k p start call → finding_none own c ≡ Some load_of_write
+        → asked ≡ ask_of (want en (Values call)) → Tells start (Values call) old → Acting start (Values call) old
+    value_right x0 x1 x2 x3 x4 x5 x6 x7 x8 x9 = grind arith
+
+    overflow_right :
+        (ro : Roles) (k : Core ℕ) (place : Positions k.write k.read) (start : QueueStart T) (call : overflows.OverflowCall) (old : ℕ)
+        → OverflowAt c ro k p start call → (0 < c → finding_none own c ≡ Some load_of_write)
+        → (c ≡ 0 → finding_none own c ≡ None)
+        → asked ≡ ask_of (want en (Overflow call)) → old ≡ old_of (k.write ∷ k.read ∷ place.rest) asked
+        → Waits (Overflow call) → Tells start (Overflow call) old → Acting start (Overflow call) old
+    overflow_right ro k place (PushIndex v) (overflows.TheVariants.Push run) old at some none asks handed waiter h =
+        subst (λ n. asked ≡ ask_of (want en (Overflow (overflow_push_at n run.given run.room run.call.stage)))
+        → Acting (PushIndex v) (Overflow (overflow_push_at n run.given run.room run.call.stage)) old)
+        (sym at.1)
+        (subst (λ x. asked ≡ ask_of (want en (Overflow (overflow_push_at c x run.room run.call.stage)))
+        → Acting (PushIndex v) (Overflow (overflow_push_at c x run.room run.call.stage)) old)
+        (sym at.2)
+        (λ asks. overflow_push_right k place v run.room run.call.stage old at.3 asks handed))
+        asks
+    overflow_right ro k place Pop (overflows.TheVariants.Pop run) old at some none asks handed waiter h =
+        subst (λ x. Tells Pop (Overflow (overflow_pop_at x run.room run.call.stage)) old
+        → asked ≡ ask_of (want en (Overflow (overflow_pop_at x run.room run.call.stage)))
+        → Waits (Overflow (overflow_pop_at x run.room run.call.stage))
+        → Acting Pop (Overflow (overflow_pop_at x run.room run.call.stage)) old)
+        (sym at.1)
+        (λ right asks waiter. overflow_pop_right k place run.room run.call.stage old at.2 asks handed waiter some none right)
+        h
+        asks
+        waiter
+    overflow_right ro k place start call old at some none asks handed waiter h = absurd at
+
+    step_right : (kd : QueueKind) → own ≡ kd
+        → (ro : Roles) (k : Core (Val T kd)) (place : Positions k.write k.read) (start : QueueStart T) (flight : QueueFlight T) (old : ℕ)
+        → At en kd c ro k p start flight → asked ≡ ask_of (want en flight)
+        → old ≡ old_of (k.write ∷ k.read ∷ place.rest) asked → Waits flight
+        → Tells start flight old → Acting start flight old
+    step_right kd same ro k place start (Role call) old at asks handed waiter h = tt
+    step_right kinds.TheVariants.IndexQueue same ro k place start (Indices call) old at asks handed waiter h =
+        index_right ro k place start call old at (ap (λ n. finding_none n c) same ∙ ring_finds of_indices c) asks h
+    step_right kinds.TheVariants.Overflow same ro k place start (Indices call) old at asks handed waiter h = absurd at
+    step_right kinds.TheVariants.Queue same ro k place start (Indices call) old at asks handed waiter h = absurd at
+    step_right kinds.TheVariants.IndexQueue same ro k place start (Values call) old at asks handed waiter h = absurd at
+    step_right kinds.TheVariants.Overflow same ro k place start (Values call) old at asks handed waiter h = absurd at
+    step_right kinds.TheVariants.Queue same ro k place start (Values call) old at asks handed waiter h =
+        value_right ro k place start call old at (ap (λ n. finding_none n c) same ∙ ring_finds of_values c) asks h
+    step_right kinds.TheVariants.IndexQueue same ro k place start (Overflow call) old at asks handed waiter h = absurd at
+    step_right kinds.TheVariants.Overflow same ro k place start (Overflow call) old at asks handed waiter h =
+        let finds = overflow_finds c in
+        overflow_right ro k place start call old at (λ some. ap (λ n. finding_none n c) same ∙ finds.0 some)
+        (λ none. ap (λ n. finding_none n c) same ∙ finds.1 none) asks handed waiter h
+    step_right kinds.TheVariants.Queue same ro k place start (Overflow call) old at asks handed waiter h = absurd at
+    step_right kd same ro k place start (Length which call) old at asks handed waiter h = tt
+
+-- ---- every turn
+
+-- the party whose push waits is the one whose call it is
+waiter_is : {T : Type 0} (roles : Roles) (words : List ℕ) (latest : List (ℕ × Party T)) (p : ℕ) (flight : QueueFlight T)
+    → flight_of (doing_of (party_of p latest)) ≡ Some (flights.TheVariants.Queues flight) → (q w : ℕ)
+    → beside roles words latest p ≡ Some (q, w) → q ≡ p
+    → pending_at (get_or words 1 0) (Some (flights.TheVariants.Queues flight)) ≡ Some w
+waiter_is {T} roles words latest p flight found q w e same = go (holds roles.consumer p) e
+  where
+    position : ℕ
+    position = get_or words 1 0
+
+    go : (b : Bool) → cond b (pending position roles.producer latest) None ≡ Some (q, w)
+        → pending_at position (Some (flights.TheVariants.Queues flight)) ≡ Some w
+    go x0 x1 = grind arith
+
+module _ {T : Type 0} (en : Coding T) (law : IsCoding en) (kd : QueueKind) (c : ℕ) (t : Trace T) (p : ℕ)
+    (s : frame.Sound (family en kd c) t) (small : t.world.turns < 2 ^ 64 - 2) (x : Party T) (since : ℕ) where
+  in_order : (start : Start T) (flight : Flight T) → t.world.coding ≡ en → t.world.capacity ≡ c
+      → t.world.words ≡ layout s.state.roles s.state.core → StandsThere (family en kd c) t s p x since start flight
+      → InOrder t p (promise kd) t.world.coding (layout s.state.roles s.state.core)
+      (registries.TheVariants.Queues s.state.roles) start flight
+  in_order (Queues start) (flights.TheVariants.Queues flight) same_coding same_capacity is here =
+      let scene = scene_of en law kd c t s p x since in
+      let words = layout s.state.roles s.state.core in
+      let moves =
+      step_moves en law kd scene s.holds.within (inv_of en law kd c t s p x since) start flight here.at here.steps
+      here.knows (all_fresh s.state.core.write flight (let low = s.holds.reached in omega arith))
+      (here.found, here.span) in
+      let z = t.world.coding in
+      let old = old_of words (ask_of (want z flight)) in
+      let waits = beside s.state.roles words t.world.latest p in
+      let effect : Effect T = effect_of z words waits flight old in
+      let outcome : Option (Answer T) = answer_in (after z flight old) in
+      let ends : List (Event T) = ending_of p (Queues start) (answer_in (any_call (after z flight old))) in
+      let asks : ask_in t.world (Next p) ≡ ask_of (want z flight) = rw here.found refl in
+      let reached = s.holds.reached in
+      let good = s.holds.good.write in
+      let place : Positions kd t (Next p) p refl (λ q his. his) s.state.core.write s.state.core.read =
+      record { rest = _; words = is; few = omega arith; low = omega arith } in
+      record {
+        effects = did p effect;
+        acts = acts_of p start effect outcome;
+        ends = ends;
+        is = ap (λ es. t.events ++ (es ++ ends)) (effects_are p start effect outcome);
+        are_effects = did_effects (Next p) p effect refl;
+        are_acts = all_act p start effect outcome;
+        are_ends = ends_end (Next p) p (Queues start) (answer_in (any_call (after z flight old))) refl;
+        right = step_right kd t (Next p) p refl (λ q his. his) words waits kd refl s.state.roles s.state.core place start flight old
+            (subst (λ y. At y kd t.world.capacity s.state.roles s.state.core p start flight) (sym same_coding)
+            (subst (λ n. At en kd n s.state.roles s.state.core p start flight) (sym same_capacity) here.at))
+            asks
+            (ap (old_of words) (sym asks))
+            (waiter_is s.state.roles words t.world.latest p flight here.found)
+            (subst (λ n. AreRight (AnswersRight n) t.events (told_after p start effect (after z flight old))) (sym same_capacity)
+            (subst (λ (y : Coding T). AreRight (AnswersRight c) t.events
+            (told_after p start (effect_of y words waits flight (old_of words (ask_of (want y flight))))
+            (after y flight (old_of words (ask_of (want y flight))))))
+            (sym same_coding) moves.2.right));
+      }
+  in_order start flight same_coding same_capacity is here = absurd here.at
+
+  step_in_order : (flight : Flight T) → party_of p t.world.latest ≡ Some x → x.doing ≡ Going flight since
+      → InOrder t p (promise kd) t.world.coding t.world.words t.world.kept x.start flight
+  step_in_order flight found doing =
+      let is = kept_is t.world.kept t.world.words s.state s.fit in
+      in_order_from t p (promise kd) t.world.coding (layout s.state.roles s.state.core)
+      (registries.TheVariants.Queues s.state.roles) x.start flight is.1 is.0
+      (in_order x.start flight s.coding s.capacity is.1 (stands_there (family en kd c) t s p x since flight found doing))
+
+-- a call of a queue goes on as its table says
+told : {T : Type 0} (en z : Coding T) (kd : QueueKind) (c : ℕ) (words : List ℕ) (waits : Option (ℕ × ℕ))
+    (s : Queue (Val T kd)) (p : ℕ) (start : Start T) (flight : Flight T) (answer : ℕ) (kept : Registry T)
+    → Represents kept words s → (family en kd c).At s p start flight
+    → (step_of z words waits p start flight answer kept).after ≡ goes_of z p flight answer kept
+told x0 x1 x2 x3 x4 x5 x6 x7 x8 x9 x10 x11 x12 x13 = grind arith
+
+module _ {T : Type 0} where
+  orders : (en : Coding T) → IsCoding en → (kd : QueueKind) (c : ℕ) → Orders (family en kd c)
+  orders en law kd c =
+      record {
+        step = λ t p x flight since s small found doing. step_in_order en law kd c t p s small x since flight found doing;
+        decision = λ t p x flight since said s small found doing asks. asks_nothing en kd c t p x flight since s found doing asks;
+        after = λ t p x flight since answer s found doing.
+            told en t.world.coding kd c t.world.words (beside_of t.world.words t.world.kept t.world.latest p)
+            s.state p x.start flight answer t.world.kept s.fit
+            (stands_there (family en kd c) t s p x since flight found doing).at;
+        tells = λ t turn e s. tt;
+      }
+
+  -- what is proved of every run of a queue
+  pub queue_keeps : (kd : QueueKind) → Keeps T (machine_kind kd)
+  queue_keeps kd =
+      record {
+        kept = λ t is r. kept kd t is r;
+        turn = λ t turn is e r.
+            subst (λ P. IsTurnBy P t turn (after_turn t turn)) (sym (promised_by kd t is))
+            (turn_is (family t.world.coding kd t.world.capacity) (orders t.world.coding r.coded kd t.world.capacity) t turn e r (reached_sound kd t is r));
+      }

@@ -1,0 +1,91 @@
+-- What a step of one party keeps of what the calls of the others know.
+use native.Mathlib.Omega.{arith}
+use Rattle.std.proofs.Common.{◌≡◌, ◌≢◌, ℕ, Option, Some, List, refl, sym, ◌∙◌}
+use Rattle.steps.specs.declared.copied.Buffer.{Buffer}
+use Rattle.steps.specs.declared.copied.OneWord.{OneWord}
+use Rattle.steps.specs.declared.queues.ring.PushStage as pushes
+use Rattle.steps.specs.declared.queues.ring.PopStage as pops
+use Rattle.steps.specs.declared.queues.overflow.PushStage as overflow_pushes
+use Rattle.steps.specs.declared.queues.overflow.PopStage as overflow_pops
+use Rattle.model.specs.declared.families.queues.calls.RoleCall.{RoleCall}
+use Rattle.model.specs.declared.families.queues.calls.RingCall as rings
+use Rattle.model.specs.declared.families.queues.calls.OverflowCall as overflows
+use Rattle.model.specs.declared.families.queues.calls.QueueFlight.{QueueFlight}
+use Rattle.model.specs.declared.families.queues.calls.QueueFlight.TheVariants.{Role, Indices, Values, Overflow, Length}
+use Rattle.model.specs.declared.families.queues.QueueStart.{QueueStart}
+use Rattle.model.specs.declared.families.queues.Roles.{Roles}
+use Rattle.model.specs.declared.families.queues.QueueKind.{QueueKind}
+use Rattle.model.specs.declared.families.queues.QueueKind as kinds
+use Rattle.model.specs.Coding.{Coding, one_word}
+use Rattle.laws_queues.proofs.Queues.Core.{Core}
+use Rattle.laws_queues.proofs.Queues.Values.{Val}
+use Rattle.laws_queues.proofs.Ring.Knows.{KnowsPush, KnowsPop, PushAt, PopAt}
+use Rattle.laws_queues.proofs.Overflow.Knows.{KnowsOverflowPush, KnowsOverflowPop, overflow_wrote, OverflowAt}
+use Rattle.laws_queues.proofs.Queues.Knows.{has_written, RoleAt, IndexAt, ValueAt, At}
+
+-- a role has one holder
+pub clash : (o : Option ℕ) (p q : ℕ) → q ≢ p → o ≡ Some p → o ≡ Some q → ⊥
+clash o p q ne a b = let same : Some p ≡ Some q = sym a ∙ b in ne (cc)
+
+pub record RingKeeps {V : Type 0} (en : Coding V) (c : ℕ) (ro : Roles) (k k' : Core V) (q : ℕ) : Type 0 where
+  pub push : ro.producer ≡ Some q → (v : V) (stage : pushes.PushStage) → KnowsPush en c k v stage → KnowsPush en c k' v stage
+  pub pop : ro.consumer ≡ Some q → (room : List ℕ) (stage : pops.PopStage) → KnowsPop en c k room stage → KnowsPop en c k' room stage
+
+pub record OverflowKeeps (T : Type 0) (c : ℕ) (ro : Roles) (k k' : Core ℕ) (q : ℕ) : Type 0 where
+  pub push : ro.producer ≡ Some q → (v : ℕ) (stage : overflow_pushes.PushStage) → KnowsOverflowPush c k v stage
+      → KnowsOverflowPush c k' v stage × (overflow_wrote {T = T} c k' q v stage ≡ overflow_wrote c k q v stage)
+  pub pop : ro.consumer ≡ Some q → (room : OneWord) (stage : overflow_pops.PopStage) → KnowsOverflowPop c k room stage → KnowsOverflowPop c k' room stage
+
+-- what the pushes and pops of the kind keep
+abbrev pub Keeps : {T : Type 0} → Coding T → (kd : QueueKind) → ℕ → Roles → Core (Val T kd) → Core (Val T kd) → ℕ → Type 0
+Keeps en kinds.TheVariants.IndexQueue c ro k k' q = RingKeeps one_word c ro k k' q
+Keeps {T = T} en kinds.TheVariants.Overflow c ro k k' q = OverflowKeeps T c ro k k' q
+Keeps en kinds.TheVariants.Queue c ro k k' q = RingKeeps en c ro k k' q
+
+-- where the queue stays
+pub keeps_same : {T : Type 0} → (en : Coding T) (kd : QueueKind) (c : ℕ) (ro : Roles) (k : Core (Val T kd)) (q : ℕ) → Keeps en kd c ro k k q
+keeps_same en kinds.TheVariants.IndexQueue c ro k q = record { push = λ mine v stage h. h; pop = λ mine room stage h. h }
+keeps_same en kinds.TheVariants.Overflow c ro k q = record { push = λ mine v stage h. (h, refl); pop = λ mine room stage h. h }
+keeps_same en kinds.TheVariants.Queue c ro k q = record { push = λ mine v stage h. h; pop = λ mine room stage h. h }
+
+module _ (ro ro' : Roles) (q : ℕ) (producer : ro.producer ≡ Some q → ro'.producer ≡ Some q) (consumer : ro.consumer ≡ Some q → ro'.consumer ≡ Some q) where
+  role_kept : {T : Type 0} → (start : QueueStart T) (call : RoleCall) → RoleAt ro q start call → RoleAt ro' q start call
+  role_kept x0 x1 x2 = grind arith
+
+  module _ {V R : Type 0} (en : Coding V) (words_in : R → List ℕ) (c : ℕ) (k k' : Core V) (keeps : RingKeeps en c ro k k' q) where
+    push_kept : (v : V) (call : rings.RingCall V R) → PushAt en words_in c ro k q v call → PushAt en words_in c ro' k' q v call
+    push_kept x0 x1 x2 = grind arith
+
+    pop_kept : (call : rings.RingCall V R) → PopAt en words_in c ro k q call → PopAt en words_in c ro' k' q call
+    pop_kept x0 x1 = grind arith
+
+  module _ {T : Type 0} (en : Coding T) (c : ℕ) where
+    index_kept : (k k' : Core ℕ) → RingKeeps one_word c ro k k' q → (start : QueueStart T) (call : rings.RingCall ℕ OneWord)
+        → IndexAt kinds.TheVariants.IndexQueue c ro k q start call → IndexAt kinds.TheVariants.IndexQueue c ro' k' q start call
+    index_kept x0 x1 x2 x3 x4 x5 = grind arith
+
+    value_kept : (k k' : Core T) → RingKeeps en c ro k k' q → (start : QueueStart T) (call : rings.RingCall T (Buffer 128))
+        → ValueAt en kinds.TheVariants.Queue c ro k q start call → ValueAt en kinds.TheVariants.Queue c ro' k' q start call
+    value_kept x0 x1 x2 x3 x4 x5 = grind arith
+
+    overflow_kept : (k k' : Core ℕ) → OverflowKeeps T c ro k k' q → (start : QueueStart T) (call : overflows.OverflowCall) → OverflowAt c ro k q start call
+        → OverflowAt c ro' k' q start call × (has_written {T = T} c k' q (Overflow call) ≡ has_written c k q (Overflow call))
+    overflow_kept x0 x1 x2 x3 x4 x5 = grind arith
+
+    abbrev KeptAt : (kd : QueueKind) → Core (Val T kd) → Core (Val T kd) → QueueStart T → QueueFlight T → Type 0
+    KeptAt kd k k' start flight =
+        At en kd c ro k q start flight → At en kd c ro' k' q start flight × (has_written {T = T} c k' q flight ≡ has_written c k q flight)
+
+    pub kept : (kd : QueueKind) (k k' : Core (Val T kd)) → Keeps en kd c ro k k' q
+        → (start : QueueStart T) (flight : QueueFlight T) → KeptAt kd k k' start flight
+    kept kd k k' keeps start (Role call) h = (role_kept start call h, refl)
+    kept kinds.TheVariants.IndexQueue k k' keeps start (Indices call) h = (index_kept k k' keeps start call h, refl)
+    kept kinds.TheVariants.Overflow k k' keeps start (Indices call) h = absurd h
+    kept kinds.TheVariants.Queue k k' keeps start (Indices call) h = absurd h
+    kept kinds.TheVariants.IndexQueue k k' keeps start (Values call) h = absurd h
+    kept kinds.TheVariants.Overflow k k' keeps start (Values call) h = absurd h
+    kept kinds.TheVariants.Queue k k' keeps start (Values call) h = (value_kept k k' keeps start call h, refl)
+    kept kinds.TheVariants.IndexQueue k k' keeps start (Overflow call) h = absurd h
+    kept kinds.TheVariants.Overflow k k' keeps start (Overflow call) h = overflow_kept k k' keeps start call h
+    kept kinds.TheVariants.Queue k k' keeps start (Overflow call) h = absurd h
+    kept kd k k' keeps start (Length which call) h = (h, refl)

@@ -1,0 +1,221 @@
+-- What a call of a queue knows where it stands: of the words, of the events and of the counts.
+use Rattle.std.proofs.Common.{◌≡◌, ℕ, ◌+◌, ◌-◌, ◌*◌, ◌^◌, ◌<◌, ◌≤◌, Option, Some, None, List, [], ◌∷◌, ◌++◌, length, take, map, arith}
+use Rattle.steps.specs.declared.queues.lengths.Len.{Len}
+use Rattle.steps.specs.declared.queues.lengths.LenStage.{LenStage}
+use Rattle.steps.specs.declared.queues.lengths.LenStage as lens
+use Rattle.steps.specs.declared.routine.Running.{Running}
+use Rattle.steps.specs.Queues.Lengths.{number_waiting}
+use Rattle.model.specs.declared.families.queues.calls.RoleCall.{RoleCall}
+use Rattle.model.specs.declared.families.queues.calls.RoleCall.TheVariants.{Acquire, Release}
+use Rattle.model.specs.declared.families.queues.calls.RingCall as rings
+use Rattle.model.specs.declared.families.queues.calls.OverflowCall as overflows
+use Rattle.model.specs.declared.families.queues.calls.LengthOf.{LengthOf}
+use Rattle.model.specs.declared.families.queues.calls.LengthOf as measures
+use Rattle.model.specs.declared.families.queues.calls.QueueFlight.{QueueFlight}
+use Rattle.model.specs.declared.families.queues.calls.QueueFlight.TheVariants.{Role, Indices, Values, Overflow, Length}
+use Rattle.model.specs.declared.event.Item.{Item}
+use Rattle.steps.specs.declared.copied.Buffer.{Buffer}
+use Rattle.steps.specs.declared.copied.OneWord.{OneWord}
+use Rattle.model.specs.declared.families.queues.QueueStart.{QueueStart}
+use Rattle.model.specs.declared.families.queues.QueueStart as starts
+use Rattle.model.specs.declared.families.queues.QueueStart.TheVariants.{AcquireProducer, ReleaseProducer}
+use Rattle.model.specs.declared.families.queues.QueueStart.TheVariants.{AcquireConsumer, ReleaseConsumer, PushIndex}
+use Rattle.model.specs.declared.families.queues.QueueStart.TheVariants.{Push, Pop, IsEmpty, IsFull}
+use Rattle.model.specs.declared.event.Event.{Event}
+use Rattle.model.specs.declared.families.queues.Roles.{Roles}
+use Rattle.model.specs.declared.families.queues.QueueKind.{QueueKind}
+use Rattle.model.specs.declared.families.queues.QueueKind as kinds
+use Rattle.model.specs.Coding.{Coding, one_word}
+use Rattle.model.specs.Families.Queues.Reading.{waiting}
+use Rattle.model.specs.Moments.{BeginsNone, HeldSometime}
+use Rattle.model.proofs.Moments.{held_later}
+use Rattle.laws_queues.proofs.Queues.Core.{Core}
+use Rattle.laws_queues.proofs.Queues.Core.{GoesUp}
+use Rattle.laws_queues.proofs.Queues.Values.{Val, item}
+use Rattle.model.specs.declared.families.Flight.{Flight}
+use Rattle.laws_queues.proofs.Ring.Knows.{ring_number, PushAt, PopAt}
+use Rattle.laws_queues.proofs.Overflow.Knows.{KnowsBacks, backs_keep, overflow_wrote, overflow_push_number, overflow_pop_number, OverflowAt}
+pub use Rattle.laws_queues.specs.Fresh.{IsFreshStore, IsFreshAt, IsFreshCall}
+
+-- ---- the words
+
+abbrev pub free : Option ℕ → ℕ
+free None = 1
+free (Some p) = 0
+
+abbrev pub layout : {V : Type 0} → Roles → Core V → List ℕ
+layout ro k = k.write ∷ k.read ∷ free ro.producer ∷ free ro.consumer ∷ k.cells
+
+-- a length call by its stage
+abbrev pub len_at : ℕ → LenStage → Running Len (Unit {0}) (Unit {0})
+len_at c stage = record { call = record { capacity = c; stage = stage }; given = tt; room = tt }
+
+-- How many steps the call has taken at most, having turned back so often. Which of a length call's loads turned it back is not kept.
+abbrev pub len_number : LenStage → ℕ
+len_number lens.TheVariants.LoadsWrite = 0
+len_number (lens.TheVariants.LoadsRead write) = 1
+len_number (lens.TheVariants.LoadsWriteAgain write read) = 2
+len_number (lens.TheVariants.LoadsReadAgain write read) = 3
+
+-- the words in a room
+abbrev pub in_one : OneWord → List ℕ
+in_one room = room.0 ∷ []
+
+abbrev pub in_cell : Buffer 128 → List ℕ
+in_cell room = room.words
+
+abbrev pub number_of : {T : Type 0} → Coding T → QueueFlight T → ℕ → ℕ
+number_of en (Role call) backs = 0
+number_of en (Indices call) backs = ring_number one_word in_one call
+number_of en (Values call) backs = ring_number en in_cell call
+number_of en (Overflow (overflows.TheVariants.Push run)) backs = overflow_push_number run.call.stage
+number_of en (Overflow (overflows.TheVariants.Pop run)) backs = 2 * backs + overflow_pop_number run.call.stage
+number_of en (Length which run) backs = 4 * backs + len_number run.call.stage
+
+-- Of a length call: the positions that it loaded are not above those of now. Each turn back is paid by a change since
+-- the call began, and so is each move of a position since it was loaded, which is to be the next turn back.
+abbrev pub IsPaid : {V : Type 0} → Core V → ℕ → ℕ → ℕ → ℕ → ℕ → Type 0
+IsPaid k since changes backs write read =
+    (write ≤ k.write) × (read ≤ k.read) × (backs + since + (k.write + k.read) ≤ changes + (write + read))
+
+-- more values than the capacity wait only while the push of the newest has published and not acted
+abbrev pub Hangs : (T : Type 0) (kd : QueueKind) → ℕ → Core (Val T kd) → Option (ℕ × ℕ) → Type 0
+Hangs T kinds.TheVariants.IndexQueue c k push = Unit {0}
+Hangs T kinds.TheVariants.Overflow c k None = length k.waiting ≤ c
+Hangs T kinds.TheVariants.Overflow c k (Some push) = (0 < c) × (others : List ℕ) × (k.waiting ≡ others ++ push.1 ∷ []) × (length others ≡ c)
+Hangs T kinds.TheVariants.Queue c k push = Unit {0}
+
+module _ {T : Type 0} where
+  -- the list that the calls answer as
+  abbrev pub listed : (kd : QueueKind) → ℕ → List (Val T kd) → List (Item T)
+  listed kinds.TheVariants.IndexQueue c xs = map (item kinds.TheVariants.IndexQueue) xs
+  listed kinds.TheVariants.Overflow c xs = map (item kinds.TheVariants.Overflow) (take c xs)
+  listed kinds.TheVariants.Queue c xs = map (item kinds.TheVariants.Queue) xs
+
+  -- ---- what a call under way has written since its begin
+
+  abbrev pub has_written : {V : Type 0} → ℕ → Core V → ℕ → QueueFlight T → List (Event T)
+  has_written c k p (Role call) = []
+  has_written c k p (Indices call) = []
+  has_written c k p (Values call) = []
+  has_written c k p (Overflow (overflows.TheVariants.Push run)) = overflow_wrote c k p run.given run.call.stage
+  has_written c k p (Overflow (overflows.TheVariants.Pop call)) = []
+  has_written c k p (Length which call) = []
+
+  -- ---- what a length call knows
+
+  -- so many values waited at a moment of the call as these positions tell
+  abbrev pub Waited : ℕ → ℕ → List (Event T) → ℕ → ℕ → Type 0
+  Waited c p events write read = HeldSometime p (λ part. length (waiting part) ≡ number_waiting c write read) events
+
+  -- while the write position has not moved, the load of the read position was such a moment
+  abbrev pub KnowsLen : {V : Type 0} → ℕ → Core V → ℕ → List (Event T) → ℕ → ℕ → ℕ → LenStage → Type 0
+  KnowsLen c k p events since changes backs lens.TheVariants.LoadsWrite = backs + since ≤ changes
+  KnowsLen c k p events since changes backs (lens.TheVariants.LoadsRead write) =
+      IsPaid k since changes backs write k.read
+  KnowsLen c k p events since changes backs (lens.TheVariants.LoadsWriteAgain write read) =
+      IsPaid k since changes backs write read × (write ≡ k.write → Waited c p events write read)
+  KnowsLen c k p events since changes backs (lens.TheVariants.LoadsReadAgain write read) =
+      IsPaid k since changes backs write read × Waited c p events write read
+
+  -- what a call under way knows of the events and the counts: one without a loop has not turned back
+  abbrev pub KnowsFlight : {V : Type 0} → ℕ → Core V → ℕ → List (Event T) → ℕ → ℕ → ℕ → QueueFlight T → Type 0
+  KnowsFlight c k p events since changes backs (Role call) = backs ≡ 0
+  KnowsFlight c k p events since changes backs (Indices call) = backs ≡ 0
+  KnowsFlight c k p events since changes backs (Values call) = backs ≡ 0
+  KnowsFlight c k p events since changes backs (Overflow (overflows.TheVariants.Push call)) = backs ≡ 0
+  KnowsFlight c k p events since changes backs (Overflow (overflows.TheVariants.Pop run)) =
+      KnowsBacks k since changes backs run.call.stage
+  KnowsFlight c k p events since changes backs (Length which run) =
+      KnowsLen c k p events since changes backs run.call.stage
+
+  -- a turn of another party keeps it
+  module _ {V : Type 0} (c : ℕ) (k k' : Core V) (p : ℕ) (events es : List (Event T)) (changes changes' : ℕ)
+      (up : GoesUp k k' changes changes') (none : BeginsNone p es) where
+    paid_keeps : (since backs write read : ℕ) → IsPaid k since changes backs write read → IsPaid k' since changes' backs write read
+    paid_keeps x0 x1 x2 x3 x4 = grind arith
+
+    len_keeps : (since backs : ℕ) (stage : LenStage) → KnowsLen c k p events since changes backs stage
+        → KnowsLen c k' p (events ++ es) since changes' backs stage
+    len_keeps since backs lens.TheVariants.LoadsWrite h =
+        let w = up.write in
+        let r = up.read in
+        let more = up.paid in
+        omega arith
+    len_keeps since backs (lens.TheVariants.LoadsRead write) h =
+        let w = up.write in
+        let r = up.read in
+        let more = up.paid in
+        let a = h.0 in
+        let paid = h.2 in
+        (omega arith, omega arith, omega arith)
+    len_keeps since backs (lens.TheVariants.LoadsWriteAgain write read) h = (
+      paid_keeps since backs write read h.0,
+      λ same.
+          let w = up.write in
+          let a = h.0.0 in
+          let still : write ≡ k.write = omega arith in
+          held_later p (λ part. length (waiting part) ≡ number_waiting c write read) events es none (h.1 still),
+    )
+    len_keeps since backs (lens.TheVariants.LoadsReadAgain write read) h =
+        (paid_keeps since backs write read h.0, held_later p (λ part. length (waiting part) ≡ number_waiting c write read) events es none h.1)
+
+    pub flight_keeps : (since backs : ℕ) (flight : QueueFlight T)
+        → KnowsFlight c k p events since changes backs flight
+        → KnowsFlight c k' p (events ++ es) since changes' backs flight
+    flight_keeps since backs (Role call) h = h
+    flight_keeps since backs (Indices call) h = h
+    flight_keeps since backs (Values call) h = h
+    flight_keeps since backs (Overflow (overflows.TheVariants.Push call)) h = h
+    flight_keeps since backs (Overflow (overflows.TheVariants.Pop run)) h = backs_keep k k' changes changes' up since backs run.call.stage h
+    flight_keeps since backs (Length which run) h = len_keeps since backs run.call.stage h
+
+  -- ---- a call that is to load the number which it moves finds another than the last
+
+  pub all_fresh : (write : ℕ) (flight : QueueFlight T) → write < 2 ^ 64 - 1 → IsFreshAt write flight
+  all_fresh x0 x1 x2 = grind arith
+
+  pub any_fresh : (found : ℕ) (flight : Flight T) → found < 2 ^ 64 - 1 → IsFreshCall found flight
+  any_fresh x0 x1 x2 = grind arith
+
+  -- ---- where a call under way stands
+
+  abbrev pub RoleAt : Roles → ℕ → QueueStart T → RoleCall → Type 0
+  RoleAt ro p AcquireProducer (Acquire run) = run.call.word ≡ 2
+  RoleAt ro p ReleaseProducer (Release run) = (run.call.word ≡ 2) × (ro.producer ≡ Some p)
+  RoleAt ro p AcquireConsumer (Acquire run) = run.call.word ≡ 3
+  RoleAt ro p ReleaseConsumer (Release run) = (run.call.word ≡ 3) × (ro.consumer ≡ Some p)
+  RoleAt ro p start call = ⊥
+
+  abbrev pub LengthAt : ℕ → QueueStart T → LengthOf → ℕ → Type 0
+  LengthAt c starts.TheVariants.Len measures.TheVariants.Len capacity = capacity ≡ c
+  LengthAt c IsEmpty measures.TheVariants.IsEmpty capacity = capacity ≡ c
+  LengthAt c IsFull measures.TheVariants.IsFull capacity = capacity ≡ c
+  LengthAt c start which capacity = ⊥
+
+  -- each kind has its own pushes and pops
+  abbrev pub IndexAt : (kd : QueueKind) → ℕ → Roles → Core (Val T kd) → ℕ → QueueStart T → rings.RingCall ℕ OneWord → Type 0
+  IndexAt kinds.TheVariants.IndexQueue c ro k p (PushIndex v) call = PushAt one_word in_one c ro k p v call
+  IndexAt kinds.TheVariants.IndexQueue c ro k p Pop call = PopAt one_word in_one c ro k p call
+  IndexAt kinds.TheVariants.IndexQueue c ro k p start call = ⊥
+  IndexAt kinds.TheVariants.Overflow c ro k p start call = ⊥
+  IndexAt kinds.TheVariants.Queue c ro k p start call = ⊥
+
+  abbrev pub ValueAt : Coding T → (kd : QueueKind) → ℕ → Roles → Core (Val T kd) → ℕ → QueueStart T → rings.RingCall T (Buffer 128) → Type 0
+  ValueAt en kinds.TheVariants.IndexQueue c ro k p start call = ⊥
+  ValueAt en kinds.TheVariants.Overflow c ro k p start call = ⊥
+  ValueAt en kinds.TheVariants.Queue c ro k p (Push v) call = PushAt en in_cell c ro k p v call
+  ValueAt en kinds.TheVariants.Queue c ro k p Pop call = PopAt en in_cell c ro k p call
+  ValueAt en kinds.TheVariants.Queue c ro k p start call = ⊥
+
+  abbrev pub OverAt : (kd : QueueKind) → ℕ → Roles → Core (Val T kd) → ℕ → QueueStart T → overflows.OverflowCall → Type 0
+  OverAt kinds.TheVariants.IndexQueue c ro k p start call = ⊥
+  OverAt kinds.TheVariants.Overflow c ro k p start call = OverflowAt c ro k p start call
+  OverAt kinds.TheVariants.Queue c ro k p start call = ⊥
+
+  abbrev pub At : Coding T → (kd : QueueKind) → ℕ → Roles → Core (Val T kd) → ℕ → QueueStart T → QueueFlight T → Type 0
+  At en kd c ro k p start (Role call) = RoleAt ro p start call
+  At en kd c ro k p start (Indices call) = IndexAt kd c ro k p start call
+  At en kd c ro k p start (Values call) = ValueAt en kd c ro k p start call
+  At en kd c ro k p start (Overflow call) = OverAt kd c ro k p start call
+  At en kd c ro k p start (Length which run) = LengthAt c start which run.call.capacity

@@ -1,0 +1,217 @@
+-- The steps of a call that tells how many values wait.
+use Rattle.std.proofs.Common.{◌≡◌, ◌≢◌, ℕ, ◌+◌, ◌*◌, ◌^◌, ◌<◌, ◌≤◌, ◌==◌, Bool, true, false, not, cond, Some, List, []}
+use Rattle.std.proofs.Common.{◌∷◌, ◌++◌, fold, length, map, refl, sym, ap, ◌∙◌, arith}
+use Rattle.std.proofs.lemmas.Bool.Decides.{nat_tests}
+use Rattle.std.proofs.lemmas.List.{length-map}
+use Rattle.steps.specs.declared.ask.After.{After}
+use Rattle.steps.specs.declared.ask.After.TheVariants.{GoOn, Done}
+use Rattle.steps.specs.declared.queues.lengths.Len.{Len}
+use Rattle.steps.specs.declared.queues.lengths.LenStage.{LenStage}
+use Rattle.steps.specs.declared.queues.lengths.LenStage as lens
+use Rattle.steps.specs.Routine.{went_on}
+use Rattle.steps.specs.Queues.Lengths.{number_waiting, first_len}
+use Rattle.model.specs.declared.families.queues.calls.LengthOf.{LengthOf}
+use Rattle.model.specs.declared.families.queues.calls.LengthOf as measures
+use Rattle.model.specs.declared.families.queues.calls.QueueFlight.{QueueFlight}
+use Rattle.model.specs.declared.families.queues.calls.QueueFlight.TheVariants.{Length}
+use Rattle.model.specs.declared.families.queues.effects.Effect.TheVariants.{Quiet}
+use Rattle.model.specs.declared.event.Item.{Item}
+use Rattle.model.specs.declared.families.queues.QueueStart.{QueueStart}
+use Rattle.model.specs.declared.families.queues.QueueStart as starts
+use Rattle.model.specs.declared.event.Answer.{Answer}
+use Rattle.model.specs.declared.event.Answer as answers
+use Rattle.model.specs.declared.event.Start.TheVariants.{Queues}
+use Rattle.model.specs.declared.event.Event.TheVariants.{Finished}
+use Rattle.model.specs.declared.families.queues.QueueKind.{QueueKind}
+use Rattle.model.specs.Coding.{Coding}
+use Rattle.model.specs.Families.{ask_of}
+use Rattle.model.specs.Families.Queues.Bounds.{most_steps}
+use Rattle.model.specs.Families.Queues.Calls.{want, after, goes_back, as_it_is, length_answer}
+use Rattle.model.specs.Families.Queues.Lengths.{TellsLength}
+use Rattle.model.specs.Families.Queues.Opening.{cells_of}
+use Rattle.model.specs.Families.Queues.Reading.{published, handed_out, waiting, producer_after, consumer_after}
+use Rattle.model.specs.Families.Queues.Roles.{GrantsRight}
+use Rattle.model.specs.Families.Queues.Spans.{Wrote}
+use Rattle.model.specs.Families.Queues.Steps.{pending}
+use Rattle.model.specs.Step.{as_call}
+use Rattle.model.specs.Turns.{old_of}
+use Rattle.model.proofs.Moments.{held_now, held_so}
+use Rattle.laws_queues.proofs.Queues.Invariant.{Scene, Inv}
+use Rattle.model.specs.Families.Queues.Promises.{load_of_write, load_of_read}
+use Rattle.laws_queues.proofs.Queues.Core.{Core, Good}
+use Rattle.laws_queues.proofs.Queues.Knows.{layout, len_at, Hangs, Waited, KnowsLen, len_number, At}
+use Rattle.laws_queues.proofs.Queues.Invariant.{waiting_is}
+use Rattle.laws_queues.proofs.Queues.Stages.{IsCalm, party_then, Stays, StepOf, still_hangs, quiet, ends}
+use Rattle.laws_queues.proofs.Queues.Pending.{nothing_waits}
+use Rattle.laws_queues.proofs.Queues.Values.{encoded, item}
+
+abbrev pub call_at : {T : Type 0} → LengthOf → ℕ → LenStage → QueueFlight T
+call_at which c stage = Length which (len_at c stage)
+
+-- how many values wait between the positions, as the call computes it
+number_is : {V : Type 0} → (size : ℕ) (words_of : V → List ℕ) (cells c : ℕ) (k : Core V)
+    → Good size words_of cells k → (c ≡ 0 → length k.waiting ≡ 0) → k.write < 2 ^ 64
+    → length k.waiting ≡ number_waiting c k.write k.read
+number_is x0 x1 x2 x3 x4 x5 x6 x7 = grind arith
+
+module _ {T : Type 0} (en : Coding T) (kd : QueueKind) (scene : Scene T kd) (inv : Inv en kd scene)
+    (small : scene.core.write < 2 ^ 64) (before : IsCalm en kd scene scene.core.read) where
+  open scene use {capacity as c, roles as ro, core as k, party as p, steps, backs, since, changes, latest, events}
+
+  g : Good (encoded en kd).size (encoded en kd).words_of (cells_of kd c) k
+  g = inv.queue.good
+
+  book : published events ≡ handed_out events ++ map (item kd) k.waiting
+  book = inv.queue.book
+
+  hangs : Hangs T kd c k (pending k.read ro.producer latest)
+  hangs = inv.queue.hangs
+
+  -- so many values wait now
+  waits_now : Waited c p events k.write k.read
+  waits_now =
+      let long : length (map {B = Item T} (item kd) k.waiting) ≡ length k.waiting = length-map k.waiting (item kd) in
+      held_now p (λ part. length (waiting part) ≡ number_waiting c k.write k.read) events
+      (ap length (waiting_is events (map (item kd) k.waiting) book)
+      ∙ (long ∙ number_is (encoded en kd).size (encoded en kd).words_of (cells_of kd c) c k g
+      (λ none. nothing_waits en kd c k (pending k.read ro.producer latest) none g hangs) (omega arith)))
+
+  -- what the three calls have in common
+  module _ (which : LengthOf) (start : QueueStart T)
+      (at : (stage : LenStage) → At en kd c ro k p start (call_at which c stage))
+      (most : (b : ℕ) → 4 * (b + 1) ≤ most_steps en.size kd start b)
+      (wrote : (n : ℕ) → Wrote kd c start (length_answer which c n) [])
+      (grants : (n : ℕ) → GrantsRight events (Finished p (Queues start) (length_answer which c n)))
+      (holders : (n : ℕ) → (fold producer_after ro.producer (Finished p (Queues start) (length_answer which c n) ∷ []) ≡ ro.producer)
+      × (fold consumer_after ro.consumer (Finished p (Queues start) (length_answer which c n) ∷ []) ≡ ro.consumer))
+      (tells : (write read : ℕ) → Waited c p events write read
+      → TellsLength c events (Finished p (Queues start) (length_answer which c (number_waiting c write read)))) where
+    abbrev goes_on : After Len ℕ → After (QueueFlight T) (Answer T)
+    goes_on after = as_call (λ r. Length which r) (length_answer which c) (went_on {M = Unit {0}} as_it_is tt tt after)
+
+    abbrev StaysAt : LenStage → Type 0
+    StaysAt stage =
+        Stays en kd scene start (ask_of (want en (call_at which c stage)))
+        (goes_back {T = T} (call_at which c stage) (old_of (layout ro k) (ask_of (want en (call_at which c stage)))))
+        (after en (call_at which c stage) (old_of (layout ro k) (ask_of (want en (call_at which c stage)))))
+        Quiet
+
+    loads_write : steps ≤ 4 * backs + 0 → KnowsLen c k p events since changes backs lens.TheVariants.LoadsWrite → StaysAt lens.TheVariants.LoadsWrite
+    loads_write s h =
+        quiet en kd scene inv small before false start (Some load_of_write) (call_at which c (lens.TheVariants.LoadsRead k.write)) k refl refl refl refl g refl
+        (record { span = refl; steps = omega arith; at = at (lens.TheVariants.LoadsRead k.write) })
+        (omega arith, omega arith, omega arith)
+        (λ q ne st f h. (h, refl))
+
+    loads_read : (write : ℕ) → steps ≤ 4 * backs + 1
+        → KnowsLen c k p events since changes backs (lens.TheVariants.LoadsRead write)
+        → StaysAt (lens.TheVariants.LoadsRead write)
+    loads_read write s h =
+        let low = h.0 in
+        let paid = h.2 in
+        quiet en kd scene inv small before false start (Some load_of_read)
+        (call_at which c (lens.TheVariants.LoadsWriteAgain write k.read)) k refl refl refl refl g refl
+        (record { span = refl; steps = omega arith; at = at (lens.TheVariants.LoadsWriteAgain write k.read) })
+        ((omega arith, omega arith, omega arith), λ same. rw same waits_now)
+        (λ q ne st f h. (h, refl))
+
+    loads_write_again : (write read : ℕ) → steps ≤ 4 * backs + 2
+        → KnowsLen c k p events since changes backs (lens.TheVariants.LoadsWriteAgain write read)
+        → StaysAt (lens.TheVariants.LoadsWriteAgain write read)
+    loads_write_again write read s h = go (k.write == write) refl
+      where
+        go : (b : Bool) → (k.write == write) ≡ b
+            → Stays en kd scene start (Some load_of_write) (not b)
+            (goes_on (cond b (GoOn (record { capacity = c; stage = lens.TheVariants.LoadsReadAgain write read })) (GoOn (first_len c))))
+            Quiet
+        go true e =
+            let low = h.0.0 in
+            let early = h.0.1 in
+            let paid = h.0.2 in
+            let same : write ≡ k.write = grind (arith, nat_tests) in
+            quiet en kd scene inv small before false start (Some load_of_write)
+            (call_at which c (lens.TheVariants.LoadsReadAgain write read)) k refl refl refl refl g refl
+            (record { span = refl; steps = omega arith; at = at (lens.TheVariants.LoadsReadAgain write read) })
+            ((omega arith, omega arith, omega arith), h.1 same)
+            (λ q ne st f h. (h, refl))
+        go false e =
+            let low = h.0.0 in
+            let early = h.0.1 in
+            let paid = h.0.2 in
+            let moved : k.write ≢ write = grind (arith, nat_tests) in
+            quiet en kd scene inv small before true start (Some load_of_write) (call_at which c lens.TheVariants.LoadsWrite) k refl refl refl refl g refl
+            (record { span = refl; steps = omega arith; at = at lens.TheVariants.LoadsWrite })
+            (omega arith)
+            (λ q ne st f h. (h, refl))
+
+    loads_read_again : (write read : ℕ) → steps ≤ 4 * backs + 3
+        → KnowsLen c k p events since changes backs (lens.TheVariants.LoadsReadAgain write read)
+        → StaysAt (lens.TheVariants.LoadsReadAgain write read)
+    loads_read_again write read s h = go (k.read == read) refl
+      where
+        go : (b : Bool) → (k.read == read) ≡ b
+            → Stays en kd scene start (Some load_of_read) (not b)
+            (goes_on (cond b (Done (number_waiting c write read)) (GoOn (first_len c))))
+            Quiet
+        go true e =
+            let low = h.0.0 in
+            let early = h.0.1 in
+            let paid = h.0.2 in
+            let room = most backs in
+            let none : backs + 0 ≡ backs = omega arith in (
+              k,
+              refl,
+              ends en kd scene inv small ro false start (length_answer which c (number_waiting c write read)) (Some load_of_read)
+                  (wrote (number_waiting c write read))
+                  (tells write read h.1)
+                  (grants (number_waiting c write read))
+                  (holders (number_waiting c write read))
+                  (rw none (omega arith))
+                  (omega arith)
+                  (still_hangs en kd scene inv small k
+                  (party_then en kd scene start (Some load_of_read) false (Done (length_answer which c (number_waiting c write read))))
+                  refl refl refl before)
+                  (λ q ne st f h. (h, refl)),
+            )
+        go false e =
+            let low = h.0.0 in
+            let early = h.0.1 in
+            let paid = h.0.2 in
+            let moved : k.read ≢ read = grind (arith, nat_tests) in
+            quiet en kd scene inv small before true start (Some load_of_read) (call_at which c lens.TheVariants.LoadsWrite) k refl refl refl refl g refl
+            (record { span = refl; steps = omega arith; at = at lens.TheVariants.LoadsWrite })
+            (omega arith)
+            (λ q ne st f h. (h, refl))
+
+    length_step : (stage : LenStage) → steps ≤ 4 * backs + len_number stage → KnowsLen c k p events since changes backs stage → StaysAt stage
+    length_step lens.TheVariants.LoadsWrite s h = loads_write s h
+    length_step (lens.TheVariants.LoadsRead write) s h = loads_read write s h
+    length_step (lens.TheVariants.LoadsWriteAgain write read) s h = loads_write_again write read s h
+    length_step (lens.TheVariants.LoadsReadAgain write read) s h = loads_read_again write read s h
+
+  pub len_step : (stage : LenStage) → steps ≤ 4 * backs + len_number stage → KnowsLen c k p events since changes backs stage
+      → StepOf en kd scene starts.TheVariants.Len (call_at measures.TheVariants.Len c stage)
+  len_step =
+      length_step measures.TheVariants.Len starts.TheVariants.Len (λ stage. refl) (λ b. omega arith)
+      (λ n. record { moments = refl; published = refl; handed_out = refl }) (λ n. tt) (λ n. (refl, refl))
+      (λ write read. held_so p (λ part. length (waiting part) ≡ number_waiting c write read)
+      (λ part. answers.TheVariants.Number (number_waiting c write read) ≡ answers.TheVariants.Number (length (waiting part)))
+      events (λ part e. ap answers.TheVariants.Number (sym e)))
+
+  pub is_empty_step : (stage : LenStage) → steps ≤ 4 * backs + len_number stage → KnowsLen c k p events since changes backs stage
+      → StepOf en kd scene starts.TheVariants.IsEmpty (call_at measures.TheVariants.IsEmpty c stage)
+  is_empty_step =
+      length_step measures.TheVariants.IsEmpty starts.TheVariants.IsEmpty (λ stage. refl) (λ b. omega arith)
+      (λ n. record { moments = refl; published = refl; handed_out = refl }) (λ n. tt) (λ n. (refl, refl))
+      (λ write read. held_so p (λ part. length (waiting part) ≡ number_waiting c write read)
+      (λ part. answers.TheVariants.Truth (number_waiting c write read == 0) ≡ answers.TheVariants.Truth (length (waiting part) == 0))
+      events (λ part e. ap (λ n. answers.TheVariants.Truth (n == 0)) (sym e)))
+
+  pub is_full_step : (stage : LenStage) → steps ≤ 4 * backs + len_number stage → KnowsLen c k p events since changes backs stage
+      → StepOf en kd scene starts.TheVariants.IsFull (call_at measures.TheVariants.IsFull c stage)
+  is_full_step =
+      length_step measures.TheVariants.IsFull starts.TheVariants.IsFull (λ stage. refl) (λ b. omega arith)
+      (λ n. record { moments = refl; published = refl; handed_out = refl }) (λ n. tt) (λ n. (refl, refl))
+      (λ write read. held_so p (λ part. length (waiting part) ≡ number_waiting c write read)
+      (λ part. answers.TheVariants.Truth (number_waiting c write read == c) ≡ answers.TheVariants.Truth (length (waiting part) == c))
+      events (λ part e. ap (λ n. answers.TheVariants.Truth (n == c)) (sym e)))

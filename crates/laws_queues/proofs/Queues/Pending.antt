@@ -1,0 +1,80 @@
+-- The push of an overflowing queue that has published and not acted, as parties and positions move.
+use Rattle.std.proofs.Common.{◌≡◌, ◌≢◌, ℕ, ◌≤◌, ⊎_elim, Option, Some, None, option_map, List, length, refl, sym, ap, subst, ◌∙◌, arith}
+use Rattle.std.proofs.lemmas.Bool.{cases_eq}
+use Rattle.model.specs.declared.party.Party.{Party}
+use Rattle.model.specs.declared.families.queues.QueueKind.{QueueKind}
+use Rattle.model.specs.declared.families.queues.QueueKind as kinds
+use Rattle.model.specs.Coding.{Coding}
+use Rattle.model.specs.Families.Queues.Opening.{cells_of}
+use Rattle.model.specs.Families.Queues.Steps.{pending_at, pending}
+use Rattle.model.specs.Parties.{party_of, put, doing_of, flight_of}
+use Rattle.model.proofs.Parties.{party_put_same, party_put_other}
+use Rattle.laws_queues.proofs.Queues.Core.{Core, Good}
+use Rattle.laws_queues.proofs.Queues.Knows.{Hangs}
+use Rattle.laws_queues.proofs.Queues.Values.{Val, encoded}
+
+module _ {T : Type 0} where
+  -- a party whose call is no such push, before and after it moved
+  pub pending_put :
+      (position : ℕ) (pr : Option ℕ) (p : ℕ) (y : Party T) (latest : List (ℕ × Party T)) → pending_at position (flight_of (Some y.doing)) ≡ None
+      → pending_at position (flight_of (doing_of (party_of p latest))) ≡ None → pending position pr (put p y latest) ≡ pending position pr latest
+  pending_put position None p y latest after before = refl
+  pending_put position (Some q) p y latest after before = ⊎_elim mine theirs (cases_eq q p)
+    where
+      mine : q ≡ p → pending position (Some q) (put p y latest) ≡ pending position (Some q) latest
+      mine e =
+          let here : party_of q (put p y latest) ≡ Some y = ap (λ n. party_of n (put p y latest)) e ∙ party_put_same p y latest in
+          let none : pending_at position (flight_of (doing_of (party_of q (put p y latest)))) ≡ None =
+          ap (λ o. pending_at position (flight_of (doing_of o))) here ∙ after in
+          let was : pending_at position (flight_of (doing_of (party_of q latest))) ≡ None =
+          ap (λ n. pending_at position (flight_of (doing_of (party_of n latest)))) e ∙ before in
+          ap (option_map (λ (v : ℕ). (q, v))) (none ∙ sym was)
+
+      theirs : q ≢ p → pending position (Some q) (put p y latest) ≡ pending position (Some q) latest
+      theirs ne = ap (λ o. option_map (λ (v : ℕ). (q, v)) (pending_at position (flight_of (doing_of o)))) (party_put_other q p y latest ne)
+
+  -- the party that has moved holds the role
+  pub pending_here : (position p : ℕ) (y : Party T) (latest : List (ℕ × Party T))
+      → pending position (Some p) (put p y latest) ≡ option_map (λ v. (p, v)) (pending_at position (flight_of (Some y.doing)))
+  pending_here position p y latest = ap (λ o. option_map (λ (v : ℕ). (p, v)) (pending_at position (flight_of (doing_of o)))) (party_put_same p y latest)
+
+  -- which push is pending once the holder of the role has moved
+  pub pending_after : (position p : ℕ) (pr : Option ℕ) → pr ≡ Some p → (y : Party T) (latest : List (ℕ × Party T))
+      → pending position pr (put p y latest) ≡ option_map (λ v. (p, v)) (pending_at position (flight_of (Some y.doing)))
+  pending_after position p pr holds y latest =
+      subst (λ o. pending position o (put p y latest) ≡ option_map (λ (n : ℕ). (p, n)) (pending_at position (flight_of (Some y.doing)))) (sym holds)
+      (pending_here position p y latest)
+
+pub hangs_same : (T : Type 0) (kd : QueueKind) (c : ℕ) (k k' : Core (Val T kd)) (o o' : Option (ℕ × ℕ))
+    → k'.waiting ≡ k.waiting → o' ≡ o → Hangs T kd c k o → Hangs T kd c k' o'
+hangs_same T kinds.TheVariants.IndexQueue c k k' o o' same e h = tt
+hangs_same T kinds.TheVariants.Queue c k k' o o' same e h = tt
+hangs_same T kinds.TheVariants.Overflow c k k' o o' same e h = subst (Hangs T kinds.TheVariants.Overflow c k') (sym e) (go o h)
+  where
+    go : (o : Option (ℕ × ℕ)) → Hangs T kinds.TheVariants.Overflow c k o → Hangs T kinds.TheVariants.Overflow c k' o
+    go None h = rw same h
+    go (Some push) h = (h.0, h.1, same ∙ h.2, h.3)
+
+-- where no push is pending
+pub few_wait : {T : Type 0} → (en : Coding T) (kd : QueueKind) (c : ℕ) (k : Core (Val T kd)) (o : Option (ℕ × ℕ))
+    → o ≡ None → Good (encoded en kd).size (encoded en kd).words_of (cells_of kd c) k → Hangs T kd c k o
+    → length k.waiting ≤ c
+few_wait {T = T} en kinds.TheVariants.IndexQueue c k o e g h = g.few
+few_wait {T = T} en kinds.TheVariants.Queue c k o e g h = g.few
+few_wait {T = T} en kinds.TheVariants.Overflow c k o e g h = subst (Hangs T kinds.TheVariants.Overflow c k) e h
+
+pub none_hangs : (T : Type 0) (kd : QueueKind) (c : ℕ) (k : Core (Val T kd)) (o : Option (ℕ × ℕ)) → o ≡ None → length k.waiting ≤ c → Hangs T kd c k o
+none_hangs T kinds.TheVariants.IndexQueue c k o e few = tt
+none_hangs T kinds.TheVariants.Queue c k o e few = tt
+none_hangs T kinds.TheVariants.Overflow c k o e few = subst (Hangs T kinds.TheVariants.Overflow c k) (sym e) few
+
+-- without capacity nothing waits
+pub nothing_waits : {T : Type 0}
+    → (en : Coding T) (kd : QueueKind) (c : ℕ) (k : Core (Val T kd)) (o : Option (ℕ × ℕ)) → c ≡ 0
+    → Good (encoded en kd).size (encoded en kd).words_of (cells_of kd c) k → Hangs T kd c k o → length k.waiting ≡ 0
+nothing_waits {T = T} en kinds.TheVariants.IndexQueue c k o e g h = let few = g.few in omega arith
+nothing_waits {T = T} en kinds.TheVariants.Queue c k o e g h = let few = g.few in omega arith
+nothing_waits {T = T} en kinds.TheVariants.Overflow c k o e g h = go o h
+  where
+    go : (o : Option (ℕ × ℕ)) → Hangs T kinds.TheVariants.Overflow c k o → length k.waiting ≡ 0
+    go x0 x1 = grind arith

@@ -1,0 +1,175 @@
+-- What the steps of the calls on roles show. A role's word is 1 while the role is free.
+use Rattle.std.proofs.Common.{◌≡◌, ℕ, ◌^◌, ◌<◌, ◌≤◌, true, false, Option, Some, None, option_map, refl, ap, subst, sym, ◌∙◌, arith}
+use Rattle.steps.specs.declared.ask.Ask.{Ask}
+use Rattle.steps.specs.declared.ask.Op.TheVariants.{Store, Exchange}
+use Rattle.steps.specs.declared.ask.After.TheVariants.{Done}
+use Rattle.model.specs.declared.event.Answer.{Answer}
+use Rattle.model.specs.declared.event.Answer as answers
+use Rattle.model.specs.declared.families.queues.QueueStart.TheVariants.{AcquireProducer, ReleaseProducer, AcquireConsumer, ReleaseConsumer}
+use Rattle.model.specs.declared.families.queues.QueueKind.{QueueKind}
+use Rattle.model.specs.Coding.{Coding}
+use Rattle.model.specs.Families.Queues.Calls.{acquire_of, release_of, producer_word, consumer_word}
+use Rattle.model.specs.Families.Queues.Steps.{pending}
+use Rattle.model.specs.Parties.{put}
+use Rattle.laws_queues.proofs.Queues.Invariant.{Scene, Inv}
+use Rattle.laws_queues.proofs.Queues.Keeping.{clash, kept, keeps_same}
+use Rattle.laws_queues.proofs.Queues.Pending.{pending_here, few_wait, none_hangs}
+use Rattle.laws_queues.proofs.Queues.Stages.{IsCalm, party_then, StepOf, still_hangs, ends}
+
+abbrev takes : ℕ → Option Ask
+takes word = Some (record { word = word; op = Exchange 1 0 })
+
+abbrev gives : ℕ → Option Ask
+gives word = Some (record { word = word; op = Store 1 })
+
+-- the scene with other holders of the roles
+abbrev with_roles : {T : Type 0} → {kd : QueueKind} → Scene T kd → Option ℕ → Option ℕ → Scene T kd
+with_roles scene pr co = record scene { roles = record { producer = pr; consumer = co } }
+
+module _ {T : Type 0} (en : Coding T) (kd : QueueKind) (scene : Scene T kd) (small : scene.core.write < 2 ^ 64)
+    (s : scene.steps ≤ 0) (b : scene.backs ≡ 0) where
+  open scene use {capacity as c, core as k}
+
+  abbrev IsQuiet : Option ℕ → Option ℕ → Type 0
+  IsQuiet pr co = IsCalm en kd (with_roles scene pr co) k.read
+
+  acquire_producer : (pr co : Option ℕ) → Inv en kd (with_roles scene pr co) → IsQuiet pr co
+      → StepOf en kd (with_roles scene pr co) AcquireProducer (acquire_of producer_word)
+  acquire_producer None co inv before = (
+    k,
+    refl,
+    ends en kd (with_roles scene None co) inv small (record { producer = Some scene.party; consumer = co }) false
+        AcquireProducer (answers.TheVariants.Truth true) (takes producer_word)
+        (record { moments = refl; published = refl; handed_out = refl })
+        tt
+        (rw inv.queue.producers refl)
+        (refl, refl)
+        (omega arith)
+        (omega arith)
+        (none_hangs T kd c k (pending k.read (Some scene.party)
+        (put scene.party (party_then en kd (with_roles scene None co) AcquireProducer (takes producer_word) false
+        (Done (answers.TheVariants.Truth true)))
+        scene.latest))
+        (pending_here k.read scene.party
+        (party_then en kd (with_roles scene None co) AcquireProducer (takes producer_word) false
+        (Done (answers.TheVariants.Truth true)))
+        scene.latest)
+        (few_wait en kd c k (pending k.read None scene.latest) refl inv.queue.good inv.queue.hangs))
+        (λ q ne. kept (record { producer = None; consumer = co })
+        (record { producer = Some scene.party; consumer = co }) q (λ h. cc) (λ h. h) en c kd k k
+        (keeps_same en kd c (record { producer = None; consumer = co }) k q)),
+  )
+  acquire_producer (Some r) co inv before = (
+    k,
+    refl,
+    ends en kd (with_roles scene (Some r) co) inv small (record { producer = Some r; consumer = co }) false
+        AcquireProducer (answers.TheVariants.Truth false) (takes producer_word)
+        (record { moments = refl; published = refl; handed_out = refl })
+        tt
+        (rw inv.queue.producers refl)
+        (refl, refl)
+        (omega arith)
+        (omega arith)
+        (still_hangs en kd (with_roles scene (Some r) co) inv small k
+        (party_then en kd (with_roles scene (Some r) co) AcquireProducer (takes producer_word) false
+        (Done (answers.TheVariants.Truth false)))
+        refl refl refl before)
+        (λ q ne st f h. (h, refl)),
+  )
+
+  acquire_consumer : (pr co : Option ℕ) → Inv en kd (with_roles scene pr co) → IsQuiet pr co
+      → StepOf en kd (with_roles scene pr co) AcquireConsumer (acquire_of consumer_word)
+  acquire_consumer pr None inv before = (
+    k,
+    refl,
+    ends en kd (with_roles scene pr None) inv small (record { producer = pr; consumer = Some scene.party }) false
+        AcquireConsumer (answers.TheVariants.Truth true) (takes consumer_word)
+        (record { moments = refl; published = refl; handed_out = refl })
+        tt
+        (rw inv.queue.consumers refl)
+        (refl, refl)
+        (omega arith)
+        (omega arith)
+        (still_hangs en kd (with_roles scene pr None) inv small k
+        (party_then en kd (with_roles scene pr None) AcquireConsumer (takes consumer_word) false
+        (Done (answers.TheVariants.Truth true)))
+        refl refl refl before)
+        (λ q ne. kept (record { producer = pr; consumer = None })
+        (record { producer = pr; consumer = Some scene.party }) q (λ h. h) (λ h. cc) en c kd k k
+        (keeps_same en kd c (record { producer = pr; consumer = None }) k q)),
+  )
+  acquire_consumer pr (Some r) inv before = (
+    k,
+    refl,
+    ends en kd (with_roles scene pr (Some r)) inv small (record { producer = pr; consumer = Some r }) false
+        AcquireConsumer (answers.TheVariants.Truth false) (takes consumer_word)
+        (record { moments = refl; published = refl; handed_out = refl })
+        tt
+        (rw inv.queue.consumers refl)
+        (refl, refl)
+        (omega arith)
+        (omega arith)
+        (still_hangs en kd (with_roles scene pr (Some r)) inv small k
+        (party_then en kd (with_roles scene pr (Some r)) AcquireConsumer (takes consumer_word) false
+        (Done (answers.TheVariants.Truth false)))
+        refl refl refl before)
+        (λ q ne st f h. (h, refl)),
+  )
+
+  release_producer : (pr co : Option ℕ) → pr ≡ Some scene.party → Inv en kd (with_roles scene pr co) → IsQuiet pr co
+      → StepOf en kd (with_roles scene pr co) ReleaseProducer (release_of producer_word)
+  release_producer pr co holds inv before = (
+    k,
+    refl,
+    ends en kd (with_roles scene pr co) inv small (record { producer = None; consumer = co }) false ReleaseProducer
+        answers.TheVariants.Done (gives producer_word)
+        (record { moments = refl; published = refl; handed_out = refl })
+        tt
+        (refl, inv.queue.producers ∙ holds)
+        (refl, refl)
+        (omega arith)
+        (omega arith)
+        (none_hangs T kd c k None refl
+        (few_wait en kd c k (pending k.read pr scene.latest)
+        (subst (λ o. pending k.read o scene.latest ≡ None) (sym holds) (ap (option_map (λ (v : ℕ). (scene.party, v))) before))
+        inv.queue.good inv.queue.hangs))
+        (λ q ne. kept (record { producer = pr; consumer = co }) (record { producer = None; consumer = co }) q
+        (λ h. absurd (clash pr scene.party q ne holds h)) (λ h. h) en c kd k k
+        (keeps_same en kd c (record { producer = pr; consumer = co }) k q)),
+  )
+
+  release_consumer : (pr co : Option ℕ) → co ≡ Some scene.party → Inv en kd (with_roles scene pr co) → IsQuiet pr co
+      → StepOf en kd (with_roles scene pr co) ReleaseConsumer (release_of consumer_word)
+  release_consumer pr co holds inv before = (
+    k,
+    refl,
+    ends en kd (with_roles scene pr co) inv small (record { producer = pr; consumer = None }) false ReleaseConsumer
+        answers.TheVariants.Done (gives consumer_word)
+        (record { moments = refl; published = refl; handed_out = refl })
+        tt
+        (refl, inv.queue.consumers ∙ holds)
+        (refl, refl)
+        (omega arith)
+        (omega arith)
+        (still_hangs en kd (with_roles scene pr co) inv small k
+        (party_then en kd (with_roles scene pr co) ReleaseConsumer (gives consumer_word) false (Done answers.TheVariants.Done))
+        refl refl refl before)
+        (λ q ne. kept (record { producer = pr; consumer = co }) (record { producer = pr; consumer = None }) q
+        (λ h. h) (λ h. absurd (clash co scene.party q ne holds h)) en c kd k k
+        (keeps_same en kd c (record { producer = pr; consumer = co }) k q)),
+  )
+
+  -- with the holders as they are
+  pub acquires_producer : Inv en kd scene → IsCalm en kd scene k.read → StepOf en kd scene AcquireProducer (acquire_of producer_word)
+  acquires_producer inv before = acquire_producer scene.roles.producer scene.roles.consumer inv before
+
+  pub acquires_consumer : Inv en kd scene → IsCalm en kd scene k.read → StepOf en kd scene AcquireConsumer (acquire_of consumer_word)
+  acquires_consumer inv before = acquire_consumer scene.roles.producer scene.roles.consumer inv before
+
+  pub releases_producer : scene.roles.producer ≡ Some scene.party → Inv en kd scene → IsCalm en kd scene k.read
+      → StepOf en kd scene ReleaseProducer (release_of producer_word)
+  releases_producer holds inv before = release_producer scene.roles.producer scene.roles.consumer holds inv before
+
+  pub releases_consumer : scene.roles.consumer ≡ Some scene.party → Inv en kd scene → IsCalm en kd scene k.read
+      → StepOf en kd scene ReleaseConsumer (release_of consumer_word)
+  releases_consumer holds inv before = release_consumer scene.roles.producer scene.roles.consumer holds inv before

@@ -1,0 +1,179 @@
+-- The laws of a family with a premise on the turn.
+use Rattle.std.proofs.Common.{◌≡◌, ℕ, ◌+◌, Bool, true, Option, Some, None, List, [], ◌∷◌, ◌++◌, refl, sym, ap, subst, ◌∙◌, append-nil}
+use Rattle.steps.specs.declared.ask.Ask.{Ask}
+use Rattle.model.specs.declared.event.Event.TheVariants.{Begun, Died}
+use Rattle.model.specs.declared.event.Start.{Start}
+use Rattle.model.specs.declared.families.Flight.{Flight}
+use Rattle.model.specs.declared.party.Doing.{Doing}
+use Rattle.model.specs.declared.party.Doing.TheVariants.{Going, Over}
+use Rattle.model.specs.declared.party.Party.{Party}
+use Rattle.model.specs.declared.turn.Turn.{Turn}
+use Rattle.model.specs.declared.turn.Turn.TheVariants.{Begin, Next, Decide, Die}
+use Rattle.model.specs.Families.{first_of, want_of, ask_of, is_question, going_rows, kept_after_begin}
+use Rattle.model.specs.Parties.{party_of, doing_of, flight_of}
+use Rattle.model.specs.Promises.Spans.{StandsRight}
+use Rattle.model.specs.Reading.{span_of}
+use Rattle.model.specs.Refusals.{call_refusal, is_due}
+use Rattle.model.specs.Rows.{first_row}
+use Rattle.model.specs.Turns.{old_of, change_of, step_count, number_of, ask_of_doing, party_at_begin, after_begin}
+use Rattle.model.specs.Turns.{party_after, after_step, step_in, after_answer, after_next, after_decision, after_turn}
+use Rattle.model.specs.Turns.{events_of_step, events_of_answer, events_of_next, events_of_decision}
+use Rattle.model.specs.World.{Trace, flight_in}
+use Rattle.model.proofs.Readings.{Each-append, span_of-death}
+use Rattle.model.proofs.Rows.{may_begin, may_die, must_be_due, next_passes, decision_passes, MayBegin, MayDie}
+use Rattle.model.proofs.Frame as frame
+use Rattle.model.proofs.Frame.{Family, Sound, is_true}
+use Rattle.model.specs.declared.turn.Refusal.{Refusal}
+use Rattle.model.specs.Turns.{run_on, attempt_on, unless_refused}
+pub use Rattle.laws_queues.specs.Fresh.{AllMay}
+
+-- ---- runs of turns that may be taken
+
+module _ {T : Type 0} (F : Family T) where
+  -- what a family owes, of a call that passes its rows, in a machine of which this holds
+  pub record LawsAt (May : Trace T → Turn T → Type 0) : Type 0 where
+    pub step : (t : Trace T) (p : ℕ) (x : Party T) (flight : Flight T) (since : ℕ) → Sound F t → May t (Next p)
+        → first_row (going_rows t.world.coding t.world.kept (Some flight) None) ≡ None
+        → party_of p t.world.latest ≡ Some x → x.doing ≡ Going flight since
+        → frame.ComesByStep F t p x flight since (ask_of (want_of t.world.coding flight)) (old_of t.world.words (ask_of (want_of t.world.coding flight)))
+    pub decision : (t : Trace T) (p : ℕ) (x : Party T) (flight : Flight T) (since : ℕ) (said : Bool) → Sound F t
+        → May t (Decide p said) → first_row (going_rows t.world.coding t.world.kept (Some flight) (Some said)) ≡ None
+        → party_of p t.world.latest ≡ Some x → x.doing ≡ Going flight since
+        → is_question (want_of t.world.coding flight) ≡ true
+        → frame.ComesByStep F t p x flight since None (number_of said)
+    pub begin : (t : Trace T) (p : ℕ) (start : Start T) (flight : Flight T) → Sound F t → May t (Begin p start)
+        → MayBegin t.world p start → first_of t.world.kind t.world.capacity start t.world.kept ≡ Some flight
+        → frame.Comes F t p (kept_after_begin t.world.coding t.world.capacity start p t.world.kept) t.world.words
+        (party_at_begin start flight t.world.changes) (Begun p start ∷ []) t.world.changes
+    pub death : (t : Trace T) (owner : ℕ) (s : Sound F t) → MayDie t.world owner → frame.ComesByDeath F t s owner
+
+  module _ (May : Trace T → Turn T → Type 0) (laws : LawsAt May) where
+    step_sound : (t : Trace T) (p : ℕ) (x : Party T) (flight : Flight T) (since : ℕ) (ask : Option Ask) (answer : ℕ)
+        → Sound F t → frame.ComesByStep F t p x flight since ask answer
+        → Sound F record {
+          world = after_step t.world p x since ask (step_in t.world p x flight answer);
+          events = t.events ++ events_of_step p x.start (step_in t.world p x flight answer);
+        }
+    step_sound t p x flight since ask answer s comes =
+        let w = t.world in
+        let y = party_after x since w.changes (step_count ask) (change_of w.words ask) (step_in w p x flight answer) in
+        record {
+          coding = s.coding;
+          kind = s.kind;
+          capacity = s.capacity;
+          state = comes.state;
+          fit = comes.fit;
+          holds = comes.holds;
+          inv =
+              frame.advance F s.state comes.state p y w.latest t.events
+              (events_of_step p x.start (step_in w p x flight answer)) w.changes (w.changes + change_of w.words ask)
+              s.inv comes.owes;
+        }
+
+    same : (t : Trace T) → Sound F t → Sound F record { world = t.world; events = t.events ++ [] }
+    same t s = subst (λ es. Sound F record { world = t.world; events = es }) (sym (append-nil t.events)) s
+
+    next_sound : (t : Trace T) (p : ℕ) → May t (Next p)
+        → first_row (going_rows t.world.coding t.world.kept (flight_in t.world p) None) ≡ None → Sound F t
+        → (o : Option (Party T)) → party_of p t.world.latest ≡ o
+        → Sound F record { world = after_next t.world p o; events = t.events ++ events_of_next t.world p o }
+    next_sound t p may rows s None e = same t s
+    next_sound t p may rows s (Some x) e = go x.doing refl
+      where
+        go : (doing : Doing T) → x.doing ≡ doing → Sound F record {
+          world =
+              after_answer t.world p x (ask_of_doing t.world.coding doing) (old_of t.world.words (ask_of_doing t.world.coding doing)) doing;
+          events = t.events ++ events_of_answer t.world p x (old_of t.world.words (ask_of_doing t.world.coding doing)) doing;
+        }
+        go (Over others) d = same t s
+        go (Going flight since) d =
+            let here : flight_in t.world p ≡ Some flight = ap (λ o. flight_of (doing_of o)) e ∙ ap (λ d. flight_of (Some d)) d in
+            let passed : first_row (going_rows t.world.coding t.world.kept (Some flight) None) ≡ None =
+            subst (λ o. first_row (going_rows t.world.coding t.world.kept o None) ≡ None) here rows in
+            step_sound t p x flight since (ask_of (want_of t.world.coding flight)) (old_of t.world.words (ask_of (want_of t.world.coding flight))) s
+            (laws.step t p x flight since s may passed e d)
+
+    decision_sound : (t : Trace T) (p : ℕ) (said : Bool) → May t (Decide p said)
+        → first_row (going_rows t.world.coding t.world.kept (flight_in t.world p) (Some said)) ≡ None
+        → is_due t.world.coding (flight_in t.world p) ≡ true → Sound F t → (o : Option (Party T))
+        → party_of p t.world.latest ≡ o
+        → Sound F record { world = after_decision t.world p said o; events = t.events ++ events_of_decision t.world p said o }
+    decision_sound t p said may rows due s None e = same t s
+    decision_sound t p said may rows due s (Some x) e = go x.doing refl
+      where
+        go : (doing : Doing T) → x.doing ≡ doing → Sound F record {
+          world = after_answer t.world p x None (number_of said) doing;
+          events = t.events ++ events_of_answer t.world p x (number_of said) doing;
+        }
+        go (Over others) d = same t s
+        go (Going flight since) d =
+            let here : flight_in t.world p ≡ Some flight = ap (λ o. flight_of (doing_of o)) e ∙ ap (λ d. flight_of (Some d)) d in
+            let asks : is_question (want_of t.world.coding flight) ≡ true = rw here at due in
+            let passed : first_row (going_rows t.world.coding t.world.kept (Some flight) (Some said)) ≡ None =
+            subst (λ o. first_row (going_rows t.world.coding t.world.kept o (Some said)) ≡ None) here rows in
+            step_sound t p x flight since None (number_of said) s (laws.decision t p x flight since said s may passed e d asks)
+
+    begin_sound : (t : Trace T) (p : ℕ) (start : Start T) → May t (Begin p start) → MayBegin t.world p start
+        → Sound F t → (o : Option (Flight T)) → first_of t.world.kind t.world.capacity start t.world.kept ≡ o
+        → Sound F record { world = after_begin t.world p start o; events = t.events ++ Begun p start ∷ [] }
+    begin_sound t p start small may s None e =
+        let call = rw e at may.call in
+        absurd (cc)
+    begin_sound t p start small may s (Some flight) e =
+        let w = t.world in
+        let comes = laws.begin t p start flight s small may e in
+        record {
+          coding = s.coding;
+          kind = s.kind;
+          capacity = s.capacity;
+          state = comes.state;
+          fit = comes.fit;
+          holds = comes.holds;
+          inv =
+              frame.advance F s.state comes.state p (party_at_begin start flight w.changes) w.latest t.events
+              (Begun p start ∷ []) w.changes w.changes s.inv comes.owes;
+        }
+
+    death_sound : (t : Trace T) (owner : ℕ) → MayDie t.world owner → Sound F t → Sound F (after_turn t (Die owner))
+    death_sound t owner may s =
+        let w = t.world in
+        let es = Died owner ∷ [] in
+        let comes = laws.death t owner s may in
+        record {
+          coding = s.coding;
+          kind = s.kind;
+          capacity = s.capacity;
+          state = comes.state;
+          fit = comes.fit;
+          holds = comes.holds;
+          inv =
+              record {
+                spans = Each-append (StandsRight F.promise F.capacity) t.events es s.inv.spans (tt, tt);
+                calls = λ q.
+                    subst (λ a. frame.Fits F comes.state q (party_of q w.latest) a) (sym (span_of-death q t.events owner))
+                    (frame.still_fits F s.state comes.state q (comes.calls q) (party_of q w.latest) (span_of q t.events) (s.inv.calls q));
+                knows =
+                    λ q. frame.still_knows F s.state comes.state q t.events es w.changes w.changes (comes.calls_know q)
+                    (party_of q w.latest) (s.inv.knows q);
+              };
+        }
+
+    pub turn_sound : (t : Trace T) (turn : Turn T) → call_refusal t.world turn ≡ None → May t turn → Sound F t → Sound F (after_turn t turn)
+    turn_sound t (Begin p start) e may s =
+        begin_sound t p start may (may_begin t.world p start e) s (first_of t.world.kind t.world.capacity start t.world.kept) refl
+    turn_sound t (Next p) e may s = next_sound t p may (next_passes t.world p e) s (party_of p t.world.latest) refl
+    turn_sound t (Decide p said) e may s =
+        decision_sound t p said may (decision_passes t.world p said e)
+        (is_true (is_due t.world.coding (flight_in t.world p)) (must_be_due t.world p said e)) s
+        (party_of p t.world.latest) refl
+    turn_sound t (Die owner) e may s = death_sound t owner (may_die t.world owner e) s
+
+  module _ (May : Trace T → Turn T → Type 0) (laws : LawsAt May) where
+    pub attempt_sound : (t : Trace T) (turn : Turn T) (o : Option Refusal) → call_refusal t.world turn ≡ o
+        → (call_refusal t.world turn ≡ None → May t turn) → Sound F t → Sound F (unless_refused t (after_turn t turn) o)
+    attempt_sound t turn None e may h = turn_sound May laws t turn e (may e) h
+    attempt_sound t turn (Some refusal) e may h = h
+
+    pub run_sound : (turns : List (Turn T)) (t : Trace T) → AllMay May turns t → Sound F t → Sound F (run_on turns t)
+    run_sound [] t may h = h
+    run_sound (turn ∷ turns) t may h = run_sound turns (attempt_on t turn) may.1 (attempt_sound t turn (call_refusal t.world turn) refl may.0 h)

@@ -1,0 +1,251 @@
+-- What a step of a queue's call has to show.
+use Rattle.std.proofs.Common.{◌≡◌, ◌≢◌, ℕ, ◌+◌, ◌-◌, ◌*◌, ◌%◌, ◌^◌, ◌<◌, ◌≤◌, Bool, true, false, ◌||◌, ◌⊎◌, Option}
+use Rattle.std.proofs.Common.{Some, None, List, [], ◌∷◌, ◌++◌, fold, length, map, refl, sym, ap, subst, ◌∙◌}
+use Rattle.std.proofs.Common.{append-nil, arith}
+use native.Mathlib.Nat.{mul-le-mul_right}
+use Rattle.steps.specs.declared.ask.Ask.{Ask}
+use Rattle.steps.specs.declared.ask.After.{After}
+use Rattle.steps.specs.declared.ask.After.TheVariants.{GoOn, Done}
+use Rattle.steps.specs.Queues.Ring.{cell_word, word_at}
+use Rattle.model.specs.declared.event.Answer.{Answer}
+use Rattle.model.specs.declared.event.Event.{Event}
+use Rattle.model.specs.declared.event.Event.TheVariants.{Finished}
+use Rattle.model.specs.declared.event.Start.TheVariants.{Queues}
+use Rattle.model.specs.declared.families.Flight.{Flight}
+use Rattle.model.specs.declared.families.Flight as flights
+use Rattle.model.specs.declared.families.Registry.{Registry}
+use Rattle.model.specs.declared.families.Registry as registries
+use Rattle.model.specs.declared.families.queues.QueueStart.{QueueStart}
+use Rattle.model.specs.declared.families.queues.Roles.{Roles}
+use Rattle.model.specs.declared.families.queues.calls.QueueFlight.{QueueFlight}
+use Rattle.model.specs.declared.families.queues.effects.Effect.{Effect}
+use Rattle.model.specs.declared.families.queues.effects.Effect.TheVariants.{Quiet}
+use Rattle.model.specs.declared.party.Doing.TheVariants.{Over}
+use Rattle.model.specs.declared.party.Party.{Party}
+use Rattle.model.specs.declared.families.queues.QueueKind.{QueueKind}
+use Rattle.model.specs.Coding.{Coding}
+use Rattle.model.specs.Families.{ask_of}
+use Rattle.model.specs.Families.Queues.Bounds.{most_steps}
+use Rattle.model.specs.Families.Queues.Calls.{want, after, goes_back}
+use Rattle.model.specs.Families.Queues.Lengths.{TellsLength}
+use Rattle.model.specs.Families.Queues.Opening.{cells_of}
+use Rattle.model.specs.Families.Queues.Reading.{producer_after, consumer_after}
+use Rattle.model.specs.Families.Queues.Roles.{GrantsRight}
+use Rattle.model.specs.Families.Queues.Spans.{Wrote}
+use Rattle.model.specs.Families.Queues.Steps.{pending_at, pending, beside, effect_of, effects_of, roles_after}
+use Rattle.model.specs.Parties.{party_of, put, doing_of, flight_of}
+use Rattle.model.specs.Reading.{Open, span_of}
+use Rattle.model.specs.Step.{as_call, answer_in}
+use Rattle.model.specs.Turns.{one_if, old_of, words_after, change_of, step_count, party_after, ending_of}
+use Rattle.model.proofs.Frame as frame
+use Rattle.laws_queues.proofs.Queues.Core.{Core, Good, cell_within}
+use Rattle.laws_queues.proofs.Queues.Invariant.{Scene, Inv, ShowsQueue, Shows, family, owes, queue_part}
+use Rattle.laws_queues.proofs.Queues.Knows.{layout, listed, has_written, Hangs, KnowsFlight, At}
+use Rattle.laws_queues.proofs.Queues.Values.{Val, encoded, item}
+use Rattle.laws_queues.proofs.Queues.Pending.{pending_put, hangs_same}
+
+pub or_true : (a b : Bool) → (a || b) ≡ true → (a ≡ true) ⊎ (b ≡ true)
+or_true x0 x1 x2 = grind arith
+
+pub first_of_some : {A : Type 0} → (xs : List A) → 0 < length xs → (x : A) × (rest : List A) × (xs ≡ x ∷ rest)
+first_of_some [] h = absurd (omega arith)
+first_of_some (x ∷ xs) h = (x, xs, refl)
+
+pub or_false : (a b : Bool) → (a || b) ≡ false → (a ≡ false) × (b ≡ false)
+or_false x0 x1 x2 = grind arith
+
+-- the place of a cell's first word among the words
+pub cell_place : (size c position : ℕ) → 0 < c → cell_word c size position ≡ 4 + size * (position % c)
+cell_place x0 x1 x2 x3 = grind arith
+
+-- a word of a cell as a call asks for it, which wraps
+abbrev pub cell_asked : ℕ → ℕ → ℕ → ℕ → ℕ
+cell_asked size c position at = word_at (cell_word c size position) at
+
+pub asked_place : (size c position at : ℕ) → 0 < c → c < 2 ^ 32 → size ≤ 128 → at < size → cell_asked size c position at ≡ 4 + (size * (position % c) + at)
+asked_place size c position at some fits few below =
+    let place = cell_place size c position some in
+    let within = cell_within size c position at some below in
+    let wide : size * c ≤ 128 * c = mul-le-mul_right c few in
+    omega arith
+
+module _ {T : Type 0} where
+  -- a queue's call as one of any family
+  abbrev pub any_call : After (QueueFlight T) (Answer T) → After (Flight T) (Answer T)
+  any_call after = as_call flights.TheVariants.Queues (λ answer. answer) after
+
+  -- the events of a step, the end of the call last
+  abbrev pub told_after : ℕ → QueueStart T → Effect T → After (QueueFlight T) (Answer T) → List (Event T)
+  told_after p start effect after = effects_of p start effect (answer_in after) ++ ending_of p (Queues start) (answer_in (any_call after))
+
+module _ {T : Type 0} (en : Coding T) (kd : QueueKind) (scene : Scene T kd) where
+  open scene use {capacity as c, roles as ro, core as k, party as p}
+
+  abbrev words : List ℕ
+  words = layout scene.roles scene.core
+
+  -- the party as it stands before the step
+  abbrev pub party : QueueStart T → Party T
+  party start = record { start = Queues start; steps = scene.steps; backs = scene.backs; doing = Over 0 }
+
+  -- and after a step that does this operation
+  abbrev pub party_then : QueueStart T → Option Ask → Bool → After (QueueFlight T) (Answer T) → Party T
+  party_then start ask back after =
+      party_after (party start) scene.since scene.changes (step_count ask) (change_of words ask)
+      (record { after = any_call after; back = back; wrote = []; kept = registries.TheVariants.Queues ro })
+
+  -- how often words have changed then
+  abbrev pub changes_then : Option Ask → ℕ
+  changes_then ask = scene.changes + change_of words ask
+
+  -- a step after which the call is this, and which leaves the roles with these holders
+  abbrev pub Leaves : Roles → List (Event T) → QueueStart T → Option Ask → Bool → After (QueueFlight T) (Answer T) → Effect T → Type 0
+  Leaves ro' wrote start ask back after effect =
+      (k' : Core (Val T kd)) × (words_after words ask ≡ layout ro' k')
+      × Shows en kd scene ro' k' (Open (Queues start) wrote) (party_then start ask back after) (told_after p start effect after) (changes_then ask)
+
+  abbrev pub DoesStep : List (Event T) → QueueStart T → Option Ask → Bool → After (QueueFlight T) (Answer T) → Effect T → Type 0
+  DoesStep wrote start ask back after effect = Leaves (roles_after p start (answer_in after) ro) wrote start ask back after effect
+
+  -- the old value of the word that a call asks for
+  abbrev pub old_for : QueueFlight T → ℕ
+  old_for flight = old_of words (ask_of (want en flight))
+
+  abbrev pub effect_for : QueueFlight T → Effect T
+  effect_for flight = effect_of en words (beside ro words scene.latest p) flight (old_for flight)
+
+  abbrev pub StepOf : QueueStart T → QueueFlight T → Type 0
+  StepOf start flight =
+      DoesStep (has_written c k p flight) start (ask_of (want en flight)) (goes_back flight (old_for flight))
+      (after en flight (old_for flight)) (effect_for flight)
+
+  abbrev pub Stays : QueueStart T → Option Ask → Bool → After (QueueFlight T) (Answer T) → Effect T → Type 0
+  Stays start ask back after effect = Leaves ro [] start ask back after effect
+
+  -- no push of this party is pending
+  abbrev pub IsCalm : ℕ → Type 0
+  IsCalm position = pending_at position (flight_of (doing_of (party_of p scene.latest))) ≡ None
+
+  module _ (inv : Inv en kd scene) (small : scene.core.write < 2 ^ 64) where
+    -- none is pending before or after, and the queue stays
+    pub still_hangs : (k' : Core (Val T kd)) (y : Party T) → k'.waiting ≡ k.waiting → k'.read ≡ k.read
+        → pending_at k.read (flight_of (Some y.doing)) ≡ None → IsCalm k.read
+        → Hangs T kd c k' (pending k'.read ro.producer (put p y scene.latest))
+    still_hangs k' y same read after before =
+        hangs_same T kd c k k' (pending k.read ro.producer scene.latest) (pending k'.read ro.producer (put p y scene.latest)) same
+        (ap (λ n. pending n ro.producer (put p y scene.latest)) read ∙ pending_put k.read ro.producer p y scene.latest after before)
+        inv.queue.hangs
+
+    -- the call goes on, and the positions and what waits stay
+    pub quiet :
+        IsCalm k.read → (back : Bool) (start : QueueStart T) (ask : Option Ask) (flight : QueueFlight T) (k' : Core (Val T kd))
+        → pending_at k.read (Some (flights.TheVariants.Queues flight)) ≡ None → k'.waiting ≡ k.waiting
+        → k'.write ≡ k.write → k'.read ≡ k.read
+        → Good (encoded en kd).size (encoded en kd).words_of (cells_of kd c) k' → words_after words ask ≡ layout ro k'
+        → frame.IsUnderWay (family en kd c) (record { roles = ro; core = k' }) p
+        (party_then start ask back (GoOn flight)) (flights.TheVariants.Queues flight) (Open (Queues start) [])
+        → KnowsFlight c k' p scene.events (scene.since + change_of words ask) (changes_then ask) (scene.backs + one_if back) flight
+        → ((q : ℕ) → q ≢ p → (s : QueueStart T) (f : QueueFlight T) → At en kd c ro k q s f
+        → At en kd c ro k' q s f × (has_written {T = T} c k' q f ≡ has_written c k q f))
+        → Stays start ask back (GoOn flight) Quiet
+    quiet before back start ask flight k' calm same write read good is_words here knows others =
+        let reached = inv.queue.reached in (
+          k',
+          is_words,
+          record {
+            right = tt;
+            lengths = tt;
+            grants = tt;
+            good = good;
+            hangs = still_hangs k' (party_then start ask back (GoOn flight)) same read calm before;
+            book = append-nil (map (item kd) k.waiting) ∙ ap (map (item kd)) (sym same);
+            out = omega arith;
+            producers = refl;
+            consumers = refl;
+            goes = ap (listed kd c) (sym same);
+            answers = refl;
+            up = record { write = omega arith; read = omega arith; paid = omega arith };
+            reached = omega arith;
+            within = omega arith;
+            own = tt;
+            stands = tt;
+            here = here;
+            knows =
+                subst
+                (λ es. KnowsFlight c k' p es (scene.since + change_of words ask) (changes_then ask) (scene.backs + one_if back) flight)
+                (sym (append-nil scene.events)) knows;
+            others = others;
+          },
+        )
+
+    -- the call is done, and nothing is published, handed out or acted
+    pub ends :
+        (ro' : Roles) (back : Bool) (start : QueueStart T) (answer : Answer T) (ask : Option Ask)
+        → Wrote kd c start answer [] → TellsLength c scene.events (Finished p (Queues start) answer)
+        → GrantsRight scene.events (Finished p (Queues start) answer)
+        → (fold producer_after ro.producer (Finished p (Queues start) answer ∷ []) ≡ ro'.producer)
+        × (fold consumer_after ro.consumer (Finished p (Queues start) answer ∷ []) ≡ ro'.consumer)
+        → scene.steps + step_count ask ≤ most_steps en.size kd start (scene.backs + one_if back)
+        → scene.backs + one_if back ≤ changes_then ask - (scene.since + change_of words ask)
+        → Hangs T kd c k (pending k.read ro'.producer (put p (party_then start ask back (Done answer)) scene.latest))
+        → ((q : ℕ) → q ≢ p → (s : QueueStart T) (f : QueueFlight T) → At en kd c ro k q s f
+        → At en kd c ro' k q s f × (has_written {T = T} c k q f ≡ has_written c k q f))
+        → Shows en kd scene ro' k (Open (Queues start) []) (party_then start ask back (Done answer)) (Finished p (Queues start) answer ∷ []) (changes_then ask)
+    ends ro' back start answer ask wrote tells grants holders most paid hung others =
+        let reached = inv.queue.reached in
+        record {
+          right = (tt, tt);
+          lengths = (tells, tt);
+          grants = (grants, tt);
+          good = inv.queue.good;
+          hangs = hung;
+          book = append-nil (map (item kd) k.waiting);
+          out = omega arith;
+          producers = holders.0;
+          consumers = holders.1;
+          goes = refl;
+          answers = refl;
+          up = record { write = omega arith; read = omega arith; paid = omega arith };
+          reached = omega arith;
+          within = omega arith;
+          own = (refl, tt);
+          stands = ((refl, wrote), tt);
+          here = record { answer = answer; wrote = []; span = refl; steps = most };
+          knows = paid;
+          others = others;
+        }
+
+  -- ---- what a step owes, also where it writes events of two parties
+
+  abbrev pub Moves : QueueStart T → Option Ask → Bool → After (QueueFlight T) (Answer T) → Effect T → Type 0
+  Moves start ask back after effect =
+      (k' : Core (Val T kd)) × (words_after words ask ≡ layout (roles_after p start (answer_in after) ro) k')
+      × ShowsQueue en kd scene (roles_after p start (answer_in after) ro) k' (party_then start ask back after)
+      (told_after p start effect after) (changes_then ask)
+      × frame.Owes (family en kd c) (record { roles = roles_after p start (answer_in after) ro; core = k' }) p
+      (party_then start ask back after) scene.latest scene.events (told_after p start effect after)
+      (changes_then ask)
+
+  abbrev pub MovesOf : QueueStart T → QueueFlight T → Type 0
+  MovesOf start flight = Moves start (ask_of (want en flight)) (goes_back flight (old_for flight)) (after en flight (old_for flight)) (effect_for flight)
+
+  pub alone :
+      Inv en kd scene → (wrote : List (Event T)) (start : QueueStart T) (ask : Option Ask) (back : Bool)
+      (after : After (QueueFlight T) (Answer T)) (effect : Effect T)
+      → span_of p scene.events ≡ Open (Queues start) wrote
+      → DoesStep wrote start ask back after effect → Moves start ask back after effect
+  alone inv wrote start ask back after effect seen step = (
+    step.0,
+    step.1,
+    queue_part en kd scene (roles_after p start (answer_in after) ro) step.0 (Open (Queues start) wrote)
+        (party_then start ask back after) (told_after p start effect after) (changes_then ask) step.2,
+    owes en kd scene (roles_after p start (answer_in after) ro) step.0 (Open (Queues start) wrote)
+        (party_then start ask back after) (told_after p start effect after) (changes_then ask) step.2 seen inv,
+  )
+
+  pub of_step : Inv en kd scene → (start : QueueStart T) (flight : QueueFlight T)
+      → span_of p scene.events ≡ Open (Queues start) (has_written c k p flight) → StepOf start flight
+      → MovesOf start flight
+  of_step inv start flight seen step =
+      alone inv (has_written c k p flight) start (ask_of (want en flight)) (goes_back flight (old_for flight))
+      (after en flight (old_for flight)) (effect_for flight) seen step

@@ -1,0 +1,256 @@
+-- The two kinds of bounded queue, that of indices and that of values: what both have, and what is so of both.
+use Rattle.std.proofs.Common.{◌≡◌, ℕ, ◌+◌, nat_lt, Bool, true, false, Option, Some, None, List, [], ◌∷◌, length, set, fold, map, drop, slice_get, refl, arith}
+use Rattle.steps.specs.declared.ask.After.{After}
+use Rattle.steps.specs.declared.ask.Want.{Want}
+use Rattle.steps.specs.declared.copied.Buffer.{Buffer}
+use Rattle.steps.specs.declared.copied.OneWord.{OneWord}
+use Rattle.steps.specs.Copied.{value_in, kept_in_one, one_put_in}
+use Rattle.steps.specs.Queues.Ring.{push_want, push_after, pop_want, pop_after, pop_kept, pop_answer}
+use Rattle.steps.specs.Routine.{went_on}
+use Rattle.model.specs.declared.event.Answer.{Answer}
+use Rattle.model.specs.declared.event.Answer as answers
+use Rattle.model.specs.declared.event.Event.{Event}
+use Rattle.model.specs.declared.event.Event.TheVariants.{Published, HandedOut, Acted, Finished}
+use Rattle.model.specs.declared.event.Start.TheVariants.{Queues}
+use Rattle.model.specs.declared.families.Flight as flights
+use Rattle.model.specs.declared.families.queues.QueueStart.{QueueStart}
+use Rattle.model.specs.declared.families.queues.QueueStart.TheVariants.{PushIndex, Push, Pop}
+use Rattle.model.specs.declared.families.queues.Roles.{Roles}
+use Rattle.model.specs.declared.families.queues.calls.QueueFlight.{QueueFlight}
+use Rattle.model.specs.declared.families.queues.calls.QueueFlight.TheVariants.{Indices, Values}
+use Rattle.model.specs.declared.families.queues.calls.RingCall as rings
+use Rattle.model.specs.declared.families.queues.effects.Effect.{Effect}
+use Rattle.model.specs.declared.families.queues.QueueKind.{QueueKind}
+use Rattle.model.specs.declared.families.queues.QueueKind.TheVariants.{IndexQueue, Queue}
+use Rattle.model.specs.Coding.{Coding, IsCoding}
+use Rattle.model.specs.Families.Queues.Book.{AnswersRight}
+use Rattle.model.specs.Families.Queues.Bounds.{most_steps}
+use Rattle.model.specs.Families.Queues.Calls.{kept_at, as_it_is}
+use Rattle.model.specs.Families.Queues.Lengths.{TellsLength}
+use Rattle.model.specs.Families.Queues.Objects.{answer_of_item, appended, list_of}
+use Rattle.model.specs.Families.Queues.Opening.{cells_of}
+use Rattle.model.specs.Families.Queues.Reading.{waiting, producer_after, consumer_after}
+use Rattle.model.specs.Families.Queues.Roles.{GrantsRight}
+use Rattle.model.specs.Families.Queues.Spans.{HandsOut, Wrote, push_of}
+use Rattle.model.specs.Families.Queues.Steps.{push_effect, pop_effect, roles_after, pending_at}
+use Rattle.model.specs.Objects.{answers_from}
+use Rattle.model.specs.Step.{as_call}
+use Rattle.laws_queues.proofs.Queues.Core.{Core}
+use Rattle.laws_queues.proofs.Queues.Keeping.{RingKeeps, Keeps}
+use Rattle.laws_queues.proofs.Queues.Knows.{in_one, in_cell, has_written, Hangs, listed, KnowsFlight, number_of, At}
+use Rattle.laws_queues.proofs.Queues.Values.{Val, encoded, item}
+use Rattle.laws_queues.proofs.Ring.Knows.{ring_number, PushAt, PopAt}
+
+pub data Ring : Type 0 where
+  of_indices : Ring
+  of_values : Ring
+
+abbrev pub kind_of : Ring → QueueKind
+kind_of of_indices = IndexQueue
+kind_of of_values = Queue
+
+-- ---- the room of a pop
+
+abbrev pub Room : Ring → Type 0
+Room of_indices = OneWord
+Room of_values = Buffer 128
+
+abbrev pub words_in : (r : Ring) → Room r → List ℕ
+words_in of_indices room = in_one room
+words_in of_values room = in_cell room
+
+abbrev pub with_word : (r : Ring) → Room r → ℕ → ℕ → Room r
+with_word of_indices room at word = kept_in_one room at word
+with_word of_values room at word = kept_at room at word
+
+pub put_in : (r : Ring) (room : Room r) (at word : ℕ) → words_in r (with_word r room at word) ≡ set (words_in r room) at word
+put_in of_indices room at word = one_put_in room at word
+put_in of_values room at word = refl
+
+-- ---- the calls
+
+module _ {T : Type 0} where
+  abbrev pub flight : (r : Ring) → rings.RingCall (Val T (kind_of r)) (Room r) → QueueFlight T
+  flight of_indices call = Indices call
+  flight of_values call = Values call
+
+  abbrev pub push : (r : Ring) → Val T (kind_of r) → QueueStart T
+  push of_indices v = PushIndex v
+  push of_values v = Push v
+
+  abbrev pub got : (r : Ring) → Val T (kind_of r) → Answer T
+  got of_indices v = answers.TheVariants.PoppedIndex v
+  got of_values v = answers.TheVariants.Popped v
+
+  abbrev pub popped_of : (r : Ring) → Option (Val T (kind_of r)) → Answer T
+  popped_of r None = answers.TheVariants.PoppedNone
+  popped_of r (Some v) = got r v
+
+module _ {T : Type 0} (en : Coding T) (r : Ring) where
+  abbrev pub enc : Coding (Val T (kind_of r))
+  enc = encoded en (kind_of r)
+
+  abbrev pub read_in : Room r → Val T (kind_of r)
+  read_in room = value_in enc.value_of enc.size (words_in r room)
+
+  abbrev pub ring_want : rings.RingCall (Val T (kind_of r)) (Room r) → Want (Unit {0})
+  ring_want (rings.TheVariants.Push run) = push_want enc.words_of run.call run.given
+  ring_want (rings.TheVariants.Pop run) = pop_want run.call
+
+  abbrev pub ring_after : rings.RingCall (Val T (kind_of r)) (Room r) → ℕ → After (QueueFlight T) (Answer T)
+  ring_after (rings.TheVariants.Push run) old =
+      as_call (λ x. flight r (rings.TheVariants.Push x)) answers.TheVariants.Truth
+      (went_on as_it_is run.given run.room (push_after enc.size run.call old))
+  ring_after (rings.TheVariants.Pop run) old =
+      as_call (λ x. flight r (rings.TheVariants.Pop x)) (popped_of r)
+      (went_on (λ end given room. pop_answer (read_in room) end) run.given
+      (pop_kept (with_word r) run.call run.room old) (pop_after enc.size run.call old))
+
+  abbrev pub ring_effect : rings.RingCall (Val T (kind_of r)) (Room r) → Effect T
+  ring_effect (rings.TheVariants.Push run) = push_effect (item (kind_of r) run.given) run.call.stage
+  ring_effect (rings.TheVariants.Pop run) = pop_effect (item (kind_of r) (read_in run.room)) run.call.stage
+
+-- ---- what is so of both
+
+pub are_words : {T : Type 0} → (en : Coding T) (r : Ring) → IsCoding en → IsCoding (encoded en (kind_of r))
+are_words en of_indices h = record { some = omega arith; few = omega arith; sized = λ v. refl; given_back = λ v. refl }
+are_words en of_values h = h
+
+pub cells_are : (r : Ring) (c : ℕ) → cells_of (kind_of r) c ≡ c
+cells_are x0 x1 = grind arith
+
+module _ (T : Type 0) where
+  pub calm : (r : Ring) (position : ℕ) (call : rings.RingCall (Val T (kind_of r)) (Room r))
+      → pending_at position (Some (flights.TheVariants.Queues (flight {T = T} r call))) ≡ None
+  calm x0 x1 x2 = grind arith
+
+  pub none_hangs : (r : Ring) (c : ℕ) (k : Core (Val T (kind_of r))) (o : Option (ℕ × ℕ)) → Hangs T (kind_of r) c k o
+  none_hangs x0 x1 x2 x3 = grind arith
+
+  pub hands_out : (r : Ring) → HandsOut {T = T} (kind_of r) (Queues Pop)
+  hands_out x0 = grind arith
+
+module _ {T : Type 0} where
+  pub wrote_none : (r : Ring) (c : ℕ) (k : Core (Val T (kind_of r))) (p : ℕ) (call : rings.RingCall (Val T (kind_of r)) (Room r))
+      → has_written {T = T} c k p (flight r call) ≡ []
+  wrote_none x0 x1 x2 x3 x4 = grind arith
+
+  pub knows : (r : Ring) (c : ℕ) (k : Core (Val T (kind_of r))) (p : ℕ) (events : List (Event T))
+      (since changes backs : ℕ) (call : rings.RingCall (Val T (kind_of r)) (Room r))
+      → backs ≡ 0
+      → KnowsFlight c k p events since changes backs (flight r call)
+  knows x0 x1 x2 x3 x4 x5 x6 x7 x8 x9 = grind arith
+
+  pub number : (en : Coding T) (r : Ring) (call : rings.RingCall (Val T (kind_of r)) (Room r)) (backs : ℕ)
+      → number_of en (flight r call) backs ≡ ring_number (encoded en (kind_of r)) (words_in r) call
+  number en of_indices call backs = refl
+  number en of_values call backs = refl
+
+  pub push_here : (en : Coding T) (r : Ring) (c : ℕ) (ro : Roles) (k : Core (Val T (kind_of r))) (p : ℕ)
+      (v : Val T (kind_of r)) (call : rings.RingCall (Val T (kind_of r)) (Room r))
+      → PushAt (encoded en (kind_of r)) (words_in r) c ro k p v call → At en (kind_of r) c ro k p (push r v) (flight r call)
+  push_here en of_indices c ro k p v call h = h
+  push_here en of_values c ro k p v call h = h
+
+  pub pop_here : (en : Coding T) (r : Ring) (c : ℕ) (ro : Roles) (k : Core (Val T (kind_of r))) (p : ℕ) (call : rings.RingCall (Val T (kind_of r)) (Room r))
+      → PopAt (encoded en (kind_of r)) (words_in r) c ro k p call → At en (kind_of r) c ro k p Pop (flight r call)
+  pop_here en of_indices c ro k p call h = h
+  pop_here en of_values c ro k p call h = h
+
+  pub ring_keeps : (en : Coding T) (r : Ring) (c : ℕ) (ro : Roles) (k k' : Core (Val T (kind_of r))) (q : ℕ)
+      → RingKeeps (encoded en (kind_of r)) c ro k k' q → Keeps en (kind_of r) c ro k k' q
+  ring_keeps en of_indices c ro k k' q h = h
+  ring_keeps en of_values c ro k k' q h = h
+
+  -- ---- the list
+
+  pub list_after_push : (r : Ring) (c : ℕ) (xs : List (Val T (kind_of r))) (v : Val T (kind_of r))
+      → fold (list_of (kind_of r) c).after (listed (kind_of r) c xs) (Queues (push r v) ∷ [])
+      ≡ appended c (map (item {T = T} (kind_of r)) xs) (item (kind_of r) v)
+  list_after_push of_indices c xs v = refl
+  list_after_push of_values c xs v = refl
+
+  pub list_answers_push : (r : Ring) (c : ℕ) (xs : List (Val T (kind_of r))) (v : Val T (kind_of r))
+      → answers_from (list_of (kind_of r) c) (listed (kind_of r) c xs) (Queues (push r v) ∷ [])
+      ≡ answers.TheVariants.Truth (nat_lt (length (map (item {T = T} (kind_of r)) xs)) c) ∷ []
+  list_answers_push of_indices c xs v = refl
+  list_answers_push of_values c xs v = refl
+
+  pub list_after_pop : (r : Ring) (c : ℕ) (xs : List (Val T (kind_of r)))
+      → fold (list_of (kind_of r) c).after (listed (kind_of r) c xs) (Queues Pop ∷ []) ≡ drop 1 (map (item {T = T} (kind_of r)) xs)
+  list_after_pop of_indices c xs = refl
+  list_after_pop of_values c xs = refl
+
+  pub list_answers_pop : (r : Ring) (c : ℕ) (xs : List (Val T (kind_of r)))
+      → answers_from (list_of (kind_of r) c) (listed (kind_of r) c xs) (Queues Pop ∷ []) ≡ answer_of_item (slice_get (map (item {T = T} (kind_of r)) xs) 0) ∷ []
+  list_answers_pop of_indices c xs = refl
+  list_answers_pop of_values c xs = refl
+
+  pub listed_is : (r : Ring) (c : ℕ) (xs : List (Val T (kind_of r))) → listed {T = T} (kind_of r) c xs ≡ map (item (kind_of r)) xs
+  listed_is of_indices c xs = refl
+  listed_is of_values c xs = refl
+
+  pub answer_is : (r : Ring) (v : Val T (kind_of r)) → answer_of_item {T = T} (Some (item (kind_of r) v)) ≡ got r v
+  answer_is of_indices v = refl
+  answer_is of_values v = refl
+
+  -- ---- the events of a push
+
+  pub push_roles : (r : Ring) (p : ℕ) (v : Val T (kind_of r)) (o : Option (Answer T)) (ro : Roles) → roles_after p (push r v) o ro ≡ ro
+  push_roles x0 x1 x2 x3 x4 = grind arith
+
+  module _ (r : Ring) (c : ℕ) (before : List (Event T)) (p : ℕ) (v : Val T (kind_of r)) (b : Bool) where
+    pub push_grants : GrantsRight before (Finished p (Queues (push r v)) (answers.TheVariants.Truth b))
+    push_grants = grind arith
+
+    pub push_tells : TellsLength c before (Finished p (Queues (push r v)) (answers.TheVariants.Truth b))
+    push_tells = grind arith
+
+    pub push_producer : (o : Option ℕ) → producer_after {T = T} o (Finished p (Queues (push r v)) (answers.TheVariants.Truth b)) ≡ o
+    push_producer x0 = grind arith
+
+    pub push_consumer : (o : Option ℕ) → consumer_after {T = T} o (Finished p (Queues (push r v)) (answers.TheVariants.Truth b)) ≡ o
+    push_consumer x0 = grind arith
+
+  pub false_is_right : (r : Ring) (c : ℕ) (before : List (Event T)) (p : ℕ) (v : Val T (kind_of r))
+      → length (waiting before) ≡ c
+      → AnswersRight c before (Acted p (Queues (push r v)) (answers.TheVariants.Truth false))
+  false_is_right x0 x1 x2 x3 x4 x5 = grind arith
+
+  pub true_is_right : (r : Ring) (c : ℕ) (before : List (Event T)) (p : ℕ) (v : Val T (kind_of r))
+      → AnswersRight c before (Acted p (Queues (push r v)) (answers.TheVariants.Truth true))
+  true_is_right x0 x1 x2 x3 x4 = grind arith
+
+  pub named : (r : Ring) (v : Val T (kind_of r)) → Queues (push {T = T} r v) ≡ push_of (item (kind_of r) v)
+  named of_indices v = refl
+  named of_values v = refl
+
+  pub wrote_false : (r : Ring) (c p : ℕ) (v : Val T (kind_of r))
+      → Wrote {T = T} (kind_of r) c (push r v) (answers.TheVariants.Truth false)
+      (Acted p (Queues (push r v)) (answers.TheVariants.Truth false) ∷ [])
+  wrote_false x0 x1 x2 x3 = grind arith
+
+  pub wrote_true : (r : Ring) (c p : ℕ) (v : Val T (kind_of r))
+      → Wrote {T = T} (kind_of r) c (push r v) (answers.TheVariants.Truth true)
+      (Published p (item (kind_of r) v) ∷ Acted p (Queues (push r v)) (answers.TheVariants.Truth true) ∷ [])
+  wrote_true of_indices c p v = record { moments = refl; published = refl; handed_out = refl }
+  wrote_true of_values c p v = record { moments = refl; published = refl; handed_out = refl }
+
+  pub most_push : (en : Coding T) (r : Ring) (v : Val T (kind_of r)) (backs : ℕ)
+      → most_steps en.size (kind_of r) (push r v) backs ≡ 3 + (encoded en (kind_of r)).size
+  most_push en of_indices v backs = refl
+  most_push en of_values v backs = refl
+
+  -- ---- the events of a pop
+
+  pub got_is_right : (r : Ring) (c : ℕ) (before : List (Event T)) (p : ℕ) (v : Val T (kind_of r)) → AnswersRight c before (Acted p (Queues Pop) (got r v))
+  got_is_right x0 x1 x2 x3 x4 = grind arith
+
+  pub wrote_got : (r : Ring) (c p : ℕ) (v : Val T (kind_of r))
+      → Wrote {T = T} (kind_of r) c Pop (got r v) (HandedOut p (item (kind_of r) v) ∷ Acted p (Queues Pop) (got r v) ∷ [])
+  wrote_got of_indices c p v = record { moments = refl; published = refl; handed_out = refl }
+  wrote_got of_values c p v = record { moments = refl; published = refl; handed_out = refl }
+
+  pub most_pop : (en : Coding T) (r : Ring) (backs : ℕ) → most_steps {T = T} en.size (kind_of r) Pop backs ≡ 3 + (encoded en (kind_of r)).size
+  most_pop en of_indices backs = refl
+  most_pop en of_values backs = refl

@@ -1,0 +1,337 @@
+-- The steps of a pop of a bounded queue.
+use Rattle.std.proofs.Common.{◌≡◌, ◌≢◌, ℕ, suc, ◌+◌, ◌*◌, ◌%◌, ◌^◌, ◌<◌, ◌≤◌, ◌==◌, nat_lt, Bool, true, false, ◌||◌}
+use Rattle.std.proofs.Common.{⊎_elim, Option, Some, List, [], ◌∷◌, ◌++◌, length, get_or, set, take, map, drop}
+use Rattle.std.proofs.Common.{slice_get, refl, sym, ap, subst, ◌∙◌, append-nil, arith, length-set, get_or-set_same}
+use Rattle.std.proofs.Common.{get_or-set_other}
+use Rattle.std.proofs.lemmas.Bool.{cases_lt}
+use Rattle.std.proofs.lemmas.Bool.Decides.{nat_tests}
+use Rattle.std.proofs.lemmas.List.{nil_from_length, set-get_or}
+use Rattle.steps.specs.declared.ask.Ask.{Ask}
+use Rattle.steps.specs.declared.ask.Op.TheVariants.{Load, Store}
+use Rattle.steps.specs.declared.ask.After.{After}
+use Rattle.steps.specs.declared.ask.After.TheVariants.{GoOn, Done}
+use Rattle.steps.specs.Copied.{value_in}
+use Rattle.steps.specs.declared.queues.ring.PopStage as pops
+use Rattle.steps.specs.declared.queues.ring.PushStage as pushes
+use Rattle.steps.specs.Queues.Ring.{cell_word, after_position}
+use Rattle.model.specs.declared.families.queues.calls.QueueFlight.{QueueFlight}
+use Rattle.model.specs.declared.families.queues.calls.RingCall.{RingCall}
+use Rattle.model.specs.declared.families.queues.effects.Effect.{Effect}
+use Rattle.model.specs.declared.families.queues.effects.Effect.TheVariants.{Quiet, Acts}
+use Rattle.model.specs.declared.event.Item.{Item}
+use Rattle.model.specs.declared.families.queues.QueueStart.TheVariants.{Pop}
+use Rattle.model.specs.declared.event.Answer.{Answer}
+use Rattle.model.specs.declared.event.Answer as answers
+use Rattle.model.specs.declared.event.Start.TheVariants.{Queues}
+use Rattle.model.specs.declared.event.Event.TheVariants.{HandedOut, Acted}
+use Rattle.model.specs.Coding.{Coding, IsCoding}
+use Rattle.model.specs.Families.{ask_of}
+use Rattle.model.specs.Families.Queues.Calls.{read_word}
+use Rattle.model.specs.Families.Queues.Objects.{answer_of_item}
+use Rattle.model.specs.Families.Queues.Promises.{load_of_write, load_of_read}
+use Rattle.model.specs.Families.Queues.Reading.{published, handed_out}
+use Rattle.model.specs.Reading.{Open}
+use Rattle.model.specs.Turns.{old_of, words_after, change_of, step_count}
+use Rattle.laws_queues.proofs.Queues.Core.{Core, Good, taken, takes, front, word_at}
+use Rattle.laws_queues.proofs.Queues.Invariant.{Scene, Inv, waiting_is}
+use Rattle.laws_queues.proofs.Queues.Keeping.{clash, kept}
+use Rattle.laws_queues.proofs.Queues.Knows.{free, layout}
+use Rattle.laws_queues.proofs.Queues.Stages.{IsCalm, or_true, first_of_some, cell_asked, asked_place, DoesStep, quiet}
+use Rattle.laws_queues.proofs.Queues.Values.{Val, encoded, item}
+use Rattle.laws_queues.proofs.Ring.Kinds.{Ring, kind_of, Room, words_in, with_word, put_in, flight, got, read_in}
+use Rattle.laws_queues.proofs.Ring.Kinds.{ring_want, ring_after, ring_effect, are_words, calm, wrote_none, knows}
+use Rattle.laws_queues.proofs.Ring.Kinds.{number, pop_here, ring_keeps, none_hangs, cells_are, list_after_pop}
+use Rattle.laws_queues.proofs.Ring.Kinds.{list_answers_pop, listed_is, answer_is, got_is_right, hands_out, wrote_got}
+use Rattle.laws_queues.proofs.Ring.Kinds.{most_pop}
+use Rattle.laws_queues.proofs.Ring.Knows.{pop_at, KnowsPush, KnowsPop, pop_number}
+
+-- ---- the words of a value, read one after another
+
+-- a list that agrees with this one word by word, as far as this one goes
+pub same_words : (xs ys : List ℕ) → length ys ≤ length xs → ((i : ℕ) → i < length ys → get_or xs i 0 ≡ get_or ys i 0) → take (length ys) xs ≡ ys
+same_words xs [] long each = refl
+same_words [] (y ∷ ys) long each = absurd (omega arith)
+same_words (x ∷ xs) (y ∷ ys) long each =
+    let first : x ≡ y = each 0 (omega arith) in
+    let rest : take (length ys) xs ≡ ys = same_words xs ys (omega arith) (λ i below. each (suc i) (omega arith)) in
+    rw (first, rest) refl
+
+-- one word more is as in the other list
+one_more : (xs ys : List ℕ) (at word : ℕ) → at < length xs → word ≡ get_or ys at 0
+    → ((i : ℕ) → i < at → get_or xs i 0 ≡ get_or ys i 0) → (i : ℕ) → i < at + 1
+    → get_or (set xs at word) i 0 ≡ get_or ys i 0
+one_more xs ys at word within is so_far i below = ⊎_elim before here (cases_lt i at)
+  where
+    before : i < at → get_or (set xs at word) i 0 ≡ get_or ys i 0
+    before h =
+        let other : i ≢ at = λ e. absurd (omega arith) in
+        get_or-set_other xs at i word 0 other ∙ so_far i h
+
+    here : at ≤ i → get_or (set xs at word) i 0 ≡ get_or ys i 0
+    here h =
+        let same : i ≡ at = omega arith in
+        rw same (get_or-set_same xs at word 0 within ∙ is)
+
+-- the value in a room whose first words are those of a value
+module _ {V : Type 0} (en : Coding V) (law : IsCoding en) where
+  room_value : (room : List ℕ) (v : V) → en.size ≤ length room
+      → ((i : ℕ) → i < en.size → get_or room i 0 ≡ get_or (en.words_of v) i 0) → value_in en.value_of en.size room ≡ v
+  room_value room v long each =
+      let size = law.sized v in
+      let enough : nat_lt (length room) en.size ≡ false = grind (arith, nat_tests) in
+      let words : take en.size room ≡ en.words_of v =
+      subst (λ n. take n room ≡ en.words_of v) size (same_words room (en.words_of v) (omega arith) (λ i below. each i (omega arith))) in
+      rw (enough, words) (law.given_back v)
+
+  -- the next read position keeps what a push knows
+  take_keeps : (c : ℕ) (k : Core V) (v : V) (rest : List V) → k.waiting ≡ v ∷ rest
+      → (w : V) (stage : pushes.PushStage) → KnowsPush en c k w stage
+      → KnowsPush en c (taken en.size en.words_of c k rest) w stage
+  take_keeps x0 x1 x2 x3 x4 x5 x6 x7 = grind arith
+
+module _ {T : Type 0} (en : Coding T) (r : Ring) (law : IsCoding en) (scene : Scene T (kind_of r))
+    (inv : Inv en (kind_of r) scene) (small : scene.core.write < 2 ^ 64)
+    (before : IsCalm en (kind_of r) scene scene.core.read) (room : Room r)
+    (holds : scene.roles.consumer ≡ Some scene.party) (b : scene.backs ≡ 0) where
+  open scene use {capacity as c, roles as ro, core as k, party as p, steps, backs, since, changes, events}
+
+  abbrev size : ℕ
+  size = (encoded en (kind_of r)).size
+
+  abbrev words_of : Val T (kind_of r) → List ℕ
+  words_of = (encoded en (kind_of r)).words_of
+
+  abbrev items : List (Val T (kind_of r)) → List (Item T)
+  items xs = map (item (kind_of r)) xs
+
+  lawful : IsCoding (encoded en (kind_of r))
+  lawful = are_words en r law
+
+  g : Good size words_of c k
+  g = subst (λ n. Good size words_of n k) (cells_are r c) inv.queue.good
+
+  fits : c < 2 ^ 32
+  fits = inv.queue.fits
+
+  book : published events ≡ handed_out events ++ items k.waiting
+  book = inv.queue.book
+
+  abbrev at : pops.PopStage → RingCall (Val T (kind_of r)) (Room r)
+  at stage = pop_at c room stage
+
+  abbrev Does : Option Ask → After (QueueFlight T) (Answer T) → Effect T → Type 0
+  Does ask after effect = DoesStep en (kind_of r) scene [] Pop ask false after effect
+
+  abbrev DoesOf : pops.PopStage → Type 0
+  DoesOf stage =
+      Does (ask_of (ring_want en r (at stage)))
+      (ring_after en r (at stage) (old_of (layout ro k) (ask_of (ring_want en r (at stage)))))
+      (ring_effect en r (at stage))
+
+  -- a step after which the pop stands here with this room, and the queue is as it was
+  goes_on : (ask : Option Ask) (room' : Room r) (stage : pops.PopStage)
+      → words_after (layout ro k) ask ≡ layout ro k → KnowsPop (encoded en (kind_of r)) c k (words_in r room') stage
+      → steps + step_count ask ≤ pop_number size stage
+      → Does ask (GoOn (flight r (pop_at c room' stage))) Quiet
+  goes_on ask room' stage words known most =
+      quiet en (kind_of r) scene inv small before false Pop ask (flight r (pop_at c room' stage)) k
+      (calm T r k.read (pop_at c room' stage)) refl refl refl inv.queue.good words
+      (record {
+        span = ap (λ es. Open (Queues Pop) es) (sym (wrote_none r c k p (pop_at c room' stage)));
+        steps = subst (λ n. steps + step_count ask ≤ n) (sym (number en r (pop_at c room' stage) (backs + 0))) most;
+        at = pop_here en r c ro k p (pop_at c room' stage) (holds, refl, known);
+      })
+      (knows r c k p events (since + change_of (layout ro k) ask) (changes + change_of (layout ro k) ask) (backs + 0) (pop_at c room' stage) (omega arith))
+      (λ q ne st f h. (h, refl))
+
+  loads_read : size ≤ length (words_in r room) → steps ≤ 0 → DoesOf pops.TheVariants.LoadsRead
+  loads_read long s = goes_on (Some load_of_read) room (pops.TheVariants.LoadsWrite k.read) refl (long, refl) (omega arith)
+
+  refused : k.waiting ≡ [] → steps ≤ 1 → Does (Some load_of_write) (Done (answers.TheVariants.PoppedNone)) Acts
+  refused empty s =
+      let reached = inv.queue.reached in
+      let none : items k.waiting ≡ [] = ap items empty in
+      let most = most_pop en r (backs + 0) in (
+        k,
+        refl,
+        record {
+          own = (refl, (refl, tt));
+          stands = ((refl, refl), ((refl, record { moments = refl; published = refl; handed_out = refl }), tt));
+          grants = (tt, (tt, tt));
+          producers = refl;
+          consumers = refl;
+          right = (waiting_is events (items k.waiting) book ∙ none, (tt, tt));
+          lengths = (tt, (tt, tt));
+          good = inv.queue.good;
+          hangs = none_hangs T r c k _;
+          out = omega arith;
+          book = append-nil (items k.waiting);
+          goes = list_after_pop r c k.waiting ∙ (ap (drop 1) none ∙ (sym none ∙ sym (listed_is r c k.waiting)));
+          answers = list_answers_pop r c k.waiting ∙ ap (λ (xs : List (Item T)). answer_of_item (slice_get xs 0) ∷ []) none;
+          here =
+              record {
+                answer = answers.TheVariants.PoppedNone;
+                wrote = Acted p (Queues Pop) (answers.TheVariants.PoppedNone) ∷ [];
+                span = refl;
+                steps = subst (λ n. steps + 1 ≤ n) (sym most) (omega arith);
+              };
+          knows = omega arith;
+          up = record { write = omega arith; read = omega arith; paid = omega arith };
+          others = λ q ne st f h. (h, refl);
+          reached = omega arith;
+          within = omega arith;
+        },
+      )
+
+  -- nothing waits
+  empty : (c == 0 || k.write == k.read) ≡ true → k.waiting ≡ []
+  empty t =
+      let few = g.few in
+      let write = g.write in
+      let zero : (c == 0) ≡ true → length k.waiting ≡ 0 = λ e. let none : c ≡ 0 = grind (arith, nat_tests) in omega arith in
+      let same : (k.write == k.read) ≡ true → length k.waiting ≡ 0 = λ e. let at : k.write ≡ k.read = grind (arith, nat_tests) in omega arith in
+      nil_from_length k.waiting (⊎_elim zero same (or_true (c == 0) (k.write == k.read) t))
+
+  -- something waits
+  some : (c == 0 || k.write == k.read) ≡ false → 0 < length k.waiting
+  some x0 = grind arith
+
+  abbrev loads_cell : ℕ → pops.PopStage
+  loads_cell i = pops.TheVariants.LoadsCell k.read (cell_word c size k.read) i
+
+  loads_write : size ≤ length (words_in r room) → steps ≤ 1 → DoesOf (pops.TheVariants.LoadsWrite k.read)
+  loads_write long s = go (c == 0 || k.write == k.read) refl
+    where
+      go : (t : Bool) → (c == 0 || k.write == k.read) ≡ t → DoesOf (pops.TheVariants.LoadsWrite k.read)
+      go true t =
+          let goes : ring_after en r (at (pops.TheVariants.LoadsWrite k.read)) k.write ≡ Done (answers.TheVariants.PoppedNone) = rw t refl in
+          subst (λ a. Does (Some load_of_write) a Acts) (sym goes) (refused (empty t) s)
+      go false t =
+          let goes : ring_after en r (at (pops.TheVariants.LoadsWrite k.read)) k.write ≡ GoOn (flight r (at (loads_cell 0))) = rw t refl in
+          let first = first_of_some k.waiting (some t) in
+          let one = lawful.some in
+          let known : KnowsPop (encoded en (kind_of r)) c k (words_in r room) (loads_cell 0) =
+          (long, first.0, first.1, refl, first.2, refl, omega arith, λ i h. absurd (omega arith)) in
+          subst (λ a. Does (Some load_of_write) a Acts) (sym goes) (goes_on (Some load_of_write) room (loads_cell 0) refl known (omega arith))
+
+  -- the words loaded so far are those of the front value
+  loads_word : (i : ℕ) → KnowsPop (encoded en (kind_of r)) c k (words_in r room) (loads_cell i) → steps ≤ 2 + i → DoesOf (loads_cell i)
+  loads_word i known s = go (nat_lt (i + 1) size) refl
+    where
+      long : size ≤ length (words_in r room)
+      long = known.0
+
+      v : Val T (kind_of r)
+      v = known.1
+
+      rest : List (Val T (kind_of r))
+      rest = known.2
+
+      is : k.waiting ≡ v ∷ rest
+      is = known.4
+
+      below : i < size
+      below = known.6
+
+      ask : Option Ask
+      ask = Some (record { word = cell_asked size c k.read i; op = Load })
+
+      old : ℕ
+      old = get_or (layout ro k) (cell_asked size c k.read i) 0
+
+      old_is : old ≡ get_or (words_of v) i 0
+      old_is =
+          let few = g.few in
+          let short = lawful.few in
+          let shorter : length k.waiting ≡ suc (length rest) = ap length is in
+          let place = asked_place size c k.read i (omega arith) fits short below in
+          word_at k.write k.read (free ro.producer) (free ro.consumer) k.cells (cell_asked size c k.read i) (size * (k.read % c) + i) place
+          ∙ front size words_of c k v rest is g i below
+
+      next : Room r
+      next = with_word r room i old
+
+      put : words_in r next ≡ set (words_in r room) i old
+      put = put_in r room i old
+
+      wide : size ≤ length (words_in r next)
+      wide = let same : length (words_in r next) ≡ length (words_in r room) = ap length put ∙ length-set (words_in r room) i old in omega arith
+
+      each : (j : ℕ) → j < i + 1 → get_or (words_in r next) j 0 ≡ get_or (words_of v) j 0
+      each j low = ap (λ xs. get_or xs j 0) put ∙ one_more (words_in r room) (words_of v) i old (omega arith) old_is known.7 j low
+
+      same : words_after (layout ro k) ask ≡ layout ro k
+      same = set-get_or (layout ro k) (cell_asked size c k.read i) 0
+
+      go : (t : Bool) → nat_lt (i + 1) size ≡ t → DoesOf (loads_cell i)
+      go true t =
+          let goes : ring_after en r (at (loads_cell i)) old ≡ GoOn (flight r (pop_at c next (loads_cell (i + 1)))) = rw t refl in
+          let further : i + 1 < size = grind (arith, nat_tests) in
+          subst (λ a. Does ask a Quiet) (sym goes) (goes_on ask next (loads_cell (i + 1)) same (wide, v, rest, refl, is, refl, further, each) (omega arith))
+      go false t =
+          let goes : ring_after en r (at (loads_cell i)) old ≡ GoOn (flight r (pop_at c next (pops.TheVariants.StoresRead k.read))) = rw t refl in
+          let last : size ≡ i + 1 = (let over : size ≤ i + 1 = grind (arith, nat_tests) in omega arith) in
+          let value : value_in (encoded en (kind_of r)).value_of size (words_in r next) ≡ v =
+          room_value (encoded en (kind_of r)) lawful (words_in r next) v wide (λ j low. each j (omega arith)) in
+          subst (λ a. Does ask a Quiet) (sym goes)
+          (goes_on ask next (pops.TheVariants.StoresRead k.read) same (rest, refl, is ∙ ap (λ x. x ∷ rest) (sym value)) (omega arith))
+
+  stores_read : (rest : List (Val T (kind_of r))) → k.waiting ≡ read_in en r room ∷ rest → steps ≤ 2 + size → DoesOf (pops.TheVariants.StoresRead k.read)
+  stores_read rest is s =
+      let v : Val T (kind_of r) = read_in en r room in
+      let write = g.write in
+      let reached = inv.queue.reached in
+      let shorter : length k.waiting ≡ suc (length rest) = ap length is in
+      let next : after_position k.read ≡ k.read + 1 = omega arith in
+      let moved : (after_position k.read == k.read) ≡ false = grind (arith, nat_tests) in
+      let one : change_of (layout ro k) (Some (record { word = read_word; op = Store (after_position k.read) })) ≡ 1 = rw moved refl in
+      let first : items k.waiting ≡ item (kind_of r) v ∷ items rest = ap items is in
+      let most = most_pop en r (backs + 0) in
+      let after : Core (Val T (kind_of r)) = taken size words_of c k rest in (
+        after,
+        ap (λ n. k.write ∷ n ∷ free ro.producer ∷ free ro.consumer ∷ k.cells) next,
+        record {
+          own = (refl, (refl, (refl, tt)));
+          stands = ((hands_out T r, refl), ((refl, refl), ((refl, wrote_got r c p v), tt)));
+          grants = (tt, (tt, (tt, tt)));
+          producers = refl;
+          consumers = refl;
+          right = (tt, (got_is_right r c (events ++ HandedOut p (item (kind_of r) v) ∷ []) p v, (tt, tt)));
+          lengths = (tt, (tt, (tt, tt)));
+          good = subst (λ n. Good size words_of n after) (sym (cells_are r c)) (takes size words_of c k v rest is g);
+          hangs = none_hangs T r c after _;
+          out = omega arith;
+          book = append-nil (items k.waiting) ∙ first;
+          goes = list_after_pop r c k.waiting ∙ (ap (drop 1) first ∙ sym (listed_is r c rest));
+          answers =
+              list_answers_pop r c k.waiting
+              ∙ (ap (λ (xs : List (Item T)). answer_of_item (slice_get xs 0) ∷ []) first ∙ ap (λ a. a ∷ []) (answer_is r v));
+          here =
+              record {
+                answer = got r v;
+                wrote = HandedOut p (item (kind_of r) v) ∷ Acted p (Queues Pop) (got r v) ∷ [];
+                span = refl;
+                steps = subst (λ n. steps + 1 ≤ n) (sym most) (omega arith);
+              };
+          knows = omega arith;
+          up = record { write = omega arith; read = omega arith; paid = omega arith };
+          others =
+              λ q ne. kept ro ro q (λ h. h) (λ h. h) en c (kind_of r) k after (ring_keeps en r c ro k after q (record {
+                push = λ mine w stage h. take_keeps (encoded en (kind_of r)) lawful c k v rest is w stage h;
+                pop = λ mine other stage h. absurd (clash ro.consumer p q ne holds mine);
+              }));
+          reached = omega arith;
+          within = omega arith;
+        },
+      )
+
+  pub pop_step : (stage : pops.PopStage) → KnowsPop (encoded en (kind_of r)) c k (words_in r room) stage → steps ≤ pop_number size stage → DoesOf stage
+  pop_step pops.TheVariants.LoadsRead known s = loads_read known s
+  pop_step (pops.TheVariants.LoadsWrite read) known s =
+      subst (λ q. DoesOf (pops.TheVariants.LoadsWrite q)) (sym known.1) (loads_write known.0 s)
+  pop_step (pops.TheVariants.LoadsCell read cell i) known s =
+      subst (λ q. DoesOf (pops.TheVariants.LoadsCell q cell i)) (sym known.3)
+      (subst (λ n. DoesOf (pops.TheVariants.LoadsCell k.read n i)) (sym known.5)
+      (loads_word i (known.0, known.1, known.2, refl, known.4, refl, known.6, known.7) s))
+  pop_step (pops.TheVariants.StoresRead read) known s =
+      subst (λ q. DoesOf (pops.TheVariants.StoresRead q)) (sym known.1) (stores_read known.0 known.2 s)

@@ -1,0 +1,333 @@
+-- The steps of a push of a bounded queue.
+use Rattle.std.proofs.Common.{◌≡◌, ◌≢◌, ℕ, ◌+◌, ◌-◌, ◌*◌, ◌%◌, ◌^◌, ◌<◌, ◌≤◌, ◌==◌, nat_lt, Bool, true, false, ◌||◌}
+use Rattle.std.proofs.Common.{Option, Some, List, [], ◌∷◌, ◌++◌, length, get_or, map, refl, sym, ap, subst, ◌∙◌}
+use Rattle.std.proofs.Common.{append-nil, arith}
+use Rattle.std.proofs.lemmas.Bool.Decides.{nat_tests}
+use Rattle.std.proofs.lemmas.List.{map-append, length-map}
+use Rattle.steps.specs.declared.ask.Ask.{Ask}
+use Rattle.steps.specs.declared.ask.Op.TheVariants.{Store}
+use Rattle.steps.specs.declared.ask.After.{After}
+use Rattle.steps.specs.declared.ask.After.TheVariants.{GoOn, Done}
+use Rattle.steps.specs.declared.queues.ring.PushStage as pushes
+use Rattle.steps.specs.declared.queues.ring.PopStage as pops
+use Rattle.steps.specs.Queues.Ring.{cell_word, distance, after_position}
+use Rattle.model.specs.declared.families.queues.calls.QueueFlight.{QueueFlight}
+use Rattle.model.specs.declared.families.queues.calls.RingCall.{RingCall}
+use Rattle.model.specs.declared.families.queues.effects.Effect.{Effect}
+use Rattle.model.specs.declared.families.queues.effects.Effect.TheVariants.{Quiet, Acts, Publishes}
+use Rattle.model.specs.declared.event.Item.{Item}
+use Rattle.model.specs.declared.families.queues.QueueStart.{QueueStart}
+use Rattle.model.specs.declared.event.Answer.{Answer}
+use Rattle.model.specs.declared.event.Answer as answers
+use Rattle.model.specs.declared.event.Start.TheVariants.{Queues}
+use Rattle.model.specs.declared.event.Event.TheVariants.{Published, Acted}
+use Rattle.model.specs.Coding.{Coding, IsCoding}
+use Rattle.model.specs.Families.{ask_of}
+use Rattle.model.specs.Families.Queues.Calls.{write_word}
+use Rattle.model.specs.Families.Queues.Objects.{appended}
+use Rattle.model.specs.Families.Queues.Promises.{load_of_write, load_of_read}
+use Rattle.model.specs.Families.Queues.Reading.{published, handed_out}
+use Rattle.model.specs.Reading.{Open}
+use Rattle.model.specs.Step.{answer_in}
+use Rattle.model.specs.Turns.{old_of, words_after, change_of, step_count}
+use Rattle.laws_queues.proofs.Queues.Core as core
+use Rattle.laws_queues.proofs.Queues.Core.{Core, Holds, Good, filled, fills, one_filled, publishes, set_at}
+use Rattle.laws_queues.proofs.Queues.Invariant.{Scene, Inv, waiting_is}
+use Rattle.laws_queues.proofs.Queues.Keeping.{clash, kept}
+use Rattle.laws_queues.proofs.Queues.Knows.{free, layout, has_written, At}
+use Rattle.laws_queues.proofs.Queues.Stages.{IsCalm, cell_asked, asked_place, Leaves, DoesStep, quiet}
+use Rattle.laws_queues.proofs.Queues.Values.{Val, encoded, item}
+use Rattle.laws_queues.proofs.Ring.Kinds.{Ring, kind_of, Room, flight, push, ring_want, ring_after, ring_effect}
+use Rattle.laws_queues.proofs.Ring.Kinds.{are_words, calm, wrote_none, knows, number, push_here, ring_keeps}
+use Rattle.laws_queues.proofs.Ring.Kinds.{none_hangs, cells_are, list_after_push, list_answers_push, listed_is}
+use Rattle.laws_queues.proofs.Ring.Kinds.{push_roles, push_grants, push_tells, push_producer, push_consumer}
+use Rattle.laws_queues.proofs.Ring.Kinds.{false_is_right, true_is_right, named, wrote_false, wrote_true, most_push}
+use Rattle.laws_queues.proofs.Ring.Knows.{push_at, IsFresh, KnowsPush, KnowsPop, push_number}
+
+module _ {V : Type 0} (en : Coding V) (c : ℕ) (k : Core V) where
+  -- a store into a cell keeps what a pop knows
+  fill_keeps : (at word : ℕ) (room : List ℕ) (stage : pops.PopStage) → KnowsPop en c k room stage
+      → KnowsPop en c (filled en.size en.words_of c k at word) room stage
+  fill_keeps x0 x1 x2 x3 x4 = grind arith
+
+  -- so does the next write position
+  publish_keeps : (w : V) (room : List ℕ) (stage : pops.PopStage) → KnowsPop en c k room stage
+      → KnowsPop en c (core.published en.size en.words_of c k w) room stage
+  publish_keeps w room pops.TheVariants.LoadsRead h = h
+  publish_keeps w room (pops.TheVariants.LoadsWrite read) h = h
+  publish_keeps w room (pops.TheVariants.LoadsCell read cell place) h = (h.0, h.1, h.2 ++ w ∷ [], h.3, ap (λ xs. xs ++ w ∷ []) h.4, h.5, h.6, h.7)
+  publish_keeps w room (pops.TheVariants.StoresRead read) h = (h.0 ++ w ∷ [], h.1, ap (λ xs. xs ++ w ∷ []) h.2)
+
+module _ {T : Type 0} (en : Coding T) (r : Ring) (law : IsCoding en) (scene : Scene T (kind_of r))
+    (inv : Inv en (kind_of r) scene) (small : scene.core.write < 2 ^ 64)
+    (before : IsCalm en (kind_of r) scene scene.core.read) (v : Val T (kind_of r))
+    (holds : scene.roles.producer ≡ Some scene.party) (b : scene.backs ≡ 0) where
+  open scene use {capacity as c, roles as ro, core as k, party as p, steps, backs, since, changes, events}
+
+  abbrev size : ℕ
+  size = (encoded en (kind_of r)).size
+
+  abbrev words_of : Val T (kind_of r) → List ℕ
+  words_of = (encoded en (kind_of r)).words_of
+
+  abbrev items : List (Val T (kind_of r)) → List (Item T)
+  items xs = map (item (kind_of r)) xs
+
+  lawful : IsCoding (encoded en (kind_of r))
+  lawful = are_words en r law
+
+  g : Good size words_of c k
+  g = subst (λ n. Good size words_of n k) (cells_are r c) inv.queue.good
+
+  fits : c < 2 ^ 32
+  fits = inv.queue.fits
+
+  book : published events ≡ handed_out events ++ items k.waiting
+  book = inv.queue.book
+
+  abbrev at : pushes.PushStage → RingCall (Val T (kind_of r)) (Room r)
+  at stage = push_at c v stage
+
+  abbrev Does : Option Ask → After (QueueFlight T) (Answer T) → Effect T → Type 0
+  Does ask after effect = DoesStep en (kind_of r) scene [] (push r v) ask false after effect
+
+  -- a push leaves the roles as they are
+  stays : (ask : Option Ask) (after : After (QueueFlight T) (Answer T)) (effect : Effect T)
+      → Leaves en (kind_of r) scene ro [] (push r v) ask false after effect → Does ask after effect
+  stays ask after effect step =
+      subst (λ x. Leaves en (kind_of r) scene x [] (push r v) ask false after effect) (sym (push_roles r p v (answer_in after) ro)) step
+
+  abbrev DoesOf : pushes.PushStage → Type 0
+  DoesOf stage =
+      Does (ask_of (ring_want en r (at stage)))
+      (ring_after en r (at stage) (old_of (layout ro k) (ask_of (ring_want en r (at stage)))))
+      (ring_effect en r (at stage))
+
+  -- a step after which the push stands here, and of the queue at most the cells have changed
+  goes_on : (ask : Option Ask) (stage : pushes.PushStage) (k' : Core (Val T (kind_of r))) → k'.waiting ≡ k.waiting
+      → k'.write ≡ k.write → k'.read ≡ k.read → Good size words_of c k' → words_after (layout ro k) ask ≡ layout ro k'
+      → KnowsPush (encoded en (kind_of r)) c k' v stage → steps + step_count ask ≤ push_number size stage
+      → ((q : ℕ) → q ≢ p → (s : QueueStart T) (f : QueueFlight T) → At en (kind_of r) c ro k q s f
+      → At en (kind_of r) c ro k' q s f × (has_written {T = T} c k' q f ≡ has_written c k q f))
+      → Does ask (GoOn (flight r (at stage))) Quiet
+  goes_on ask stage k' waits write read good words known most others =
+      stays ask (GoOn (flight r (at stage))) Quiet
+      (quiet en (kind_of r) scene inv small before false (push r v) ask (flight r (at stage)) k'
+      (calm T r k.read (at stage)) waits write read
+      (subst (λ n. Good size words_of n k') (sym (cells_are r c)) good) words
+      (record {
+        span = ap (λ es. Open (Queues (push r v)) es) (sym (wrote_none r c k' p (at stage)));
+        steps = subst (λ n. steps + step_count ask ≤ n) (sym (number en r (at stage) (backs + 0))) most;
+        at = push_here en r c ro k' p v (at stage) (holds, refl, refl, known);
+      })
+      (knows r c k' p events (since + change_of (layout ro k) ask) (changes + change_of (layout ro k) ask) (backs + 0) (at stage) (omega arith))
+      others)
+
+  loads_write : k.write < 2 ^ 64 - 1 → steps ≤ 0 → DoesOf pushes.TheVariants.LoadsWrite
+  loads_write fresh s =
+      let t : (k.write == 2 ^ 64 - 1) ≡ false = grind (arith, nat_tests) in
+      let goes : ring_after en r (at pushes.TheVariants.LoadsWrite) k.write ≡ GoOn (flight r (at (pushes.TheVariants.LoadsRead k.write))) = rw t refl in
+      subst (λ a. Does (Some load_of_write) a Quiet) (sym goes)
+      (goes_on (Some load_of_write) (pushes.TheVariants.LoadsRead k.write) k refl refl refl g refl (refl, fresh) (omega arith) (λ q ne st f h. (h, refl)))
+
+  -- how far the read position is behind, as the push computes it
+  behind : distance k.write k.read ≡ length k.waiting
+  behind = let reached = inv.queue.reached in let write = g.write in omega arith
+
+  full : (c == 0 || distance k.write k.read == c) ≡ true → length k.waiting ≡ c
+  full x0 = grind arith
+
+  room : (c == 0 || distance k.write k.read == c) ≡ false → length k.waiting < c
+  room x0 = grind arith
+
+  refused : length k.waiting ≡ c → steps ≤ 1 → Does (Some load_of_read) (Done (answers.TheVariants.Truth false)) Acts
+  refused lap s =
+      let reached = inv.queue.reached in
+      let long : length (items k.waiting) ≡ length k.waiting = length-map k.waiting (item (kind_of r)) in
+      let t : nat_lt (length (items k.waiting)) c ≡ false = grind (arith, nat_tests) in
+      let none : appended c (items k.waiting) (item (kind_of r) v) ≡ items k.waiting = rw t refl in
+      let most = most_push en r v (backs + 0) in
+      stays (Some load_of_read) (Done (answers.TheVariants.Truth false)) Acts (
+        k,
+        refl,
+        record {
+          own = (refl, (refl, tt));
+          stands = ((refl, refl), ((refl, wrote_false r c p v), tt));
+          grants = (tt, (push_grants r c (events ++ Acted p (Queues (push r v)) (answers.TheVariants.Truth false) ∷ []) p v false, tt));
+          producers = push_producer r c events p v false ro.producer;
+          consumers = push_consumer r c events p v false ro.consumer;
+          right = (false_is_right r c events p v (ap length (waiting_is events (items k.waiting) book) ∙ (long ∙ lap)), (tt, tt));
+          lengths = (tt, (push_tells r c (events ++ Acted p (Queues (push r v)) (answers.TheVariants.Truth false) ∷ []) p v false, tt));
+          good = inv.queue.good;
+          hangs = none_hangs T r c k _;
+          out = omega arith;
+          book = append-nil (items k.waiting);
+          goes = list_after_push r c k.waiting v ∙ (none ∙ sym (listed_is r c k.waiting));
+          answers = list_answers_push r c k.waiting v ∙ ap (λ x. answers.TheVariants.Truth x ∷ []) t;
+          here =
+              record {
+                answer = answers.TheVariants.Truth false;
+                wrote = Acted p (Queues (push r v)) (answers.TheVariants.Truth false) ∷ [];
+                span = refl;
+                steps = subst (λ n. steps + 1 ≤ n) (sym most) (omega arith);
+              };
+          knows = omega arith;
+          up = record { write = omega arith; read = omega arith; paid = omega arith };
+          others = λ q ne st f h. (h, refl);
+          reached = omega arith;
+          within = omega arith;
+        },
+      )
+
+  abbrev stores_cell : ℕ → pushes.PushStage
+  stores_cell i = pushes.TheVariants.StoresCell k.write (cell_word c size k.write) i
+
+  loads_read : k.write < 2 ^ 64 - 1 → steps ≤ 1 → DoesOf (pushes.TheVariants.LoadsRead k.write)
+  loads_read fresh s = go (c == 0 || distance k.write k.read == c) refl
+    where
+      go : (t : Bool) → (c == 0 || distance k.write k.read == c) ≡ t → DoesOf (pushes.TheVariants.LoadsRead k.write)
+      go true t =
+          let goes : ring_after en r (at (pushes.TheVariants.LoadsRead k.write)) k.read ≡ Done (answers.TheVariants.Truth false) = rw t refl in
+          subst (λ a. Does (Some load_of_read) a Acts) (sym goes) (refused (full t) s)
+      go false t =
+          let goes : ring_after en r (at (pushes.TheVariants.LoadsRead k.write)) k.read ≡ GoOn (flight r (at (stores_cell 0))) = rw t refl in
+          let some = lawful.some in
+          subst (λ a. Does (Some load_of_read) a Acts) (sym goes)
+          (goes_on (Some load_of_read) (stores_cell 0) k refl refl refl g refl
+          (refl, room t, refl, omega arith, (λ i h. absurd (omega arith)), fresh) (omega arith)
+          (λ q ne st f h. (h, refl)))
+
+  -- the words stored so far are those of the value
+  stores_word : k.write < 2 ^ 64 - 1 → (i : ℕ) → length k.waiting < c → i < size
+      → Holds size words_of c k.cells k.write v i → steps ≤ 2 + i → DoesOf (stores_cell i)
+  stores_word fresh i room below so_far s = go (nat_lt (i + 1) size) refl
+    where
+      word : ℕ
+      word = get_or (words_of v) i 0
+
+      ask : Option Ask
+      ask = Some (record { word = cell_asked size c k.write i; op = Store word })
+
+      next : Core (Val T (kind_of r))
+      next = filled size words_of c k i word
+
+      good : Good size words_of c next
+      good = fills size words_of c k i word room below g
+
+      words : words_after (layout ro k) ask ≡ layout ro next
+      words =
+          let few = lawful.few in
+          let place = asked_place size c k.write i (omega arith) fits few below in
+          set_at k.write k.read (free ro.producer) (free ro.consumer) k.cells (cell_asked size c k.write i) (size * (k.write % c) + i) word place
+
+      more : Holds size words_of c next.cells next.write v (i + 1)
+      more = one_filled size words_of c k v i room below g so_far
+
+      others : (q : ℕ) → q ≢ p → (st : QueueStart T) (f : QueueFlight T) → At en (kind_of r) c ro k q st f
+          → At en (kind_of r) c ro next q st f × (has_written {T = T} c next q f ≡ has_written c k q f)
+      others q ne =
+          kept ro ro q (λ h. h) (λ h. h) en c (kind_of r) k next (ring_keeps en r c ro k next q (record {
+            push = λ mine w stage h. absurd (clash ro.producer p q ne holds mine);
+            pop = λ mine other stage h. fill_keeps (encoded en (kind_of r)) c k i word other stage h;
+          }))
+
+      go : (t : Bool) → nat_lt (i + 1) size ≡ t → DoesOf (stores_cell i)
+      go true t =
+          let goes : ring_after en r (at (stores_cell i)) (get_or (layout ro k) (cell_asked size c k.write i) 0)
+          ≡ GoOn (flight r (at (stores_cell (i + 1)))) =
+          rw t refl in
+          let further : i + 1 < size = grind (arith, nat_tests) in
+          subst (λ a. Does ask a Quiet) (sym goes)
+          (goes_on ask (stores_cell (i + 1)) next refl refl refl good words (refl, room, refl, further, more, fresh) (omega arith) others)
+      go false t =
+          let goes : ring_after en r (at (stores_cell i)) (get_or (layout ro k) (cell_asked size c k.write i) 0)
+          ≡ GoOn (flight r (at (pushes.TheVariants.StoresWrite k.write))) =
+          rw t refl in
+          let last : size ≡ i + 1 = (let over : size ≤ i + 1 = grind (arith, nat_tests) in omega arith) in
+          subst (λ a. Does ask a Quiet) (sym goes)
+          (goes_on ask (pushes.TheVariants.StoresWrite k.write) next refl refl refl good words
+          (refl, room, subst (λ n. Holds size words_of c next.cells next.write v n) (sym last) more, fresh)
+          (omega arith) others)
+
+  stores_write : k.write < 2 ^ 64 - 1 → length k.waiting < c → Holds size words_of c k.cells k.write v size
+      → steps ≤ 2 + size → DoesOf (pushes.TheVariants.StoresWrite k.write)
+  stores_write fresh room whole s =
+      let reached = inv.queue.reached in
+      let long : length (items k.waiting) ≡ length k.waiting = length-map k.waiting (item (kind_of r)) in
+      let t : nat_lt (length (items k.waiting)) c ≡ true = grind (arith, nat_tests) in
+      let next : after_position k.write ≡ k.write + 1 = omega arith in
+      let moved : (after_position k.write == k.write) ≡ false = grind (arith, nat_tests) in
+      let one : change_of (layout ro k) (Some (record { word = write_word; op = Store (after_position k.write) })) ≡ 1 = rw moved refl in
+      let joined : items k.waiting ++ item (kind_of r) v ∷ [] ≡ items (k.waiting ++ v ∷ []) = sym (map-append (item (kind_of r)) k.waiting (v ∷ [])) in
+      let all : appended c (items k.waiting) (item (kind_of r) v) ≡ items (k.waiting ++ v ∷ []) = rw t joined in
+      let most = most_push en r v (backs + 0) in
+      let after : Core (Val T (kind_of r)) = core.published size words_of c k v in
+      stays (Some (record { word = write_word; op = Store (after_position k.write) }))
+      (Done (answers.TheVariants.Truth true)) (Publishes (item (kind_of r) v)) (
+        after,
+        ap (λ n. n ∷ k.read ∷ free ro.producer ∷ free ro.consumer ∷ k.cells) next,
+        record {
+          own = (refl, (refl, (refl, tt)));
+          stands = ((named r v, refl), ((refl, refl), ((refl, wrote_true r c p v), tt)));
+          grants = (
+            tt,
+            (
+              tt,
+              (
+                push_grants r c
+                    ((events ++ Published p (item (kind_of r) v) ∷ []) ++ Acted p (Queues (push r v)) (answers.TheVariants.Truth true) ∷ [])
+                    p v true,
+                tt,
+              ),
+            ),
+          );
+          producers = push_producer r c events p v true ro.producer;
+          consumers = push_consumer r c events p v true ro.consumer;
+          right = (tt, (true_is_right r c (events ++ Published p (item (kind_of r) v) ∷ []) p v, (tt, tt)));
+          lengths = (
+            tt,
+            (
+              tt,
+              (
+                push_tells r c
+                    ((events ++ Published p (item (kind_of r) v) ∷ []) ++ Acted p (Queues (push r v)) (answers.TheVariants.Truth true) ∷ [])
+                    p v true,
+                tt,
+              ),
+            ),
+          );
+          good = subst (λ n. Good size words_of n after) (sym (cells_are r c)) (publishes size words_of c k v room g whole);
+          hangs = none_hangs T r c after _;
+          out = omega arith;
+          book = joined;
+          goes = list_after_push r c k.waiting v ∙ (all ∙ sym (listed_is r c (k.waiting ++ v ∷ [])));
+          answers = list_answers_push r c k.waiting v ∙ ap (λ x. answers.TheVariants.Truth x ∷ []) t;
+          here =
+              record {
+                answer = answers.TheVariants.Truth true;
+                wrote = Published p (item (kind_of r) v) ∷ Acted p (Queues (push r v)) (answers.TheVariants.Truth true) ∷ [];
+                span = refl;
+                steps = subst (λ n. steps + 1 ≤ n) (sym most) (omega arith);
+              };
+          knows = omega arith;
+          up = record { write = omega arith; read = omega arith; paid = omega arith };
+          others =
+              λ q ne. kept ro ro q (λ h. h) (λ h. h) en c (kind_of r) k after (ring_keeps en r c ro k after q (record {
+                push = λ mine w stage h. absurd (clash ro.producer p q ne holds mine);
+                pop = λ mine other stage h. publish_keeps (encoded en (kind_of r)) c k v other stage h;
+              }));
+          reached = omega arith;
+          within = omega arith;
+        },
+      )
+
+  pub push_step : (stage : pushes.PushStage) → IsFresh k.write stage
+      → KnowsPush (encoded en (kind_of r)) c k v stage → steps ≤ push_number size stage → DoesOf stage
+  push_step pushes.TheVariants.LoadsWrite fresh known s = loads_write fresh s
+  push_step (pushes.TheVariants.LoadsRead write) fresh known s = subst (λ w. DoesOf (pushes.TheVariants.LoadsRead w)) (sym known.0) (loads_read known.1 s)
+  push_step (pushes.TheVariants.StoresCell write cell i) fresh known s =
+      subst (λ w. DoesOf (pushes.TheVariants.StoresCell w cell i)) (sym known.0)
+      (subst (λ n. DoesOf (pushes.TheVariants.StoresCell k.write n i)) (sym known.2)
+      (stores_word known.5 i known.1 known.3 known.4 s))
+  push_step (pushes.TheVariants.StoresWrite write) fresh known s =
+      subst (λ w. DoesOf (pushes.TheVariants.StoresWrite w)) (sym known.0) (stores_write known.3 known.1 known.2 s)

@@ -1,0 +1,87 @@
+-- The steps of an acquire.
+use Rattle.std.proofs.Common.{sym, subst, inr, inl, ⊎_elim, ◌≡◌, ℕ, ◌<◌, ◌≤◌, Bool, false, Option, List, [], ◌∷◌, ◌++◌, refl, ap, ◌∙◌, arith}
+use Rattle.std.specs.Prelude.{Err}
+use Rattle.std.proofs.lemmas.List.Concat.{flat_map-append}
+use Rattle.steps.specs.declared.ask.Ask.{Ask}
+use Rattle.steps.specs.declared.ask.After.{After}
+use Rattle.steps.specs.declared.ask.After.TheVariants.{Done}
+use Rattle.steps.specs.declared.indices.enums.UniqueIndexSetAcquireFailure as failures
+use Rattle.steps.specs.declared.indices.robust.acquire.Acquire as calls
+use Rattle.steps.specs.declared.indices.robust.acquire.AcquireStage.{AcquireStage}
+use Rattle.steps.specs.declared.indices.robust.acquire.AcquireStage as acquires
+use Rattle.steps.specs.declared.indices.robust.parts.Raise as raises
+use Rattle.steps.specs.Indices.Robust.Acquire.{Acquired}
+use Rattle.steps.specs.Indices.Robust.Parts.{empty}
+use Rattle.steps.specs.Routine.{went_on}
+use Rattle.model.specs.declared.event.Answer.TheVariants.{Index, NoIndex}
+use Rattle.model.specs.declared.event.Event.{Event}
+use Rattle.model.specs.declared.event.Event.TheVariants.{Filled, Granted}
+use Rattle.model.specs.declared.families.indices.robust.RobustStart.TheVariants.{Acquire}
+use Rattle.model.specs.declared.families.indices.robust.calls.RobustFlight as flights
+use Rattle.model.specs.Families.Indices.Robust.Calls.{acquire_answer}
+use Rattle.model.specs.Families.Indices.Robust.Reading.{Fills, Grants, deed, deeds, is_dead}
+use Rattle.model.specs.Families.Queues.Calls.{as_it_is}
+use Rattle.model.specs.Step.{as_call}
+use Rattle.model.specs.Turns.{words_after}
+use Rattle.laws_robust.proofs.Effects.{stays_same}
+use Rattle.laws_robust.proofs.Grants.{grants}
+use Rattle.laws_robust.proofs.Held.{Caller, WhyNot, FewEnd, held_step}
+use Rattle.laws_robust.proofs.Invariant.{IsWorn, Scene, Inv, wrote_of}
+use Rattle.laws_robust.proofs.Knows.{Knows, IsPaid}
+use Rattle.laws_robust.proofs.Standing.{acquire_at, acquire_number, AcquireAt}
+use Rattle.laws_robust.proofs.Stages.{IsHere, all, now, sees, StepOf, Leads, goes_on, ends, goes_quietly, ends_quietly}
+
+module _ {T : Type 0} (scene : Scene T) (inv : Inv scene) (owner : ℕ) (fits : owner < empty)
+    (alive : is_dead owner scene.events ≡ false) (here : IsHere scene (Acquire owner)) where
+  open scene use {capacity as c, party as p, steps as steps, backs as backs, events as events}
+
+  abbrev ws : List ℕ
+  ws = scene.set.words
+
+  -- what a step leads to that did this, by how the call goes on
+  abbrev Lead : Option Ask → Bool → List (Event T) → After calls.Acquire Acquired → Type 0
+  Lead ask back did a =
+      Leads scene (Acquire owner) ask back did (as_call flights.TheVariants.Acquire acquire_answer (went_on as_it_is owner tt a))
+
+  refuses : (failure : failures.UniqueIndexSetAcquireFailure) (ask : Option Ask) (back : Bool)
+      → words_after ws ask ≡ ws → WhyNot scene inv owner fits alive 0 failure → IsPaid (sees scene ask back)
+      → FewEnd scene inv owner fits alive 0 ask back → Lead ask back [] (Done (Err failure))
+  refuses failures.TheVariants.IsLocked ask back same why paid few =
+      ends_quietly scene inv (Acquire owner) (NoIndex failures.TheVariants.IsLocked) ask back here
+      (stays_same scene inv (words_after ws ask) same) (λ i o. refl) (λ i r. refl) why.0 why.1 (omega arith) paid
+  refuses failures.TheVariants.OutOfIndices ask back same why paid few =
+      ends_quietly scene inv (Acquire owner) (NoIndex failures.TheVariants.OutOfIndices) ask back here
+      (stays_same scene inv (words_after ws ask) same) (λ i o. refl) (λ i r. refl)
+      (why.0, ⊎_elim (λ worn. inl (subst (IsWorn scene.by) (sym same) worn)) (λ all_filled. inr all_filled) why.1) why.2 (omega arith) paid
+
+  caller : Caller scene inv owner fits alive 0 Lead
+  caller =
+      record {
+        quiet =
+            λ next ask back same at known few. goes_quietly scene inv (Acquire owner) (acquire_at c owner next) ask back
+            here (stays_same scene inv (words_after ws ask) same) (omega arith) (refl, refl, fits, at) known;
+        filled = λ i ask new does below none known few.
+            goes_on scene (Acquire owner)
+            (acquire_at c owner (acquires.TheVariants.Raises i raises.TheVariants.LoadsCounter)) ask false
+            (Filled p i owner ∷ []) here (λ start w. refl) does
+            ((refl, none), tt) (tt, tt) (omega arith) (refl, refl, fits, (below, ap (λ d. d ++ Fills i owner ∷ []) none)) known;
+        fails = refuses;
+        grants = λ i ask back below done mine raised paid few.
+            let all_done : deeds (wrote_of p events ++ Granted p i owner ∷ []) ≡ Fills i owner ∷ Grants i owner ∷ [] =
+            flat_map-append deed (wrote_of p events) (Granted p i owner ∷ []) ∙ ap (λ d. d ++ Grants i owner ∷ []) done in
+            ends scene (Acquire owner) (Index i) ask back (Granted p i owner ∷ []) here (λ start w. refl)
+            (grants scene inv (words_after ws ask) i owner mine alive raised)
+            ((refl, done), ((refl, all_done), tt)) (tt, (tt, tt)) (omega arith) paid;
+      }
+
+  pub acquire_step : (stage : AcquireStage) → AcquireAt c owner (all scene) stage
+      → Knows c (acquire_at c owner stage) (now scene) → steps ≤ acquire_number c stage backs
+      → StepOf scene (Acquire owner) (acquire_at c owner stage)
+  acquire_step acquires.TheVariants.LoadsCounter at k s =
+      held_step scene inv owner fits alive 0 Lead caller acquires.TheVariants.LoadsCounter at k (omega arith)
+  acquire_step (acquires.TheVariants.FillsCell number i) at k s =
+      held_step scene inv owner fits alive 0 Lead caller (acquires.TheVariants.FillsCell number i) at k (omega arith)
+  acquire_step (acquires.TheVariants.ChecksCounter number) at k s =
+      held_step scene inv owner fits alive 0 Lead caller (acquires.TheVariants.ChecksCounter number) at k (omega arith)
+  acquire_step (acquires.TheVariants.Raises i raise) at k s =
+      held_step scene inv owner fits alive 0 Lead caller (acquires.TheVariants.Raises i raise) at k (omega arith)

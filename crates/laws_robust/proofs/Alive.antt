@@ -1,0 +1,73 @@
+-- No turn of an open run is a death. So where what the calls under way write leaves alive who lives, all live on.
+use Rattle.std.proofs.Common.{◌≡◌, ℕ, Bool, false, Option, Some, None, List, [], ◌∷◌, fold, refl, ap, ◌∙◌}
+use Rattle.std.specs.List.{AllByRecursion}
+use Rattle.std.proofs.lemmas.List.Sums.{fold-append}
+use Rattle.model.specs.declared.event.Answer.{Answer}
+use Rattle.model.specs.declared.event.Event.{Event}
+use Rattle.model.specs.declared.event.Start.{Start}
+use Rattle.model.specs.declared.families.Flight.{Flight}
+use Rattle.model.specs.declared.party.Doing.{Doing}
+use Rattle.model.specs.declared.party.Doing.TheVariants.{Going, Over}
+use Rattle.model.specs.declared.party.Party.{Party}
+use Rattle.model.specs.declared.turn.Turn.{Turn}
+use Rattle.model.specs.declared.turn.Turn.TheVariants.{Begin, Next, Decide, Die}
+use Rattle.model.specs.Families.Indices.Robust.Reading.{dead_after, is_dead}
+use Rattle.model.specs.Parties.{party_of}
+use Rattle.model.specs.Turns.{old_of, number_of, ask_of_doing, step_in, events_of_step, events_of_answer}
+use Rattle.model.specs.Turns.{events_of_next, events_of_decision, events_of, ending_of, after_turn}
+use Rattle.model.specs.World.{Trace}
+use Rattle.laws_robust.specs.Open.{open_refusal}
+
+module _ {T : Type 0} where
+  -- who lives, lives on past it
+  abbrev pub Leaves : Event T → Type 0
+  Leaves e = (owner : ℕ) (dead : Bool) → dead_after owner dead e ≡ dead
+
+  all_leave : (owner : ℕ) (es : List (Event T)) (dead : Bool) → AllByRecursion Leaves es → fold (dead_after owner) dead es ≡ dead
+  all_leave owner [] dead h = refl
+  all_leave owner (e ∷ es) dead h = ap (λ b. fold (dead_after owner) b es) (h.0 owner dead) ∙ all_leave owner es dead h.1
+
+  pub end_leaves : (p : ℕ) (start : Start T) (outcome : Option (Answer T)) → AllByRecursion Leaves (ending_of p start outcome)
+  end_leaves p start None = tt
+  end_leaves p start (Some answer) = (λ owner dead. refl, tt)
+
+  -- nobody has died
+  abbrev pub AllLive : List (Event T) → Type 0
+  AllLive events = (owner : ℕ) → is_dead owner events ≡ false
+
+module _ {T : Type 0} (t : Trace T) where
+  -- what a call under way writes, however it goes on, leaves alive who lives
+  abbrev pub StepsLeave : Type 0
+  StepsLeave =
+      (p : ℕ) (x : Party T) (since : ℕ) (flight : Flight T) (answer : ℕ) → party_of p t.world.latest ≡ Some x → x.doing ≡ Going flight since
+      → AllByRecursion Leaves (events_of_step p x.start (step_in t.world p x flight answer))
+
+  module _ (steps : StepsLeave) where
+    next_leaves : (p : ℕ) (o : Option (Party T)) → party_of p t.world.latest ≡ o → AllByRecursion Leaves (events_of_next t.world p o)
+    next_leaves p None found = tt
+    next_leaves p (Some x) found = go x.doing refl
+      where
+        go : (doing : Doing T) → x.doing ≡ doing
+            → AllByRecursion Leaves (events_of_answer t.world p x (old_of t.world.words (ask_of_doing t.world.coding doing)) doing)
+        go (Over others) d = tt
+        go (Going flight since) d = steps p x since flight (old_of t.world.words (ask_of_doing t.world.coding (Going flight since))) found d
+
+    decision_leaves : (p : ℕ) (said : Bool) (o : Option (Party T)) → party_of p t.world.latest ≡ o
+        → AllByRecursion Leaves (events_of_decision t.world p said o)
+    decision_leaves p said None found = tt
+    decision_leaves p said (Some x) found = go x.doing refl
+      where
+        go : (doing : Doing T) → x.doing ≡ doing → AllByRecursion Leaves (events_of_answer t.world p x (number_of said) doing)
+        go (Over others) d = tt
+        go (Going flight since) d = steps p x since flight (number_of said) found d
+
+    turn_leaves : (turn : Turn T) → open_refusal t.world turn ≡ None → AllByRecursion Leaves (events_of t.world turn)
+    turn_leaves (Begin p start) e = (λ owner dead. refl, tt)
+    turn_leaves (Next p) e = next_leaves p (party_of p t.world.latest) refl
+    turn_leaves (Decide p said) e = decision_leaves p said (party_of p t.world.latest) refl
+    turn_leaves (Die owner) e = absurd (cc)
+
+    pub all_live_on : (turn : Turn T) → open_refusal t.world turn ≡ None → AllLive t.events → AllLive (after_turn t turn).events
+    all_live_on turn e all owner =
+        fold-append (dead_after owner) false t.events (events_of t.world turn)
+        ∙ (all_leave owner (events_of t.world turn) (is_dead owner t.events) (turn_leaves turn e) ∙ all owner)

@@ -1,0 +1,98 @@
+-- Counts of indices in a call that comes to them one after another.
+use Rattle.std.proofs.Common.{◌≡◌, ◌≢◌, ℕ, zero, suc, ◌+◌, ◌*◌, ◌<◌, ◌≤◌, ◌==◌, ⊎_elim, if◌then◌else◌, Bool, true}
+use Rattle.std.proofs.Common.{false, List, ◌++◌, refl, sym, ap, subst, ◌∙◌, arith, eq-eqb, ne_eqb}
+use Rattle.std.proofs.lemmas.Bool.{cases_eq}
+use Rattle.model.specs.declared.event.Event.{Event}
+use Rattle.model.specs.Families.Indices.Robust.Promises.{count_below, HeldThroughout, IsCount}
+use Rattle.model.specs.Moments.{BeginsNone, HeldSometime}
+use Rattle.model.proofs.Moments.{held_now, held_later}
+use Rattle.laws_robust.proofs.Past.{through_less, through_now}
+
+-- what the indices before another one take, each as much
+pub times_below : (c index each : ℕ) → index < c → index * each + each ≤ c * each
+times_below c index each below = grind arith
+
+one_at_most : (b : Bool) → (if b then 1 else 0) ≤ 1
+one_at_most true = omega arith
+one_at_most false = omega arith
+
+pub count_most : (chosen : ℕ → Bool) (n : ℕ) → count_below chosen n ≤ n
+count_most chosen zero = omega arith
+count_most chosen (suc n) = let one = one_at_most (chosen n) in let rest = count_most chosen n in omega arith
+
+count_same : (f g : ℕ → Bool) (n : ℕ) → ((i : ℕ) → i < n → f i ≡ g i) → count_below f n ≡ count_below g n
+count_same f g zero same = refl
+count_same f g (suc n) same =
+    ap (λ b. (if b then 1 else 0) + count_below f n) (same n (omega arith))
+    ∙ ap (λ m. (if g n then 1 else 0) + m) (count_same f g n (λ i below. same i (omega arith)))
+
+-- the same indices, and this one or not
+abbrev pub chosen_with : (ℕ → Bool) → ℕ → Bool → ℕ → Bool
+chosen_with chosen k b i = if i == k then b else chosen i
+
+module _ (chosen : ℕ → Bool) (k : ℕ) (b : Bool) where
+  pub with_here : chosen_with chosen k b k ≡ b
+  with_here = ap (λ z. if z then b else chosen k) (eq-eqb k k refl)
+
+  pub with_there : (i : ℕ) → i ≢ k → chosen_with chosen k b i ≡ chosen i
+  with_there i ne = ap (λ z. if z then b else chosen i) (ne_eqb i k ne)
+
+  pub count_with : count_below (chosen_with chosen k b) (suc k) ≡ (if b then 1 else 0) + count_below chosen k
+  count_with =
+      ap (λ z. (if z then 1 else 0) + count_below (chosen_with chosen k b) k) with_here
+      ∙ ap (λ m. (if b then 1 else 0) + m) (count_same (chosen_with chosen k b) chosen k (λ i below. with_there i (λ e. absurd (omega arith))))
+
+module _ {T : Type 0} (p : ℕ) (P : ℕ → List (Event T) → Type 0) where
+  pub count_none : (events : List (Event T)) → IsCount p P 0 0 events
+  count_none events =
+      record { chosen = λ i. false; is = refl; once = λ i below e. absurd (omega arith); through = λ i below h. absurd (omega arith) }
+
+  -- a count within its bound
+  pub count_within : (k number : ℕ) (events : List (Event T)) → IsCount p P k number events → number ≤ k
+  count_within k number events h = let most = count_most h.chosen k in let is = h.is in omega arith
+
+  module _ (k number : ℕ) (events : List (Event T)) (h : IsCount p P k number events) where
+    -- at a later moment of the call
+    pub count_later : (es : List (Event T)) → BeginsNone p es → IsCount p P k number (events ++ es)
+    count_later es none =
+        record {
+          chosen = h.chosen;
+          is = h.is;
+          once = λ i below e. held_later p (P i) events es none (h.once i below e);
+          through = λ i below t. h.through i below (through_less p (P i) events es none t);
+        }
+
+    module _ (b : Bool) (new : ℕ) (adds : new ≡ (if b then 1 else 0) + number) (once : b ≡ true → P k events) (not : b ≡ false → P k events → ⊥) where
+      pub still_once : (i : ℕ) → i < k + 1 → chosen_with h.chosen k b i ≡ true → HeldSometime p (P i) events
+      still_once i below e = ⊎_elim here there (cases_eq i k)
+        where
+          here : i ≡ k → HeldSometime p (P i) events
+          here same =
+              let chose : b ≡ true = sym (with_here h.chosen k b) ∙ (ap (chosen_with h.chosen k b) (sym same) ∙ e) in
+              subst (λ j. HeldSometime p (P j) events) (sym same) (held_now p (P k) events (once chose))
+
+          there : i ≢ k → HeldSometime p (P i) events
+          there ne = h.once i (omega arith) (sym (with_there h.chosen k b i ne) ∙ e)
+
+      chosen_now : (z : Bool) → b ≡ z → HeldThroughout p (P k) events → z ≡ true
+      chosen_now true e t = refl
+      chosen_now false e t = absurd (not e (through_now p (P k) events t))
+
+      pub still_through : (i : ℕ) → i < k + 1 → HeldThroughout p (P i) events → chosen_with h.chosen k b i ≡ true
+      still_through i below t = ⊎_elim here there (cases_eq i k)
+        where
+          here : i ≡ k → chosen_with h.chosen k b i ≡ true
+          here same = ap (chosen_with h.chosen k b) same ∙ (with_here h.chosen k b ∙ chosen_now b refl (subst (λ j. HeldThroughout p (P j) events) same t))
+
+          there : i ≢ k → chosen_with h.chosen k b i ≡ true
+          there ne = with_there h.chosen k b i ne ∙ h.through i (omega arith) t
+
+      pub count_next : IsCount p P (k + 1) new events
+      count_next =
+          let next : suc k ≡ k + 1 = omega arith in
+          record {
+            chosen = chosen_with h.chosen k b;
+            is = ap (count_below (chosen_with h.chosen k b)) (sym next) ∙ (count_with h.chosen k b ∙ (ap (λ n. (if b then 1 else 0) + n) h.is ∙ sym adds));
+            once = still_once;
+            through = still_through;
+          }

@@ -1,0 +1,119 @@
+-- The death of an owner.
+use Rattle.std.proofs.Common.{◌≡◌, ◌≢◌, ℕ, ◌+◌, ◌==◌, ◌||◌, ⊎_elim, inl, Bool, true, false, None, List, [], ◌∷◌, ◌++◌}
+use Rattle.std.proofs.Common.{refl, sym, ap, ◌∙◌, arith, eq-eqb, ne_eqb}
+use Rattle.std.proofs.lemmas.Bool.{cases_eq}
+use Rattle.std.proofs.lemmas.List.Sums.{fold-append}
+use Rattle.model.specs.declared.event.Event.{Event}
+use Rattle.model.specs.declared.event.Event.TheVariants.{Died}
+use Rattle.model.specs.declared.families.Flight.{Flight}
+use Rattle.model.specs.declared.families.Flight as flights
+use Rattle.model.specs.Families.Indices.Reading.{locked_after, is_locked}
+use Rattle.model.specs.Families.Indices.Robust.Dead.{has_died, dead_with}
+use Rattle.model.specs.Families.Indices.Robust.Promises.{cell_of, SetDoes, HoldsRight}
+use Rattle.model.specs.Families.Indices.Robust.Reading.{deeds, filled_after, filled_of, holder_after, holder_of}
+use Rattle.model.specs.Families.Indices.Robust.Reading.{settled_after, settled_of, dead_after, is_dead, wrote_in}
+use Rattle.model.proofs.Dead.{died_now, died_before}
+use Rattle.model.proofs.Readings.{Each-append, span_of-death}
+use Rattle.laws_robust.specs.Gone.{GoneBy, AnswersBy}
+use Rattle.laws_robust.proofs.Effects.{well_formed_less}
+use Rattle.laws_robust.proofs.Gone.{calm_less}
+use Rattle.laws_robust.proofs.Invariant.{IsWorn, Good, Knowing, view}
+use Rattle.laws_robust.proofs.Knows.{Goes, Spares, knows_later}
+use Rattle.laws_robust.proofs.Rights.{right_after, right_of}
+
+-- ---- who has died
+
+pub died_with : (q o : ℕ) (dead : List ℕ) → has_died q (dead_with o dead) ≡ ((o == q) || has_died q dead)
+died_with q o dead = ⊎_elim now before (cases_eq q o)
+  where
+    now : q ≡ o → has_died q (dead_with o dead) ≡ ((o == q) || has_died q dead)
+    now e = ap (λ n. has_died q (dead_with n dead)) (sym e) ∙ (died_now q dead ∙ sym (ap (λ b. b || has_died q dead) (eq-eqb o q (sym e))))
+
+    before : q ≢ o → has_died q (dead_with o dead) ≡ ((o == q) || has_died q dead)
+    before ne = died_before q o dead ne ∙ sym (ap (λ b. b || has_died q dead) (ne_eqb o q (λ e. ne (sym e))))
+
+-- ---- what a death does to the set and to all parties
+
+module _ {T : Type 0} (by : GoneBy) (c : ℕ) (words dead : List ℕ) (events : List (Event T)) (turns o : ℕ)
+    (g : Good by c words dead events turns) (alive : is_dead o events ≡ false) where
+  abbrev es : List (Event T)
+  es = Died o ∷ []
+
+  same_filled : (j : ℕ) → filled_of j (events ++ es) ≡ filled_of j events
+  same_filled j = fold-append (filled_after j) None events es
+
+  same_holder : (j : ℕ) → holder_of j (events ++ es) ≡ holder_of j events
+  same_holder j = fold-append (holder_after j) None events es
+
+  same_settled : (j : ℕ) → settled_of j (events ++ es) ≡ settled_of j events
+  same_settled j = fold-append (settled_after j) None events es
+
+  same_right : (j : ℕ) → right_of j (events ++ es) ≡ right_of j events
+  same_right j = fold-append (right_after j) _ events es
+
+  same_lock : is_locked (events ++ es) ≡ is_locked events
+  same_lock = fold-append locked_after false events es
+
+  dead_then : (q : ℕ) → is_dead q (events ++ es) ≡ ((o == q) || is_dead q events)
+  dead_then q = fold-append (dead_after q) false events es
+
+  still_dead : (b d : Bool) → d ≡ true → (b || d) ≡ true
+  still_dead true d e = refl
+  still_dead false d e = e
+
+  was_alive : (b d : Bool) → (b || d) ≡ false → d ≡ false
+  was_alive true d e = absurd (cc)
+  was_alive false d e = e
+
+  pub death_good : Good by c words (dead_with o dead) (events ++ es) (turns + 1)
+  death_good =
+      record {
+        some = g.some;
+        few = g.few;
+        wide = g.wide;
+        cells = λ i below. g.cells i below ∙ sym (ap cell_of (same_filled i));
+        filled = λ i owner e. g.filled i owner (sym (same_filled i) ∙ e);
+        lock = g.lock ∙ sym same_lock;
+        low = λ t. let low = g.low (sym same_lock ∙ t) in omega arith;
+        bound = g.bound;
+        died = λ q. died_with q o dead ∙ (ap (λ b. (o == q) || b) (g.died q) ∙ sym (dead_then q));
+        does = Each-append (SetDoes c) events es g.does (alive, tt);
+        answers = Each-append (AnswersBy by (IsWorn by words) c) events es g.answers (tt, tt);
+        owned = λ calm.
+            let h = g.owned (calm_less by events es calm) in
+            record {
+              held = λ i owner e. same_filled i ∙ h.held i owner (sym (same_holder i) ∙ e);
+              settled = λ i owner e. let k = h.settled i owner (sym (same_settled i) ∙ e) in (same_filled i ∙ k.0, same_right i ∙ k.1);
+            };
+        holds = λ calm. Each-append HoldsRight events es (g.holds (calm_less by events es calm)) (tt, tt);
+      }
+
+  pub death_goes : Goes words words events es
+  death_goes =
+      record {
+        grows = omega arith;
+        stuck = λ end. end;
+        grants = λ same less j none. same_holder j ∙ none;
+        fills = λ j owner d e. sym (same_filled j) ∙ e;
+        dead = λ q d. dead_then q ∙ still_dead (o == q) (is_dead q events) d;
+        lives = λ q l. was_alive (o == q) (is_dead q events) (sym (dead_then q) ∙ l);
+        well_formed = well_formed_less events es;
+      }
+
+  pub death_spares : (q : ℕ) → Spares by q events es
+  death_spares q =
+      record {
+        none = tt;
+        deeds = ap (λ s. deeds (wrote_in s)) (span_of-death q events o);
+        owned = λ calm i owner lives h. record { right = same_right i ∙ h.right; filled = same_filled i ∙ h.filled };
+        unheld = λ calm i owner lives h none. same_holder i ∙ none;
+        held = λ calm i owner lives h here. same_holder i ∙ here;
+        settled = λ calm i owner lives h none. same_settled i ∙ h;
+      }
+
+  pub death_known : (q since changes backs : ℕ) (flight : Flight T)
+      → Knowing c flight (view by words events q since changes backs)
+      → Knowing c flight (view by words (events ++ es) q since changes backs)
+  death_known q since changes backs (flights.TheVariants.Robust flight) h =
+      knows_later by words words events es q since changes changes backs death_goes (death_spares q) (inl (refl, refl)) c flight h
+  death_known q since changes backs flight h = absurd h

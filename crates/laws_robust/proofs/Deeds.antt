@@ -1,0 +1,50 @@
+-- What a call has done, once it does one thing more.
+use Rattle.std.proofs.Common.{◌≡◌, ℕ, ◌<◌, ◌⊎◌, ⊎_elim, inl, inr, List, [], ◌∷◌, ◌++◌, refl, sym, ap, subst, ◌∙◌, append_assoc, append-nil}
+use Rattle.std.specs.List.{AllByRecursion}
+use Rattle.std.proofs.lemmas.List.Concat.{flat_map-append}
+use Rattle.model.specs.Families.Indices.Robust.Reading.{Deed, Frees, Asks, index_asked, asked_in, IsOneOf, IsLatest}
+use Rattle.model.proofs.Readings.{SplitAt, Last, Earlier, split_last}
+
+pub still_one : (one d : Deed) (all : List Deed) → IsOneOf one all → IsOneOf one (all ++ d ∷ [])
+still_one one d all h =
+    record { before = h.before; after = h.after ++ d ∷ []; is = ap (λ a. a ++ d ∷ []) h.is ∙ append_assoc h.before (one ∷ h.after) (d ∷ []) }
+
+pub last_one : (d : Deed) (all : List Deed) → IsOneOf d (all ++ d ∷ [])
+last_one d all = record { before = all; after = []; is = refl }
+
+pub by_latest : (one : Deed) (all : List Deed) → IsLatest one all → IsOneOf one all
+by_latest one all h = record { before = h.before; after = []; is = h.is }
+
+-- one of them is one of the earlier ones, or the last
+pub was_one : (one d : Deed) (all : List Deed) → IsOneOf one (all ++ d ∷ []) → IsOneOf one all ⊎ (d ≡ one)
+was_one one d all h = go (split_last all d h.before one h.after h.is)
+  where
+    go : SplitAt all d h.before one h.after → IsOneOf one all ⊎ (d ≡ one)
+    go (Last p q) = inr q
+    go (Earlier rest p) = inl (record { before = h.before; after = rest; is = p })
+
+-- ---- the indices that were asked about
+
+all_and : (P : ℕ → Type 0) (xs ys : List ℕ) → AllByRecursion P xs → AllByRecursion P ys → AllByRecursion P (xs ++ ys)
+all_and P [] ys h k = k
+all_and P (x ∷ xs) ys h k = (h.0, all_and P xs ys h.1 k)
+
+pub all_so : (P Q : ℕ → Type 0) (xs : List ℕ) → ((x : ℕ) → P x → Q x) → AllByRecursion P xs → AllByRecursion Q xs
+all_so P Q [] follows h = tt
+all_so P Q (x ∷ xs) follows h = (follows x h.0, all_so P Q xs follows h.1)
+
+pub asks_more : (n : ℕ) (d : Deed) (all : List Deed) → AllByRecursion (λ i. i < n) (asked_in all)
+    → AllByRecursion (λ i. i < n) (index_asked d) → AllByRecursion (λ i. i < n) (asked_in (all ++ d ∷ []))
+asks_more n d all h k =
+    let more = flat_map-append index_asked all (d ∷ []) in
+    subst (AllByRecursion (λ i. i < n)) (sym (more ∙ ap (λ xs. asked_in all ++ xs) (append-nil (index_asked d))))
+    (all_and (λ i. i < n) (asked_in all) (index_asked d) h k)
+
+-- each that was freed was asked about
+abbrev pub FreedWereAsked : List Deed → Type 0
+FreedWereAsked all = (i owner : ℕ) → IsOneOf (Frees i owner) all → IsOneOf (Asks i owner) all
+
+pub freed_more : (d : Deed) (all : List Deed) → FreedWereAsked all
+    → ((i owner : ℕ) → d ≡ Frees i owner → IsOneOf (Asks i owner) all) → FreedWereAsked (all ++ d ∷ [])
+freed_more d all h new i owner freed =
+    ⊎_elim (λ was. still_one (Asks i owner) d all (h i owner was)) (λ is. still_one (Asks i owner) d all (new i owner is)) (was_one (Frees i owner) d all freed)

@@ -1,0 +1,425 @@
+-- What each kind of step does to a robust index set and to the other parties.
+use Rattle.std.proofs.Common.{◌⊎◌, ◌≡◌, ◌≢◌, ℕ, ◌+◌, ◌<◌, ◌≤◌, ◌==◌, ⊎_elim, if◌then◌else◌, Bool, true, false, Option}
+use Rattle.std.proofs.Common.{Some, None, List, [], ◌∷◌, ◌++◌, length, get_or, set, get_or-set_other, fold, refl, sym}
+use Rattle.std.proofs.Common.{ap, subst, ◌∙◌, append_assoc, arith, eq-eqb, ne_eqb}
+use Rattle.std.proofs.lemmas.Bool.{cases_eq}
+use Rattle.std.proofs.lemmas.List.{length-set}
+use Rattle.std.proofs.lemmas.List.Sums.{fold-append}
+use Rattle.steps.specs.Indices.Robust.Parts.{cell_word, empty, locked, greatest}
+use Rattle.model.specs.declared.event.Answer.{Answer}
+use Rattle.model.specs.declared.event.Event.{Event}
+use Rattle.model.specs.declared.event.Event.TheVariants.{Filled, Asked, Told, Finished}
+use Rattle.model.specs.declared.event.Start.TheVariants.{Robust}
+use Rattle.model.specs.declared.families.indices.robust.RobustStart.{RobustStart}
+use Rattle.model.specs.Families.Indices.Reading.{locked_after, is_locked}
+use Rattle.model.specs.Families.Indices.Robust.Promises.{cell_of, SetDoes, IsWellFormed, HoldsRight, IsUnlocked}
+use Rattle.model.specs.Families.Indices.Robust.Reading.{deeds, filled_after, filled_of, holder_after, holder_of}
+use Rattle.model.specs.Families.Indices.Robust.Reading.{settled_after, settled_of, dead_after, is_dead, wrote_in}
+use Rattle.model.specs.Moments.{HeldSometime}
+use Rattle.model.proofs.Moments.{others_begin_none}
+use Rattle.model.proofs.Readings.{AreRight, Each-append, AreOwn, span_of-other}
+use Rattle.laws_robust.specs.Gone.{IsCalm, AnswersBy}
+use Rattle.laws_robust.proofs.Core.{counter_of, cell, counter_set, cells_stay, counter_stays, cell_set, cell_stays}
+use Rattle.laws_robust.proofs.Gone.{calm_less, answers_on}
+use Rattle.laws_robust.proofs.Invariant.{IsWorn, worn_on, Scene, Inv, Good, Does}
+use Rattle.laws_robust.proofs.Rights.{Right, Settled, By, right_after, right_of, IsBy, AreOwned}
+
+-- ---- readings of one index
+
+module _ {A : Type 0} (i j : ℕ) (x y : A) where
+  pub at_same : j ≡ i → (if i == j then x else y) ≡ x
+  at_same e = ap (λ b. if b then x else y) (eq-eqb i j (sym e))
+
+  pub at_other : j ≢ i → (if i == j then x else y) ≡ y
+  at_other ne = ap (λ b. if b then x else y) (ne_eqb i j (λ e. ne (sym e)))
+
+pub some_none : {A B : Type 0} (o : Option B) (x : B) → o ≡ None → o ≡ Some x → A
+some_none o x a b = let same : None ≡ Some x = sym a ∙ b in absurd (cc)
+
+pub one_owner : (o : Option ℕ) (x y : ℕ) → o ≡ Some x → o ≡ Some y → x ≡ y
+one_owner o x y a b = let same : Some x ≡ Some y = sym a ∙ b in cc
+
+pub one_party : (r : Right) (p q : ℕ) → r ≡ By p → r ≡ By q → q ≡ p
+one_party r p q a b = let same : By q ≡ By p = sym b ∙ a in cc
+
+pub both_ways : {A : Type 0} (b : Bool) → b ≡ false → b ≡ true → A
+both_ways b f t = let same : true ≡ false = sym t ∙ f in absurd (cc)
+
+module _ {T : Type 0} where
+  -- ---- events that change nothing of the set
+
+  pub record Quiet (es : List (Event T)) : Type 0 where
+    pub filled : (i : ℕ) (o : Option ℕ) → fold (filled_after i) o es ≡ o
+    pub holder : (i : ℕ) (o : Option ℕ) → fold (holder_after i) o es ≡ o
+    pub settled : (i : ℕ) (o : Option ℕ) → fold (settled_after i) o es ≡ o
+    pub right : (i : ℕ) (r : Right) → fold (right_after i) r es ≡ r
+    pub locked : (b : Bool) → fold locked_after b es ≡ b
+    pub dead : (owner : ℕ) (b : Bool) → fold (dead_after owner) b es ≡ b
+    pub holds : (before : List (Event T)) → AreRight HoldsRight before es
+
+  pub quiet_none : Quiet []
+  quiet_none =
+      record {
+        filled = λ i o. refl;
+        holder = λ i o. refl;
+        settled = λ i o. refl;
+        right = λ i r. refl;
+        locked = λ b. refl;
+        dead = λ owner b. refl;
+        holds = λ before. tt;
+      }
+
+  pub quiet_asked : (p index owner : ℕ) → Quiet (Asked p index owner ∷ [])
+  quiet_asked p index owner =
+      record {
+        filled = λ i o. refl;
+        holder = λ i o. refl;
+        settled = λ i o. refl;
+        right = λ i r. refl;
+        locked = λ b. refl;
+        dead = λ owner b. refl;
+        holds = λ before. (tt, tt);
+      }
+
+  pub quiet_told : (p index owner : ℕ) → Quiet (Told p index owner ∷ [])
+  quiet_told p index owner =
+      record {
+        filled = λ i o. refl;
+        holder = λ i o. refl;
+        settled = λ i o. refl;
+        right = λ i r. refl;
+        locked = λ b. refl;
+        dead = λ owner b. refl;
+        holds = λ before. (tt, tt);
+      }
+
+  -- an end, but that of an acquire with an index
+  pub quiet_end : (p : ℕ) (start : RobustStart) (answer : Answer T)
+      → ((i : ℕ) (o : Option ℕ) → settled_after i o (Finished p (Robust start) answer) ≡ o)
+      → ((i : ℕ) (r : Right) → right_after i r (Finished p (Robust start) answer) ≡ r)
+      → Quiet (Finished p (Robust start) answer ∷ [])
+  quiet_end p start answer settles rights =
+      record {
+        filled = λ i o. refl;
+        holder = λ i o. refl;
+        settled = settles;
+        right = rights;
+        locked = λ b. refl;
+        dead = λ owner b. refl;
+        holds = λ before. (tt, tt);
+      }
+
+  pub well_formed_less : (events es : List (Event T)) → IsWellFormed (events ++ es) → IsWellFormed events
+  well_formed_less events es all before after e is = all before (after ++ es) e (ap (λ xs. xs ++ es) is ∙ append_assoc before (e ∷ after) es)
+
+module _ {T : Type 0} (scene : Scene T) where
+  open scene use {by as by, capacity as c, party as p, turns as turns, events as events}
+
+  abbrev ws : List ℕ
+  ws = scene.set.words
+
+  abbrev dead : List ℕ
+  dead = scene.set.dead
+
+  -- ---- what becomes of the words where no cell changes
+
+  pub record Leaves (words' : List ℕ) : Type 0 where
+    pub wide : length words' ≡ length ws
+    pub cells : (i : ℕ) → i < c → cell words' i ≡ cell ws i
+    pub lock : (counter_of words' == locked) ≡ (counter_of ws == locked)
+    pub low : (counter_of ws == locked) ≡ false → counter_of words' ≤ turns
+    pub grows : counter_of ws ≤ counter_of words'
+    pub bound : counter_of words' ≤ locked
+    pub stuck : counter_of ws ≡ greatest → counter_of words' ≡ greatest
+
+  -- nor any word but the counter
+  pub record Stays (words' : List ℕ) : Type 0 where
+    pub leaves : Leaves words'
+    pub others : (n : ℕ) → 1 ≤ n → get_or words' n 0 ≡ get_or ws n 0
+
+  -- the counter goes up by one, unless it is at its end
+  abbrev pub IsRaised : List ℕ → Type 0
+  IsRaised words' =
+      ((counter_of ws < greatest) × (words' ≡ set ws 0 (counter_of ws + 1)))
+      ⊎ (IsWorn by ws × (counter_of ws ≡ greatest) × (words' ≡ ws))
+
+  module _ (inv : Inv scene) where
+    g : Good by c ws dead events turns
+    g = inv.good
+
+    -- where the counter is before its end the set is not locked
+    pub not_shut : counter_of ws < greatest → counter_of ws ≢ locked
+    not_shut less shut = absurd (omega arith)
+
+    pub unlocked : counter_of ws ≢ locked → is_locked events ≡ false
+    unlocked open_now = sym g.lock ∙ ne_eqb (counter_of ws) locked open_now
+
+    pub is_shut : counter_of ws ≡ locked → is_locked events ≡ true
+    is_shut shut = sym g.lock ∙ eq-eqb (counter_of ws) locked shut
+
+    pub stays_same : (words' : List ℕ) → words' ≡ ws → Stays words'
+    stays_same words' same = grind arith
+
+    pub stays_raised : (words' : List ℕ) → counter_of ws < greatest → words' ≡ set ws 0 (counter_of ws + 1) → Stays words'
+    stays_raised words' less new =
+        let wide = g.wide in
+        let is : counter_of words' ≡ counter_of ws + 1 = ap counter_of new ∙ counter_set ws (counter_of ws + 1) (omega arith) in
+        record {
+          leaves =
+              record {
+                wide = ap length new ∙ length-set ws 0 (counter_of ws + 1);
+                cells = λ i below. ap (λ w. cell w i) new ∙ cells_stay ws (counter_of ws + 1) i;
+                lock = ne_eqb (counter_of words') locked (λ e. absurd (omega arith)) ∙ sym (ne_eqb (counter_of ws) locked (not_shut less));
+                low = λ t. let low = g.low (sym g.lock ∙ t) in let begun = inv.begun in omega arith;
+                grows = omega arith;
+                bound = omega arith;
+                stuck = λ end. absurd (omega arith);
+              };
+          others = λ n some. ap (λ w. get_or w n 0) new ∙ get_or-set_other ws 0 n (counter_of ws + 1) 0 (λ e. absurd (omega arith));
+        }
+
+    module _ (words' : List ℕ) (raised : IsRaised words') where
+      pub raised_open : counter_of ws ≢ locked
+      raised_open = ⊎_elim (λ h. not_shut h.0) (λ h shut. let end = h.1 in absurd (omega arith)) raised
+
+      pub raised_stays : Stays words'
+      raised_stays = ⊎_elim (λ h. stays_raised words' h.0 h.1) (λ h. stays_same words' h.2) raised
+
+      pub raised_more : counter_of ws < greatest → counter_of words' ≡ counter_of ws + 1
+      raised_more less =
+          let wide = g.wide in
+          ⊎_elim (λ h. ap counter_of h.1 ∙ counter_set ws (counter_of ws + 1) (omega arith)) (λ h. let end = h.1 in absurd (omega arith)) raised
+
+    -- a cell tells with whom its index is filled
+    module _ (i : ℕ) (below : i < c) where
+      by_owner : (o : Option ℕ) → filled_of i events ≡ o → cell ws i ≡ cell_of o → (owner : ℕ) → owner < empty → cell ws i ≡ owner → o ≡ Some owner
+      by_owner None e is owner fits here = absurd (omega arith)
+      by_owner (Some other) e is owner fits here = let same : other ≡ owner = sym is ∙ here in ap Some same
+
+      pub filled_by : (owner : ℕ) → owner < empty → cell ws i ≡ owner → filled_of i events ≡ Some owner
+      filled_by owner fits here = by_owner (filled_of i events) refl (g.cells i below) owner fits here
+
+      by_none : (o : Option ℕ) → filled_of i events ≡ o → cell ws i ≡ cell_of o → cell ws i ≡ empty → o ≡ None
+      by_none None e is here = refl
+      by_none (Some other) e is here = let fits = (g.filled i other e).1 in absurd (omega arith)
+
+      pub filled_none : cell ws i ≡ empty → filled_of i events ≡ None
+      filled_none here = by_none (filled_of i events) refl (g.cells i below) here
+
+      by_some : (o : Option ℕ) → filled_of i events ≡ o → cell ws i ≡ cell_of o → cell ws i ≢ empty → (cell ws i < empty) × (o ≡ Some (cell ws i))
+      by_some None e is other = absurd (other is)
+      by_some (Some owner) e is other = let fits = (g.filled i owner e).1 in (omega arith, ap Some (sym is))
+
+      -- a cell that is not empty holds an owner
+      pub filled_some : cell ws i ≢ empty → (cell ws i < empty) × (filled_of i events ≡ Some (cell ws i))
+      filled_some other = by_some (filled_of i events) refl (g.cells i below) other
+
+    -- ---- a step that is quiet
+
+    module _ (words' : List ℕ) (es : List (Event T)) (stays : Leaves words') (quiet : Quiet es) (own : AreOwn p es)
+        (right : AreRight (SetDoes c) events es)
+        (answers : AreRight (AnswersBy by (IsWorn by words') c) events es) where
+      filled_more : (i : ℕ) → filled_of i (events ++ es) ≡ filled_of i events
+      filled_more i = fold-append (filled_after i) None events es ∙ quiet.filled i (filled_of i events)
+
+      holder_more : (i : ℕ) → holder_of i (events ++ es) ≡ holder_of i events
+      holder_more i = fold-append (holder_after i) None events es ∙ quiet.holder i (holder_of i events)
+
+      settled_more : (i : ℕ) → settled_of i (events ++ es) ≡ settled_of i events
+      settled_more i = fold-append (settled_after i) None events es ∙ quiet.settled i (settled_of i events)
+
+      right_more : (i : ℕ) → right_of i (events ++ es) ≡ right_of i events
+      right_more i = fold-append (right_after i) _ events es ∙ quiet.right i (right_of i events)
+
+      locked_more : is_locked (events ++ es) ≡ is_locked events
+      locked_more = fold-append locked_after false events es ∙ quiet.locked (is_locked events)
+
+      dead_more : (owner : ℕ) → is_dead owner (events ++ es) ≡ is_dead owner events
+      dead_more owner = fold-append (dead_after owner) false events es ∙ quiet.dead owner (is_dead owner events)
+
+      still_owned : IsCalm by (events ++ es) → AreOwned (events ++ es)
+      still_owned calm =
+          let h = g.owned (calm_less by events es calm) in
+          record {
+            held = λ i owner e. filled_more i ∙ h.held i owner (sym (holder_more i) ∙ e);
+            settled = λ i owner e. let k = h.settled i owner (sym (settled_more i) ∙ e) in (filled_more i ∙ k.0, right_more i ∙ k.1);
+          }
+
+      pub quietly : Does scene words' es
+      quietly =
+          record {
+            own = own;
+            good =
+                record {
+                  some = g.some;
+                  few = g.few;
+                  wide = let same = stays.wide in let wide = g.wide in omega arith;
+                  cells = λ i below. stays.cells i below ∙ (g.cells i below ∙ sym (ap cell_of (filled_more i)));
+                  filled = λ i owner e. g.filled i owner (sym (filled_more i) ∙ e);
+                  lock = stays.lock ∙ (g.lock ∙ sym locked_more);
+                  low = λ t. let low = stays.low (g.lock ∙ (sym locked_more ∙ t)) in omega arith;
+                  bound = stays.bound;
+                  died = λ owner. g.died owner ∙ sym (dead_more owner);
+                  does = Each-append (SetDoes c) events es g.does right;
+                  answers =
+                      Each-append (AnswersBy by (IsWorn by words') c) events es
+                      (answers_on (IsWorn by ws) (IsWorn by words') (worn_on by ws words' stays.stuck) by c events g.answers)
+                      answers;
+                  owned = still_owned;
+                  holds = λ calm. Each-append HoldsRight events es (g.holds (calm_less by events es calm)) (quiet.holds events);
+                };
+            goes =
+                record {
+                  grows = stays.grows;
+                  stuck = stays.stuck;
+                  grants = λ same less i none. holder_more i ∙ none;
+                  fills = λ i owner d e. sym (filled_more i) ∙ e;
+                  dead = λ owner d. dead_more owner ∙ d;
+                  lives = λ owner l. sym (dead_more owner) ∙ l;
+                  well_formed = well_formed_less events es;
+                };
+            spares = λ q ne.
+                record {
+                  none = others_begin_none q p es ne own;
+                  deeds = ap (λ s. deeds (wrote_in s)) (span_of-other p q events es ne own);
+                  owned = λ calm i owner alive h. record { right = right_more i ∙ h.right; filled = filled_more i ∙ h.filled };
+                  unheld = λ calm i owner alive h none. holder_more i ∙ none;
+                  held = λ calm i owner alive h here. holder_more i ∙ here;
+                  settled = λ calm i owner alive h none. settled_more i ∙ h;
+                };
+          }
+
+    -- ---- an index is filled
+
+    module _ (words' : List ℕ) (i owner : ℕ) (below : i < c) (fits : owner < empty)
+        (none : filled_of i events ≡ None) (alive : is_dead owner events ≡ false)
+        (was_open : HeldSometime p IsUnlocked events)
+        (new : words' ≡ set ws (cell_word i) owner) where
+      abbrev fill : List (Event T)
+      fill = Filled p i owner ∷ []
+
+      filled_then : (j : ℕ) → filled_of j (events ++ fill) ≡ (if i == j then Some owner else filled_of j events)
+      filled_then j = fold-append (filled_after j) None events fill
+
+      filled_here : filled_of i (events ++ fill) ≡ Some owner
+      filled_here = filled_then i ∙ at_same i i (Some owner) (filled_of i events) refl
+
+      filled_there : (j : ℕ) → j ≢ i → filled_of j (events ++ fill) ≡ filled_of j events
+      filled_there j ne = filled_then j ∙ at_other i j (Some owner) (filled_of j events) ne
+
+      fill_right : (j : ℕ) → j ≢ i → right_of j (events ++ fill) ≡ right_of j events
+      fill_right j ne = fold-append (right_after j) _ events fill ∙ at_other i j (By p) (right_of j events) ne
+
+      fill_holder : (j : ℕ) → holder_of j (events ++ fill) ≡ holder_of j events
+      fill_holder j = fold-append (holder_after j) None events fill
+
+      fill_settled : (j : ℕ) → settled_of j (events ++ fill) ≡ settled_of j events
+      fill_settled j = fold-append (settled_after j) None events fill
+
+      fill_locked : is_locked (events ++ fill) ≡ is_locked events
+      fill_locked = fold-append locked_after false events fill
+
+      fill_dead : (o : ℕ) → is_dead o (events ++ fill) ≡ is_dead o events
+      fill_dead o = fold-append (dead_after o) false events fill
+
+      within_words : cell_word i < length ws
+      within_words = let wide = g.wide in omega arith
+
+      fill_cells : (j : ℕ) → j < c → cell words' j ≡ cell_of (filled_of j (events ++ fill))
+      fill_cells j low = ap (λ w. cell w j) new ∙ ⊎_elim here there (cases_eq j i)
+        where
+          here : j ≡ i → cell (set ws (cell_word i) owner) j ≡ cell_of (filled_of j (events ++ fill))
+          here e =
+              subst (λ k. cell (set ws (cell_word i) owner) k ≡ cell_of (filled_of k (events ++ fill))) (sym e)
+              (cell_set ws i owner within_words ∙ sym (ap cell_of filled_here))
+
+          there : j ≢ i → cell (set ws (cell_word i) owner) j ≡ cell_of (filled_of j (events ++ fill))
+          there ne = cell_stays ws i owner j ne ∙ (g.cells j low ∙ sym (ap cell_of (filled_there j ne)))
+
+      fill_filled : (j o : ℕ) → filled_of j (events ++ fill) ≡ Some o → (j < c) × (o < empty)
+      fill_filled j o e = ⊎_elim here there (cases_eq j i)
+        where
+          here : j ≡ i → (j < c) × (o < empty)
+          here same =
+              let is : owner ≡ o = one_owner (filled_of i (events ++ fill)) owner o filled_here (subst (λ k. filled_of k (events ++ fill) ≡ Some o) same e) in
+              (omega arith, omega arith)
+
+          there : j ≢ i → (j < c) × (o < empty)
+          there ne = g.filled j o (sym (filled_there j ne) ∙ e)
+
+      module _ (h : AreOwned events) where
+        fill_held : (j o : ℕ) → holder_of j (events ++ fill) ≡ Some o → filled_of j (events ++ fill) ≡ Some o
+        fill_held j o e =
+            let was = h.held j o (sym (fill_holder j) ∙ e) in
+            ⊎_elim (λ same. some_none (filled_of i events) o none (subst (λ k. filled_of k events ≡ Some o) same was))
+            (λ ne. filled_there j ne ∙ was) (cases_eq j i)
+
+        fill_settles : (j o : ℕ) → settled_of j (events ++ fill) ≡ Some o → (filled_of j (events ++ fill) ≡ Some o) × (right_of j (events ++ fill) ≡ Settled o)
+        fill_settles j o e =
+            let was = h.settled j o (sym (fill_settled j) ∙ e) in
+            ⊎_elim (λ same. some_none (filled_of i events) o none (subst (λ k. filled_of k events ≡ Some o) same was.0))
+            (λ ne. (filled_there j ne ∙ was.0, fill_right j ne ∙ was.1)) (cases_eq j i)
+
+      fill_counter : counter_of words' ≡ counter_of ws
+      fill_counter = ap counter_of new ∙ counter_stays ws i owner
+
+      fill_dead_out : (j o : ℕ) → is_dead o events ≡ true → filled_of j (events ++ fill) ≡ Some o → filled_of j events ≡ Some o
+      fill_dead_out j o d e = ⊎_elim here (λ ne. sym (filled_there j ne) ∙ e) (cases_eq j i)
+        where
+          here : j ≡ i → filled_of j events ≡ Some o
+          here same =
+              let is : owner ≡ o = one_owner (filled_of i (events ++ fill)) owner o filled_here (subst (λ k. filled_of k (events ++ fill) ≡ Some o) same e) in
+              both_ways (is_dead o events) (subst (λ k. is_dead k events ≡ false) is alive) d
+
+      fill_by : (q j o : ℕ) → IsBy q j o events → IsBy q j o (events ++ fill)
+      fill_by q j o h =
+          ⊎_elim (λ same. some_none (filled_of i events) o none (subst (λ k. filled_of k events ≡ Some o) same h.filled))
+          (λ ne. record { right = fill_right j ne ∙ h.right; filled = filled_there j ne ∙ h.filled }) (cases_eq j i)
+
+      pub fills : Does scene words' fill
+      fills =
+          record {
+            own = (refl, tt);
+            good =
+                record {
+                  some = g.some;
+                  few = g.few;
+                  wide = let same = ap length new ∙ length-set ws (cell_word i) owner in let wide = g.wide in omega arith;
+                  cells = fill_cells;
+                  filled = fill_filled;
+                  lock = ap (λ w. counter_of w == locked) new ∙ (ap (λ n. n == locked) (counter_stays ws i owner) ∙ (g.lock ∙ sym fill_locked));
+                  low =
+                      λ t. let low = g.low (sym fill_locked ∙ t) in
+                      let is : counter_of words' ≡ counter_of ws = ap counter_of new ∙ counter_stays ws i owner in
+                      omega arith;
+                  bound = let is = fill_counter in let bound = g.bound in omega arith;
+                  died = λ o. g.died o ∙ sym (fill_dead o);
+                  does = Each-append (SetDoes c) events fill g.does ((below, none, alive, was_open), tt);
+                  answers =
+                      Each-append (AnswersBy by (IsWorn by words') c) events fill
+                      (answers_on (IsWorn by ws) (IsWorn by words') (worn_on by ws words' (λ end. fill_counter ∙ end))
+                      by c events g.answers)
+                      (tt, tt);
+                  owned = λ calm. let h = g.owned (calm_less by events fill calm) in record { held = fill_held h; settled = fill_settles h };
+                  holds = λ calm. Each-append HoldsRight events fill (g.holds (calm_less by events fill calm)) (tt, tt);
+                };
+            goes =
+                record {
+                  grows = let is : counter_of words' ≡ counter_of ws = ap counter_of new ∙ counter_stays ws i owner in omega arith;
+                  stuck = λ end. fill_counter ∙ end;
+                  grants = λ same less j unheld. fill_holder j ∙ unheld;
+                  fills = fill_dead_out;
+                  dead = λ o d. fill_dead o ∙ d;
+                  lives = λ o l. sym (fill_dead o) ∙ l;
+                  well_formed = well_formed_less events fill;
+                };
+            spares = λ q ne.
+                record {
+                  none = tt;
+                  deeds = ap (λ s. deeds (wrote_in s)) (span_of-other p q events fill ne (refl, tt));
+                  owned = λ calm j o lives h. fill_by q j o h;
+                  unheld = λ calm j o lives h unheld. fill_holder j ∙ unheld;
+                  held = λ calm j o lives h here. fill_holder j ∙ here;
+                  settled = λ calm j o lives h none. fill_settled j ∙ h;
+                };
+          }

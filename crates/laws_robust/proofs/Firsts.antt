@@ -1,0 +1,127 @@
+-- What the first stage of a call of the robust index set knows, and which calls begin on the set.
+use Rattle.std.proofs.Common.{◌≡◌, ℕ, ◌<◌, ◌≤◌, nat_le, if◌then◌else◌, Bool, true, false, Some, None, option_map, List, [], ◌∷◌, ◌++◌, refl, sym, ◌∙◌, arith}
+use Rattle.std.proofs.lemmas.Bool.Decides.{nat_tests}
+use Rattle.std.proofs.lemmas.List.Sums.{fold-append}
+use Rattle.steps.specs.declared.indices.enums.ReleaseMode.{ReleaseMode}
+use Rattle.steps.specs.Indices.Robust.Parts.{empty}
+use Rattle.model.specs.declared.event.Event.{Event}
+use Rattle.model.specs.declared.event.Event.TheVariants.{Begun}
+use Rattle.model.specs.declared.event.Start.{Start}
+use Rattle.model.specs.declared.event.Start.TheVariants.{Robust}
+use Rattle.model.specs.declared.families.Flight.{Flight}
+use Rattle.model.specs.declared.families.Flight as flights
+use Rattle.model.specs.declared.families.Registry.{Registry}
+use Rattle.model.specs.declared.families.indices.robust.RobustStart.{RobustStart}
+use Rattle.model.specs.declared.families.indices.robust.RobustStart as starts
+use Rattle.model.specs.declared.families.indices.robust.calls.RobustFlight.{RobustFlight}
+use Rattle.model.specs.declared.turn.Kind as kinds
+use Rattle.model.specs.declared.turn.Refusal.TheVariants.{BadIndex, OwnerIsDead}
+use Rattle.model.specs.Families.{first_of}
+use Rattle.model.specs.Families.Indices.Robust.Calls.{first}
+use Rattle.model.specs.Families.Indices.Robust.Dead.{has_died}
+use Rattle.model.specs.Families.Indices.Robust.Opening.{is_owner, names_owner, call_rows}
+use Rattle.model.specs.Families.Indices.Robust.Promises.{IsFilledWith}
+use Rattle.model.specs.Families.Indices.Robust.Reading.{Deed, Yes, filled_after, settled_of, deeds_of, IsOneOf}
+use Rattle.model.specs.Rows.{first_row}
+use Rattle.model.proofs.Readings.{no_more}
+use Rattle.model.proofs.Rows.{row_passed}
+use Rattle.laws_robust.specs.Gone.{GoneBy, IsCalm}
+use Rattle.laws_robust.proofs.Begins.{takes_right}
+use Rattle.laws_robust.proofs.Counting.{count_none}
+use Rattle.laws_robust.proofs.Gone.{calm_less}
+use Rattle.laws_robust.proofs.Invariant.{view}
+use Rattle.laws_robust.proofs.Knows.{Knows}
+use Rattle.laws_robust.proofs.Past.{since_begun}
+use Rattle.laws_robust.proofs.Rights.{IsBy, AreOwned}
+use Rattle.laws_robust.proofs.Standing.{At}
+
+pub record IsFirst (T : Type 0) (by : GoneBy) (c : ℕ) (words : List ℕ) (events : List (Event T)) (p changes : ℕ)
+    (start : RobustStart) (flight : RobustFlight) : Type 0 where
+  pub at : At c [] start flight
+  pub knows : Knows c flight (view by words (events ++ Begun p (Robust start) ∷ []) p changes changes 0)
+
+none_of : {A : Type 0} (one : Deed) (done : List Deed) → done ≡ [] → IsOneOf one done → A
+none_of one done none h = absurd (no_more h.before one h.after (sym none ∙ h.is))
+
+is_below : (owner : ℕ) → is_owner owner ≡ true → owner < empty
+is_below owner t = grind (arith, nat_tests)
+
+module _ {T : Type 0} (by : GoneBy) (c : ℕ) (words : List ℕ) (events : List (Event T)) (p changes : ℕ)
+    (some : 1 ≤ c) (owned : IsCalm by events → AreOwned events) where
+  pub first_is : (start : RobustStart) → names_owner start ≡ true → (dead : List ℕ)
+      → first_row (call_rows c dead start) ≡ None → deeds_of p (events ++ Begun p (Robust start) ∷ []) ≡ []
+      → IsFirst T by c words events p changes start (first c start)
+  first_is (starts.TheVariants.Acquire owner) named dead r none =
+      record { at = (refl, refl, is_below owner named, refl); knows = record { paid = omega arith; scanned = tt; owns = tt; says = tt; gone = tt } }
+  first_is (starts.TheVariants.Release index owner mode) named dead r none =
+      let low = row_passed (nat_le c index) BadIndex (first_row ((has_died owner dead, OwnerIsDead) ∷ [])) r in
+      let t : nat_le c index ≡ false = low.0 in
+      let below : index < c = grind (arith, nat_tests) in
+      let es : List (Event T) = Begun p (Robust (starts.TheVariants.Release index owner mode)) ∷ [] in
+      record {
+        at = (refl, refl, is_below owner named, below, refl);
+        knows =
+            record {
+              paid = omega arith;
+              scanned = tt;
+              owns =
+                  λ calm alive began. taken index owner mode
+                  (owned (calm_less by events (Begun p (Robust (starts.TheVariants.Release index owner mode)) ∷ []) calm))
+                  (since_begun p (λ part. settled_of index part ≡ Some owner) events (Robust (starts.TheVariants.Release index owner mode)) began);
+              says = tt;
+              gone = tt;
+            };
+      }
+    where
+      taken : (index owner : ℕ) (mode : ReleaseMode) → AreOwned events → settled_of index events ≡ Some owner
+          → IsBy p index owner (events ++ Begun p (Robust (starts.TheVariants.Release index owner mode)) ∷ [])
+      taken index owner mode h e =
+          let k = h.settled index owner e in
+          record {
+            right = takes_right p index owner mode events k.1;
+            filled = fold-append (filled_after index) None events (Begun p (Robust (starts.TheVariants.Release index owner mode)) ∷ []) ∙ k.0;
+          }
+  first_is (starts.TheVariants.Find owner) named dead r none =
+      record {
+        at = (refl, refl, is_below owner named, (omega arith, refl));
+        knows = record {
+          paid = omega arith;
+          scanned = tt;
+          owns = tt;
+          says = count_none p (IsFilledWith owner)
+              (events ++ Begun p (Robust (starts.TheVariants.Find owner)) ∷ []);
+          gone = tt;
+        };
+      }
+  first_is (starts.TheVariants.Recover mode) named dead r none =
+      record {
+        at = (refl, refl, refl);
+        knows = record {
+          paid = omega arith;
+          scanned = tt;
+          owns = tt;
+          says = tt;
+          gone = λ i owner told. none_of (Yes i owner)
+              (deeds_of p (events ++ Begun p (Robust (starts.TheVariants.Recover mode)) ∷ [])) none told;
+        };
+      }
+  first_is starts.TheVariants.BorrowedIndices named dead r none =
+      record { at = (refl, tt, refl); knows = record { paid = omega arith; scanned = tt; owns = tt; says = tt; gone = tt } }
+  first_is starts.TheVariants.IsLocked named dead r none =
+      record { at = refl; knows = record { paid = omega arith; scanned = tt; owns = tt; says = tt; gone = tt } }
+
+-- a call that begins on the set is one of its own, for an owner that is none of an empty cell
+abbrev pub IsOwn : (T : Type 0) → ℕ → Start T → Flight T → Type 0
+IsOwn T c (Robust start) (flights.TheVariants.Robust flight) = (first c start ≡ flight) × (names_owner start ≡ true)
+IsOwn T c start flight = ⊥
+
+module _ (T : Type 0) (c : ℕ) where
+  named_own : (start : RobustStart) (flight : Flight T) (b : Bool) → names_owner start ≡ b
+      → option_map flights.TheVariants.Robust (if b then Some (first c start) else None) ≡ Some flight
+      → IsOwn T c (Robust start) flight
+  named_own start flight b t e = grind arith
+
+  pub begins_own : (kept : Registry T) (start : Start T) (flight : Flight T)
+      → first_of kinds.TheVariants.Robust c start kept ≡ Some flight → IsOwn T c start flight
+  begins_own kept (Robust start) flight e = named_own start flight (names_owner start) refl e
+  begins_own kept start flight e = absurd (cc)

@@ -1,0 +1,150 @@
+-- Who is gone stays so; a run was honest and well-formed a turn ago; and in an honest run nothing is filled again with an owner
+-- who is gone.
+use Rattle.std.proofs.Common.{⊎_elim, ◌≡◌, ℕ, ◌==◌, ◌||◌, Bool, true, false, Option, Some, None, List, [], ◌∷◌, ◌++◌}
+use Rattle.std.proofs.Common.{fold, refl, sym, ap, subst, ◌∙◌, append_assoc, append-nil, eq-eqb, arith}
+use Rattle.std.proofs.lemmas.List.Sums.{fold-append}
+use Rattle.steps.specs.declared.indices.enums.ReleaseMode.{ReleaseMode}
+use Rattle.steps.specs.declared.indices.enums.ReleaseMode.TheVariants.{LockIfLastIndex}
+use Rattle.steps.specs.declared.indices.enums.ReleaseState.TheVariants.{Unlocked}
+use Rattle.steps.specs.declared.indices.enums.UniqueIndexSetAcquireFailure.TheVariants.{OutOfIndices}
+use Rattle.model.specs.declared.event.Answer.TheVariants.{Index, NoIndex, State}
+use Rattle.model.specs.declared.event.Event.{Event}
+use Rattle.model.specs.declared.event.Event.TheVariants.{Begun, Granted, FreedOf, Told, Died, Finished}
+use Rattle.model.specs.declared.event.Start.TheVariants.{Robust, Container}
+use Rattle.model.specs.declared.families.container.ContainerStart as containers
+use Rattle.model.specs.declared.families.indices.robust.RobustStart.TheVariants.{Acquire, Release, Recover}
+use Rattle.model.specs.Families.Indices.Robust.Promises.{AsksRight, FreesRight, AnswersRight}
+use Rattle.model.specs.Families.Indices.Robust.Reading.{filled_after, filled_of, dead_after, is_dead}
+use Rattle.model.specs.Reading.{Each}
+use Rattle.laws_robust.specs.Gone.{GoneBy, Death, Word, gone_after, is_gone, ActsForRight, IsHonest, IsHonestBy, IsCalm, MayBeTold, AsksBy, AnswersBy}
+
+or_true : (b : Bool) → (b || true) ≡ true
+or_true true = refl
+or_true false = refl
+
+was_false : (b : Bool) → (b ≡ true → true ≡ false) → b ≡ false
+was_false true h = h refl
+was_false false h = refl
+
+module _ {T : Type 0} where
+  -- ---- who is gone
+
+  dead_stays : (owner : ℕ) (es : List (Event T)) → fold (dead_after owner) true es ≡ true
+  dead_stays owner [] = refl
+  dead_stays owner (Died o ∷ es) = ap (λ b. fold (dead_after owner) b es) (or_true (o == owner)) ∙ dead_stays owner es
+  dead_stays owner (e ∷ es) = dead_stays owner es
+
+  gone_stays : (owner : ℕ) (es : List (Event T)) → fold (gone_after owner) true es ≡ true
+  gone_stays owner [] = refl
+  gone_stays owner (Died o ∷ es) = ap (λ b. fold (gone_after owner) b es) (or_true (o == owner)) ∙ gone_stays owner es
+  gone_stays owner (Told p i o ∷ es) = ap (λ b. fold (gone_after owner) b es) (or_true (o == owner)) ∙ gone_stays owner es
+  gone_stays owner (Begun p (Container (containers.TheVariants.Recover o mode)) ∷ es) =
+      ap (λ b. fold (gone_after owner) b es) (or_true (o == owner)) ∙ gone_stays owner es
+  gone_stays owner (e ∷ es) = gone_stays owner es
+
+  pub gone_more : (by : GoneBy) (owner : ℕ) (events es : List (Event T)) → is_gone by owner events ≡ true → is_gone by owner (events ++ es) ≡ true
+  gone_more Death owner events es gone = fold-append (dead_after owner) false events es ∙ (ap (λ b. fold (dead_after owner) b es) gone ∙ dead_stays owner es)
+  gone_more Word owner events es gone = fold-append (gone_after owner) false events es ∙ (ap (λ b. fold (gone_after owner) b es) gone ∙ gone_stays owner es)
+
+  pub gone_less : (by : GoneBy) (owner : ℕ) (events es : List (Event T)) → is_gone by owner (events ++ es) ≡ false → is_gone by owner events ≡ false
+  gone_less by owner events es stays = was_false (is_gone by owner events) (λ gone. sym (gone_more by owner events es gone) ∙ stays)
+
+  -- who is told of is gone, if he has to be dead for it
+  pub gone_told : (by : GoneBy) (p index owner : ℕ) (events : List (Event T)) → MayBeTold by owner events
+      → is_gone by owner (events ++ Told p index owner ∷ []) ≡ true
+  gone_told Death p index owner events dead = gone_more Death owner events (Told p index owner ∷ []) dead
+  gone_told Word p index owner events may =
+      fold-append (gone_after owner) false events (Told p index owner ∷ [])
+      ∙ ap (λ b. b || is_gone Word owner events) (eq-eqb owner owner refl)
+
+  -- and so is he for whom a container's recovery begins
+  pub gone_begun : (p owner : ℕ) (mode : ReleaseMode) (events : List (Event T))
+      → is_gone Word owner (events ++ Begun p (Container (containers.TheVariants.Recover owner mode)) ∷ []) ≡ true
+  gone_begun p owner mode events =
+      fold-append (gone_after owner) false events (Begun p (Container (containers.TheVariants.Recover owner mode)) ∷ [])
+      ∙ ap (λ b. b || is_gone Word owner events) (eq-eqb owner owner refl)
+
+  -- ---- honest runs
+
+  each_less : (P : List (Event T) → Event T → Type 0) (events es : List (Event T)) → Each P (events ++ es) → Each P events
+  each_less P events es all before after e is = all before (after ++ es) e (ap (λ xs. xs ++ es) is ∙ append_assoc before (e ∷ after) es)
+
+  pub honest_less : (by : GoneBy) (events es : List (Event T)) → IsHonestBy by (events ++ es) → IsHonestBy by events
+  honest_less Death events es h = tt
+  honest_less Word events es h = each_less ActsForRight events es h
+
+  pub calm_less : (by : GoneBy) (events es : List (Event T)) → IsCalm by (events ++ es) → IsCalm by events
+  calm_less by events es h = (each_less FreesRight events es h.0, honest_less by events es h.1)
+
+  -- an index is granted for an owner who lives
+  pub lives_granted : (by : GoneBy) (p index owner : ℕ) (events : List (Event T)) → is_dead owner events ≡ false
+      → IsHonestBy by (events ++ Granted p index owner ∷ []) → is_gone by owner events ≡ false
+  lives_granted Death p index owner events lives h = lives
+  lives_granted Word p index owner events lives h = h events [] (Granted p index owner) refl
+
+  -- a release frees one of an owner who lives
+  pub lives_freed : (by : GoneBy) (p index owner : ℕ) (events : List (Event T)) → is_dead owner events ≡ false
+      → (IsHonest (events ++ FreedOf p index owner ∷ []) → is_gone Word owner events ≡ false)
+      → IsHonestBy by (events ++ FreedOf p index owner ∷ []) → is_gone by owner events ≡ false
+  lives_freed Death p index owner events lives acts h = lives
+  lives_freed Word p index owner events lives acts h = acts h
+
+  -- an add ends with an index for an owner who lives
+  pub lives_settled : (by : GoneBy) (p index owner : ℕ) (value : T) (events : List (Event T)) → is_dead owner events ≡ false
+      → IsHonestBy by (events ++ Finished p (Container (containers.TheVariants.Add value owner)) (Index index) ∷ []) → is_gone by owner events ≡ false
+  lives_settled Death p index owner value events lives h = lives
+  lives_settled Word p index owner value events lives h = h events [] (Finished p (Container (containers.TheVariants.Add value owner)) (Index index)) refl
+
+  -- ---- nothing is filled with an owner who is gone
+
+  module _ (i owner : ℕ) (events : List (Event T)) (gone : is_gone Word owner events ≡ true) where
+    filled_before : (e : Event T) (old : Option ℕ) → ActsForRight events e → filled_after i old e ≡ Some owner → old ≡ Some owner
+    filled_before e old lives h = grind arith
+
+  lost_so_far : (i owner : ℕ) (events es : List (Event T)) → IsHonest (events ++ es)
+      → is_gone Word owner events ≡ true → filled_of i (events ++ es) ≡ Some owner → filled_of i events ≡ Some owner
+  lost_so_far i owner events [] honest gone h = subst (λ xs. filled_of i xs ≡ Some owner) (append-nil events) h
+  lost_so_far i owner events (e ∷ es) honest gone h =
+      let is : events ++ e ∷ es ≡ (events ++ e ∷ []) ++ es = sym (append_assoc events (e ∷ []) es) in
+      let later : filled_of i (events ++ e ∷ []) ≡ Some owner =
+      lost_so_far i owner (events ++ e ∷ []) es (subst IsHonest is honest)
+      (gone_more Word owner events (e ∷ []) gone) (subst (λ xs. filled_of i xs ≡ Some owner) is h) in
+      filled_before i owner events gone e (filled_of i events) (honest events es e refl) (sym (fold-append (filled_after i) None events (e ∷ [])) ∙ later)
+
+  -- what an owner who is gone has lost stays lost to him
+  pub stays_lost : (by : GoneBy) (events es : List (Event T))
+      → ((i owner : ℕ) → is_dead owner events ≡ true → filled_of i (events ++ es) ≡ Some owner → filled_of i events ≡ Some owner)
+      → (i owner : ℕ) → IsHonestBy by (events ++ es) → is_gone by owner events ≡ true
+      → filled_of i (events ++ es) ≡ Some owner → filled_of i events ≡ Some owner
+  stays_lost Death events es fills i owner honest gone h = fills i owner gone h
+  stays_lost Word events es fills i owner honest gone h = lost_so_far i owner events es honest gone h
+
+  -- ---- answers, in the words of a machine whose owners die
+
+  ask_right : (before : List (Event T)) (e : Event T) → AsksBy Death before e → AsksRight before e
+  ask_right before (Told p i o) h = h
+  ask_right before e h = h
+
+  pub asks_right : (events : List (Event T)) → Each (AsksBy Death) events → Each AsksRight events
+  asks_right events asks before after e is = ask_right before e (asks before after e is)
+
+  module _ (worn worn' : Type 0) (on : worn → worn') where
+    still_right : (by : GoneBy) (c : ℕ) (before : List (Event T)) (e : Event T) → AnswersBy by worn c before e → AnswersBy by worn' c before e
+    still_right by c before e h = grind arith
+
+    -- a counter that was at its end still is
+    pub answers_on : (by : GoneBy) (c : ℕ) (events : List (Event T)) → Each (AnswersBy by worn c) events → Each (AnswersBy by worn' c) events
+    answers_on by c events answers before after e is = still_right by c before e (answers before after e is)
+
+  module _ (worn : Type 0) (not_worn : worn → ⊥) where
+    answer_right : (by : GoneBy) (c : ℕ) (before : List (Event T)) (e : Event T) → IsHonestBy by before → AnswersBy by worn c before e → AnswersRight c before e
+    answer_right by c before (Finished p (Robust (Acquire owner)) (NoIndex OutOfIndices)) honest h = (h.0, ⊎_elim (λ w. absurd (not_worn w)) (λ k. k) h.1)
+    answer_right by c before (Finished p (Robust (Release index owner LockIfLastIndex)) (State Unlocked)) honest h =
+        (h.0, ⊎_elim (λ w. absurd (not_worn w)) (λ k. k) h.1)
+    answer_right by c before (Finished p (Robust (Recover mode)) (State Unlocked)) honest h = (h.0, record { gone = h.1.gone honest; asked = h.1.asked })
+    answer_right by c before e honest h = h
+
+    pub answers_right : (by : GoneBy) (c : ℕ) (events : List (Event T)) → IsHonestBy by events
+        → Each (AnswersBy by worn c) events → Each (AnswersRight c) events
+    answers_right by c events honest answers before after e is =
+        answer_right by c before e (honest_less by before (e ∷ after) (subst (IsHonestBy by) is honest)) (answers before after e is)

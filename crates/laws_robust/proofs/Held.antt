@@ -1,0 +1,272 @@
+-- The steps of an acquire, in any call that holds it. What a step leads to is what the caller makes of it.
+use Rattle.std.proofs.Common.{◌≡◌, ◌≢◌, ℕ, ◌+◌, ◌*◌, ◌<◌, ◌≤◌, ◌==◌, ◌⊎◌, ⊎_elim, inl, inr, if◌then◌else◌, nat_lt}
+use Rattle.std.proofs.Common.{Bool, true, false, not, Option, Some, None, is_some, List, [], ◌∷◌, ◌++◌, set, refl, sym}
+use Rattle.std.proofs.Common.{ap, ◌∙◌, arith}
+use Rattle.std.specs.Prelude.{Ok, Err}
+use Rattle.std.proofs.lemmas.Bool.{cases_lt}
+use Rattle.std.proofs.lemmas.Bool.Decides.{nat_tests}
+use Rattle.std.proofs.lemmas.List.{set-get_or}
+use Rattle.std.proofs.lemmas.List.Sums.{fold-append}
+use Rattle.steps.specs.declared.ask.Ask.{Ask}
+use Rattle.steps.specs.declared.ask.After.{After}
+use Rattle.steps.specs.declared.ask.After.TheVariants.{GoOn, Done}
+use Rattle.steps.specs.declared.indices.enums.ReleaseState.{ReleaseState}
+use Rattle.steps.specs.declared.indices.enums.UniqueIndexSetAcquireFailure as failures
+use Rattle.steps.specs.declared.indices.robust.acquire.Acquire as calls
+use Rattle.steps.specs.declared.indices.robust.acquire.AcquireStage.{AcquireStage}
+use Rattle.steps.specs.declared.indices.robust.acquire.AcquireStage as acquires
+use Rattle.steps.specs.declared.indices.robust.parts.Raise.{Raise}
+use Rattle.steps.specs.declared.indices.robust.parts.Raise as raises
+use Rattle.steps.specs.Indices.Robust.Acquire.{Acquired, at_acquire, acquire_tries, acquire_sees, acquire_raised}
+use Rattle.steps.specs.Indices.Robust.Acquire.{acquire_asks, acquire_takes, acquire_goes_back}
+use Rattle.steps.specs.Indices.Robust.Parts.{cell_word, empty, locked, greatest, raise_after, raise_goes_back}
+use Rattle.steps.specs.Picks.{by_test, by_eq}
+use Rattle.model.specs.declared.event.Event.{Event}
+use Rattle.model.specs.declared.event.Event.TheVariants.{Filled, Granted}
+use Rattle.model.specs.Families.Indices.Robust.Promises.{IsFilled, IsUnlocked}
+use Rattle.model.specs.Families.Indices.Robust.Reading.{Fills, filled_after, filled_of, holder_after, holder_of, is_dead}
+use Rattle.model.specs.Families.{ask_of}
+use Rattle.model.specs.Families.Indices.Reading.{is_locked}
+use Rattle.model.specs.Families.Indices.Robust.Spans.{FilledLate}
+use Rattle.model.specs.Families.Indices.Robust.Steps.{granted, acquire_effects}
+use Rattle.model.specs.Moments.{HeldSometime}
+use Rattle.model.specs.Turns.{old_of, words_after, step_count}
+use Rattle.model.proofs.Moments.{held_now}
+use Rattle.laws_robust.specs.Gone.{IsCalm}
+use Rattle.laws_robust.proofs.Core.{counter_of, cell}
+use Rattle.laws_robust.proofs.Effects.{at_same, IsRaised, unlocked, is_shut, filled_none, filled_some, fills}
+use Rattle.laws_robust.proofs.Gone.{calm_less, lives_granted}
+use Rattle.laws_robust.proofs.Invariant.{IsWorn, worn_at, Scene, Inv, Good, Does}
+use Rattle.laws_robust.proofs.Knows.{Knows, IsPaid, AllOnce}
+use Rattle.laws_robust.proofs.Standing.{acquire_at, acquire_number, raise_number, AcquireAt}
+use Rattle.laws_robust.proofs.Parts.{raise_ask, raise_step, none_holds, finds_counter}
+use Rattle.laws_robust.proofs.Rights.{By, right_after, right_of, IsBy}
+use Rattle.laws_robust.proofs.Stages.{all, now, sees, then_sees, backs_then, loads, exchanges, loads_same, fails_same}
+use Rattle.laws_robust.proofs.Stages.{exchange_sets, paid_of, paid_back, holds_on}
+
+pub some_is : (o : Option ℕ) (owner : ℕ) → o ≡ Some owner → is_some o ≡ true
+some_is o owner e = ap is_some e
+
+module _ {T : Type 0} (scene : Scene T) (inv : Inv scene) (owner : ℕ) (fits : owner < empty) (alive : is_dead owner scene.events ≡ false) (extra : ℕ) where
+  open scene use {by as by, capacity as c, party as p, steps as steps, backs as backs, events as events}
+
+  abbrev ws : List ℕ
+  ws = scene.set.words
+
+  g : Good by c ws scene.set.dead events scene.turns
+  g = inv.good
+
+  abbrev pub call_at : AcquireStage → calls.Acquire
+  call_at stage = record { capacity = c; stage = stage }
+
+  -- ---- what the caller shows, of what a step leads to that did this, by how the part goes on
+
+  abbrev pub Few : AcquireStage → Option Ask → Bool → Type 0
+  Few stage ask back = steps + step_count ask ≤ extra + acquire_number c stage (backs_then scene back)
+
+  abbrev pub FewEnd : Option Ask → Bool → Type 0
+  FewEnd ask back = steps + step_count ask ≤ extra + (c + 3 + backs_then scene back * (c + 1))
+
+  -- why no index was granted
+  abbrev pub WhyNot : failures.UniqueIndexSetAcquireFailure → Type 0
+  WhyNot failures.TheVariants.IsLocked = (is_locked events ≡ true) × ((all scene ≡ []) ⊎ FilledLate owner (all scene))
+  WhyNot failures.TheVariants.OutOfIndices = (is_locked events ≡ false) × (IsWorn by ws ⊎ AllOnce c (now scene)) × (all scene ≡ [])
+
+  pub record Caller (Lead : Option Ask → Bool → List (Event T) → After calls.Acquire Acquired → Type 0) : Type 0 where
+    pub quiet : (next : AcquireStage) (ask : Option Ask) (back : Bool) → words_after ws ask ≡ ws
+        → AcquireAt c owner (all scene) next → Knows c (acquire_at c owner next) (sees scene ask back)
+        → Few next ask back → Lead ask back [] (GoOn (call_at next))
+    pub filled : (i : ℕ) (ask : Option Ask) → words_after ws ask ≡ set ws (cell_word i) owner
+        → Does scene (words_after ws ask) (Filled p i owner ∷ []) → i < c → all scene ≡ []
+        → Knows c (acquire_at c owner (acquires.TheVariants.Raises i raises.TheVariants.LoadsCounter))
+        (then_sees scene ask false (Filled p i owner ∷ []))
+        → Few (acquires.TheVariants.Raises i raises.TheVariants.LoadsCounter) ask false
+        → Lead ask false (Filled p i owner ∷ []) (GoOn (call_at (acquires.TheVariants.Raises i raises.TheVariants.LoadsCounter)))
+    pub fails : (failure : failures.UniqueIndexSetAcquireFailure) (ask : Option Ask) (back : Bool)
+        → words_after ws ask ≡ ws → WhyNot failure → IsPaid (sees scene ask back) → FewEnd ask back
+        → Lead ask back [] (Done (Err failure))
+    pub grants : (i : ℕ) (ask : Option Ask) (back : Bool) → i < c → all scene ≡ Fills i owner ∷ []
+        → (IsCalm by (events ++ Granted p i owner ∷ []) → IsBy p i owner events × (holder_of i events ≡ None))
+        → IsRaised scene (words_after ws ask)
+        → IsPaid (sees scene ask back) → FewEnd ask back → Lead ask back (Granted p i owner ∷ []) (Done (Ok i))
+
+  module _ (Lead : Option Ask → Bool → List (Event T) → After calls.Acquire Acquired → Type 0) (caller : Caller Lead) where
+    -- ---- a counter was found, by a load or by an exchange that failed
+
+    module _ (stage : AcquireStage) (ask : Option Ask) (back : Bool) (same : words_after ws ask ≡ ws)
+        (none : all scene ≡ []) (low : steps + step_count ask ≤ extra + (1 + backs_then scene back * (c + 1)))
+        (paid : IsPaid (sees scene ask back)) where
+      finds_locked : counter_of ws ≡ locked → Lead ask back [] (Done (Err failures.TheVariants.IsLocked))
+      finds_locked shut = caller.fails failures.TheVariants.IsLocked ask back same (is_shut scene inv shut, inl none) paid (omega arith)
+
+      begins_cells : counter_of ws ≢ locked → counter_of ws ≢ greatest
+          → Lead ask back [] (GoOn (at_acquire (call_at stage) (acquires.TheVariants.FillsCell (counter_of ws) 0)))
+      begins_cells open_now other =
+          let some = g.some in
+          caller.quiet (acquires.TheVariants.FillsCell (counter_of ws) 0) ask back same (omega arith, none)
+          (record {
+            paid = finds_counter scene inv ask back same open_now other paid;
+            scanned = tt;
+            owns = tt;
+            says = (held_now p IsUnlocked events (unlocked scene inv open_now), λ i below. absurd (omega arith));
+            gone = tt;
+          })
+          (omega arith)
+
+      finds : Lead ask back [] (acquire_sees (call_at stage) (counter_of ws))
+      finds =
+          by_eq (Lead ask back []) (counter_of ws) locked (Done (Err failures.TheVariants.IsLocked)) _ finds_locked
+          (λ open_now. by_eq (Lead ask back []) (counter_of ws) greatest (Done (Err failures.TheVariants.OutOfIndices)) _
+          (λ end. caller.fails failures.TheVariants.OutOfIndices ask back same
+          (unlocked scene inv open_now, inl (worn_at by ws inv.room end), none) paid (omega arith))
+          (λ less. by_test (λ s. Lead ask back [] (GoOn (at_acquire (call_at stage) s))) (nat_lt 0 c)
+          (acquires.TheVariants.FillsCell (counter_of ws) 0) (acquires.TheVariants.ChecksCounter (counter_of ws))
+          (λ t. begins_cells open_now less)
+          (λ t. let some = g.some in let nothing : c ≤ 0 = grind (arith, nat_tests) in absurd (omega arith))))
+
+    -- ---- the exchange of a cell
+
+    module _ (number i : ℕ) (below : i < c) (none : all scene ≡ []) (s : steps ≤ extra + (1 + i + backs * (c + 1)))
+        (k : Knows c (acquire_at c owner (acquires.TheVariants.FillsCell number i)) (now scene)) where
+      abbrev filling : AcquireStage
+      filling = acquires.TheVariants.FillsCell number i
+
+      abbrev exchange : Option Ask
+      exchange = Some (exchanges (cell_word i) empty owner)
+
+      abbrev fill : List (Event T)
+      fill = Filled p i owner ∷ []
+
+      paid_now : IsPaid (now scene)
+      paid_now = paid_of scene (counter_of ws ≡ number) k.paid.paid
+
+      fills_cell : cell ws i ≡ empty
+          → Lead exchange false fill (GoOn (at_acquire (call_at filling) (acquires.TheVariants.Raises i raises.TheVariants.LoadsCounter)))
+      fills_cell is =
+          let free = filled_none scene inv i below is in
+          let new : words_after ws exchange ≡ set ws (cell_word i) owner = exchange_sets ws (cell_word i) empty owner is in
+          caller.filled i exchange new (fills scene inv (words_after ws exchange) i owner below fits free alive k.says.0 new) below none
+          (record {
+            paid = omega arith;
+            scanned = tt;
+            owns = λ calm lives. (
+              record {
+                right = fold-append (right_after i) _ events fill ∙ at_same i i (By p) (right_of i events) refl;
+                filled = fold-append (filled_after i) None events fill ∙ at_same i i (Some owner) (filled_of i events) refl;
+              },
+              fold-append (holder_after i) None events fill ∙ none_holds scene inv (calm_less by events fill calm) i free,
+            );
+            says = tt;
+            gone = tt;
+          })
+          (omega arith)
+
+      was_filled : cell ws i ≢ empty → (j : ℕ) → j < i + 1 → HeldSometime p (IsFilled j) events
+      was_filled other j less =
+          ⊎_elim (λ before. k.says.1 j before)
+          (λ last.
+          let same : j ≡ i = omega arith in
+          held_now p (IsFilled j) events
+          (some_is (filled_of j events) (cell ws i) (ap (λ n. filled_of n events) same ∙ (filled_some scene inv i below other).1)))
+          (cases_lt j i)
+
+      passes : cell ws i ≢ empty → Lead exchange false [] (acquire_tries (call_at filling) number (i + 1))
+      passes other =
+          let same : words_after ws exchange ≡ ws = fails_same ws (cell_word i) empty owner other in
+          let held = holds_on scene number exchange events (ap counter_of same) k.paid in
+          by_test (λ stage. Lead exchange false [] (GoOn (at_acquire (call_at filling) stage))) (nat_lt (i + 1) c)
+          (acquires.TheVariants.FillsCell number (i + 1)) (acquires.TheVariants.ChecksCounter number)
+          (λ t.
+          let more : i + 1 < c = grind (arith, nat_tests) in
+          caller.quiet (acquires.TheVariants.FillsCell number (i + 1)) exchange false same (more, none)
+          (record { paid = held; scanned = tt; owns = tt; says = (k.says.0, was_filled other); gone = tt }) (omega arith))
+          (λ t.
+          let last : c ≤ i + 1 = grind (arith, nat_tests) in
+          caller.quiet (acquires.TheVariants.ChecksCounter number) exchange false same none
+          (record { paid = held; scanned = tt; owns = tt; says = λ j less. was_filled other j (omega arith); gone = tt }) (omega arith))
+
+      fills_step : Lead exchange false (acquire_effects p owner filling (cell ws i)) (acquire_takes (call_at filling) filling (cell ws i))
+      fills_step = go (cell ws i == empty) refl
+        where
+          go : (b : Bool) → (cell ws i == empty) ≡ b → Lead (Some (exchanges (cell_word i) empty owner)) false (if b then Filled p i owner ∷ [] else [])
+              (if b then GoOn (at_acquire (call_at (acquires.TheVariants.FillsCell number i))
+              (acquires.TheVariants.Raises i raises.TheVariants.LoadsCounter))
+              else acquire_tries
+              (call_at (acquires.TheVariants.FillsCell number i)) number (i + 1))
+          go true t = let is : cell ws i ≡ empty = grind (arith, nat_tests) in fills_cell is
+          go false t = let other : cell ws i ≢ empty = grind (arith, nat_tests) in passes other
+
+    -- ---- the exchange of the counter for itself
+
+    checks_step : (number : ℕ) → all scene ≡ [] → steps ≤ extra + (1 + c + backs * (c + 1))
+        → Knows c (acquire_at c owner (acquires.TheVariants.ChecksCounter number)) (now scene)
+        → Lead (Some (exchanges 0 number number))
+        (acquire_goes_back (acquires.TheVariants.ChecksCounter number) (counter_of ws)) []
+        (acquire_takes (call_at (acquires.TheVariants.ChecksCounter number))
+        (acquires.TheVariants.ChecksCounter number) (counter_of ws))
+    checks_step number none s k = go (counter_of ws == number) refl
+      where
+        go : (b : Bool) → (counter_of ws == number) ≡ b → Lead (Some (exchanges 0 number number)) (not b) []
+            (if b then Done (Err failures.TheVariants.OutOfIndices) else acquire_sees (call_at (acquires.TheVariants.ChecksCounter number)) (counter_of ws))
+        go true t =
+            let is : counter_of ws ≡ number = grind (arith, nat_tests) in
+            let paid_now = paid_of scene (counter_of ws ≡ number) k.paid.paid in
+            let same : words_after ws (Some (exchanges 0 number number)) ≡ ws =
+            exchange_sets ws 0 number number is ∙ (ap (set ws 0) (sym is) ∙ set-get_or ws 0 0) in
+            caller.fails failures.TheVariants.OutOfIndices (Some (exchanges 0 number number)) false same
+            (unlocked scene inv (λ shut. let end = k.paid.before_end in absurd (omega arith)), inr k.says, none) (omega arith) (omega arith)
+        go false t =
+            let other : counter_of ws ≢ number = grind (arith, nat_tests) in
+            finds (acquires.TheVariants.ChecksCounter number) (Some (exchanges 0 number number)) true
+            (fails_same ws 0 number number other) none (omega arith)
+            (paid_back scene number (Some (exchanges 0 number number)) events other k.paid)
+
+    -- ---- the raise of the counter
+
+    module _ (i : ℕ) (raise : Raise) (below : i < c) (done : all scene ≡ Fills i owner ∷ [])
+        (s : steps ≤ extra + (1 + c + raise_number raise + backs * (c + 1)))
+        (k : Knows c (acquire_at c owner (acquires.TheVariants.Raises i raise)) (now scene)) where
+      abbrev raising : AcquireStage
+      raising = acquires.TheVariants.Raises i raise
+
+      abbrev raises_to : Option Ask → Bool → After Raise ReleaseState → Type 0
+      raises_to ask back r = Lead ask back (granted p i owner r) (acquire_raised (call_at raising) i r)
+
+      raises_step : raises_to (Some (raise_ask raise)) (raise_goes_back raise (counter_of ws)) (raise_after raise (counter_of ws))
+      raises_step =
+          raise_step scene inv raises_to raise k.paid
+          (λ number ask back same held few.
+          let low = few (extra + 1 + c) (c + 1) (omega arith) (omega arith) in
+          caller.quiet (acquires.TheVariants.Raises i (raises.TheVariants.ExchangesCounter number)) ask back same (below, done)
+          (record { paid = held; scanned = tt; owns = k.owns; says = tt; gone = tt }) (omega arith))
+          (λ ask back same shut paid few.
+          let low = few (extra + 1 + c) (c + 1) (omega arith) (omega arith) in
+          caller.fails failures.TheVariants.IsLocked ask back same (is_shut scene inv shut, inr (record { index = i; is = done })) paid (omega arith))
+          (λ ask back same worn end paid few.
+          let low = few (extra + 1 + c) (c + 1) (omega arith) (omega arith) in
+          caller.grants i ask back below done owns_it (inr (worn, end, same)) paid (omega arith))
+          (λ ask less new paid few.
+          let low = few (extra + 1 + c) (c + 1) (omega arith) (omega arith) in
+          caller.grants i ask false below done owns_it (inl (less, new)) paid (omega arith))
+        where
+          owns_it : IsCalm by (events ++ Granted p i owner ∷ []) → IsBy p i owner events × (holder_of i events ≡ None)
+          owns_it calm = k.owns (calm_less by events (Granted p i owner ∷ []) calm) (lives_granted by p i owner events alive calm.1)
+
+    -- ---- any step
+
+    abbrev pub StepAt : AcquireStage → Type 0
+    StepAt stage =
+        Lead (ask_of (acquire_asks stage owner))
+        (acquire_goes_back stage (old_of ws (ask_of (acquire_asks stage owner))))
+        (acquire_effects p owner stage (old_of ws (ask_of (acquire_asks stage owner))))
+        (acquire_takes (call_at stage) stage (old_of ws (ask_of (acquire_asks stage owner))))
+
+    pub held_step : (stage : AcquireStage) → AcquireAt c owner (all scene) stage
+        → Knows c (acquire_at c owner stage) (now scene) → steps ≤ extra + acquire_number c stage backs → StepAt stage
+    held_step acquires.TheVariants.LoadsCounter at k s =
+        finds acquires.TheVariants.LoadsCounter (Some (loads 0)) false (loads_same ws 0) at (omega arith) (let paid = k.paid in omega arith)
+    held_step (acquires.TheVariants.FillsCell number i) at k s = fills_step number i at.0 at.1 s k
+    held_step (acquires.TheVariants.ChecksCounter number) at k s = checks_step number at s k
+    held_step (acquires.TheVariants.Raises i raises.TheVariants.LoadsCounter) at k s = raises_step i raises.TheVariants.LoadsCounter at.0 at.1 s k
+    held_step (acquires.TheVariants.Raises i (raises.TheVariants.ExchangesCounter number)) at k s =
+        raises_step i (raises.TheVariants.ExchangesCounter number) at.0 at.1 s k

@@ -1,0 +1,281 @@
+-- The steps of a release, in any call that holds it. What a step leads to is what the caller makes of it.
+use Rattle.std.proofs.Common.{inr, inl, ◌⊎◌, ◌≡◌, ◌≢◌, ℕ, ◌+◌, ◌*◌, ◌<◌, ◌≤◌, ◌==◌, if◌then◌else◌, Bool, true, false}
+use Rattle.std.proofs.Common.{Option, Some, None, is_some, List, [], ◌∷◌, ◌++◌, set, refl, ap, subst, ◌∙◌, arith, sym}
+use Rattle.std.specs.Prelude.{Ok, Err}
+use Rattle.std.proofs.lemmas.Bool.Decides.{nat_tests}
+use Rattle.steps.specs.declared.ask.Ask.{Ask}
+use Rattle.steps.specs.declared.ask.After.{After}
+use Rattle.steps.specs.declared.ask.After.TheVariants.{GoOn, Done}
+use Rattle.steps.specs.declared.indices.enums.ReleaseMode.{ReleaseMode}
+use Rattle.steps.specs.declared.indices.enums.ReleaseMode.TheVariants.{LockIfLastIndex, Default}
+use Rattle.steps.specs.declared.indices.enums.ReleaseState.{ReleaseState}
+use Rattle.steps.specs.declared.indices.enums.ReleaseState as states
+use Rattle.steps.specs.declared.indices.enums.RobustUniqueIndexSetReleaseError.TheVariants.{IndexIsNotOwnedByProvidedOwner}
+use Rattle.steps.specs.declared.indices.robust.parts.Count as counts
+use Rattle.steps.specs.declared.indices.robust.parts.Lock.{Lock}
+use Rattle.steps.specs.declared.indices.robust.parts.Lock as parts
+use Rattle.steps.specs.declared.indices.robust.parts.Raise.{Raise}
+use Rattle.steps.specs.declared.indices.robust.parts.Raise as raises
+use Rattle.steps.specs.declared.indices.robust.release.Release as calls
+use Rattle.steps.specs.declared.indices.robust.release.ReleaseStage.{ReleaseStage}
+use Rattle.steps.specs.declared.indices.robust.release.ReleaseStage as releases
+use Rattle.steps.specs.Indices.Robust.Parts.{cell_word, empty, locked, greatest, first_lock, raise_after, raise_goes_back, lock_after, lock_goes_back}
+use Rattle.steps.specs.Indices.Robust.Release.{Released, at_release, release_raised, release_locked, release_asks, release_takes, release_goes_back}
+use Rattle.model.specs.declared.event.Event.{Event}
+use Rattle.model.specs.declared.event.Event.TheVariants.{FreedOf, Locked}
+use Rattle.model.specs.declared.families.indices.robust.RobustStart.TheVariants.{Release}
+use Rattle.model.specs.Families.Indices.Reading.{is_locked}
+use Rattle.model.specs.Families.Indices.Robust.Bounds.{most_steps}
+use Rattle.model.specs.Families.Indices.Robust.Promises.{cell_of, IsFilled, FilledSinceFreed, LivesToRelease}
+use Rattle.model.specs.Families.Indices.Robust.Reading.{holder_of, Frees, filled_of, settled_of, deeds_of, IsOneOf}
+use Rattle.model.specs.Families.Indices.Robust.Steps.{locked_by, release_effects}
+use Rattle.model.specs.Families.{ask_of}
+use Rattle.model.specs.Moments.{SinceBegin}
+use Rattle.model.specs.Reading.{span_of}
+use Rattle.model.specs.Turns.{old_of, words_after, step_count}
+use Rattle.model.proofs.Moments.{held_now}
+use Rattle.laws_robust.specs.Gone.{is_gone, IsCalm}
+use Rattle.laws_robust.proofs.Core.{counter_of, cell}
+use Rattle.laws_robust.proofs.Effects.{Stays, one_party, unlocked, is_shut, stays_same, stays_raised, filled_by}
+use Rattle.laws_robust.proofs.Frees.{frees}
+use Rattle.laws_robust.proofs.Gone.{calm_less}
+use Rattle.laws_robust.proofs.Invariant.{IsWorn, Scene, Inv, Good, Does}
+use Rattle.laws_robust.proofs.Knows.{Knows, IsPaid, FoundOne}
+use Rattle.laws_robust.proofs.Standing.{at_least_one, release_at, release_number, raise_number, lock_number, for_back, ReleaseAt, LockAt}
+use Rattle.laws_robust.proofs.Parts.{raise_ask, lock_ask, raise_step, lock_step, IsSaid}
+use Rattle.laws_robust.proofs.Rights.{Settled, By, right_of, IsBy}
+use Rattle.laws_robust.proofs.Stages.{all, now, sees, then_sees, backs_then, exchanges, fails_same, exchange_sets}
+
+first_few : (c index owner backs n : ℕ) (mode : ReleaseMode) → n ≤ 1 → n ≤ most_steps c (Release index owner mode) backs
+first_few c index owner backs n Default h = omega arith
+first_few c index owner backs n LockIfLastIndex h = omega arith
+
+module _ {T : Type 0} (scene : Scene T) (inv : Inv scene) (index owner : ℕ) (mode : ReleaseMode) (fits : owner < empty) (below : index < scene.capacity)
+    (lives : LivesToRelease owner scene.events (span_of scene.party scene.events))
+    (began : IsCalm scene.by (scene.events ++ FreedOf scene.party index owner ∷ [])
+    → (is_gone scene.by owner scene.events ≡ false)
+    × SinceBegin scene.party (λ part since. settled_of index part ≡ Some owner) scene.events)
+    (extra : ℕ) where
+  open scene use {by as by, capacity as c, party as p, steps as steps, backs as backs, events as events}
+
+  abbrev ws : List ℕ
+  ws = scene.set.words
+
+  g : Good by c ws scene.set.dead events scene.turns
+  g = inv.good
+
+  abbrev pub call_at : ReleaseStage → calls.Release
+  call_at stage = record { capacity = c; stage = stage }
+
+  abbrev pub Few : ReleaseStage → Option Ask → Bool → Type 0
+  Few stage ask back = steps + step_count ask ≤ extra + release_number c mode stage (backs_then scene back)
+
+  abbrev pub FewEnd : Option Ask → Bool → Type 0
+  FewEnd ask back = steps + step_count ask ≤ extra + most_steps c (Release index owner mode) (backs_then scene back)
+
+  -- what the state says with which it ends, that leaves these words
+  abbrev pub Ends : List ℕ → ReleaseMode → ReleaseState → Type 0
+  Ends words' Default states.TheVariants.Locked = ⊥
+  Ends words' Default states.TheVariants.Unlocked = Unit {0}
+  Ends words' LockIfLastIndex states.TheVariants.Locked = is_locked events ≡ true
+  Ends words' LockIfLastIndex states.TheVariants.Unlocked = (is_locked events ≡ false) × (IsWorn by words' ⊎ FilledSinceFreed p owner index events)
+
+  pub record Caller (Lead : Option Ask → Bool → List (Event T) → After calls.Release Released → Type 0) : Type 0 where
+    pub quiet : (next : ReleaseStage) (ask : Option Ask) (back : Bool) → Stays scene (words_after ws ask)
+        → ReleaseAt c index owner mode (all scene) next
+        → Knows c (release_at c index owner mode next) (sees scene ask back) → Few next ask back
+        → Lead ask back [] (GoOn (call_at next))
+    pub freed : (ask : Option Ask) → words_after ws ask ≡ set ws (cell_word index) empty
+        → Does scene (words_after ws ask) (FreedOf p index owner ∷ []) → all scene ≡ []
+        → Knows c (release_at c index owner mode (releases.TheVariants.Raises raises.TheVariants.LoadsCounter))
+        (then_sees scene ask false (FreedOf p index owner ∷ []))
+        → Few (releases.TheVariants.Raises raises.TheVariants.LoadsCounter) ask false
+        → Lead ask false (FreedOf p index owner ∷ []) (GoOn (call_at (releases.TheVariants.Raises raises.TheVariants.LoadsCounter)))
+    pub refused : (ask : Option Ask) → words_after ws ask ≡ ws → filled_of index events ≢ Some owner
+        → all scene ≡ [] → IsPaid (sees scene ask false) → FewEnd ask false
+        → Lead ask false [] (Done (Err IndexIsNotOwnedByProvidedOwner))
+    pub ended : (state : ReleaseState) (ask : Option Ask) (back : Bool) → Stays scene (words_after ws ask)
+        → Ends (words_after ws ask) mode state → all scene ≡ Frees index owner ∷ [] → IsPaid (sees scene ask back)
+        → FewEnd ask back → Lead ask back [] (Done (Ok state))
+    pub locks : (ask : Option Ask) → mode ≡ LockIfLastIndex
+        → (IsCalm by events → (i : ℕ) → holder_of i events ≡ None) → counter_of ws < greatest
+        → words_after ws ask ≡ set ws 0 locked → all scene ≡ Frees index owner ∷ [] → IsPaid (sees scene ask false)
+        → FewEnd ask false → Lead ask false (Locked p ∷ []) (Done (Ok states.TheVariants.Locked))
+
+  module _ (Lead : Option Ask → Bool → List (Event T) → After calls.Release Released → Type 0) (caller : Caller Lead) where
+    -- ---- the exchange of the cell
+
+    module _ (none : all scene ≡ []) (s : steps ≤ extra) (k : Knows c (release_at c index owner mode releases.TheVariants.EmptiesCell) (now scene)) where
+      abbrev exchange : Option Ask
+      exchange = Some (exchanges (cell_word index) owner empty)
+
+      owns_it : IsCalm by (events ++ FreedOf p index owner ∷ []) → IsBy p index owner events
+      owns_it calm = let h = began calm in k.owns (calm_less by events (FreedOf p index owner ∷ []) calm) h.0 h.1
+
+      mine : IsCalm by (events ++ FreedOf p index owner ∷ []) → (q : ℕ) → q ≢ p → (o : ℕ) → is_gone by o events ≡ false → IsBy q index o events → ⊥
+      mine calm q ne o lives h = ne (one_party _ p q (owns_it calm).right h.right)
+
+      unsettled : IsCalm by (events ++ FreedOf p index owner ∷ []) → (o : ℕ) → is_gone by o events ≡ false → settled_of index events ≡ Some o → ⊥
+      unsettled calm o lives h =
+          let less = calm_less by events (FreedOf p index owner ∷ []) calm in
+          let own = owns_it calm in
+          let theirs : right_of index events ≡ Settled o = ((g.owned less).settled index o h).1 in
+          let both : Settled o ≡ By p = sym theirs ∙ own.right in
+          absurd (cc)
+
+      empties : cell ws index ≡ owner
+          → Lead exchange false (FreedOf p index owner ∷ []) (GoOn (call_at (releases.TheVariants.Raises raises.TheVariants.LoadsCounter)))
+      empties is =
+          let new : words_after ws exchange ≡ set ws (cell_word index) empty = exchange_sets ws (cell_word index) owner empty is in
+          caller.freed exchange new
+          (frees scene inv (words_after ws exchange) index owner below
+          (filled_by scene inv index below owner fits is) lives mine unsettled new)
+          none
+          (record { paid = let paid = k.paid in omega arith; scanned = tt; owns = tt; says = tt; gone = tt }) (omega arith)
+
+      refuses : cell ws index ≢ owner → Lead exchange false [] (Done (Err IndexIsNotOwnedByProvidedOwner))
+      refuses other =
+          caller.refused exchange (fails_same ws (cell_word index) owner empty other)
+          (λ filled. other (g.cells index below ∙ ap cell_of filled)) none (let paid = k.paid in omega arith)
+          (let one = first_few c index owner (backs + 0) 1 mode (omega arith) in omega arith)
+
+      empties_step : Lead exchange false
+          (release_effects p (record { index = index; owner = owner; mode = mode }) releases.TheVariants.EmptiesCell (cell ws index))
+          (release_takes (call_at releases.TheVariants.EmptiesCell) releases.TheVariants.EmptiesCell
+          (record { index = index; owner = owner; mode = mode }) (cell ws index))
+      empties_step = go (cell ws index == owner) refl
+        where
+          go : (b : Bool) → (cell ws index == owner) ≡ b
+              → Lead (Some (exchanges (cell_word index) owner empty)) false (if b then FreedOf p index owner ∷ [] else [])
+              (if b then GoOn
+              (at_release (call_at releases.TheVariants.EmptiesCell) (releases.TheVariants.Raises raises.TheVariants.LoadsCounter))
+              else Done (Err IndexIsNotOwnedByProvidedOwner))
+          go true t = let is : cell ws index ≡ owner = grind (arith, nat_tests) in empties is
+          go false t = let other : cell ws index ≢ owner = grind (arith, nat_tests) in refuses other
+
+    -- ---- the raise of the counter
+
+    module _ (raise : Raise) (done : all scene ≡ Frees index owner ∷ [])
+        (s : steps ≤ extra + (1 + raise_number raise + backs * for_back c mode))
+        (k : Knows c (release_at c index owner mode (releases.TheVariants.Raises raise)) (now scene)) where
+      abbrev raises_to : Option Ask → Bool → After Raise ReleaseState → Type 0
+      raises_to ask back r = Lead ask back [] (release_raised (call_at (releases.TheVariants.Raises raise)) mode r)
+
+      closes : (m : ReleaseMode) → mode ≡ m → (state : ReleaseState) (ask : Option Ask) (back : Bool)
+          → Stays scene (words_after ws ask) → IsPaid (sees scene ask back)
+          → steps + step_count ask ≤ extra + (3 + backs_then scene back * for_back c m)
+          → Lead ask back [] (release_raised (call_at (releases.TheVariants.Raises raise)) m (Done state))
+      closes Default is state ask back stays paid low =
+          caller.ended states.TheVariants.Unlocked ask back stays
+          (subst (λ m. Ends (words_after ws ask) m states.TheVariants.Unlocked) (sym is) tt) done paid
+          (subst (λ m. steps + step_count ask ≤ extra + most_steps c (Release index owner m) (backs_then scene back))
+          (sym is) (omega arith))
+      closes LockIfLastIndex is state ask back stays paid low =
+          caller.quiet (releases.TheVariants.Locks first_lock) ask back stays (is, tt, done)
+          (record { paid = paid; scanned = tt; owns = tt; says = tt; gone = tt })
+          (subst
+          (λ m. steps + step_count ask ≤ extra + release_number c m (releases.TheVariants.Locks first_lock) (backs_then scene back))
+          (sym is) (omega arith))
+
+      raises_step : raises_to (Some (raise_ask raise)) (raise_goes_back raise (counter_of ws)) (raise_after raise (counter_of ws))
+      raises_step =
+          raise_step scene inv raises_to raise k.paid
+          (λ number ask back same held few.
+          let low = few (extra + 1) (for_back c mode) (at_least_one c mode) (omega arith) in
+          caller.quiet (releases.TheVariants.Raises (raises.TheVariants.ExchangesCounter number)) ask back (stays_same scene inv (words_after ws ask) same) done
+          (record { paid = held; scanned = tt; owns = tt; says = tt; gone = tt }) (omega arith))
+          (λ ask back same shut paid few.
+          let low = few (extra + 1) (for_back c mode) (at_least_one c mode) (omega arith) in
+          closes mode refl states.TheVariants.Locked ask back (stays_same scene inv (words_after ws ask) same) paid (omega arith))
+          (λ ask back same worn end paid few.
+          let low = few (extra + 1) (for_back c mode) (at_least_one c mode) (omega arith) in
+          closes mode refl states.TheVariants.Unlocked ask back (stays_same scene inv (words_after ws ask) same) paid (omega arith))
+          (λ ask less new paid few.
+          let low = few (extra + 1) (for_back c mode) (at_least_one c mode) (omega arith) in
+          closes mode refl states.TheVariants.Unlocked ask false (stays_raised scene inv (words_after ws ask) less new) paid (omega arith))
+
+    -- ---- the lock
+
+    module _ (lock : Lock) (is : mode ≡ LockIfLastIndex) (at : LockAt c lock)
+        (done : all scene ≡ Frees index owner ∷ []) (s : steps ≤ extra + (3 + lock_number c lock + backs * (c + 3)))
+        (k : Knows c (release_at c index owner mode (releases.TheVariants.Locks lock)) (now scene)) where
+      abbrev locks_to : Option Ask → Bool → List (Event T) → After Lock ReleaseState → Type 0
+      locks_to ask back did r = Lead ask back did (release_locked (call_at (releases.TheVariants.Locks lock)) r)
+
+      said : IsSaid scene inv (FoundOne owner index (now scene))
+      said =
+          record {
+            none = λ some. absurd (omega arith);
+            empty_next = λ j filled low none found. found;
+            filled_next = λ j filled o low is found some.
+                record {
+                  other = j;
+                  once =
+                      held_now p (λ part. IsOneOf (Frees index owner) (deeds_of p part) × IsFilled j part) events
+                      (record { before = []; after = []; is = done }, ap is_some is);
+                };
+          }
+
+      few_end : (ask : Option Ask) (back : Bool) → steps + step_count ask ≤ extra + (c + 6 + backs_then scene back * (c + 3)) → FewEnd ask back
+      few_end ask back h = subst (λ m. steps + step_count ask ≤ extra + most_steps c (Release index owner m) (backs_then scene back)) (sym is) h
+
+      locks_step : locks_to (Some (lock_ask lock)) (lock_goes_back lock (old_of ws (Some (lock_ask lock))))
+          (locked_by p lock (old_of ws (Some (lock_ask lock)))) (lock_after c lock (old_of ws (Some (lock_ask lock))))
+      locks_step =
+          lock_step scene inv (FoundOne owner index (now scene)) said locks_to lock at k.paid k.scanned k.says
+          (λ next ask back stays next_at paid scanned says few.
+          let low = few (extra + 3) (c + 3) (omega arith) (omega arith) in
+          caller.quiet (releases.TheVariants.Locks next) ask back stays (is, next_at, done)
+          (record { paid = paid; scanned = scanned; owns = tt; says = says; gone = tt })
+          (subst (λ m. steps + step_count ask ≤ extra + release_number c m (releases.TheVariants.Locks next) (backs_then scene back)) (sym is) (omega arith)))
+          (λ ask same shut paid few.
+          let low = few (extra + 3) (c + 3) (omega arith) (omega arith) in
+          caller.ended states.TheVariants.Locked ask false (stays_same scene inv (words_after ws ask) same)
+          (subst (λ m. Ends (words_after ws ask) m states.TheVariants.Locked) (sym is) (is_shut scene inv shut))
+          done paid (few_end ask false (omega arith)))
+          (λ filled ask stays open_now more says paid few.
+          let low = few (extra + 3) (c + 3) (omega arith) (omega arith) in
+          caller.ended states.TheVariants.Unlocked ask false stays
+          (subst (λ m. Ends (words_after ws ask) m states.TheVariants.Unlocked) (sym is) (unlocked scene inv open_now, inr (says more)))
+          done paid (few_end ask false (omega arith)))
+          (λ ask stays open_now worn paid few.
+          let low = few (extra + 3) (c + 3) (omega arith) (omega arith) in
+          caller.ended states.TheVariants.Unlocked ask false stays
+          (subst (λ m. Ends (words_after ws ask) m states.TheVariants.Unlocked) (sym is) (unlocked scene inv open_now, inl worn))
+          done paid (few_end ask false (omega arith)))
+          (λ ask none less new paid few.
+          let low = few (extra + 3) (c + 3) (omega arith) (omega arith) in
+          caller.locks ask is none less new done paid (few_end ask false (omega arith)))
+
+    -- ---- any step
+
+    abbrev pub StepAt : ReleaseStage → Type 0
+    StepAt stage =
+        Lead (ask_of (release_asks stage (record { index = index; owner = owner; mode = mode })))
+        (release_goes_back stage (old_of ws (ask_of (release_asks stage (record { index = index; owner = owner; mode = mode })))))
+        (release_effects p (record { index = index; owner = owner; mode = mode }) stage
+        (old_of ws (ask_of (release_asks stage (record { index = index; owner = owner; mode = mode })))))
+        (release_takes (call_at stage) stage (record { index = index; owner = owner; mode = mode })
+        (old_of ws (ask_of (release_asks stage (record { index = index; owner = owner; mode = mode })))))
+
+    pub held_step : (stage : ReleaseStage) → ReleaseAt c index owner mode (all scene) stage
+        → Knows c (release_at c index owner mode stage) (now scene) → steps ≤ extra + release_number c mode stage backs
+        → StepAt stage
+    held_step releases.TheVariants.EmptiesCell at k s = empties_step at (omega arith) k
+    held_step (releases.TheVariants.Raises raises.TheVariants.LoadsCounter) at k s = raises_step raises.TheVariants.LoadsCounter at (omega arith) k
+    held_step (releases.TheVariants.Raises (raises.TheVariants.ExchangesCounter number)) at k s =
+        raises_step (raises.TheVariants.ExchangesCounter number) at (omega arith) k
+    held_step (releases.TheVariants.Locks lock) at k s =
+        go lock at.0 at.1 at.2 (subst (λ m. steps ≤ extra + release_number c m (releases.TheVariants.Locks lock) backs) at.0 s) k
+      where
+        go : (l : Lock) → mode ≡ LockIfLastIndex → LockAt c l → all scene ≡ Frees index owner ∷ []
+            → steps ≤ extra + (3 + lock_number c l + backs * (c + 3))
+            → Knows c (release_at c index owner mode (releases.TheVariants.Locks l)) (now scene)
+            → StepAt (releases.TheVariants.Locks l)
+        go (parts.TheVariants.Counts counts.TheVariants.LoadsCounter) is at done s k =
+            locks_step (parts.TheVariants.Counts counts.TheVariants.LoadsCounter) is at done s k
+        go (parts.TheVariants.Counts (counts.TheVariants.LoadsCell number j filled)) is at done s k =
+            locks_step (parts.TheVariants.Counts (counts.TheVariants.LoadsCell number j filled)) is at done s k
+        go (parts.TheVariants.Counts (counts.TheVariants.ExchangesCounter number filled)) is at done s k =
+            locks_step (parts.TheVariants.Counts (counts.TheVariants.ExchangesCounter number filled)) is at done s k
+        go (parts.TheVariants.ExchangesCounter number) is at done s k = locks_step (parts.TheVariants.ExchangesCounter number) is at done s k

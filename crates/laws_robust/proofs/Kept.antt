@@ -1,0 +1,147 @@
+-- What the invariant says of the events, in the promise's words.
+use Rattle.std.proofs.Common.{◌≡◌, ℕ, ◌+◌, ◌-◌, ◌*◌, ◌≤◌, ⊎_elim, Option, Some, None, List, sym, ap, subst, ◌∙◌, arith}
+use Rattle.steps.specs.declared.indices.enums.ReleaseMode.{ReleaseMode}
+use Rattle.steps.specs.declared.indices.enums.ReleaseMode.TheVariants.{LockIfLastIndex, Default}
+use Rattle.steps.specs.declared.indices.robust.acquire.AcquireStage.{AcquireStage}
+use Rattle.steps.specs.declared.indices.robust.find.FindStage.{FindStage}
+use Rattle.steps.specs.declared.indices.robust.find.FindStage as finds
+use Rattle.steps.specs.declared.indices.robust.parts.Count.{Count}
+use Rattle.steps.specs.declared.indices.robust.parts.Lock.{Lock}
+use Rattle.steps.specs.declared.indices.robust.parts.Lock as locks
+use Rattle.steps.specs.declared.indices.robust.recover.RecoverStage.{RecoverStage}
+use Rattle.steps.specs.declared.indices.robust.release.GiveBack.{GiveBack}
+use Rattle.steps.specs.declared.indices.robust.release.ReleaseStage.{ReleaseStage}
+use Rattle.model.specs.declared.event.Event.{Event}
+use Rattle.model.specs.declared.event.Start.{Start}
+use Rattle.model.specs.declared.event.Start.TheVariants.{Robust}
+use Rattle.model.specs.declared.families.Flight.{Flight}
+use Rattle.model.specs.declared.families.Flight as flights
+use Rattle.model.specs.declared.families.indices.robust.RobustStart.{RobustStart}
+use Rattle.model.specs.declared.families.indices.robust.RobustStart as starts
+use Rattle.model.specs.declared.families.indices.robust.calls.RobustFlight.{RobustFlight}
+use Rattle.model.specs.declared.families.indices.robust.calls.RobustFlight.TheVariants.{Acquire, Release, Find, Recover, BorrowedIndices, IsLocked}
+use Rattle.model.specs.declared.turn.Kind as kinds
+use Rattle.model.specs.Coding.{Coding}
+use Rattle.model.specs.Families.Indices.Robust.Bounds.{most_steps}
+use Rattle.model.specs.Families.Indices.Robust.Promises.{KeepsDead, IsRobustSet, most, promise}
+use Rattle.model.specs.Families.Indices.Robust.Reading.{Deed}
+use Rattle.model.specs.Parties.{party_of}
+use Rattle.model.specs.Promises.{IsKeptBy, IsKept}
+use Rattle.model.specs.Promises.Families.{promise_of}
+use Rattle.model.specs.Promises.Bounds.{Progresses}
+use Rattle.model.specs.Reading.{span_of}
+use Rattle.model.specs.Turns.{IsReached}
+use Rattle.model.specs.World.{Trace, progress_in}
+use Rattle.model.proofs.Frame as frame
+use Rattle.laws_robust.specs.Gone.{Death}
+use Rattle.laws_robust.proofs.Core.{cell}
+use Rattle.laws_robust.proofs.Gone.{asks_right, answers_right}
+use Rattle.laws_robust.proofs.Invariant.{RobustSet, family}
+use Rattle.laws_robust.proofs.Knows.{View, flight_holds, Paid}
+use Rattle.laws_robust.proofs.Standing.{count_number, lock_number, acquire_number, for_back, for_index, release_number}
+use Rattle.laws_robust.proofs.Standing.{recover_number, find_number, number_of, AcquireAt, CountAt, LockAt, ReleaseAt}
+use Rattle.laws_robust.proofs.Standing.{FindAt, RecoverAt, At}
+use Rattle.laws_robust.proofs.Sound.{kept_is, reached_sound}
+
+-- ---- how many steps a call has taken
+
+pub count_most : (c : ℕ) (count : Count) → CountAt c count → count_number c count ≤ c + 1
+count_most c count at = grind arith
+
+pub lock_most : (c : ℕ) (lock : Lock) → LockAt c lock → lock_number c lock ≤ c + 2
+lock_most c (locks.TheVariants.Counts count) at = let few = count_most c count at in omega arith
+lock_most c (locks.TheVariants.ExchangesCounter counter) at = omega arith
+
+pub acquire_most : (c owner : ℕ) (all : List Deed) (stage : AcquireStage) (backs : ℕ) → AcquireAt c owner all stage
+    → acquire_number c stage backs ≤ c + 3 + backs * (c + 1)
+acquire_most c owner all stage backs at = grind arith
+
+pub release_most : (c index owner : ℕ) (mode : ReleaseMode) (all : List Deed) (stage : ReleaseStage) (backs : ℕ) → ReleaseAt c index owner mode all stage
+    → release_number c mode stage backs ≤ most_steps c (starts.TheVariants.Release index owner mode) backs
+release_most c index owner mode all stage backs at = grind arith
+
+find_most : (c : ℕ) (all : List Deed) (stage : FindStage) → FindAt c all stage → find_number stage ≤ c
+find_most c all (finds.TheVariants.LoadsCell index found) at = let below = at.0 in omega arith
+find_most c all (finds.TheVariants.Asks index found) at = let below = at.0 in omega arith
+
+recover_at_most : (c : ℕ) (mode : ReleaseMode) (all : List Deed) (stage : RecoverStage) (backs : ℕ) → 4 ≤ for_index c mode
+    → ((lock : Lock) → mode ≡ LockIfLastIndex → LockAt c lock → lock_number c lock + 5 ≤ for_index c mode)
+    → RecoverAt c mode all stage
+    → recover_number c mode stage backs ≤ 2 + c * for_index c mode + backs * for_back c mode
+recover_at_most c mode all stage backs wide lock at = grind arith
+
+recover_most : (c : ℕ) (mode : ReleaseMode) (all : List Deed) (stage : RecoverStage) (backs : ℕ)
+    → RecoverAt c mode all stage
+    → recover_number c mode stage backs ≤ most_steps c (starts.TheVariants.Recover mode) backs
+recover_most c Default all stage backs at =
+    let few = recover_at_most c Default all stage backs (omega arith) (λ lock mode lock_at. absurd (cc)) at in
+    omega arith
+recover_most c LockIfLastIndex all stage backs at =
+    recover_at_most c LockIfLastIndex all stage backs (omega arith) (λ lock mode lock_at. let few = lock_most c lock lock_at in omega arith) at
+
+steps_most : (c : ℕ) (all : List Deed) (backs : ℕ) (start : RobustStart) (flight : RobustFlight)
+    → At c all start flight → number_of c flight backs ≤ most_steps c start backs
+steps_most c all backs (starts.TheVariants.Acquire owner) (Acquire run) at = acquire_most c owner all run.call.stage backs at.3
+steps_most c all backs (starts.TheVariants.Release index owner mode) (Release run) at =
+    subst
+    (λ (o : GiveBack). release_number c o.mode run.call.stage backs ≤ most_steps c (starts.TheVariants.Release index owner mode) backs)
+    (sym at.1) (release_most c index owner mode all run.call.stage backs at.4)
+steps_most c all backs (starts.TheVariants.Find owner) (Find run) at = find_most c all run.call.stage at.3
+steps_most c all backs (starts.TheVariants.Recover mode) (Recover run) at =
+    subst (λ m. recover_number c m run.call.stage backs ≤ most_steps c (starts.TheVariants.Recover mode) backs)
+    (sym at.1) (recover_most c mode all run.call.stage backs at.2)
+steps_most c all backs starts.TheVariants.BorrowedIndices (BorrowedIndices run) at = let few = count_most c run.call.count at.1 in omega arith
+steps_most c all backs starts.TheVariants.IsLocked (IsLocked run) at = omega arith
+steps_most c all backs start flight at = absurd at
+
+module _ {T : Type 0} where
+  -- ---- how often it has turned back
+
+  pub held_paid : (held : Option ℕ) (v : View T) → Paid held v → v.backs ≤ v.changes - v.since
+  held_paid None v h = omega arith
+  held_paid (Some number) v h = ⊎_elim (λ k. let paid = k.1 in omega arith) (λ k. omega arith) h.paid
+
+  bounds : (code : Coding T) (c : ℕ) → frame.Bounds (family code c)
+  bounds code c = record { most = at_most; paid = paid }
+    where
+      at_most : (s : RobustSet T) (p backs : ℕ) (start : Start T) (flight : Flight T)
+          → (family code c).At s p start flight
+          → (family code c).number ((family code c).written s p flight) flight backs ≤ most c code.size start backs
+      at_most s p backs (Robust start) (flights.TheVariants.Robust flight) h = steps_most c _ backs start flight h
+      at_most s p backs start flight h = absurd h
+
+      paid : (s : RobustSet T) (p : ℕ) (events : List (Event T)) (since changes backs : ℕ) (flight : Flight T)
+          → (family code c).Knows s p events since changes backs flight → backs ≤ changes - since
+      paid s p events since changes backs (flights.TheVariants.Robust flight) h = held_paid (flight_holds flight) _ h.paid
+      paid s p events since changes backs flight h = absurd h
+
+  -- ---- what is promised
+
+  set_kept : (code : Coding T) (t : Trace T) → (s : frame.Sound (family code t.world.capacity) t) → IsRobustSet t
+  set_kept code t s =
+      let is = kept_is t.world.kept t.world.words s.state s.fit in
+      let g = s.holds.good in
+      record {
+        does = g.does;
+        asks = asks_right t.events s.holds.asks;
+        holds = λ well_formed. g.holds (well_formed, tt);
+        answers = answers_right ⊥ (λ worn. worn) Death t.world.capacity t.events tt g.answers;
+        cells = λ index below. ap (λ ws. cell ws index) is.1 ∙ g.cells index below;
+        lock = rw is.1 g.lock;
+        dead = subst (λ kept. KeepsDead kept t.events) (sym is.0) (λ owner. g.died owner);
+      }
+
+  kept_by : (code : Coding T) (t : Trace T) → (s : frame.Sound (family code t.world.capacity) t) → IsKeptBy promise t
+  kept_by code t s =
+      let w = t.world in
+      let size : w.coding.size ≡ code.size = ap (λ (z : Coding T). z.size) s.coding in
+      record {
+        spans = s.inv.spans;
+        progress = λ p. subst (λ n. Progresses promise w.capacity n (span_of p t.events) (progress_in w p)) (sym size)
+            (frame.progresses (family code w.capacity) (bounds code w.capacity) s.state p t.events w.changes
+            (party_of p w.latest) (span_of p t.events) (s.inv.calls p) (s.inv.knows p));
+        promised = set_kept code t s;
+      }
+
+  pub kept : (t : Trace T) → t.world.kind ≡ kinds.TheVariants.Robust → IsReached t → IsKept t
+  kept t is r = subst (λ P. IsKeptBy P t) (sym (ap (promise_of {T = T}) is)) (kept_by t.world.coding t (reached_sound t is r))

@@ -1,0 +1,429 @@
+-- What a call of the robust index set knows where it stands: of its counts, of moments of it, of what it has a right to, and
+-- of what it has recovered; and that it knows this still after any turn of another party.
+use Rattle.std.proofs.Common.{if◌then◌else◌, ◌==◌, ◌≡◌, ◌≢◌, ℕ, ◌+◌, ◌<◌, ◌≤◌, ◌⊎◌, ⊎_elim, inl, inr, true, false}
+use Rattle.std.proofs.Common.{Option, Some, None, List, ◌++◌, sym, subst, ◌∙◌, arith}
+use Rattle.steps.specs.declared.indices.robust.acquire.AcquireStage.{AcquireStage}
+use Rattle.steps.specs.declared.indices.robust.acquire.AcquireStage as acquires
+use Rattle.steps.specs.declared.indices.robust.find.FindStage.{FindStage}
+use Rattle.steps.specs.declared.indices.robust.find.FindStage as finds
+use Rattle.steps.specs.declared.indices.robust.parts.Count.{Count}
+use Rattle.steps.specs.declared.indices.robust.parts.Count as counts
+use Rattle.steps.specs.declared.indices.robust.parts.Lock.{Lock}
+use Rattle.steps.specs.declared.indices.robust.parts.Lock as locks
+use Rattle.steps.specs.declared.indices.robust.parts.Raise.{Raise}
+use Rattle.steps.specs.declared.indices.robust.parts.Raise as raises
+use Rattle.steps.specs.declared.indices.robust.recover.RecoverStage.{RecoverStage}
+use Rattle.steps.specs.declared.indices.robust.recover.RecoverStage as recovers
+use Rattle.steps.specs.declared.indices.robust.release.ReleaseStage.{ReleaseStage}
+use Rattle.steps.specs.declared.indices.robust.release.ReleaseStage as releases
+use Rattle.steps.specs.Indices.Robust.Parts.{greatest}
+use Rattle.model.specs.declared.event.Event.{Event}
+use Rattle.model.specs.declared.families.indices.robust.calls.RobustFlight.{RobustFlight}
+use Rattle.model.specs.declared.families.indices.robust.calls.RobustFlight.TheVariants.{Acquire, Release, Find, Recover, BorrowedIndices, IsLocked}
+use Rattle.model.specs.Families.Container.Reading.{NoneTakes}
+use Rattle.model.specs.Families.Indices.Robust.Promises.{IsFilled, IsFilledWith, IsUnlocked, IsCount, HeldThroughout}
+use Rattle.model.specs.Families.Indices.Robust.Promises.{FilledSinceFreed, StillToFree, IsWellFormed}
+use Rattle.model.specs.Families.Indices.Robust.Reading.{Asks, Yes, filled_of, holder_of, settled_of, is_dead, deeds_of, IsOneOf}
+use Rattle.model.specs.Moments.{BeginsNone, HeldSometime, SinceBegin}
+use Rattle.model.proofs.Moments.{held_later}
+use Rattle.laws_robust.proofs.Core.{counter_of}
+use Rattle.laws_robust.specs.Gone.{GoneBy, is_gone, IsHonestBy, IsCalm}
+use Rattle.laws_robust.proofs.Counting.{count_later}
+use Rattle.laws_robust.proofs.Gone.{gone_more, gone_less, honest_less, calm_less, stays_lost}
+use Rattle.laws_robust.proofs.Past.{through_less, since_less}
+use Rattle.laws_robust.proofs.Rights.{IsBy}
+use Rattle.laws_robust.proofs.Standing.{}
+
+-- ---- what they see of the machine
+
+pub record View (T : Type 0) : Type 0 where
+  pub by : GoneBy
+  pub words : List ℕ
+  pub events : List (Event T)
+  pub party : ℕ
+  pub since : ℕ
+  pub changes : ℕ
+  pub backs : ℕ
+
+-- ---- the counter that they hold
+
+abbrev pub raise_holds : Raise → Option ℕ
+raise_holds raises.TheVariants.LoadsCounter = None
+raise_holds (raises.TheVariants.ExchangesCounter counter) = Some counter
+
+-- a count goes on where the counter is at its end, but then holds none
+abbrev pub unless_last : ℕ → Option ℕ
+unless_last counter = if counter == greatest then None else Some counter
+
+abbrev pub count_holds : Count → Option ℕ
+count_holds counts.TheVariants.LoadsCounter = None
+count_holds (counts.TheVariants.LoadsCell counter index filled) = unless_last counter
+count_holds (counts.TheVariants.ExchangesCounter counter filled) = Some counter
+
+abbrev pub lock_holds : Lock → Option ℕ
+lock_holds (locks.TheVariants.Counts count) = count_holds count
+lock_holds (locks.TheVariants.ExchangesCounter counter) = Some counter
+
+abbrev pub acquire_holds : AcquireStage → Option ℕ
+acquire_holds acquires.TheVariants.LoadsCounter = None
+acquire_holds (acquires.TheVariants.FillsCell counter index) = Some counter
+acquire_holds (acquires.TheVariants.ChecksCounter counter) = Some counter
+acquire_holds (acquires.TheVariants.Raises index raise) = raise_holds raise
+
+abbrev pub release_holds : ReleaseStage → Option ℕ
+release_holds releases.TheVariants.EmptiesCell = None
+release_holds (releases.TheVariants.Raises raise) = raise_holds raise
+release_holds (releases.TheVariants.Locks lock) = lock_holds lock
+
+abbrev pub recover_holds : RecoverStage → Option ℕ
+recover_holds recovers.TheVariants.LoadsCounter = None
+recover_holds (recovers.TheVariants.LoadsCell index) = None
+recover_holds (recovers.TheVariants.Asks index owner) = None
+recover_holds (recovers.TheVariants.EmptiesCell index owner) = None
+recover_holds (recovers.TheVariants.Raises index raise) = raise_holds raise
+recover_holds (recovers.TheVariants.Locks index lock) = lock_holds lock
+recover_holds recovers.TheVariants.LoadsCounterAgain = None
+
+abbrev pub flight_holds : RobustFlight → Option ℕ
+flight_holds (Acquire run) = acquire_holds run.call.stage
+flight_holds (Release run) = release_holds run.call.stage
+flight_holds (Find run) = None
+flight_holds (Recover run) = recover_holds run.call.stage
+flight_holds (BorrowedIndices run) = count_holds run.call.count
+flight_holds (IsLocked run) = None
+
+-- ---- the cells that they have found empty since
+
+pub record Scan : Type 0 where
+  pub counter : ℕ
+  pub below : ℕ
+  pub filled : ℕ
+
+abbrev pub count_scan : ℕ → Count → Option Scan
+count_scan c counts.TheVariants.LoadsCounter = None
+count_scan c (counts.TheVariants.LoadsCell counter index filled) =
+    Some record { counter = counter; below = index; filled = filled }
+count_scan c (counts.TheVariants.ExchangesCounter counter filled) =
+    Some record { counter = counter; below = c; filled = filled }
+
+abbrev pub lock_scan : ℕ → Lock → Option Scan
+lock_scan c (locks.TheVariants.Counts count) = count_scan c count
+lock_scan c (locks.TheVariants.ExchangesCounter counter) =
+    Some record { counter = counter; below = c; filled = 0 }
+
+abbrev pub release_scan : ℕ → ReleaseStage → Option Scan
+release_scan c releases.TheVariants.EmptiesCell = None
+release_scan c (releases.TheVariants.Raises raise) = None
+release_scan c (releases.TheVariants.Locks lock) = lock_scan c lock
+
+abbrev pub recover_scan : ℕ → RecoverStage → Option Scan
+recover_scan c recovers.TheVariants.LoadsCounter = None
+recover_scan c (recovers.TheVariants.LoadsCell index) = None
+recover_scan c (recovers.TheVariants.Asks index owner) = None
+recover_scan c (recovers.TheVariants.EmptiesCell index owner) = None
+recover_scan c (recovers.TheVariants.Raises index raise) = None
+recover_scan c (recovers.TheVariants.Locks index lock) = lock_scan c lock
+recover_scan c recovers.TheVariants.LoadsCounterAgain = None
+
+abbrev pub flight_scan : ℕ → RobustFlight → Option Scan
+flight_scan c (Acquire run) = None
+flight_scan c (Release run) = release_scan c run.call.stage
+flight_scan c (Find run) = None
+flight_scan c (Recover run) = recover_scan c run.call.stage
+flight_scan c (BorrowedIndices run) = count_scan c run.call.count
+flight_scan c (IsLocked run) = None
+
+-- ---- what depends on no event
+
+-- what a count says, where it has come to so many cells and found so many filled
+abbrev pub CountSays : ℕ → (ℕ → ℕ → Type 0) → Count → Type 0
+CountSays c Says counts.TheVariants.LoadsCounter = Unit {0}
+CountSays c Says (counts.TheVariants.LoadsCell counter index filled) = Says index filled
+CountSays c Says (counts.TheVariants.ExchangesCounter counter filled) = Says c filled
+
+abbrev pub LockSays : ℕ → (ℕ → ℕ → Type 0) → Lock → Type 0
+LockSays c Says (locks.TheVariants.Counts count) = CountSays c Says count
+LockSays c Says (locks.TheVariants.ExchangesCounter counter) = Unit {0}
+
+count_says : (c : ℕ) (P Q : ℕ → ℕ → Type 0) → ((k n : ℕ) → P k n → Q k n) → (count : Count) → CountSays c P count → CountSays c Q count
+count_says c h k follows count m = grind arith
+
+lock_says : (c : ℕ) (P Q : ℕ → ℕ → Type 0) → ((k n : ℕ) → P k n → Q k n) → (lock : Lock) → LockSays c P lock → LockSays c Q lock
+lock_says c P Q follows (locks.TheVariants.Counts count) h = count_says c P Q follows count h
+lock_says c P Q follows (locks.TheVariants.ExchangesCounter counter) h = tt
+
+-- the index that a recovery frees now
+abbrev pub FreesNow : RecoverStage → ℕ → ℕ → Type 0
+FreesNow (recovers.TheVariants.EmptiesCell index owner) i o = (i ≡ index) × (o ≡ owner)
+FreesNow stage i o = ⊥
+
+-- the words stay, or their changes go up
+abbrev pub IsSeen : List ℕ → List ℕ → ℕ → ℕ → Type 0
+IsSeen words words' changes changes' =
+    ((words' ≡ words) × (changes' ≡ changes)) ⊎ (changes' ≡ changes + 1)
+
+module _ {T : Type 0} where
+  -- ---- what they know of the counts
+
+  -- each turn back is paid by a change of another party since the call began
+  abbrev pub IsPaid : View T → Type 0
+  IsPaid v = v.backs + v.since ≤ v.changes
+
+  -- and so is one more, unless this is so
+  abbrev pub PaidUnless : Type 0 → View T → Type 0
+  PaidUnless P v = (P × IsPaid v) ⊎ (v.backs + v.since + 1 ≤ v.changes)
+
+  -- a number that the counter had, before its end
+  pub record Holding (number : ℕ) (v : View T) : Type 0 where
+    pub before_end : number < greatest
+    pub low : number ≤ counter_of v.words
+    pub paid : PaidUnless (counter_of v.words ≡ number) v
+
+  abbrev pub Paid : Option ℕ → View T → Type 0
+  Paid None v = IsPaid v
+  Paid (Some number) v = Holding number v
+
+  -- ---- what they know of holders, in a well-formed run
+
+  abbrev pub Scanned : Option Scan → View T → Type 0
+  Scanned None v = Unit {0}
+  Scanned (Some s) v =
+      (s.counter ≤ counter_of v.words)
+      × (s.counter ≡ greatest → counter_of v.words ≡ greatest)
+      × (s.counter < greatest → s.filled ≡ 0 → counter_of v.words ≡ s.counter → IsCalm v.by v.events
+      → (i : ℕ) → i < s.below → holder_of i v.events ≡ None)
+
+  -- the party has a right to the index that it fills, which nobody holds
+  abbrev pub AcquireOwns : ℕ → AcquireStage → View T → Type 0
+  AcquireOwns owner (acquires.TheVariants.Raises index raise) v =
+      IsCalm v.by v.events → is_gone v.by owner v.events ≡ false
+      → IsBy v.party index owner v.events × (holder_of index v.events ≡ None)
+  AcquireOwns owner stage v = Unit {0}
+
+  -- and to the index that it may give back
+  abbrev pub ReleaseOwns : ℕ → ℕ → ReleaseStage → View T → Type 0
+  ReleaseOwns index owner releases.TheVariants.EmptiesCell v =
+      IsCalm v.by v.events → is_gone v.by owner v.events ≡ false
+      → SinceBegin v.party (λ part since. settled_of index part ≡ Some owner) v.events
+      → IsBy v.party index owner v.events
+  ReleaseOwns index owner stage v = Unit {0}
+
+  abbrev pub Owns : RobustFlight → View T → Type 0
+  Owns (Acquire run) v = AcquireOwns run.given run.call.stage v
+  Owns (Release run) v = ReleaseOwns run.given.index run.given.owner run.call.stage v
+  Owns flight v = Unit {0}
+
+  -- ---- what they know of moments
+
+  abbrev pub WasOpen : View T → Type 0
+  WasOpen v = HeldSometime v.party IsUnlocked v.events
+
+  abbrev pub AllOnce : ℕ → View T → Type 0
+  AllOnce k v = (i : ℕ) → i < k → HeldSometime v.party (IsFilled i) v.events
+
+  abbrev pub AcquireSays : ℕ → AcquireStage → View T → Type 0
+  AcquireSays c acquires.TheVariants.LoadsCounter v = Unit {0}
+  AcquireSays c (acquires.TheVariants.FillsCell counter index) v = WasOpen v × AllOnce index v
+  AcquireSays c (acquires.TheVariants.ChecksCounter counter) v = AllOnce c v
+  AcquireSays c (acquires.TheVariants.Raises index raise) v = Unit {0}
+
+  -- a release whose lock finds an index filled
+  abbrev pub FoundOne : ℕ → ℕ → View T → ℕ → ℕ → Type 0
+  FoundOne owner index v k filled = 0 < filled → FilledSinceFreed v.party owner index v.events
+
+  abbrev pub ReleaseSays : ℕ → ℕ → ℕ → ReleaseStage → View T → Type 0
+  ReleaseSays c index owner (releases.TheVariants.Locks lock) v =
+      LockSays c (FoundOne owner index v) lock
+  ReleaseSays c index owner stage v = Unit {0}
+
+  abbrev pub Borrowed : View T → ℕ → ℕ → Type 0
+  Borrowed v k filled = IsCount v.party IsFilled k filled v.events
+
+  abbrev pub FindSays : ℕ → FindStage → View T → Type 0
+  FindSays owner (finds.TheVariants.LoadsCell index found) v =
+      IsCount v.party (IsFilledWith owner) index found v.events
+  FindSays owner (finds.TheVariants.Asks index found) v =
+      IsCount v.party (IsFilledWith owner) (index + 1) found v.events
+
+  -- a recovery has asked about the lower indices that were to be freed throughout
+  abbrev pub AskedBelow : ℕ → View T → Type 0
+  AskedBelow k v =
+      (i owner : ℕ) → i < k → HeldThroughout v.party (StillToFree v.party owner i) v.events
+      → IsOneOf (Asks i owner) (deeds_of v.party v.events)
+
+  abbrev pub RecoverSays : ℕ → RecoverStage → View T → Type 0
+  RecoverSays c recovers.TheVariants.LoadsCounter v = Unit {0}
+  RecoverSays c (recovers.TheVariants.LoadsCell index) v = WasOpen v × AskedBelow index v
+  RecoverSays c (recovers.TheVariants.Asks index owner) v = WasOpen v × AskedBelow (index + 1) v
+  RecoverSays c (recovers.TheVariants.EmptiesCell index owner) v =
+      WasOpen v × AskedBelow (index + 1) v
+  RecoverSays c (recovers.TheVariants.Raises index raise) v = WasOpen v × AskedBelow (index + 1) v
+  RecoverSays c (recovers.TheVariants.Locks index lock) v = WasOpen v × AskedBelow (index + 1) v
+  RecoverSays c recovers.TheVariants.LoadsCounterAgain v = AskedBelow c v
+
+  abbrev pub Says : ℕ → RobustFlight → View T → Type 0
+  Says c (Acquire run) v = AcquireSays c run.call.stage v
+  Says c (Release run) v = ReleaseSays c run.given.index run.given.owner run.call.stage v
+  Says c (Find run) v = FindSays run.given run.call.stage v
+  Says c (Recover run) v = RecoverSays c run.call.stage v
+  Says c (BorrowedIndices run) v = CountSays c (Borrowed v) run.call.count
+  Says c (IsLocked run) v = Unit {0}
+
+  -- ---- what a recovery knows of what it was told to free
+
+  -- the owner is gone, and no index that it was told to free has that owner, but the one that it frees now
+  abbrev pub GoneBut : (ℕ → ℕ → Type 0) → View T → Type 0
+  GoneBut Now v =
+      (i owner : ℕ) → IsOneOf (Yes i owner) (deeds_of v.party v.events)
+      → (is_gone v.by owner v.events ≡ true)
+      × (IsHonestBy v.by v.events → (filled_of i v.events ≢ Some owner) ⊎ Now i owner)
+
+  abbrev pub Gone : RobustFlight → View T → Type 0
+  Gone (Recover run) v = GoneBut (FreesNow run.call.stage) v
+  Gone flight v = Unit {0}
+
+  -- ---- all of it
+
+  pub record Knows (c : ℕ) (flight : RobustFlight) (v : View T) : Type 0 where
+    pub paid : Paid (flight_holds flight) v
+    pub scanned : Scanned (flight_scan c flight) v
+    pub owns : Owns flight v
+    pub says : Says c flight v
+    pub gone : Gone flight v
+
+  -- ---- what a turn does that leaves these words and writes these events
+
+  -- to any party
+  pub record Goes (words words' : List ℕ) (events es : List (Event T)) : Type 0 where
+    pub grows : counter_of words ≤ counter_of words'
+    pub stuck : counter_of words ≡ greatest → counter_of words' ≡ greatest
+    pub grants : counter_of words' ≡ counter_of words → counter_of words < greatest → (i : ℕ) → holder_of i events ≡ None → holder_of i (events ++ es) ≡ None
+    pub fills : (i owner : ℕ) → is_dead owner events ≡ true → filled_of i (events ++ es) ≡ Some owner → filled_of i events ≡ Some owner
+    pub dead : (owner : ℕ) → is_dead owner events ≡ true → is_dead owner (events ++ es) ≡ true
+    pub lives : (owner : ℕ) → is_dead owner (events ++ es) ≡ false → is_dead owner events ≡ false
+    pub well_formed : IsWellFormed (events ++ es) → IsWellFormed events
+
+  -- to this party, which does not take it
+  pub record Spares (by : GoneBy) (q : ℕ) (events es : List (Event T)) : Type 0 where
+    pub none : BeginsNone q es
+    pub deeds : deeds_of q (events ++ es) ≡ deeds_of q events
+    pub owned : IsCalm by (events ++ es) → (i owner : ℕ) → is_gone by owner events ≡ false → IsBy q i owner events → IsBy q i owner (events ++ es)
+    pub unheld : IsCalm by (events ++ es) → (i owner : ℕ) → is_gone by owner events ≡ false → IsBy q i owner events
+        → holder_of i events ≡ None → holder_of i (events ++ es) ≡ None
+    pub held : IsCalm by (events ++ es) → (i owner : ℕ) → is_gone by owner events ≡ false → IsBy q i owner events
+        → holder_of i events ≡ Some owner → holder_of i (events ++ es) ≡ Some owner
+    pub settled : IsCalm by (events ++ es) → (i owner : ℕ) → is_gone by owner events ≡ false
+        → settled_of i events ≡ Some owner → NoneTakes i owner es → settled_of i (events ++ es) ≡ Some owner
+
+  module _ (by : GoneBy) (words words' : List ℕ) (events es : List (Event T)) (q since changes changes' backs : ℕ)
+      (goes : Goes words words' events es) (spares : Spares by q events es)
+      (seen : IsSeen words words' changes changes') where
+    abbrev pub before : View T
+    before = record { by = by; words = words; events = events; party = q; since = since; changes = changes; backs = backs }
+
+    abbrev pub later : View T
+    later = record { by = by; words = words'; events = events ++ es; party = q; since = since; changes = changes'; backs = backs }
+
+    pub held_paid : (held : Option ℕ) → Paid held before → Paid held later
+    held_paid held h = grind arith
+
+    pub still_scanned : (s : Option Scan) → Scanned s before → Scanned s later
+    still_scanned None h = tt
+    still_scanned (Some s) h =
+        let low = h.0 in
+        let grows = goes.grows in (
+          omega arith,
+          λ end. goes.stuck (h.1 end),
+          λ less none is calm i below.
+              let same : counter_of words' ≡ counter_of words = omega arith in
+              goes.grants same (omega arith) i (h.2 less none (sym same ∙ is) (calm_less by events es calm) i below),
+        )
+
+    acquire_owns : (owner : ℕ) (stage : AcquireStage) → AcquireOwns owner stage before → AcquireOwns owner stage later
+    acquire_owns owner (acquires.TheVariants.Raises index raise) h =
+        λ calm alive.
+        let lives = gone_less by owner events es alive in
+        let k = h (calm_less by events es calm) lives in
+        (spares.owned calm index owner lives k.0, spares.unheld calm index owner lives k.0 k.1)
+    acquire_owns owner stage h = tt
+
+    release_owns : (index owner : ℕ) (stage : ReleaseStage) → ReleaseOwns index owner stage before → ReleaseOwns index owner stage later
+    release_owns index owner releases.TheVariants.EmptiesCell h =
+        λ calm alive settled.
+        let lives = gone_less by owner events es alive in
+        spares.owned calm index owner lives
+        (h (calm_less by events es calm) lives
+        (since_less q (λ part. settled_of index part ≡ Some owner) events es spares.none settled))
+    release_owns index owner stage h = tt
+
+    still_owns : (flight : RobustFlight) → Owns flight before → Owns flight later
+    still_owns (Acquire run) h = acquire_owns run.given run.call.stage h
+    still_owns (Release run) h = release_owns run.given.index run.given.owner run.call.stage h
+    still_owns flight h = tt
+
+    once_later : (P : List (Event T) → Type 0) → HeldSometime q P events → HeldSometime q P (events ++ es)
+    once_later P h = held_later q P events es spares.none h
+
+    acquire_says : (c : ℕ) (stage : AcquireStage) → AcquireSays c stage before → AcquireSays c stage later
+    acquire_says c acquires.TheVariants.LoadsCounter h = tt
+    acquire_says c (acquires.TheVariants.FillsCell counter index) h = (once_later IsUnlocked h.0, λ i below. once_later (IsFilled i) (h.1 i below))
+    acquire_says c (acquires.TheVariants.ChecksCounter counter) h = λ i below. once_later (IsFilled i) (h i below)
+    acquire_says c (acquires.TheVariants.Raises index raise) h = tt
+
+    freed_later : (owner index : ℕ) → FilledSinceFreed q owner index events → FilledSinceFreed q owner index (events ++ es)
+    freed_later owner index h = record { other = h.other; once = once_later _ h.once }
+
+    release_says : (c index owner : ℕ) (stage : ReleaseStage) → ReleaseSays c index owner stage before → ReleaseSays c index owner stage later
+    release_says c index owner (releases.TheVariants.Locks lock) h =
+        lock_says c (FoundOne owner index before) (FoundOne owner index later) (λ k n found some. freed_later owner index (found some)) lock h
+    release_says c index owner stage h = tt
+
+    find_says : (owner : ℕ) (stage : FindStage) → FindSays owner stage before → FindSays owner stage later
+    find_says owner (finds.TheVariants.LoadsCell index found) h = count_later q (IsFilledWith owner) index found events h es spares.none
+    find_says owner (finds.TheVariants.Asks index found) h = count_later q (IsFilledWith owner) (index + 1) found events h es spares.none
+
+    asked_later : (k : ℕ) → AskedBelow k before → AskedBelow k later
+    asked_later k h i owner below through =
+        subst (IsOneOf (Asks i owner)) (sym spares.deeds) (h i owner below (through_less q (StillToFree q owner i) events es spares.none through))
+
+    recover_says : (c : ℕ) (stage : RecoverStage) → RecoverSays c stage before → RecoverSays c stage later
+    recover_says c recovers.TheVariants.LoadsCounter h = tt
+    recover_says c (recovers.TheVariants.LoadsCell index) h = (once_later IsUnlocked h.0, asked_later index h.1)
+    recover_says c (recovers.TheVariants.Asks index owner) h = (once_later IsUnlocked h.0, asked_later (index + 1) h.1)
+    recover_says c (recovers.TheVariants.EmptiesCell index owner) h = (once_later IsUnlocked h.0, asked_later (index + 1) h.1)
+    recover_says c (recovers.TheVariants.Raises index raise) h = (once_later IsUnlocked h.0, asked_later (index + 1) h.1)
+    recover_says c (recovers.TheVariants.Locks index lock) h = (once_later IsUnlocked h.0, asked_later (index + 1) h.1)
+    recover_says c recovers.TheVariants.LoadsCounterAgain h = asked_later c h
+
+    still_says : (c : ℕ) (flight : RobustFlight) → Says c flight before → Says c flight later
+    still_says c (Acquire run) h = acquire_says c run.call.stage h
+    still_says c (Release run) h = release_says c run.given.index run.given.owner run.call.stage h
+    still_says c (Find run) h = find_says run.given run.call.stage h
+    still_says c (Recover run) h = recover_says c run.call.stage h
+    still_says c (BorrowedIndices run) h =
+        count_says c (Borrowed before) (Borrowed later)
+        (λ k n counted. count_later q IsFilled k n events counted es spares.none) run.call.count h
+    still_says c (IsLocked run) h = tt
+
+    -- whoever fills an index is not gone, so an index that an owner who is gone has lost stays lost to him
+    gone_later : (Now : ℕ → ℕ → Type 0) → GoneBut Now before → GoneBut Now later
+    gone_later Now h i owner told =
+        let k = h i owner (subst (IsOneOf (Yes i owner)) spares.deeds told) in (
+          gone_more by owner events es k.0,
+          λ honest. ⊎_elim (λ gone. inl (λ e. gone (stays_lost by events es goes.fills i owner honest k.0 e)))
+              (λ now. inr now) (k.1 (honest_less by events es honest)),
+        )
+
+    still_gone : (flight : RobustFlight) → Gone flight before → Gone flight later
+    still_gone (Recover run) h = gone_later (FreesNow run.call.stage) h
+    still_gone flight h = tt
+
+    pub knows_later : (c : ℕ) (flight : RobustFlight) → Knows c flight before → Knows c flight later
+    knows_later c flight h =
+        record {
+          paid = held_paid (flight_holds flight) h.paid;
+          scanned = still_scanned (flight_scan c flight) h.scanned;
+          owns = still_owns flight h.owns;
+          says = still_says c flight h.says;
+          gone = still_gone flight h.gone;
+        }

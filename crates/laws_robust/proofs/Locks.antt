@@ -1,0 +1,112 @@
+-- What a step does that locks the set.
+use Rattle.std.proofs.Common.{◌<◌, ◌≡◌, ℕ, true, false, None, List, [], ◌∷◌, ◌++◌, length, set, refl, sym, ap, ◌∙◌, arith, eq-eqb}
+use Rattle.std.proofs.lemmas.List.{length-set}
+use Rattle.std.proofs.lemmas.List.Sums.{fold-append}
+use Rattle.steps.specs.Indices.Robust.Parts.{locked, greatest}
+use Rattle.model.specs.declared.event.Event.{Event}
+use Rattle.model.specs.declared.event.Event.TheVariants.{Locked}
+use Rattle.model.specs.Families.Indices.Reading.{locked_after, is_locked}
+use Rattle.model.specs.Families.Indices.Robust.Promises.{cell_of, SetDoes, HoldsRight}
+use Rattle.model.specs.Families.Indices.Robust.Reading.{deeds, filled_after, filled_of, holder_after, holder_of}
+use Rattle.model.specs.Families.Indices.Robust.Reading.{settled_after, settled_of, dead_after, is_dead, wrote_in}
+use Rattle.model.proofs.Moments.{others_begin_none}
+use Rattle.model.proofs.Readings.{AreRight, AreOwn, Each-append, span_of-other}
+use Rattle.laws_robust.specs.Gone.{IsCalm, AnswersBy}
+use Rattle.laws_robust.proofs.Core.{counter_of, cell, counter_set, cells_stay}
+use Rattle.laws_robust.proofs.Effects.{Quiet, both_ways, well_formed_less, not_shut, unlocked}
+use Rattle.laws_robust.proofs.Gone.{calm_less, answers_on}
+use Rattle.laws_robust.proofs.Invariant.{IsWorn, worn_on, Scene, Inv, Good, Does}
+use Rattle.laws_robust.proofs.Rights.{right_after, right_of, AreOwned}
+
+module _ {T : Type 0} (scene : Scene T) (inv : Inv scene) where
+  open scene use {by as by, capacity as c, party as p, turns as turns, events as events}
+
+  abbrev ws : List ℕ
+  ws = scene.set.words
+
+  g : Good by c ws scene.set.dead events turns
+  g = inv.good
+
+  -- the lock, and an end behind it, if any
+  module _ (words' : List ℕ) (more : List (Event T)) (quiet : Quiet more) (own : AreOwn p more) (right : AreRight (SetDoes c) (events ++ Locked p ∷ []) more)
+      (answers : AreRight (AnswersBy by (IsWorn by words') c) (events ++ Locked p ∷ []) more)
+      (none : IsCalm by events → (i : ℕ) → holder_of i events ≡ None) (less : counter_of ws < greatest)
+      (new : words' ≡ set ws 0 locked) where
+    abbrev es : List (Event T)
+    es = Locked p ∷ more
+
+    shut : counter_of words' ≡ locked
+    shut = let wide = g.wide in ap counter_of new ∙ counter_set ws locked (omega arith)
+
+    same_filled : (j : ℕ) → filled_of j (events ++ es) ≡ filled_of j events
+    same_filled j = fold-append (filled_after j) None events es ∙ quiet.filled j (filled_of j events)
+
+    same_holder : (j : ℕ) → holder_of j (events ++ es) ≡ holder_of j events
+    same_holder j = fold-append (holder_after j) None events es ∙ quiet.holder j (holder_of j events)
+
+    same_settled : (j : ℕ) → settled_of j (events ++ es) ≡ settled_of j events
+    same_settled j = fold-append (settled_after j) None events es ∙ quiet.settled j (settled_of j events)
+
+    same_right : (j : ℕ) → right_of j (events ++ es) ≡ right_of j events
+    same_right j = fold-append (right_after j) _ events es ∙ quiet.right j (right_of j events)
+
+    same_dead : (o : ℕ) → is_dead o (events ++ es) ≡ is_dead o events
+    same_dead o = fold-append (dead_after o) false events es ∙ quiet.dead o (is_dead o events)
+
+    now_locked : is_locked (events ++ es) ≡ true
+    now_locked = fold-append locked_after false events es ∙ quiet.locked true
+
+    still_owned : IsCalm by (events ++ es) → AreOwned (events ++ es)
+    still_owned calm =
+        let h = g.owned (calm_less by events es calm) in
+        record {
+          held = λ i owner e. same_filled i ∙ h.held i owner (sym (same_holder i) ∙ e);
+          settled = λ i owner e. let k = h.settled i owner (sym (same_settled i) ∙ e) in (same_filled i ∙ k.0, same_right i ∙ k.1);
+        }
+
+    pub locks : Does scene words' (Locked p ∷ more)
+    locks =
+        record {
+          own = (refl, own);
+          good =
+              record {
+                some = g.some;
+                few = g.few;
+                wide = let same = ap length new ∙ length-set ws 0 locked in let wide = g.wide in omega arith;
+                cells = λ i below. ap (λ w. cell w i) new ∙ (cells_stay ws locked i ∙ (g.cells i below ∙ sym (ap cell_of (same_filled i))));
+                filled = λ i owner e. g.filled i owner (sym (same_filled i) ∙ e);
+                lock = eq-eqb (counter_of words') locked shut ∙ sym now_locked;
+                low = λ t. both_ways (is_locked (events ++ es)) t now_locked;
+                bound = let is = shut in omega arith;
+                died = λ o. g.died o ∙ sym (same_dead o);
+                does = Each-append (SetDoes c) events es g.does (unlocked scene inv (not_shut scene inv less), right);
+                answers =
+                    Each-append (AnswersBy by (IsWorn by words') c) events es
+                    (answers_on (IsWorn by ws) (IsWorn by words') (worn_on by ws words' (λ end. absurd (omega arith)))
+                    by c events g.answers)
+                    (tt, answers);
+                owned = still_owned;
+                holds =
+                    λ calm. let less = calm_less by events es calm in
+                    Each-append HoldsRight events es (g.holds less) (none less, quiet.holds (events ++ Locked p ∷ []));
+              };
+          goes =
+              record {
+                grows = let is = shut in let bound = g.bound in omega arith;
+                stuck = λ end. absurd (omega arith);
+                grants = λ same below j unheld. same_holder j ∙ unheld;
+                fills = λ j o d e. sym (same_filled j) ∙ e;
+                dead = λ o d. same_dead o ∙ d;
+                lives = λ o l. sym (same_dead o) ∙ l;
+                well_formed = well_formed_less events es;
+              };
+          spares = λ q ne.
+              record {
+                none = others_begin_none q p es ne (refl, own);
+                deeds = ap (λ s. deeds (wrote_in s)) (span_of-other p q events es ne (refl, own));
+                owned = λ calm i owner alive h. record { right = same_right i ∙ h.right; filled = same_filled i ∙ h.filled };
+                unheld = λ calm i owner alive h unheld. same_holder i ∙ unheld;
+                held = λ calm i owner alive h here. same_holder i ∙ here;
+                settled = λ calm i owner alive h none. same_settled i ∙ h;
+              };
+        }

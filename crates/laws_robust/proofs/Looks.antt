@@ -1,0 +1,91 @@
+-- The steps of the calls that look: how many indices are borrowed, and whether the set is locked.
+use Rattle.std.proofs.Common.{◌≡◌, ℕ, ◌+◌, ◌*◌, ◌≤◌, ◌==◌, Bool, true, false, Option, Some, None, is_some, List, [], refl, ap, arith}
+use Rattle.steps.specs.declared.ask.Ask.{Ask}
+use Rattle.steps.specs.declared.ask.After.{After}
+use Rattle.steps.specs.declared.indices.robust.parts.Count.{Count}
+use Rattle.steps.specs.declared.indices.robust.parts.Count as counts
+use Rattle.steps.specs.declared.indices.robust.parts.Counted.{Counted}
+use Rattle.steps.specs.Indices.Robust.Looks.{borrowed_counted}
+use Rattle.steps.specs.Indices.Robust.Parts.{locked, count_after, count_goes_back}
+use Rattle.steps.specs.Routine.{went_on}
+use Rattle.model.specs.declared.event.Answer.TheVariants.{Number, Truth}
+use Rattle.model.specs.declared.families.indices.robust.RobustStart.TheVariants.{BorrowedIndices, IsLocked}
+use Rattle.model.specs.declared.families.indices.robust.calls.RobustFlight as flights
+use Rattle.model.specs.Families.Indices.Robust.Promises.{IsFilled}
+use Rattle.model.specs.Families.Indices.Robust.Reading.{filled_of}
+use Rattle.model.specs.Families.Queues.Calls.{as_it_is}
+use Rattle.model.specs.Step.{as_call}
+use Rattle.model.specs.Turns.{old_of, words_after}
+use Rattle.laws_robust.proofs.Core.{counter_of}
+use Rattle.laws_robust.proofs.Counting.{count_none, count_next}
+use Rattle.laws_robust.proofs.Effects.{both_ways, not_shut, unlocked, is_shut, stays_same, stays_raised}
+use Rattle.laws_robust.proofs.Invariant.{Scene, Inv}
+use Rattle.laws_robust.proofs.Knows.{Knows, Borrowed}
+use Rattle.laws_robust.proofs.Standing.{borrowed_at, looking, count_number, CountAt}
+use Rattle.laws_robust.proofs.Parts.{count_ask, count_step, IsSaid}
+use Rattle.laws_robust.proofs.Stages.{IsHere, all, now, loads, loads_same, StepOf, Leads, goes_quietly, ends_quietly}
+
+is_none : {A : Type 0} (o : Option ℕ) → o ≡ None → is_some o ≡ true → A
+is_none o none some = grind arith
+
+module _ {T : Type 0} (scene : Scene T) (inv : Inv scene) where
+  open scene use {capacity as c, party as p, steps as steps, backs as backs, events as events}
+
+  abbrev ws : List ℕ
+  ws = scene.set.words
+
+  said : IsSaid scene inv (Borrowed (now scene))
+  said =
+      record {
+        none = count_none p IsFilled events;
+        empty_next =
+            λ k filled below none counted. count_next p IsFilled k filled events counted false filled (omega arith)
+            (λ e. absurd (cc)) (λ e some. is_none (filled_of k events) none some);
+        filled_next =
+            λ k filled owner below is counted. count_next p IsFilled k filled events counted true (filled + 1)
+            (omega arith) (λ e. ap is_some is) (λ e. absurd (cc));
+      }
+
+  module _ (here : IsHere scene BorrowedIndices) (count : Count) (at : CountAt c count) (done : all scene ≡ [])
+      (k : Knows c (borrowed_at c count) (now scene)) (s : steps ≤ count_number c count + backs * (c + 2)) where
+    abbrev counts_to : Option Ask → Bool → After Count Counted → Type 0
+    counts_to ask back r =
+        Leads scene BorrowedIndices ask back []
+        (as_call flights.TheVariants.BorrowedIndices Number
+        (went_on as_it_is tt tt (borrowed_counted (record { capacity = c; count = count }) r)))
+
+    count_moves : counts_to (Some (count_ask count)) (count_goes_back count (old_of ws (Some (count_ask count))))
+        (count_after c count (old_of ws (Some (count_ask count))))
+    count_moves =
+        count_step scene inv (Borrowed (now scene)) said counts_to count at k.paid k.scanned k.says
+        (λ next ask back same next_at paid next_scanned says few.
+        let low = few 0 (c + 2) (omega arith) (omega arith) in
+        goes_quietly scene inv BorrowedIndices (borrowed_at c next) ask back here
+        (stays_same scene inv (words_after ws ask) same) (omega arith) (refl, next_at, done)
+        (record { paid = paid; scanned = next_scanned; owns = tt; says = says; gone = tt }))
+        (λ ask same shut paid few.
+        let low = few 0 (c + 2) (omega arith) (omega arith) in
+        ends_quietly scene inv BorrowedIndices (Number 0) ask false here (stays_same scene inv (words_after ws ask) same) (λ i o. refl) (λ i r. refl)
+        (λ t. refl, λ f. both_ways _ f (is_shut scene inv shut)) done (omega arith) paid)
+        (λ filled ask same worn end most says paid few.
+        let low = few 0 (c + 2) (omega arith) (omega arith) in
+        ends_quietly scene inv BorrowedIndices (Number filled) ask false here (stays_same scene inv (words_after ws ask) same) (λ i o. refl) (λ i r. refl)
+        (λ t. both_ways _ (unlocked scene inv (λ shut. absurd (omega arith))) t, λ f. says) done (omega arith) paid)
+        (λ filled ask less new most says none paid few.
+        let low = few 0 (c + 2) (omega arith) (omega arith) in
+        ends_quietly scene inv BorrowedIndices (Number filled) ask false here (stays_raised scene inv (words_after ws ask) less new) (λ i o. refl) (λ i r. refl)
+        (λ t. both_ways _ (unlocked scene inv (not_shut scene inv less)) t, λ f. says) done (omega arith) paid)
+
+  pub borrowed_step : IsHere scene BorrowedIndices → (count : Count) → CountAt c count → all scene ≡ []
+      → Knows c (borrowed_at c count) (now scene) → steps ≤ count_number c count + backs * (c + 2)
+      → StepOf scene BorrowedIndices (borrowed_at c count)
+  borrowed_step here counts.TheVariants.LoadsCounter at done k s = count_moves here counts.TheVariants.LoadsCounter at done k s
+  borrowed_step here (counts.TheVariants.LoadsCell number i filled) at done k s = count_moves here (counts.TheVariants.LoadsCell number i filled) at done k s
+  borrowed_step here (counts.TheVariants.ExchangesCounter number filled) at done k s =
+      count_moves here (counts.TheVariants.ExchangesCounter number filled) at done k s
+
+  pub looks_step : IsHere scene IsLocked → all scene ≡ [] → Knows c looking (now scene) → steps ≤ 0 → StepOf scene IsLocked looking
+  looks_step here done k s =
+      ends_quietly scene inv IsLocked (Truth (counter_of ws == locked)) (Some (loads 0)) false here
+      (stays_same scene inv _ (loads_same ws 0)) (λ i o. refl) (λ i r. refl) inv.good.lock done (omega arith)
+      (let paid = k.paid in omega arith)

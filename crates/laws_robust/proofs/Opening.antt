@@ -1,0 +1,43 @@
+-- The robust index set as it opens: no index is filled, and nobody has died.
+use Rattle.std.proofs.Common.{◌≡◌, ℕ, zero, suc, ◌+◌, ◌^◌, ◌<◌, ◌≤◌, None, [], replicate, get_or, refl, ap, ◌∙◌, arith}
+use Rattle.std.proofs.lemmas.List.{length-replicate}
+use Rattle.steps.specs.Indices.Robust.Parts.{empty}
+use Rattle.model.specs.declared.turn.Kind as kinds
+use Rattle.model.specs.Families.Indices.Robust.Opening.{opening_words}
+use Rattle.model.specs.World.{capacity_error}
+use Rattle.model.proofs.Readings.{Each-nil}
+use Rattle.laws_robust.specs.Gone.{GoneBy}
+use Rattle.laws_robust.proofs.Core.{cell}
+use Rattle.laws_robust.proofs.Invariant.{Good}
+
+pub all_the_same : (x n i : ℕ) → i < n → get_or (replicate n x) i 0 ≡ x
+all_the_same x zero i below = absurd (omega arith)
+all_the_same x (suc n) zero below = refl
+all_the_same x (suc n) (suc i) below = all_the_same x n i (omega arith)
+
+pub opening_cell : (c i : ℕ) → i < c → cell (opening_words c) i ≡ empty
+opening_cell c i below =
+    let place : 1 + i ≡ suc i = omega arith in
+    ap (λ n. get_or (opening_words c) n 0) place ∙ all_the_same empty c i below
+
+pub opening_good : {T : Type 0} (by : GoneBy) (c : ℕ) → 1 ≤ c → c < 2 ^ 32 → Good {T = T} by c (opening_words c) [] [] 0
+opening_good by c some few =
+    let long = length-replicate {A = ℕ} c empty in
+    record {
+      some = some;
+      few = few;
+      wide = omega arith;
+      cells = opening_cell c;
+      filled = λ i owner e. absurd (cc);
+      lock = refl;
+      low = λ t. omega arith;
+      bound = omega arith;
+      died = λ owner. refl;
+      does = Each-nil _;
+      answers = Each-nil _;
+      owned = λ calm. record { held = λ i owner e. absurd (cc); settled = λ i owner e. absurd (cc) };
+      holds = λ calm. Each-nil _;
+    }
+
+pub admitted_is : (c : ℕ) → capacity_error kinds.TheVariants.Robust c ≡ None → (1 ≤ c) × (c < 2 ^ 32)
+admitted_is c e = grind arith

@@ -1,0 +1,441 @@
+-- The steps of the parts that calls of a robust index set are made of: a raise of the counter, a count and a lock. What a
+-- step leads to is what the caller makes of it, of the operation, of whether it turns back, and of how the part goes on.
+use Rattle.std.proofs.Common.{eq-eqb, ◌≡◌, ◌≢◌, ℕ, ◌+◌, ◌*◌, ◌<◌, ◌≤◌, ◌==◌, ◌&&◌, ⊎_elim, inl, if◌then◌else◌, nat_lt}
+use Rattle.std.proofs.Common.{Bool, true, false, not, Option, Some, None, List, [], ◌∷◌, set, refl, sym, ap, subst}
+use Rattle.std.proofs.Common.{◌∙◌, arith, ne_eqb}
+use Rattle.std.proofs.lemmas.Bool.{cases_lt}
+use Rattle.std.proofs.lemmas.Bool.Decides.{nat_tests}
+use Rattle.steps.specs.declared.ask.Ask.{Ask}
+use Rattle.steps.specs.declared.ask.After.{After}
+use Rattle.steps.specs.declared.ask.After.TheVariants.{GoOn, Done}
+use Rattle.steps.specs.declared.indices.enums.ReleaseState.{ReleaseState}
+use Rattle.steps.specs.declared.indices.enums.ReleaseState as states
+use Rattle.steps.specs.declared.indices.robust.parts.Count.{Count}
+use Rattle.steps.specs.declared.indices.robust.parts.Count as counts
+use Rattle.steps.specs.declared.indices.robust.parts.Counted.{Counted}
+use Rattle.steps.specs.declared.indices.robust.parts.Counted as ends
+use Rattle.steps.specs.declared.indices.robust.parts.Lock.{Lock}
+use Rattle.steps.specs.declared.indices.robust.parts.Lock as locks
+use Rattle.steps.specs.declared.indices.robust.parts.Raise.{Raise}
+use Rattle.steps.specs.declared.indices.robust.parts.Raise as raises
+use Rattle.steps.specs.Indices.Robust.Parts.{cell_word, empty, locked, greatest, one_more, raise_sees, raise_after}
+use Rattle.steps.specs.Indices.Robust.Parts.{raise_goes_back, count_comes_to, count_after, count_goes_back, first_lock}
+use Rattle.steps.specs.Indices.Robust.Parts.{lock_counted, lock_after, lock_goes_back}
+use Rattle.steps.specs.Picks.{by_test, by_eq}
+use Rattle.model.specs.declared.event.Event.{Event}
+use Rattle.model.specs.declared.event.Event.TheVariants.{Locked}
+use Rattle.model.specs.Families.Indices.Robust.Reading.{filled_of, holder_of}
+use Rattle.model.specs.Families.Indices.Robust.Steps.{locked_by}
+use Rattle.model.specs.Turns.{old_of, words_after, step_count}
+use Rattle.laws_robust.specs.Gone.{IsCalm}
+use Rattle.laws_robust.proofs.Core.{counter_of, cell, counter_set}
+use Rattle.laws_robust.proofs.Effects.{Stays, not_shut, stays_same, stays_raised, filled_none, filled_some}
+use Rattle.laws_robust.proofs.Invariant.{IsWorn, worn_at, worn_then, Scene, Inv, Good}
+use Rattle.laws_robust.proofs.Knows.{unless_last, raise_holds, count_holds, lock_holds, count_scan, lock_scan}
+use Rattle.laws_robust.proofs.Knows.{CountSays, LockSays, IsPaid, Holding, Paid, Scanned}
+use Rattle.laws_robust.proofs.Standing.{raise_number, count_number, lock_number, CountAt, LockAt}
+use Rattle.laws_robust.proofs.Stages.{loads, exchanges, loads_same, fails_same, exchange_sets, backs_then, now, sees, paid_of, paid_back, holds_on}
+
+abbrev pub raise_ask : Raise → Ask
+raise_ask raises.TheVariants.LoadsCounter = loads 0
+raise_ask (raises.TheVariants.ExchangesCounter counter) = exchanges 0 counter (one_more counter)
+
+abbrev pub count_ask : Count → Ask
+count_ask counts.TheVariants.LoadsCounter = loads 0
+count_ask (counts.TheVariants.LoadsCell counter index filled) = loads (cell_word index)
+count_ask (counts.TheVariants.ExchangesCounter counter filled) =
+    exchanges 0 counter (one_more counter)
+
+abbrev pub lock_ask : Lock → Ask
+lock_ask (locks.TheVariants.Counts count) = count_ask count
+lock_ask (locks.TheVariants.ExchangesCounter counter) = exchanges 0 counter locked
+
+zero_if : (n : ℕ) → ((n == 0) && true) ≡ true → n ≡ 0
+zero_if n t = grind arith
+
+more_if : (n : ℕ) → ((n == 0) && true) ≡ false → 0 < n
+more_if n t = grind arith
+
+-- where the counter is at its end none locks
+none_locks : {X : Type 0} (P : X → Type 0) (a b : X) (zero last : Bool) → last ≡ true → P b → P (if zero && not last then a else b)
+none_locks h a b zero last e k = grind arith
+
+module _ {T : Type 0} (scene : Scene T) (inv : Inv scene) where
+  open scene use {by as by, capacity as c, party as p, steps as steps, backs as backs, since as since, changes as changes, turns as turns, events as events}
+
+  abbrev ws : List ℕ
+  ws = scene.set.words
+
+  g : Good by c ws scene.set.dead events turns
+  g = inv.good
+
+  -- nobody holds an index that is not filled
+  pub none_holds : IsCalm by events → (i : ℕ) → filled_of i events ≡ None → holder_of i events ≡ None
+  none_holds calm i none = grind arith
+
+  -- none that is not of the set is filled
+  pub none_beyond : (i : ℕ) → c ≤ i → filled_of i events ≡ None
+  none_beyond i more = go (filled_of i events) refl
+    where
+      go : (o : Option ℕ) → filled_of i events ≡ o → o ≡ None
+      go None e = refl
+      go (Some owner) e = let below = (g.filled i owner e).0 in absurd (omega arith)
+
+  -- the counter has a number that was held, so it is before its end
+  pub before_end : (number : ℕ) → counter_of ws ≡ number → Holding number (now scene) → counter_of ws < greatest
+  before_end number is h = let less = h.before_end in omega arith
+
+  -- the exchange of the counter for the next number
+  pub raised : (number : ℕ) → counter_of ws ≡ number → Holding number (now scene)
+      → words_after ws (Some (exchanges 0 number (one_more number))) ≡ set ws 0 (counter_of ws + 1)
+  raised number is h =
+      let less = h.before_end in
+      let next : one_more number ≡ counter_of ws + 1 = omega arith in
+      exchange_sets ws 0 number (one_more number) is ∙ ap (set ws 0) next
+
+  -- the counter that a call finds
+  pub finds_counter : (ask : Option Ask) (back : Bool) → words_after ws ask ≡ ws → counter_of ws ≢ locked
+      → counter_of ws ≢ greatest → IsPaid (sees scene ask back) → Holding (counter_of ws) (sees scene ask back)
+  finds_counter ask back same open_now other paid = grind arith
+
+  -- ---- a raise
+
+  module _ (Lead : Option Ask → Bool → After Raise ReleaseState → Type 0) where
+    -- how many steps more the part has taken then, at n before it and w for a turn back
+    abbrev pub RaiseSteps : Raise → ℕ → Option Ask → Bool → Type 0
+    RaiseSteps raise number ask back =
+        (n w : ℕ) → 1 ≤ w → steps ≤ n + raise_number raise + backs * w → steps + step_count ask ≤ n + number + backs_then scene back * w
+
+    abbrev pub RaiseGoes : Raise → Type 0
+    RaiseGoes raise =
+        (number : ℕ) (ask : Option Ask) (back : Bool) → words_after ws ask ≡ ws
+        → Holding number (sees scene ask back) → RaiseSteps raise 1 ask back
+        → Lead ask back (GoOn (raises.TheVariants.ExchangesCounter number))
+
+    abbrev pub RaiseMeets : Raise → Type 0
+    RaiseMeets raise =
+        (ask : Option Ask) (back : Bool) → words_after ws ask ≡ ws → counter_of ws ≡ locked
+        → IsPaid (sees scene ask back) → RaiseSteps raise 2 ask back
+        → Lead ask back (Done states.TheVariants.Locked)
+
+    -- the counter is at its end, and stays
+    abbrev pub RaiseStays : Raise → Type 0
+    RaiseStays raise =
+        (ask : Option Ask) (back : Bool) → words_after ws ask ≡ ws → IsWorn by ws → counter_of ws ≡ greatest
+        → IsPaid (sees scene ask back) → RaiseSteps raise 2 ask back
+        → Lead ask back (Done states.TheVariants.Unlocked)
+
+    abbrev pub RaiseEnds : Raise → Type 0
+    RaiseEnds raise =
+        (ask : Option Ask) → counter_of ws < greatest → words_after ws ask ≡ set ws 0 (counter_of ws + 1)
+        → IsPaid (sees scene ask false) → RaiseSteps raise 2 ask false
+        → Lead ask false (Done states.TheVariants.Unlocked)
+
+    raise_finds : (raise : Raise) → RaiseGoes raise → RaiseMeets raise → RaiseStays raise
+        → (ask : Option Ask) (back : Bool) → words_after ws ask ≡ ws → IsPaid (sees scene ask back)
+        → RaiseSteps raise 1 ask back → Lead ask back (raise_sees (counter_of ws))
+    raise_finds raise goes meets rests ask back same paid few =
+        by_eq (Lead ask back) (counter_of ws) locked (Done states.TheVariants.Locked) _
+        (λ shut. meets ask back same shut paid (λ n w some low. let next = few n w some low in omega arith))
+        (λ open_now. by_eq (Lead ask back) (counter_of ws) greatest (Done states.TheVariants.Unlocked)
+        (GoOn (raises.TheVariants.ExchangesCounter (counter_of ws)))
+        (λ end. rests ask back same (worn_at by ws inv.room end) end paid (λ n w some low. let next = few n w some low in omega arith))
+        (λ other. goes (counter_of ws) ask back same (finds_counter ask back same open_now other paid) few))
+
+    pub raise_step : (raise : Raise) → Paid (raise_holds raise) (now scene) → RaiseGoes raise → RaiseMeets raise → RaiseStays raise → RaiseEnds raise
+        → Lead (Some (raise_ask raise)) (raise_goes_back raise (counter_of ws)) (raise_after raise (counter_of ws))
+    raise_step raises.TheVariants.LoadsCounter paid goes meets rests closes =
+        raise_finds raises.TheVariants.LoadsCounter goes meets rests (Some (loads 0)) false (loads_same ws 0) (omega arith) (λ n w some low. omega arith)
+    raise_step (raises.TheVariants.ExchangesCounter number) paid goes meets rests closes = go (counter_of ws == number) refl
+      where
+        go : (b : Bool) → (counter_of ws == number) ≡ b
+            → Lead (Some (exchanges 0 number (one_more number))) (not b)
+            (if b then Done states.TheVariants.Unlocked else raise_sees (counter_of ws))
+        go true t =
+            let is : counter_of ws ≡ number = grind (arith, nat_tests) in
+            let paid_now = paid_of scene (counter_of ws ≡ number) paid.paid in
+            closes (Some (exchanges 0 number (one_more number))) (before_end number is paid) (raised number is paid) (omega arith) (λ n w some low. omega arith)
+        go false t =
+            let other : counter_of ws ≢ number = grind (arith, nat_tests) in
+            raise_finds (raises.TheVariants.ExchangesCounter number) goes meets rests
+            (Some (exchanges 0 number (one_more number))) true (fails_same ws 0 number (one_more number) other)
+            (paid_back scene number (Some (exchanges 0 number (one_more number))) events other paid) (λ n w some low. omega arith)
+
+  -- ---- the counter that a count has loaded, which it holds unless that is at its end
+
+  still_paid : (number : ℕ) → Paid (unless_last number) (now scene) → IsPaid (now scene)
+  still_paid number h = grind arith
+
+  still_held : (number : ℕ) (ask : Option Ask) → counter_of (words_after ws ask) ≡ counter_of ws
+      → Paid (unless_last number) (now scene) → Paid (unless_last number) (sees scene ask false)
+  still_held number ask same h = go (number == greatest) h
+    where
+      go : (b : Bool) → Paid (if b then None else Some number) (now scene) → Paid (if b then None else Some number) (sees scene ask false)
+      go true h = omega arith
+      go false h = holds_on scene number ask events same h
+
+  holds_one : (number : ℕ) → number ≢ greatest → Paid (unless_last number) (now scene) → Holding number (now scene)
+  holds_one number other h = subst (λ b. Paid (if b then None else Some number) (now scene)) (ne_eqb number greatest other) h
+
+  found_held : (ask : Option Ask) → words_after ws ask ≡ ws → counter_of ws ≢ locked → IsPaid (sees scene ask false)
+      → Paid (unless_last (counter_of ws)) (sees scene ask false)
+  found_held ask same open_now paid = go (counter_of ws == greatest) refl
+    where
+      go : (b : Bool) → (counter_of ws == greatest) ≡ b → Paid (if b then None else Some (counter_of ws)) (sees scene ask false)
+      go true t = paid
+      go false t = let other : counter_of ws ≢ greatest = grind (arith, nat_tests) in finds_counter ask false same open_now other paid
+
+  -- ---- a count, which says this where it has come to so many cells and found so many filled
+
+  pub record IsSaid (Says : ℕ → ℕ → Type 0) : Type 0 where
+    pub none : Says 0 0
+    pub empty_next : (k filled : ℕ) → k < c → filled_of k events ≡ None → Says k filled → Says (k + 1) filled
+    pub filled_next : (k filled owner : ℕ) → k < c → filled_of k events ≡ Some owner → Says k filled → Says (k + 1) (filled + 1)
+
+  -- nobody holds an index, where none is found filled
+  abbrev pub NoneHeld : ℕ → ℕ → Type 0
+  NoneHeld k filled = filled ≡ 0 → IsCalm by events → (i : ℕ) → i < k → holder_of i events ≡ None
+
+  module _ (Says : ℕ → ℕ → Type 0) (said : IsSaid Says) where
+    module _ (Lead : Option Ask → Bool → After Count Counted → Type 0) where
+      abbrev pub CountSteps : Count → ℕ → Option Ask → Bool → Type 0
+      CountSteps count number ask back =
+          (n w : ℕ) → c + 2 ≤ w → steps ≤ n + count_number c count + backs * w → steps + step_count ask ≤ n + number + backs_then scene back * w
+
+      abbrev pub CountGoes : Count → Type 0
+      CountGoes count =
+          (next : Count) (ask : Option Ask) (back : Bool) → words_after ws ask ≡ ws → CountAt c next
+          → Paid (count_holds next) (sees scene ask back) → Scanned (count_scan c next) (sees scene ask back)
+          → CountSays c Says next → CountSteps count (count_number c next) ask back → Lead ask back (GoOn next)
+
+      abbrev pub CountMeets : Count → Type 0
+      CountMeets count =
+          (ask : Option Ask) → words_after ws ask ≡ ws → counter_of ws ≡ locked → IsPaid (sees scene ask false)
+          → CountSteps count (2 + c) ask false → Lead ask false (Done ends.TheVariants.Locked)
+
+      -- all cells are loaded, and the counter is at its end
+      abbrev pub CountStays : Count → Type 0
+      CountStays count =
+          (filled : ℕ) (ask : Option Ask) → words_after ws ask ≡ ws → IsWorn by ws → counter_of ws ≡ greatest
+          → filled ≤ c → Says c filled → IsPaid (sees scene ask false) → CountSteps count (2 + c) ask false
+          → Lead ask false (Done (ends.TheVariants.Filled filled greatest))
+
+      abbrev pub CountEnds : Count → Type 0
+      CountEnds count =
+          (filled : ℕ) (ask : Option Ask) → counter_of ws < greatest
+          → words_after ws ask ≡ set ws 0 (counter_of ws + 1) → filled ≤ c → Says c filled → NoneHeld c filled
+          → IsPaid (sees scene ask false) → CountSteps count
+          (2 + c) ask false → Lead ask false (Done (ends.TheVariants.Filled filled (counter_of ws + 1)))
+
+      -- the next cell, or the end of the count, of which this is known
+      module _ (number k filled new : ℕ) (goes : CountGoes (counts.TheVariants.LoadsCell number k filled))
+          (rests : CountStays (counts.TheVariants.LoadsCell number k filled)) (below : k < c) (few : new ≤ k + 1)
+          (held : Paid (unless_last number) (now scene)) (least : number ≤ counter_of ws)
+          (at_end : number ≡ greatest → counter_of ws ≡ greatest) (says : Says (k + 1) new)
+          (none : number < greatest → new ≡ 0 → counter_of ws ≡ number → IsCalm by events → (i : ℕ) → i < k + 1 → holder_of i events ≡ None) where
+        abbrev ask : Option Ask
+        ask = Some (loads (cell_word k))
+
+        same : words_after ws ask ≡ ws
+        same = loads_same ws (cell_word k)
+
+        same_counter : counter_of (words_after ws ask) ≡ counter_of ws
+        same_counter = ap counter_of same
+
+        low : number ≤ counter_of (words_after ws ask)
+        low = let is = same_counter in omega arith
+
+        count_comes : Lead ask false (count_comes_to c number (k + 1) new)
+        count_comes =
+            by_test (Lead ask false) (nat_lt (k + 1) c) (GoOn (counts.TheVariants.LoadsCell number (k + 1) new)) _
+            (λ t.
+            let more : k + 1 < c = grind (arith, nat_tests) in
+            goes (counts.TheVariants.LoadsCell number (k + 1) new) ask false same (more, few) (still_held number ask same_counter held)
+            (low, λ end. same_counter ∙ at_end end, λ before zero is calm i less. none before zero (sym same_counter ∙ is) calm i less)
+            says (λ n w some bound. omega arith))
+            (λ t.
+            let last : c ≡ k + 1 = grind (arith, nat_tests) in
+            let paid : IsPaid (now scene) = still_paid number held in
+            by_eq (Lead ask false) number greatest (Done (ends.TheVariants.Filled new number)) (GoOn (counts.TheVariants.ExchangesCounter number new))
+            (λ end. subst (λ m. Lead ask false (Done (ends.TheVariants.Filled new m))) (sym end)
+            (rests new ask same (worn_at by ws inv.room (at_end end)) (at_end end) (omega arith)
+            (subst (λ m. Says m new) (sym last) says) (omega arith) (λ n w some bound. omega arith)))
+            (λ other. goes (counts.TheVariants.ExchangesCounter number new) ask false same (omega arith)
+            (holds_on scene number ask events same_counter (holds_one number other held)) (
+              low,
+              λ end. same_counter ∙ at_end end,
+              λ before zero is calm i behind. none before zero (sym same_counter ∙ is) calm i (omega arith),
+            ) (subst (λ m. Says m new) (sym last) says) (λ n w some bound. omega arith)))
+
+      pub count_step : (count : Count) → CountAt c count → Paid (count_holds count) (now scene)
+          → Scanned (count_scan c count) (now scene) → CountSays c Says count → CountGoes count → CountMeets count
+          → CountStays count → CountEnds count
+          → Lead (Some (count_ask count)) (count_goes_back count (old_of ws (Some (count_ask count))))
+          (count_after c count (old_of ws (Some (count_ask count))))
+      count_step counts.TheVariants.LoadsCounter at paid scanned says goes meets rests closes =
+          let some = g.some in
+          let same = loads_same ws 0 in
+          let same_counter : counter_of (words_after ws (Some (loads 0))) ≡ counter_of ws = ap counter_of same in
+          by_eq (Lead (Some (loads 0)) false) (counter_of ws) locked (Done ends.TheVariants.Locked) _
+          (λ shut. meets (Some (loads 0)) same shut (omega arith) (λ n w wide low. omega arith))
+          (λ open_now. by_test (Lead (Some (loads 0)) false) (nat_lt 0 c) (GoOn (counts.TheVariants.LoadsCell (counter_of ws) 0 0)) _
+          (λ t. goes (counts.TheVariants.LoadsCell (counter_of ws) 0 0) (Some (loads 0)) false same
+          (omega arith, omega arith) (found_held (Some (loads 0)) same open_now (omega arith))
+          (omega arith, λ end. same_counter ∙ end, λ before zero is calm i less. absurd (omega arith)) said.none (λ n w wide low. omega arith))
+          (λ t. let none : c ≤ 0 = grind (arith, nat_tests) in absurd (omega arith)))
+      count_step (counts.TheVariants.LoadsCell number k filled) at paid scanned says goes meets rests closes = go (cell ws k == empty) refl
+        where
+          go : (b : Bool) → (cell ws k == empty) ≡ b
+              → Lead (Some (loads (cell_word k))) false (count_comes_to c number (k + 1) (if b then filled else one_more filled))
+          go true t =
+              let is : cell ws k ≡ empty = grind (arith, nat_tests) in
+              let none = filled_none scene inv k at.0 is in
+              let few = at.1 in
+              count_comes number k filled filled goes rests at.0 (omega arith) paid scanned.0 scanned.1 (said.empty_next k filled at.0 none says)
+              (λ before zero is calm i less. ⊎_elim (λ earlier. scanned.2 before zero is calm i earlier)
+              (λ last. let here : i ≡ k = omega arith in none_holds calm i (ap (λ j. filled_of j events) here ∙ none))
+              (cases_lt i k))
+          go false t =
+              let other : cell ws k ≢ empty = grind (arith, nat_tests) in
+              let some = filled_some scene inv k at.0 other in
+              let few = at.1 in
+              let below = at.0 in
+              let most = g.few in
+              let next : one_more filled ≡ filled + 1 = omega arith in
+              subst (λ m. Lead (Some (loads (cell_word k))) false (count_comes_to c number (k + 1) m)) (sym next)
+              (count_comes number k filled (filled + 1) goes rests at.0 (omega arith) paid scanned.0 scanned.1
+              (said.filled_next k filled (cell ws k) at.0 some.1 says)
+              (λ before zero is calm i less. absurd (omega arith)))
+      count_step (counts.TheVariants.ExchangesCounter number filled) at paid scanned says goes meets rests closes = go (counter_of ws == number) refl
+        where
+          go : (b : Bool) → (counter_of ws == number) ≡ b
+              → Lead (Some (exchanges 0 number (one_more number))) (not b)
+              (if b then Done (ends.TheVariants.Filled filled (one_more number)) else GoOn counts.TheVariants.LoadsCounter)
+          go true t =
+              let is : counter_of ws ≡ number = grind (arith, nat_tests) in
+              let paid_now = paid_of scene (counter_of ws ≡ number) paid.paid in
+              let less = paid.before_end in
+              let next : one_more number ≡ counter_of ws + 1 = omega arith in
+              subst (λ m. Lead (Some (exchanges 0 number (one_more number))) false (Done (ends.TheVariants.Filled filled m))) (sym next)
+              (closes filled (Some (exchanges 0 number (one_more number))) (before_end number is paid)
+              (raised number is paid) at says (λ zero calm i below. scanned.2 paid.before_end zero is calm i below)
+              (omega arith) (λ n w wide low. omega arith))
+          go false t =
+              let other : counter_of ws ≢ number = grind (arith, nat_tests) in
+              goes counts.TheVariants.LoadsCounter (Some (exchanges 0 number (one_more number))) true (fails_same ws 0 number (one_more number) other) tt
+              (paid_back scene number (Some (exchanges 0 number (one_more number))) events other paid) tt tt (λ n w wide low. omega arith)
+
+    -- ---- a lock
+
+    module _ (Lead : Option Ask → Bool → List (Event T) → After Lock ReleaseState → Type 0) where
+      abbrev pub LockSteps : Lock → ℕ → Option Ask → Bool → Type 0
+      LockSteps lock number ask back =
+          (n w : ℕ) → c + 3 ≤ w → steps ≤ n + lock_number c lock + backs * w → steps + step_count ask ≤ n + number + backs_then scene back * w
+
+      abbrev pub LockGoes : Lock → Type 0
+      LockGoes lock =
+          (next : Lock) (ask : Option Ask) (back : Bool) → Stays scene (words_after ws ask) → LockAt c next
+          → Paid (lock_holds next) (sees scene ask back) → Scanned (lock_scan c next) (sees scene ask back)
+          → LockSays c Says next → LockSteps lock (lock_number c next) ask back → Lead ask back [] (GoOn next)
+
+      -- the set is locked
+      abbrev pub LockMeets : Lock → Type 0
+      LockMeets lock =
+          (ask : Option Ask) → words_after ws ask ≡ ws → counter_of ws ≡ locked → IsPaid (sees scene ask false)
+          → LockSteps lock (3 + c) ask false → Lead ask false [] (Done states.TheVariants.Locked)
+
+      -- an index is filled
+      abbrev pub LockFinds : Lock → Type 0
+      LockFinds lock =
+          (filled : ℕ) (ask : Option Ask) → Stays scene (words_after ws ask) → counter_of ws ≢ locked → 0 < filled
+          → Says c filled → IsPaid (sees scene ask false) → LockSteps lock (3 + c) ask false
+          → Lead ask false [] (Done states.TheVariants.Unlocked)
+
+      -- the counter is at its end, where no set is locked
+      abbrev pub LockStays : Lock → Type 0
+      LockStays lock =
+          (ask : Option Ask) → Stays scene (words_after ws ask) → counter_of ws ≢ locked
+          → IsWorn by (words_after ws ask) → IsPaid (sees scene ask false) → LockSteps lock (3 + c) ask false
+          → Lead ask false [] (Done states.TheVariants.Unlocked)
+
+      -- it locks the set
+      abbrev pub LockLocks : Lock → Type 0
+      LockLocks lock =
+          (ask : Option Ask) → (IsCalm by events → (i : ℕ) → holder_of i events ≡ None) → counter_of ws < greatest
+          → words_after ws ask ≡ set ws 0 locked → IsPaid (sees scene ask false) → LockSteps lock (3 + c) ask false
+          → Lead ask false (Locked p ∷ []) (Done states.TheVariants.Locked)
+
+      -- the count is closed
+      module _ (count : Count) (goes : LockGoes (locks.TheVariants.Counts count))
+          (finds : LockFinds (locks.TheVariants.Counts count))
+          (rests : LockStays (locks.TheVariants.Counts count)) where
+        counted : CountEnds (λ ask back r. Lead ask back [] (lock_counted r)) count
+        counted filled ask less new most says none paid few = go (counter_of ws + 1 == greatest) refl
+          where
+            stays : Stays scene (words_after ws ask)
+            stays = stays_raised scene inv (words_after ws ask) less new
+
+            is : counter_of (words_after ws ask) ≡ counter_of ws + 1
+            is = let wide = g.wide in ap counter_of new ∙ counter_set ws (counter_of ws + 1) (omega arith)
+
+            go : (b : Bool) → (counter_of ws + 1 == greatest) ≡ b → Lead ask false [] (lock_counted (Done (ends.TheVariants.Filled filled (counter_of ws + 1))))
+            go true t =
+                let last : counter_of ws + 1 ≡ greatest = grind (arith, nat_tests) in
+                none_locks (Lead ask false []) (GoOn (locks.TheVariants.ExchangesCounter (counter_of ws + 1)))
+                (Done states.TheVariants.Unlocked) (filled == 0) (counter_of ws + 1 == greatest) t
+                (rests ask stays (not_shut scene inv less)
+                (worn_then by ws (words_after ws ask) inv.room last (is ∙ last)) paid
+                (λ n w more bound. let next = few n w (omega arith) bound in omega arith))
+            go false t =
+                let other : not (counter_of ws + 1 == greatest) ≡ true = ap not t in
+                let differs : counter_of ws + 1 ≢ greatest = grind (arith, nat_tests) in
+                let same = is in
+                let low : counter_of ws + 1 ≤ counter_of (words_after ws ask) = omega arith in
+                rw other
+                (by_test (Lead ask false []) ((filled == 0) && true)
+                (GoOn (locks.TheVariants.ExchangesCounter (counter_of ws + 1))) (Done states.TheVariants.Unlocked)
+                (λ u.
+                let zero : filled ≡ 0 = zero_if filled u in
+                goes (locks.TheVariants.ExchangesCounter (counter_of ws + 1)) ask false stays tt
+                (record { before_end = omega arith; low = low; paid = inl (is, paid) })
+                (low, λ end. absurd (differs end), λ before same_zero same calm i below. none zero calm i below) tt
+                (λ n w more bound. let next = few n w (omega arith) bound in omega arith))
+                (λ u. finds filled ask stays (not_shut scene inv less) (more_if filled u) says paid
+                (λ n w more bound. let next = few n w (omega arith) bound in omega arith)))
+
+      pub lock_step : (lock : Lock) → LockAt c lock → Paid (lock_holds lock) (now scene)
+          → Scanned (lock_scan c lock) (now scene) → LockSays c Says lock → LockGoes lock → LockMeets lock
+          → LockFinds lock → LockStays lock → LockLocks lock
+          → Lead (Some (lock_ask lock)) (lock_goes_back lock (old_of ws (Some (lock_ask lock))))
+          (locked_by p lock (old_of ws (Some (lock_ask lock))))
+          (lock_after c lock (old_of ws (Some (lock_ask lock))))
+      lock_step (locks.TheVariants.Counts count) at paid scanned says goes meets finds rests shuts =
+          count_step (λ ask back r. Lead ask back [] (lock_counted r)) count at paid scanned says
+          (λ next ask back same next_at next_paid next_scanned next_says few. goes (locks.TheVariants.Counts next)
+          ask back (stays_same scene inv (words_after ws ask) same) next_at next_paid next_scanned next_says
+          (λ n w more bound. few n w (omega arith) bound))
+          (λ ask same shut done_paid few. meets ask same shut done_paid (λ n w more bound. let next = few n w (omega arith) bound in omega arith))
+          (λ filled ask same worn end most says_so done_paid few.
+          none_locks (Lead ask false []) (GoOn (locks.TheVariants.ExchangesCounter greatest))
+          (Done states.TheVariants.Unlocked) (filled == 0) (greatest == greatest) (eq-eqb greatest greatest refl)
+          (rests ask (stays_same scene inv (words_after ws ask) same) (λ shut. absurd (omega arith))
+          (subst (IsWorn by) (sym same) worn) done_paid
+          (λ n w more bound. let next = few n w (omega arith) bound in omega arith)))
+          (counted count goes finds rests)
+      lock_step (locks.TheVariants.ExchangesCounter number) at paid scanned says goes meets finds rests shuts = go (counter_of ws == number) refl
+        where
+          go : (b : Bool) → (counter_of ws == number) ≡ b
+              → Lead (Some (exchanges 0 number locked)) (not b) (if b then Locked p ∷ [] else [])
+              (if b then Done states.TheVariants.Locked else GoOn first_lock)
+          go true t =
+              let is : counter_of ws ≡ number = grind (arith, nat_tests) in
+              let paid_now = paid_of scene (counter_of ws ≡ number) paid.paid in
+              shuts (Some (exchanges 0 number locked))
+              (λ calm i. ⊎_elim (λ below. scanned.2 paid.before_end refl is calm i below) (λ beyond. none_holds calm i (none_beyond i beyond)) (cases_lt i c))
+              (before_end number is paid) (exchange_sets ws 0 number locked is) (omega arith) (λ n w more bound. omega arith)
+          go false t =
+              let other : counter_of ws ≢ number = grind (arith, nat_tests) in
+              goes first_lock (Some (exchanges 0 number locked)) true
+              (stays_same scene inv (words_after ws (Some (exchanges 0 number locked))) (fails_same ws 0 number locked other))
+              tt
+              (paid_back scene number (Some (exchanges 0 number locked)) events other paid) tt tt (λ n w more bound. omega arith)

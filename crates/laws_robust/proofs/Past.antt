@@ -1,0 +1,83 @@
+-- What was so at each moment of a call, or as it began, is so in a shorter run as well.
+use Rattle.std.proofs.Common.{◌≡◌, ℕ, List, [], ◌∷◌, ◌++◌, refl, sym, ap, subst, ◌∙◌, append_assoc, append-nil}
+use Rattle.model.specs.declared.event.Event.{Event}
+use Rattle.model.specs.declared.event.Event.TheVariants.{Begun}
+use Rattle.model.specs.declared.event.Start.{Start}
+use Rattle.model.specs.Families.Indices.Robust.Promises.{HeldThroughout}
+use Rattle.model.specs.Moments.{BeginsNone, SinceBegin}
+use Rattle.model.proofs.Moments.{begins_none_more}
+use Rattle.model.proofs.Readings.{no_more}
+
+module _ {T : Type 0} (p : ℕ) where
+  pub through_less : (P : List (Event T) → Type 0) (events es : List (Event T)) → BeginsNone p es
+      → HeldThroughout p P (events ++ es) → HeldThroughout p P events
+  through_less P events es none h part rest is within =
+      h part (rest ++ es) (ap (λ xs. xs ++ es) is ∙ append_assoc part rest es) (begins_none_more p rest es within none)
+
+  pub through_so : (P Q : List (Event T) → Type 0) (events : List (Event T))
+      → ((part : List (Event T)) → P part → Q part) → HeldThroughout p P events → HeldThroughout p Q events
+  through_so P Q events follows h part rest is within = follows part (h part rest is within)
+
+  pub through_now : (P : List (Event T) → Type 0) (events : List (Event T)) → HeldThroughout p P events → P events
+  through_now P events h = h events [] (sym (append-nil events)) tt
+
+  -- ---- as it began
+
+  begins_one : (before : List (Event T)) (start : Start T) (since : List (Event T)) → BeginsNone p (before ++ Begun p start ∷ since) → ⊥
+  begins_one [] start since h = h.0 refl
+  begins_one (Begun q s ∷ bs) start since h = begins_one bs start since h.1
+  begins_one (e ∷ bs) start since h = begins_one bs start since h
+
+  begins_none_less : (es more : List (Event T)) → BeginsNone p (es ++ more) → BeginsNone p es
+  begins_none_less [] more h = tt
+  begins_none_less (Begun q s ∷ es) more h = (h.0, begins_none_less es more h.1)
+  begins_none_less (e ∷ es) more h = begins_none_less es more h
+
+  pub record BeganIn (events before : List (Event T)) (start : Start T) : Type 0 where
+    pub since : List (Event T)
+    pub is : events ≡ before ++ Begun p start ∷ since
+    pub within : BeginsNone p since
+
+  one_behind : (x b : Event T) (xs bs : List (Event T)) (start : Start T) → x ≡ b → BeganIn xs bs start → BeganIn (x ∷ xs) (b ∷ bs) start
+  one_behind x b xs bs start e h =
+      record { since = h.since; is = ap (λ (a : Event T). a ∷ xs) e ∙ ap (λ (ys : List (Event T)). b ∷ ys) h.is; within = h.within }
+
+  pub began_earlier : (events es before : List (Event T)) (start : Start T) (since : List (Event T))
+      → events ++ es ≡ before ++ Begun p start ∷ since → BeginsNone p es → BeginsNone p since
+      → BeganIn events before start
+  began_earlier [] es before start since e none within = absurd (begins_one before start since (subst (BeginsNone p) e none))
+  began_earlier (x ∷ xs) es [] start since e none within =
+      let h : x ≡ Begun p start = cc in
+      let t : since ≡ xs ++ es = cc in
+      record { since = xs; is = ap (λ (a : Event T). a ∷ xs) h; within = begins_none_less xs es (subst (BeginsNone p) t within) }
+  began_earlier (x ∷ xs) es (b ∷ bs) start since e none within =
+      let h : x ≡ b = cc in
+      let t : xs ++ es ≡ bs ++ Begun p start ∷ since = cc in
+      one_behind x b xs bs start h (began_earlier xs es bs start since t none within)
+
+  -- what stood before a call began, in a run that has gone on
+  pub since_less : (P : List (Event T) → Type 0) (events es : List (Event T)) → BeginsNone p es
+      → SinceBegin p (λ part since. P part) (events ++ es) → SinceBegin p (λ part since. P part) events
+  since_less P events es none h =
+      let k = began_earlier events es h.before h.start h.since h.is none h.within in
+      record { before = h.before; start = h.start; since = k.since; is = k.is; within = k.within; holds = h.holds }
+
+  last_begin : (events before : List (Event T)) (start s : Start T) (since : List (Event T))
+      → events ++ Begun p start ∷ [] ≡ before ++ Begun p s ∷ since → BeginsNone p since → events ≡ before
+  last_begin [] [] start s since e within = refl
+  last_begin [] (b ∷ bs) start s since e within =
+      let t : [] ≡ bs ++ Begun p s ∷ since = cc in
+      absurd (no_more bs (Begun p s) since t)
+  last_begin (x ∷ xs) [] start s since e within =
+      let t : since ≡ xs ++ Begun p start ∷ [] = cc in
+      absurd (begins_one xs start [] (subst (BeginsNone p) t within))
+  last_begin (x ∷ xs) (b ∷ bs) start s since e within =
+      let h : x ≡ b = cc in
+      let t : xs ++ Begun p start ∷ [] ≡ bs ++ Begun p s ∷ since = cc in
+      let rest : xs ≡ bs = last_begin xs bs start s since t within in
+      ap (λ (a : Event T). a ∷ xs) h ∙ ap (λ (ys : List (Event T)). b ∷ ys) rest
+
+  -- of a call that has just begun
+  pub since_begun : (P : List (Event T) → Type 0) (events : List (Event T)) (start : Start T)
+      → SinceBegin p (λ part since. P part) (events ++ Begun p start ∷ []) → P events
+  since_begun P events start h = subst P (sym (last_begin events h.before start h.start h.since h.is h.within)) h.holds

@@ -1,0 +1,321 @@
+-- A recovery of a robust set: the decision, and what frees an index.
+use Rattle.std.proofs.Common.{◌≡◌, ◌≢◌, ℕ, ◌+◌, ◌*◌, ◌≤◌, ◌==◌, ◌⊎◌, ⊎_elim, inl, if◌then◌else◌}
+use Rattle.std.proofs.Common.{Bool, true, false, Option, Some, None, List, [], ◌∷◌, ◌++◌, refl, sym, ap, subst, ◌∙◌}
+use Rattle.std.proofs.Common.{arith}
+use Rattle.std.proofs.lemmas.Bool.{cases_lt}
+use Rattle.std.proofs.lemmas.Bool.Decides.{nat_tests}
+use Rattle.std.proofs.lemmas.List.Sums.{fold-append}
+use Rattle.steps.specs.declared.ask.Ask.{Ask}
+use Rattle.steps.specs.declared.ask.After.{After}
+use Rattle.steps.specs.declared.ask.After.TheVariants.{GoOn, Done}
+use Rattle.steps.specs.declared.indices.enums.ReleaseMode.{ReleaseMode}
+use Rattle.steps.specs.declared.indices.enums.ReleaseMode.TheVariants.{LockIfLastIndex, Default}
+use Rattle.steps.specs.declared.indices.enums.ReleaseState.{ReleaseState}
+use Rattle.steps.specs.declared.indices.enums.ReleaseState as states
+use Rattle.steps.specs.declared.indices.robust.parts.Raise.{Raise}
+use Rattle.steps.specs.declared.indices.robust.parts.Raise as raises
+use Rattle.steps.specs.declared.indices.robust.recover.Recover as calls
+use Rattle.steps.specs.declared.indices.robust.recover.RecoverStage.{RecoverStage}
+use Rattle.steps.specs.declared.indices.robust.recover.RecoverStage as recovers
+use Rattle.steps.specs.Indices.Robust.Parts.{cell_word, empty, locked, first_lock, raise_after, raise_goes_back}
+use Rattle.steps.specs.Indices.Robust.Recover.{at_recover, recover_comes_to, recover_raised}
+use Rattle.steps.specs.Routine.{went_on}
+use Rattle.model.specs.declared.event.Answer.TheVariants.{State}
+use Rattle.model.specs.declared.event.Event.{Event}
+use Rattle.model.specs.declared.event.Event.TheVariants.{FreedOf, Told}
+use Rattle.model.specs.declared.event.Start.TheVariants.{Robust}
+use Rattle.model.specs.declared.families.indices.robust.RobustStart.TheVariants.{Recover}
+use Rattle.model.specs.declared.families.indices.robust.calls.RobustFlight as flights
+use Rattle.model.specs.Families.Indices.Robust.Promises.{cell_of, StillToFree, LivesToRelease}
+use Rattle.model.specs.Families.Indices.Robust.Reading.{Deed, Frees, Asks, Yes, filled_after, filled_of, deeds_of, IsOneOf}
+use Rattle.model.specs.Families.Indices.Robust.Spans.{HasJustFreed}
+use Rattle.model.specs.Families.Queues.Calls.{as_it_is}
+use Rattle.model.specs.Step.{as_call}
+use Rattle.model.specs.Turns.{words_after, step_count}
+use Rattle.laws_robust.specs.Gone.{is_gone, MayBeTold, HasRecoveredBy}
+use Rattle.laws_robust.proofs.Core.{counter_of, cell}
+use Rattle.laws_robust.proofs.Counting.{times_below}
+use Rattle.laws_robust.proofs.Deeds.{still_one, by_latest, asks_more, FreedWereAsked, freed_more}
+use Rattle.laws_robust.proofs.Effects.{Stays, at_same, some_none, one_owner, both_ways, quiet_told}
+use Rattle.laws_robust.proofs.Effects.{quietly, unlocked, is_shut, stays_same, stays_raised, filled_by}
+use Rattle.laws_robust.proofs.Frees.{frees}
+use Rattle.laws_robust.proofs.Gone.{gone_told, calm_less}
+use Rattle.laws_robust.proofs.Invariant.{Scene, Inv, Does}
+use Rattle.laws_robust.proofs.Knows.{Knows, IsPaid, GoneBut}
+use Rattle.laws_robust.proofs.Standing.{at_least_one, at_least_four, recover_at, raise_number, for_back, for_index, RecoverAt, IsInCourse}
+use Rattle.laws_robust.proofs.Parts.{raise_ask, raise_step, none_beyond}
+use Rattle.laws_robust.proofs.Past.{through_now}
+use Rattle.laws_robust.proofs.Stages.{IsHere, now, sees, backs_then, loads, exchanges}
+use Rattle.laws_robust.proofs.Stages.{loads_same, fails_same, exchange_sets, deeds_more, StepOf, AnswerOf, Leads}
+use Rattle.laws_robust.proofs.Stages.{goes_on, goes_quietly}
+use Rattle.laws_robust.proofs.Recovers.{asked_then, comes_quietly, ends_so, g, gone_then, open_then}
+
+module _ {T : Type 0} (scene : Scene T) (inv : Inv scene) (mode : ReleaseMode) (here : IsHere scene (Recover mode)) where
+  open scene use {by as by, capacity as c, party as p, steps as steps, backs as backs, since as since, changes as changes, events as events}
+
+  abbrev ws : List ℕ
+  ws = scene.set.words
+
+  abbrev done : List Deed
+  done = deeds_of p events
+
+  abbrev call_at : RecoverStage → calls.Recover
+  call_at stage = record { capacity = c; stage = stage }
+
+  abbrev Lead : Option Ask → Bool → List (Event T) → After calls.Recover ReleaseState → Type 0
+  Lead ask back did a =
+      Leads scene (Recover mode) ask back did (as_call flights.TheVariants.Recover State (went_on as_it_is mode tt a))
+
+  abbrev Few : Option Ask → Bool → ℕ → ℕ → Type 0
+  Few ask back n index = steps + step_count ask ≤ n + index * for_index c mode + backs_then scene back * for_back c mode
+
+  -- ---- a decision
+
+  module _ (index owner : ℕ) (at : RecoverAt c mode done (recovers.TheVariants.Asks index owner))
+      (k : Knows c (recover_at c mode (recovers.TheVariants.Asks index owner)) (now scene))
+      (s : steps ≤ 2 + index * for_index c mode + backs * for_back c mode) where
+    says_no : Lead None false [] (recover_comes_to (call_at (recovers.TheVariants.Asks index owner)) (index + 1))
+    says_no =
+        let four = at_least_four c mode in
+        let paid = k.paid in
+        (comes_quietly scene inv mode here) index at.0.within (recovers.TheVariants.Asks index owner) None false (omega arith)
+        (stays_same scene inv ws refl) (omega arith) at.0.asked at.0.freed k.says.0 k.says.1 k.gone
+
+    module _ (may : MayBeTold by owner events) where
+      abbrev telling : List (Event T)
+      telling = Told p index owner ∷ []
+
+      tells_does : Does scene ws telling
+      tells_does = quietly scene inv ws telling (stays_same scene inv ws refl).leaves (quiet_told p index owner) (refl, tt) (tt, tt) (tt, tt)
+
+      tells_deeds : deeds_of p (events ++ telling) ≡ done ++ Yes index owner ∷ []
+      tells_deeds = deeds_more scene (Recover mode) here telling tells_does.own (λ start w. refl)
+
+      frees_this : (i o : ℕ) → Yes index owner ≡ Yes i o → (is_gone by o (events ++ telling) ≡ true) × ((i ≡ index) × (o ≡ owner))
+      frees_this i o e =
+          let same : i ≡ index = cc in
+          let own : o ≡ owner = cc in
+          (subst (λ n. is_gone by n (events ++ telling) ≡ true) (sym own) (gone_told by p index owner events may), (same, own))
+
+      says_yes : Lead None false telling (GoOn (at_recover (call_at (recovers.TheVariants.Asks index owner)) (recovers.TheVariants.EmptiesCell index owner)))
+      says_yes =
+          let paid = k.paid in
+          goes_on scene (Recover mode) (recover_at c mode (recovers.TheVariants.EmptiesCell index owner)) None false
+          telling here (λ start w. refl) tells_does (at.2, tt) (may, tt) (omega arith) (
+            refl,
+            refl,
+            (
+              record {
+                within = at.0.within;
+                asked = asks_more (index + 1) (Yes index owner) done at.0.asked tt;
+                freed = freed_more (Yes index owner) done at.0.freed
+                    (λ i o e. absurd (cc));
+              },
+              at.1,
+              record { before = done; is = refl },
+              still_one (Asks index owner) (Yes index owner) done (by_latest (Asks index owner) done at.2),
+            ),
+          )
+          (record {
+            paid = omega arith;
+            scanned = tt;
+            owns = tt;
+            says = (
+              (open_then scene inv mode here) (Yes index owner) telling ws tt tells_deeds tells_does k.says.0,
+              (asked_then scene inv mode here) (Yes index owner) telling ws tt tells_deeds tells_does (index + 1) k.says.1,
+            );
+            gone =
+                (gone_then scene inv mode here) (Yes index owner) telling ws tt tells_deeds tells_does (λ i o. ⊥)
+                (λ i o. (i ≡ index) × (o ≡ owner)) k.gone (λ i o never. absurd never) frees_this;
+          })
+
+    pub decided : (answer : ℕ) → (answer ≢ 0 → MayBeTold by owner events)
+        → AnswerOf scene (Recover mode) (recover_at c mode (recovers.TheVariants.Asks index owner)) None answer
+    decided answer may = go (answer == 0) refl
+      where
+        go : (b : Bool) → (answer == 0) ≡ b → Lead None false (if b then [] else Told p index owner ∷ [])
+            (if b then recover_comes_to (call_at (recovers.TheVariants.Asks index owner)) (index + 1) else GoOn
+            (at_recover (call_at (recovers.TheVariants.Asks index owner)) (recovers.TheVariants.EmptiesCell index owner)))
+        go true t = says_no
+        go false t = let other : answer ≢ 0 = grind (arith, nat_tests) in says_yes (may other)
+
+  -- ---- the exchange of a cell
+
+  module _ (index owner : ℕ) (at : RecoverAt c mode done (recovers.TheVariants.EmptiesCell index owner))
+      (s : steps ≤ 2 + index * for_index c mode + backs * for_back c mode)
+      (k : Knows c (recover_at c mode (recovers.TheVariants.EmptiesCell index owner)) (now scene)) where
+    abbrev exchange : Option Ask
+    exchange = Some (exchanges (cell_word index) owner empty)
+
+    abbrev freeing : List (Event T)
+    freeing = FreedOf p index owner ∷ []
+
+    owner_gone : is_gone by owner events ≡ true
+    owner_gone = (k.gone index owner (by_latest (Yes index owner) done at.2)).0
+
+    -- the cell has another owner by now, or none
+    gone_already : cell ws index ≢ owner → GoneBut (λ i o. ⊥) (now scene)
+    gone_already other i o told =
+        let h = k.gone i o told in (
+          h.0,
+          λ honest. ⊎_elim (λ gone. inl gone)
+              (λ exempt. inl (λ e. other
+              ((g scene inv mode here).cells index at.0.within ∙ ap cell_of (sym (ap (λ j. filled_of j events) exempt.0) ∙ (e ∙ ap Some exempt.1)))))
+              (h.1 honest),
+        )
+
+    misses : cell ws index ≢ owner → Lead exchange false [] (recover_comes_to (call_at (recovers.TheVariants.EmptiesCell index owner)) (index + 1))
+    misses other =
+        let four = at_least_four c mode in
+        let paid = k.paid in
+        (comes_quietly scene inv mode here) index at.0.within (recovers.TheVariants.EmptiesCell index owner) exchange false (omega arith)
+        (stays_same scene inv _ (fails_same ws (cell_word index) owner empty other))
+        (omega arith) at.0.asked at.0.freed k.says.0 k.says.1 (gone_already other)
+
+    module _ (is : cell ws index ≡ owner) where
+      filled : filled_of index events ≡ Some owner
+      filled = filled_by scene inv index at.0.within owner at.1 is
+
+      frees_does : Does scene (words_after ws exchange) freeing
+      frees_does =
+          frees scene inv (words_after ws exchange) index owner at.0.within filled (subst (LivesToRelease owner events) (sym here) tt)
+          (λ calm q ne o stays h. let same : owner ≡ o = one_owner (filled_of index events) owner o filled h.filled in
+          both_ways (is_gone by o events) stays (subst (λ n. is_gone by n events ≡ true) same owner_gone))
+          (λ calm o stays h.
+          let theirs = (((g scene inv mode here).owned (calm_less by events freeing calm)).settled index o h).0 in
+          let same : owner ≡ o = one_owner (filled_of index events) owner o filled theirs in
+          both_ways (is_gone by o events) stays (subst (λ n. is_gone by n events ≡ true) same owner_gone))
+          (exchange_sets ws (cell_word index) owner empty is)
+
+      frees_deeds : deeds_of p (events ++ freeing) ≡ done ++ Frees index owner ∷ []
+      frees_deeds = deeds_more scene (Recover mode) here freeing frees_does.own (λ start w. refl)
+
+      freed_here : (i o : ℕ) → (i ≡ index) × (o ≡ owner) → filled_of i (events ++ freeing) ≢ Some o
+      freed_here i o exempt e =
+          some_none (filled_of i (events ++ freeing)) o
+          (fold-append (filled_after i) None events freeing ∙ at_same index i None (filled_of i events) exempt.0) e
+
+      asked_about : (i o : ℕ) → Frees index owner ≡ Frees i o → IsOneOf (Asks i o) done
+      asked_about i o e = grind arith
+
+      empties : Lead exchange false freeing
+          (GoOn (at_recover (call_at (recovers.TheVariants.EmptiesCell index owner))
+          (recovers.TheVariants.Raises index raises.TheVariants.LoadsCounter)))
+      empties =
+          let paid = k.paid in
+          goes_on scene (Recover mode)
+          (recover_at c mode (recovers.TheVariants.Raises index raises.TheVariants.LoadsCounter)) exchange false
+          freeing here (λ start w. refl) frees_does (at.2, tt) (tt, tt) (omega arith) (
+            refl,
+            refl,
+            (
+              record {
+                within = at.0.within;
+                asked = asks_more (index + 1) (Frees index owner) done at.0.asked tt;
+                freed = freed_more
+                    (Frees index owner) done at.0.freed asked_about;
+              },
+              record { index = index; owner = owner; latest = record { before = done; is = refl } },
+            ),
+          )
+          (record {
+            paid = omega arith;
+            scanned = tt;
+            owns = tt;
+            says = (
+              (open_then scene inv mode here) (Frees index owner) freeing (words_after ws exchange) tt frees_deeds frees_does k.says.0,
+              (asked_then scene inv mode here) (Frees index owner) freeing (words_after ws exchange) tt frees_deeds frees_does (index + 1) k.says.1,
+            );
+            gone =
+                (gone_then scene inv mode here) (Frees index owner) freeing (words_after ws exchange) tt frees_deeds frees_does
+                (λ i o. (i ≡ index) × (o ≡ owner)) (λ i o. ⊥) k.gone (λ i o exempt. inl (freed_here i o exempt))
+                (λ i o e. absurd (cc));
+          })
+
+    pub empties_cell : StepOf scene (Recover mode) (recover_at c mode (recovers.TheVariants.EmptiesCell index owner))
+    empties_cell = go (cell ws index == owner) refl
+      where
+        go : (b : Bool) → (cell ws index == owner) ≡ b
+            → Lead (Some (exchanges (cell_word index) owner empty)) false (if b then FreedOf p index owner ∷ [] else [])
+            (if b then GoOn (at_recover (call_at (recovers.TheVariants.EmptiesCell index owner))
+            (recovers.TheVariants.Raises index raises.TheVariants.LoadsCounter))
+            else recover_comes_to
+            (call_at (recovers.TheVariants.EmptiesCell index owner)) (index + 1))
+        go true t = let is : cell ws index ≡ owner = grind (arith, nat_tests) in empties is
+        go false t = let other : cell ws index ≢ owner = grind (arith, nat_tests) in misses other
+
+  -- ---- the second look at the counter
+
+  pub loads_again : FreedWereAsked done → steps ≤ 1 + c * for_index c mode + backs * for_back c mode
+      → Knows c (recover_at c mode recovers.TheVariants.LoadsCounterAgain) (now scene)
+      → StepOf scene (Recover mode) (recover_at c mode recovers.TheVariants.LoadsCounterAgain)
+  loads_again freed s k = go (counter_of ws == locked) refl
+    where
+      recovered : HasRecoveredBy by p events
+      recovered =
+          record {
+            gone = λ honest i owner told. ⊎_elim (λ gone. gone) (λ never. absurd never) ((k.gone i owner told).1 honest);
+            asked = λ i owner through.
+                ⊎_elim (λ below. k.says i owner below through)
+                (λ beyond. ⊎_elim (λ filled. some_none (filled_of i events) owner (none_beyond scene inv i beyond) filled)
+                (λ was_freed. freed i owner was_freed) (through_now p (StillToFree p owner i) events through))
+                (cases_lt i c);
+          }
+
+      go : (b : Bool) → (counter_of ws == locked) ≡ b
+          → Lead (Some (loads 0)) false [] (Done (if b then states.TheVariants.Locked else states.TheVariants.Unlocked))
+      go true t =
+          let shut : counter_of ws ≡ locked = grind (arith, nat_tests) in
+          let paid = k.paid in
+          (ends_so scene inv mode here) states.TheVariants.Locked (Some (loads 0)) false (stays_same scene inv _ (loads_same ws 0))
+          (is_shut scene inv shut) (omega arith) (omega arith)
+      go false t =
+          let other : counter_of ws ≢ locked = grind (arith, nat_tests) in
+          let paid = k.paid in
+          (ends_so scene inv mode here) states.TheVariants.Unlocked (Some (loads 0)) false (stays_same scene inv _ (loads_same ws 0))
+          (unlocked scene inv other, recovered) (omega arith) (omega arith)
+
+  -- ---- the raise of the counter
+
+  module _ (index : ℕ) (raise : Raise) (course : IsInCourse c index (index + 1) done) (just : HasJustFreed done)
+      (s : steps ≤ 3 + raise_number raise + index * for_index c mode + backs * for_back c mode)
+      (k : Knows c (recover_at c mode (recovers.TheVariants.Raises index raise)) (now scene)) where
+    abbrev raises_to : Option Ask → Bool → After Raise ReleaseState → Type 0
+    raises_to ask back r = Lead ask back [] (recover_raised (call_at (recovers.TheVariants.Raises index raise)) index mode r)
+
+    -- it locks in the mode for that alone
+    goes_by_mode : (m : ReleaseMode) → mode ≡ m → (ask : Option Ask) (back : Bool)
+        → Stays scene (words_after ws ask) → IsPaid (sees scene ask back) → Few ask back 5 index
+        → Lead ask back [] (recover_raised (call_at (recovers.TheVariants.Raises index raise)) index m (Done states.TheVariants.Unlocked))
+    goes_by_mode Default e ask back stays paid few =
+        let four = at_least_four c mode in
+        (comes_quietly scene inv mode here) index course.within (recovers.TheVariants.Raises index raise) ask back (omega arith) stays
+        paid course.asked course.freed k.says.0 k.says.1 k.gone
+    goes_by_mode LockIfLastIndex e ask back stays paid few =
+        goes_quietly scene inv (Recover mode) (recover_at c mode (recovers.TheVariants.Locks index first_lock)) ask
+        back here stays few (refl, refl, (course, just, e, tt))
+        (record { paid = paid; scanned = tt; owns = tt; says = k.says; gone = k.gone })
+
+    pub raises_step : raises_to (Some (raise_ask raise)) (raise_goes_back raise (counter_of ws)) (raise_after raise (counter_of ws))
+    raises_step =
+        let one = at_least_one c mode in
+        raise_step scene inv raises_to raise k.paid
+        (λ number ask back same held few.
+        let low = few (3 + index * for_index c mode) (for_back c mode) one (omega arith) in
+        goes_quietly scene inv (Recover mode)
+        (recover_at c mode (recovers.TheVariants.Raises index (raises.TheVariants.ExchangesCounter number))) ask
+        back here (stays_same scene inv (words_after ws ask) same)
+        (omega arith) (refl, refl, (course, just))
+        (record { paid = held; scanned = tt; owns = tt; says = k.says; gone = k.gone }))
+        (λ ask back same shut paid few.
+        let low = few (3 + index * for_index c mode) (for_back c mode) one (omega arith) in
+        let four = at_least_four c mode in
+        let times = times_below c index (for_index c mode) course.within in
+        (ends_so scene inv mode here) states.TheVariants.Locked ask back
+        (stays_same scene inv (words_after ws ask) same) (is_shut scene inv shut) (omega arith) paid)
+        (λ ask back same worn end paid few.
+        let low = few (3 + index * for_index c mode) (for_back c mode) one (omega arith) in
+        goes_by_mode mode refl ask back (stays_same scene inv (words_after ws ask) same) paid (omega arith))
+        (λ ask less new paid few.
+        let low = few (3 + index * for_index c mode) (for_back c mode) one (omega arith) in
+        goes_by_mode mode refl ask false (stays_raised scene inv (words_after ws ask) less new) paid (omega arith))

@@ -1,0 +1,166 @@
+-- The lock of a recovery, and any step of it.
+use Rattle.std.proofs.Common.{◌<◌, ◌≡◌, ◌≢◌, ℕ, ◌+◌, ◌*◌, ◌≤◌, Bool, false, Option, Some, None, List, [], ◌∷◌, ◌++◌, set, refl, sym, ap, subst, arith}
+use Rattle.steps.specs.declared.ask.Ask.{Ask}
+use Rattle.steps.specs.declared.ask.After.{After}
+use Rattle.steps.specs.declared.indices.enums.ReleaseMode.{ReleaseMode}
+use Rattle.steps.specs.declared.indices.enums.ReleaseMode.TheVariants.{LockIfLastIndex}
+use Rattle.steps.specs.declared.indices.enums.ReleaseState.{ReleaseState}
+use Rattle.steps.specs.declared.indices.robust.parts.Count as counts
+use Rattle.steps.specs.declared.indices.robust.parts.Lock.{Lock}
+use Rattle.steps.specs.declared.indices.robust.parts.Lock as parts
+use Rattle.steps.specs.declared.indices.robust.parts.Raise as raises
+use Rattle.steps.specs.declared.indices.robust.recover.Recover as calls
+use Rattle.steps.specs.declared.indices.robust.recover.RecoverStage.{RecoverStage}
+use Rattle.steps.specs.declared.indices.robust.recover.RecoverStage as recovers
+use Rattle.steps.specs.Indices.Robust.Parts.{locked, greatest, lock_after, lock_goes_back}
+use Rattle.steps.specs.Indices.Robust.Recover.{recover_comes_to, recover_locked}
+use Rattle.steps.specs.Routine.{went_on}
+use Rattle.model.specs.declared.event.Answer.TheVariants.{State}
+use Rattle.model.specs.declared.event.Event.{Event}
+use Rattle.model.specs.declared.event.Event.TheVariants.{Locked}
+use Rattle.model.specs.declared.event.Start.TheVariants.{Robust}
+use Rattle.model.specs.declared.families.indices.robust.RobustStart.TheVariants.{Recover}
+use Rattle.model.specs.declared.families.indices.robust.calls.RobustFlight as flights
+use Rattle.model.specs.Families.Indices.Robust.Promises.{promise}
+use Rattle.model.specs.Families.Indices.Robust.Reading.{Deed, Locks, holder_of, deeds_of}
+use Rattle.model.specs.Families.Indices.Robust.Spans.{HasJustFreed}
+use Rattle.model.specs.Families.Indices.Robust.Steps.{locked_by}
+use Rattle.model.specs.Families.Queues.Calls.{as_it_is}
+use Rattle.model.specs.Promises.Spans.{Stands}
+use Rattle.model.specs.Reading.{Open}
+use Rattle.model.specs.Step.{as_call}
+use Rattle.model.specs.Turns.{old_of, words_after, step_count}
+use Rattle.model.proofs.Readings.{AllFollow}
+use Rattle.laws_robust.specs.Gone.{IsCalm, MayBeTold}
+use Rattle.laws_robust.proofs.Core.{counter_of}
+use Rattle.laws_robust.proofs.Deeds.{asks_more, freed_more}
+use Rattle.laws_robust.proofs.Effects.{quiet_none, stays_same}
+use Rattle.laws_robust.proofs.Invariant.{Scene, Inv, Does, wrote_of}
+use Rattle.laws_robust.proofs.Knows.{Knows, IsPaid}
+use Rattle.laws_robust.proofs.Standing.{recover_at, recover_number, lock_number, for_back, for_index, RecoverAt, LockAt, IsInCourse}
+use Rattle.laws_robust.proofs.Locks.{locks}
+use Rattle.laws_robust.proofs.Parts.{lock_ask, lock_step, IsSaid}
+use Rattle.laws_robust.proofs.Recovers.{nothing_said, comes_quietly, comes_loudly, open_then, asked_then, gone_then}
+use Rattle.laws_robust.proofs.Recovers.{loads_counter, loads_cell}
+use Rattle.laws_robust.proofs.RecoverFrees.{decided, empties_cell, loads_again, raises_step}
+use Rattle.laws_robust.proofs.Stages.{IsHere, all, now, sees, backs_then, deeds_more, StepOf, AnswerOf, Leads, goes_quietly}
+
+module _ {T : Type 0} (scene : Scene T) (inv : Inv scene) (mode : ReleaseMode) (here : IsHere scene (Recover mode)) where
+  open scene use {capacity as c, party as p, steps as steps, backs as backs, events as events}
+
+  abbrev ws : List ℕ
+  ws = scene.set.words
+
+  abbrev done : List Deed
+  done = deeds_of p events
+
+  abbrev call_at : RecoverStage → calls.Recover
+  call_at stage = record { capacity = c; stage = stage }
+
+  abbrev Lead : Option Ask → Bool → List (Event T) → After calls.Recover ReleaseState → Type 0
+  Lead ask back did a =
+      Leads scene (Recover mode) ask back did (as_call flights.TheVariants.Recover State (went_on as_it_is mode tt a))
+
+  abbrev Few : Option Ask → Bool → ℕ → ℕ → Type 0
+  Few ask back n index = steps + step_count ask ≤ n + index * for_index c mode + backs_then scene back * for_back c mode
+
+  -- ---- the lock
+
+  module _ (index : ℕ) (lock : Lock) (course : IsInCourse c index (index + 1) done) (just : HasJustFreed done)
+      (may_lock : mode ≡ LockIfLastIndex) (at : LockAt c lock)
+      (s : steps ≤ 5 + lock_number c lock + index * for_index c mode + backs * for_back c mode)
+      (k : Knows c (recover_at c mode (recovers.TheVariants.Locks index lock)) (now scene)) where
+    abbrev locks_to : Option Ask → Bool → List (Event T) → After Lock ReleaseState → Type 0
+    locks_to ask back did r = Lead ask back did (recover_locked (call_at (recovers.TheVariants.Locks index lock)) index r)
+
+    for_a_back : for_back c mode ≡ c + 3
+    for_a_back = ap (for_back c) may_lock
+
+    for_an_index : for_index c mode ≡ c + 7
+    for_an_index = ap (for_index c) may_lock
+
+    said : IsSaid scene inv (λ j filled. Unit {0})
+    said = record { none = tt; empty_next = λ j filled low none h. tt; filled_next = λ j filled o low is h. tt }
+
+    abbrev locking : List (Event T)
+    locking = Locked p ∷ []
+
+    module _ (ask : Option Ask) (none : IsCalm scene.by events → (i : ℕ) → holder_of i events ≡ None)
+        (less : counter_of ws < greatest) (new : words_after ws ask ≡ set ws 0 locked)
+        (paid : IsPaid (sees scene ask false))
+        (few : Few ask false 1 (index + 1)) where
+      locks_does : Does scene (words_after ws ask) locking
+      locks_does = locks scene inv (words_after ws ask) [] quiet_none tt tt tt none less new
+
+      locks_deeds : deeds_of p (events ++ locking) ≡ done ++ Locks ∷ []
+      locks_deeds = deeds_more scene (Recover mode) here locking locks_does.own (λ start w. refl)
+
+      stands_there : AllFollow (Stands promise c) (Open (Robust (Recover mode)) (wrote_of p events)) locking
+      stands_there = subst (λ m. AllFollow (Stands promise c) (Open (Robust (Recover m)) (wrote_of p events)) locking) (sym may_lock) (just, tt)
+
+      locks_set : Lead ask false locking (recover_comes_to (call_at (recovers.TheVariants.Locks index lock)) (index + 1))
+      locks_set =
+          comes_loudly scene inv mode here index course.within (recovers.TheVariants.Locks index lock) ask false few
+          locking (λ start w. refl) locks_does stands_there (tt, tt) paid
+          (asks_more (index + 1) Locks done course.asked tt) (freed_more Locks done course.freed (λ i o e. absurd (cc)))
+          (open_then scene inv mode here Locks locking (words_after ws ask) tt locks_deeds locks_does k.says.0)
+          (asked_then scene inv mode here Locks locking (words_after ws ask) tt locks_deeds locks_does (index + 1) k.says.1)
+          (gone_then scene inv mode here Locks locking (words_after ws ask) tt locks_deeds locks_does (λ i o. ⊥)
+          (λ i o. ⊥) k.gone (λ i o never. absurd never) (λ i o e. absurd (cc)))
+
+    locks_step : locks_to (Some (lock_ask lock)) (lock_goes_back lock (old_of ws (Some (lock_ask lock))))
+        (locked_by p lock (old_of ws (Some (lock_ask lock)))) (lock_after c lock (old_of ws (Some (lock_ask lock))))
+    locks_step =
+        let wide = for_a_back in
+        let each = for_an_index in
+        lock_step scene inv (λ j filled. Unit {0}) said locks_to lock at k.paid k.scanned (nothing_said c lock)
+        (λ next ask back stays next_at paid scanned says few.
+        let low = few (5 + index * for_index c mode) (for_back c mode) (omega arith) (omega arith) in
+        goes_quietly scene inv (Recover mode) (recover_at c mode (recovers.TheVariants.Locks index next)) ask back
+        here stays (omega arith) (refl, refl, (course, just, may_lock, next_at))
+        (record { paid = paid; scanned = scanned; owns = tt; says = k.says; gone = k.gone }))
+        (λ ask same shut paid few.
+        let low = few (5 + index * for_index c mode) (for_back c mode) (omega arith) (omega arith) in
+        comes_quietly scene inv mode here index course.within (recovers.TheVariants.Locks index lock) ask false
+        (omega arith) (stays_same scene inv (words_after ws ask) same) paid course.asked course.freed k.says.0
+        k.says.1 k.gone)
+        (λ filled ask stays open_now more says paid few.
+        let low = few (5 + index * for_index c mode) (for_back c mode) (omega arith) (omega arith) in
+        comes_quietly scene inv mode here index course.within (recovers.TheVariants.Locks index lock) ask false
+        (omega arith) stays paid course.asked course.freed k.says.0 k.says.1 k.gone)
+        (λ ask stays open_now worn paid few.
+        let low = few (5 + index * for_index c mode) (for_back c mode) (omega arith) (omega arith) in
+        comes_quietly scene inv mode here index course.within (recovers.TheVariants.Locks index lock) ask false
+        (omega arith) stays paid course.asked course.freed k.says.0 k.says.1 k.gone)
+        (λ ask none less new paid few.
+        let low = few (5 + index * for_index c mode) (for_back c mode) (omega arith) (omega arith) in
+        locks_set ask none less new paid (omega arith))
+
+  -- ---- any step
+
+  pub recover_step : (stage : RecoverStage) → RecoverAt c mode (all scene) stage
+      → Knows c (recover_at c mode stage) (now scene) → steps ≤ recover_number c mode stage backs
+      → StepOf scene (Recover mode) (recover_at c mode stage)
+  recover_step recovers.TheVariants.LoadsCounter at k s = loads_counter scene inv mode here at s k
+  recover_step (recovers.TheVariants.LoadsCell index) at k s = loads_cell scene inv mode here index at s k
+  recover_step (recovers.TheVariants.Asks index owner) at k s = decided scene inv mode here index owner at k s 0 (λ other. absurd (other refl))
+  recover_step (recovers.TheVariants.EmptiesCell index owner) at k s = empties_cell scene inv mode here index owner at s k
+  recover_step (recovers.TheVariants.Raises index raises.TheVariants.LoadsCounter) at k s =
+      raises_step scene inv mode here index raises.TheVariants.LoadsCounter at.0 at.1 s k
+  recover_step (recovers.TheVariants.Raises index (raises.TheVariants.ExchangesCounter number)) at k s =
+      raises_step scene inv mode here index (raises.TheVariants.ExchangesCounter number) at.0 at.1 s k
+  recover_step (recovers.TheVariants.Locks index (parts.TheVariants.Counts counts.TheVariants.LoadsCounter)) at k s =
+      locks_step index (parts.TheVariants.Counts counts.TheVariants.LoadsCounter) at.0 at.1 at.2 at.3 s k
+  recover_step (recovers.TheVariants.Locks index (parts.TheVariants.Counts (counts.TheVariants.LoadsCell number i filled))) at k s = locks_step index
+      (parts.TheVariants.Counts (counts.TheVariants.LoadsCell number i filled)) at.0 at.1 at.2 at.3 s k
+  recover_step (recovers.TheVariants.Locks index (parts.TheVariants.Counts (counts.TheVariants.ExchangesCounter number filled))) at k s = locks_step index
+      (parts.TheVariants.Counts (counts.TheVariants.ExchangesCounter number filled)) at.0 at.1 at.2 at.3 s k
+  recover_step (recovers.TheVariants.Locks index (parts.TheVariants.ExchangesCounter number)) at k s =
+      locks_step index (parts.TheVariants.ExchangesCounter number) at.0 at.1 at.2 at.3 s k
+  recover_step recovers.TheVariants.LoadsCounterAgain at k s = loads_again scene inv mode here at s k
+
+  pub recover_decided : (index owner : ℕ) → RecoverAt c mode (all scene) (recovers.TheVariants.Asks index owner)
+      → Knows c (recover_at c mode (recovers.TheVariants.Asks index owner)) (now scene)
+      → steps ≤ recover_number c mode (recovers.TheVariants.Asks index owner) backs → (answer : ℕ) → (answer ≢ 0 → MayBeTold scene.by owner events)
+      → AnswerOf scene (Recover mode) (recover_at c mode (recovers.TheVariants.Asks index owner)) None answer
+  recover_decided index owner at k s answer may = decided scene inv mode here index owner at k s answer may

@@ -1,0 +1,337 @@
+-- The steps of a recovery.
+use Rattle.std.proofs.Common.{◌≡◌, ◌≢◌, ℕ, ◌+◌, ◌*◌, ◌<◌, ◌≤◌, ◌==◌, ◌⊎◌, ⊎_elim, inl, inr, if◌then◌else◌, nat_lt}
+use Rattle.std.proofs.Common.{Bool, true, false, Option, Some, None, List, [], ◌∷◌, ◌++◌, refl, sym, ap, subst, ◌∙◌}
+use Rattle.std.proofs.Common.{arith}
+use Rattle.std.specs.List.{AllByRecursion}
+use Rattle.std.proofs.lemmas.Bool.{cases_lt}
+use Rattle.std.proofs.lemmas.Bool.Decides.{nat_tests}
+use Rattle.std.proofs.lemmas.List.Sums.{fold-append}
+use Rattle.steps.specs.declared.ask.Ask.{Ask}
+use Rattle.steps.specs.declared.ask.After.{After}
+use Rattle.steps.specs.declared.ask.After.TheVariants.{GoOn, Done}
+use Rattle.steps.specs.declared.indices.enums.ReleaseMode.{ReleaseMode}
+use Rattle.steps.specs.declared.indices.enums.ReleaseMode.TheVariants.{LockIfLastIndex, Default}
+use Rattle.steps.specs.declared.indices.enums.ReleaseState.{ReleaseState}
+use Rattle.steps.specs.declared.indices.enums.ReleaseState as states
+use Rattle.steps.specs.declared.indices.robust.parts.Lock.{Lock}
+use Rattle.steps.specs.declared.indices.robust.parts.Raise.{Raise}
+use Rattle.steps.specs.declared.indices.robust.recover.Recover as calls
+use Rattle.steps.specs.declared.indices.robust.recover.RecoverStage.{RecoverStage}
+use Rattle.steps.specs.declared.indices.robust.recover.RecoverStage as recovers
+use Rattle.steps.specs.Indices.Robust.Parts.{cell_word, empty, locked}
+use Rattle.steps.specs.Indices.Robust.Recover.{at_recover, recover_comes_to}
+use Rattle.steps.specs.Picks.{by_test}
+use Rattle.steps.specs.Routine.{went_on}
+use Rattle.model.specs.declared.event.Answer.TheVariants.{State}
+use Rattle.model.specs.declared.event.Event.{Event}
+use Rattle.model.specs.declared.event.Event.TheVariants.{Asked, Finished}
+use Rattle.model.specs.declared.event.Start.TheVariants.{Robust}
+use Rattle.model.specs.declared.families.indices.robust.RobustStart.TheVariants.{Recover}
+use Rattle.model.specs.declared.families.indices.robust.calls.RobustFlight as flights
+use Rattle.model.specs.Families.Indices.Robust.Bounds.{most_steps}
+use Rattle.model.specs.Families.Indices.Robust.Promises.{promise, IsUnlocked, HeldThroughout, StillToFree}
+use Rattle.model.specs.Families.Indices.Robust.Reading.{Deed, Frees, Asks, Yes, deeds, asked_in, filled_after, filled_of, deeds_of, IsOneOf}
+use Rattle.model.specs.Families.Queues.Calls.{as_it_is}
+use Rattle.model.specs.Moments.{BeginsNone, HeldSometime}
+use Rattle.model.specs.Promises.Spans.{Stands}
+use Rattle.model.specs.Reading.{Open}
+use Rattle.model.specs.Step.{as_call}
+use Rattle.model.specs.Turns.{words_after, step_count}
+use Rattle.model.proofs.Moments.{held_now, held_later}
+use Rattle.model.proofs.Readings.{no_more, AllFollow, AreRight}
+use Rattle.laws_robust.specs.Gone.{is_gone, IsHonestBy, AsksBy, AnswersBy}
+use Rattle.laws_robust.proofs.Core.{counter_of, cell}
+use Rattle.laws_robust.proofs.Deeds.{still_one, last_one, was_one, all_so, asks_more, FreedWereAsked, freed_more}
+use Rattle.laws_robust.proofs.Effects.{Stays, some_none, one_owner, quiet_asked}
+use Rattle.laws_robust.proofs.Effects.{quietly, unlocked, is_shut, stays_same, filled_none}
+use Rattle.laws_robust.proofs.Effects.{filled_some}
+use Rattle.laws_robust.proofs.Gone.{gone_more, honest_less, stays_lost}
+use Rattle.laws_robust.proofs.Invariant.{IsWorn, Scene, Inv, Good, Does, wrote_of}
+use Rattle.laws_robust.proofs.Knows.{Knows, IsPaid, WasOpen, AskedBelow, GoneBut, LockSays}
+use Rattle.laws_robust.proofs.Standing.{at_least_four, recover_at, for_back, for_index, IsInCourse}
+use Rattle.laws_robust.proofs.Past.{through_less, through_now}
+use Rattle.laws_robust.proofs.Stages.{IsHere, Lengthens, now, sees, then_sees, backs_then, loads}
+use Rattle.laws_robust.proofs.Stages.{loads_same, deeds_more, StepOf, Leads}
+use Rattle.laws_robust.proofs.Stages.{goes_on, goes_quietly, ends_quietly}
+
+most_is : (c backs : ℕ) (mode : ReleaseMode) → most_steps c (Recover mode) backs ≡ 2 + c * for_index c mode + backs * for_back c mode
+most_is c backs Default = omega arith
+most_is c backs LockIfLastIndex = omega arith
+
+pub nothing_said : (c : ℕ) (lock : Lock) → LockSays c (λ k filled. Unit {0}) lock
+nothing_said c lock = grind arith
+
+module _ {T : Type 0} (scene : Scene T) (inv : Inv scene) (mode : ReleaseMode) (here : IsHere scene (Recover mode)) where
+  open scene use {by as by, capacity as c, party as p, steps as steps, backs as backs, since as since, changes as changes, events as events}
+
+  abbrev ws : List ℕ
+  ws = scene.set.words
+
+  abbrev done : List Deed
+  done = deeds_of p events
+
+  pub g : Good by c ws scene.set.dead events scene.turns
+  g = inv.good
+
+  abbrev call_at : RecoverStage → calls.Recover
+  call_at stage = record { capacity = c; stage = stage }
+
+  abbrev Lead : Option Ask → Bool → List (Event T) → After calls.Recover ReleaseState → Type 0
+  Lead ask back did a =
+      Leads scene (Recover mode) ask back did (as_call flights.TheVariants.Recover State (went_on as_it_is mode tt a))
+
+  -- the steps up to this index
+  abbrev Few : Option Ask → Bool → ℕ → ℕ → Type 0
+  Few ask back n index = steps + step_count ask ≤ n + index * for_index c mode + backs_then scene back * for_back c mode
+
+  -- ---- the end
+
+  pub ends_so : (state : ReleaseState) (ask : Option Ask) (back : Bool) → Stays scene (words_after ws ask)
+      → AnswersBy by (IsWorn by (words_after ws ask)) c events (Finished p (Robust (Recover mode)) (State state))
+      → steps + step_count ask ≤ 2 + c * for_index c mode + backs_then scene back * for_back c mode
+      → IsPaid (sees scene ask back) → Lead ask back [] (Done state)
+  ends_so state ask back stays right few paid =
+      let most = most_is c (backs_then scene back) mode in
+      ends_quietly scene inv (Recover mode) (State state) ask back here stays (λ i o. refl) (λ i r. refl) right tt (omega arith) paid
+
+  -- ---- the next index, or the second look at the counter
+
+  module _ (index : ℕ) (below : index < c) (stage : RecoverStage) (ask : Option Ask) (back : Bool) (few : Few ask back 1 (index + 1)) where
+    few_last : c ≤ index + 1 → steps + step_count ask ≤ 1 + c * for_index c mode + backs_then scene back * for_back c mode
+    few_last last = grind arith
+
+    module _ (stays : Stays scene (words_after ws ask)) (paid : IsPaid (sees scene ask back))
+        (asked : AllByRecursion (λ i. i < index + 1) (asked_in done)) (freed : FreedWereAsked done)
+        (open_once : WasOpen (now scene))
+        (says : AskedBelow (index + 1) (now scene)) (gone : GoneBut (λ i o. ⊥) (now scene)) where
+      pub comes_quietly : Lead ask back [] (recover_comes_to (call_at stage) (index + 1))
+      comes_quietly =
+          by_test (λ s. Lead ask back [] (GoOn (at_recover (call_at stage) s))) (nat_lt (index + 1) c)
+          (recovers.TheVariants.LoadsCell (index + 1)) recovers.TheVariants.LoadsCounterAgain
+          (λ t.
+          let more : index + 1 < c = grind (arith, nat_tests) in
+          goes_quietly scene inv (Recover mode) (recover_at c mode (recovers.TheVariants.LoadsCell (index + 1))) ask
+          back here stays few (refl, refl, record { within = more; asked = asked; freed = freed })
+          (record { paid = paid; scanned = tt; owns = tt; says = (open_once, says); gone = gone }))
+          (λ t.
+          let last : c ≤ index + 1 = grind (arith, nat_tests) in
+          let end : index + 1 ≡ c = omega arith in
+          goes_quietly scene inv (Recover mode) (recover_at c mode recovers.TheVariants.LoadsCounterAgain) ask back
+          here stays (few_last last) (refl, refl, freed)
+          (record { paid = paid; scanned = tt; owns = tt; says = subst (λ n. AskedBelow n (now scene)) end says; gone = gone }))
+
+    -- the same of a step that writes an event
+    module _ (did : List (Event T)) (longer : Lengthens (did ++ [])) (does : Does scene (words_after ws ask) (did ++ []))
+        (stands : AllFollow (Stands promise c) (Open (Robust (Recover mode)) (wrote_of p events)) (did ++ []))
+        (asks : AreRight (AsksBy by) events (did ++ [])) (paid : IsPaid (sees scene ask back))
+        (asked : AllByRecursion (λ i. i < index + 1) (asked_in (done ++ deeds (did ++ []))))
+        (freed : FreedWereAsked (done ++ deeds (did ++ [])))
+        (open_once : WasOpen (then_sees scene ask back (did ++ [])))
+        (says : AskedBelow (index + 1) (then_sees scene ask back (did ++ []))) (gone : GoneBut (λ i o. ⊥) (then_sees scene ask back (did ++ []))) where
+      pub comes_loudly : Lead ask back did (recover_comes_to (call_at stage) (index + 1))
+      comes_loudly =
+          by_test (λ s. Lead ask back did (GoOn (at_recover (call_at stage) s))) (nat_lt (index + 1) c)
+          (recovers.TheVariants.LoadsCell (index + 1)) recovers.TheVariants.LoadsCounterAgain
+          (λ t.
+          let more : index + 1 < c = grind (arith, nat_tests) in
+          goes_on scene (Recover mode) (recover_at c mode (recovers.TheVariants.LoadsCell (index + 1))) ask back did
+          here longer does stands asks few (refl, refl, record { within = more; asked = asked; freed = freed })
+          (record { paid = omega arith; scanned = tt; owns = tt; says = (open_once, says); gone = gone }))
+          (λ t.
+          let last : c ≤ index + 1 = grind (arith, nat_tests) in
+          let end : index + 1 ≡ c = omega arith in
+          goes_on scene (Recover mode) (recover_at c mode recovers.TheVariants.LoadsCounterAgain) ask back did here
+          longer does stands asks (few_last last) (refl, refl, freed)
+          (record {
+            paid = omega arith;
+            scanned = tt;
+            owns = tt;
+            says = subst (λ n. AskedBelow n (then_sees scene ask back (did ++ []))) end says;
+            gone = gone;
+          }))
+
+  -- ---- what it knows once it has done one thing more
+
+  module _ (d : Deed) (es : List (Event T)) (words' : List ℕ) (begins : BeginsNone p es)
+      (more : deeds_of p (events ++ es) ≡ done ++ d ∷ []) (does : Does scene words' es) where
+    pub open_then : WasOpen (now scene) → HeldSometime p IsUnlocked (events ++ es)
+    open_then h = held_later p IsUnlocked events es begins h
+
+    still_one_then : (one : Deed) → IsOneOf one done → IsOneOf one (deeds_of p (events ++ es))
+    still_one_then one h = subst (IsOneOf one) (sym more) (still_one one d done h)
+
+    pub asked_then : (k : ℕ) → AskedBelow k (now scene) → (i owner : ℕ) → i < k
+        → HeldThroughout p (StillToFree p owner i) (events ++ es) → IsOneOf (Asks i owner) (deeds_of p (events ++ es))
+    asked_then k h i owner below through = still_one_then (Asks i owner) (h i owner below (through_less p (StillToFree p owner i) events es begins through))
+
+    pub gone_then : (Was Now : ℕ → ℕ → Type 0) → GoneBut Was (now scene)
+        → ((i owner : ℕ) → Was i owner → (filled_of i (events ++ es) ≢ Some owner) ⊎ Now i owner)
+        → ((i owner : ℕ) → d ≡ Yes i owner → (is_gone by owner (events ++ es) ≡ true) × Now i owner)
+        → (i owner : ℕ) → IsOneOf (Yes i owner) (deeds_of p (events ++ es))
+        → (is_gone by owner (events ++ es) ≡ true)
+        × (IsHonestBy by (events ++ es) → (filled_of i (events ++ es) ≢ Some owner) ⊎ Now i owner)
+    gone_then Was Now h was new i owner told =
+        ⊎_elim
+        (λ earlier.
+        let k = h i owner earlier in (
+          gone_more by owner events es k.0,
+          λ honest. ⊎_elim (λ gone. inl (λ e. gone (stays_lost by events es does.goes.fills i owner honest k.0 e)))
+              (λ exempt. was i owner exempt) (k.1 (honest_less by events es honest)),
+        ))
+        (λ is. let k = new i owner is in (k.0, λ honest. inr k.1))
+        (was_one (Yes i owner) d done (subst (IsOneOf (Yes i owner)) more told))
+
+  -- ---- the load of the counter
+
+  pub loads_counter : done ≡ [] → steps ≤ 0
+      → Knows c (recover_at c mode recovers.TheVariants.LoadsCounter) (now scene)
+      → StepOf scene (Recover mode) (recover_at c mode recovers.TheVariants.LoadsCounter)
+  loads_counter none s k = go (counter_of ws == locked) refl
+    where
+      go : (b : Bool) → (counter_of ws == locked) ≡ b
+          → Lead (Some (loads 0)) false []
+          (if b then Done states.TheVariants.Locked else recover_comes_to (call_at recovers.TheVariants.LoadsCounter) 0)
+      go true t =
+          let shut : counter_of ws ≡ locked = grind (arith, nat_tests) in
+          let paid = k.paid in
+          ends_so states.TheVariants.Locked (Some (loads 0)) false (stays_same scene inv _ (loads_same ws 0))
+          (is_shut scene inv shut) (omega arith) (omega arith)
+      go false t =
+          let open_now : counter_of ws ≢ locked = grind (arith, nat_tests) in
+          let paid = k.paid in
+          let some = g.some in
+          by_test (λ s. Lead (Some (loads 0)) false [] (GoOn (at_recover (call_at recovers.TheVariants.LoadsCounter) s)))
+          (nat_lt 0 c) (recovers.TheVariants.LoadsCell 0) recovers.TheVariants.LoadsCounterAgain
+          (λ u.
+          goes_quietly scene inv (Recover mode) (recover_at c mode (recovers.TheVariants.LoadsCell 0))
+          (Some (loads 0)) false here (stays_same scene inv _ (loads_same ws 0)) (omega arith) (
+            refl,
+            refl,
+            record {
+              within = omega arith;
+              asked = subst (λ d. AllByRecursion (λ i. i < 0) (asked_in d)) (sym none) tt;
+              freed = λ i owner freed. absurd
+                  (no_more freed.before (Frees i owner) freed.after (sym none ∙ freed.is));
+            },
+          )
+          (record {
+            paid = omega arith;
+            scanned = tt;
+            owns = tt;
+            says = (held_now p IsUnlocked events (unlocked scene inv open_now), λ i owner below. absurd (omega arith));
+            gone = k.gone;
+          }))
+          (λ u. let nothing : c ≤ 0 = grind (arith, nat_tests) in absurd (omega arith))
+
+  -- ---- the load of a cell
+
+  module _ (index : ℕ) (course : IsInCourse c index index done)
+      (s : steps ≤ 1 + index * for_index c mode + backs * for_back c mode)
+      (k : Knows c (recover_at c mode (recovers.TheVariants.LoadsCell index)) (now scene)) where
+    abbrev load : Option Ask
+    load = Some (loads (cell_word index))
+
+    asked_next : AllByRecursion (λ i. i < index + 1) (asked_in done)
+    asked_next = all_so (λ i. i < index) (λ i. i < index + 1) (asked_in done) (λ i less. omega arith) course.asked
+
+    -- nothing is to be freed at an empty cell
+    passed_says : cell ws index ≡ empty → AskedBelow (index + 1) (now scene)
+    passed_says is i owner below through =
+        ⊎_elim (λ before. k.says.1 i owner before through)
+        (λ last.
+        let same : i ≡ index = omega arith in
+        ⊎_elim (λ filled. some_none (filled_of i events) owner
+        (ap (λ j. filled_of j events) same ∙ filled_none scene inv index course.within is) filled)
+        (λ freed. course.freed i owner freed)
+        (through_now p (StillToFree p owner i) events through))
+        (cases_lt i index)
+
+    passes_empty : cell ws index ≡ empty → Lead load false [] (recover_comes_to (call_at (recovers.TheVariants.LoadsCell index)) (index + 1))
+    passes_empty is =
+        let four = at_least_four c mode in
+        let paid = k.paid in
+        comes_quietly index course.within (recovers.TheVariants.LoadsCell index) load false (omega arith)
+        (stays_same scene inv _ (loads_same ws (cell_word index))) (omega arith) asked_next course.freed k.says.0
+        (passed_says is) k.gone
+
+    module _ (other : cell ws index ≢ empty) where
+      abbrev found : ℕ
+      found = cell ws index
+
+      abbrev asking : List (Event T)
+      asking = Asked p index (cell ws index) ∷ []
+
+      is_filled : (cell ws index < empty) × (filled_of index events ≡ Some (cell ws index))
+      is_filled = filled_some scene inv index course.within other
+
+      asks_does : Does scene (words_after ws load) asking
+      asks_does =
+          quietly scene inv (words_after ws load) asking
+          (stays_same scene inv _ (loads_same ws (cell_word index))).leaves (quiet_asked p index (cell ws index))
+          (refl, tt) (tt, tt) (tt, tt)
+
+      asks_deeds : deeds_of p (events ++ asking) ≡ done ++ Asks index (cell ws index) ∷ []
+      asks_deeds = deeds_more scene (Recover mode) here asking asks_does.own (λ start w. refl)
+
+      asks_freed : FreedWereAsked (done ++ Asks index (cell ws index) ∷ [])
+      asks_freed = freed_more (Asks index (cell ws index)) done course.freed (λ i owner e. absurd (cc))
+
+      asks_says : AskedBelow (index + 1) (then_sees scene load false asking)
+      asks_says i owner below through =
+          ⊎_elim (λ before. asked_then (Asks index (cell ws index)) asking (words_after ws load) tt asks_deeds asks_does index k.says.1 i owner before through)
+          (λ last.
+          let same : i ≡ index = omega arith in
+          ⊎_elim (λ filled. filled_here i owner same filled)
+          (λ freed. subst (IsOneOf (Asks i owner)) (sym asks_deeds)
+          (asks_freed i owner (subst (IsOneOf (Frees i owner)) asks_deeds freed)))
+          (through_now p (StillToFree p owner i) (events ++ asking) through))
+          (cases_lt i index)
+        where
+          filled_here : (i owner : ℕ) → i ≡ index
+              → filled_of i (events ++ Asked p index (cell ws index) ∷ []) ≡ Some owner
+              → IsOneOf (Asks i owner) (deeds_of p (events ++ Asked p index (cell ws index) ∷ []))
+          filled_here i owner same filled =
+              let was : filled_of index events ≡ Some owner =
+              subst (λ j. filled_of j events ≡ Some owner) same
+              (sym (fold-append (filled_after i) None events (Asked p index (cell ws index) ∷ [])) ∙ filled) in
+              let is : cell ws index ≡ owner = one_owner (filled_of index events) (cell ws index) owner is_filled.1 was in
+              subst (λ j. IsOneOf (Asks j owner) (deeds_of p (events ++ Asked p index (cell ws index) ∷ []))) (sym same)
+              (subst (λ o. IsOneOf (Asks index o) (deeds_of p (events ++ Asked p index (cell ws index) ∷ []))) is
+              (subst (IsOneOf (Asks index (cell ws index))) (sym asks_deeds) (last_one (Asks index (cell ws index)) done)))
+
+      asks_about : Lead load false asking (GoOn (at_recover (call_at (recovers.TheVariants.LoadsCell index)) (recovers.TheVariants.Asks index (cell ws index))))
+      asks_about =
+          let paid = k.paid in
+          goes_on scene (Recover mode) (recover_at c mode (recovers.TheVariants.Asks index (cell ws index))) load
+          false asking here (λ start w. refl) asks_does (course.asked, tt) ((is_filled.1, k.says.0), tt)
+          (omega arith) (
+            refl,
+            refl,
+            (
+              record {
+                within = course.within;
+                asked = asks_more (index + 1) (Asks index (cell ws index)) done asked_next (omega arith, tt);
+                freed = asks_freed;
+              },
+              is_filled.0,
+              record { before = done; is = refl },
+            ),
+          )
+          (record {
+            paid = omega arith;
+            scanned = tt;
+            owns = tt;
+            says = (open_then (Asks index (cell ws index)) asking (words_after ws load) tt asks_deeds asks_does k.says.0, asks_says);
+            gone =
+                gone_then (Asks index (cell ws index)) asking (words_after ws load) tt asks_deeds asks_does (λ i o. ⊥)
+                (λ i o. ⊥) k.gone (λ i o never. absurd never) (λ i o e. absurd (cc));
+          })
+
+    pub loads_cell : StepOf scene (Recover mode) (recover_at c mode (recovers.TheVariants.LoadsCell index))
+    loads_cell = go (cell ws index == empty) refl
+      where
+        go : (b : Bool) → (cell ws index == empty) ≡ b → Lead (Some (loads (cell_word index))) false (if b then [] else Asked p index (cell ws index) ∷ [])
+            (if b then recover_comes_to (call_at (recovers.TheVariants.LoadsCell index)) (index + 1) else GoOn
+            (at_recover (call_at (recovers.TheVariants.LoadsCell index)) (recovers.TheVariants.Asks index (cell ws index))))
+        go true t = let is : cell ws index ≡ empty = grind (arith, nat_tests) in passes_empty is
+        go false t = let other : cell ws index ≢ empty = grind (arith, nat_tests) in asks_about other

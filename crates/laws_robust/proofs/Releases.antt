@@ -1,0 +1,164 @@
+-- The steps of a release.
+use Rattle.std.proofs.Common.{◌≡◌, ◌≢◌, ℕ, ◌+◌, ◌<◌, ◌≤◌, inl, inr, Bool, true, false, Option, Some, None, List, []}
+use Rattle.std.proofs.Common.{◌∷◌, ◌++◌, set, refl, ap, subst, ◌∙◌, arith, sym}
+use Rattle.std.specs.Prelude.{Ok}
+use Rattle.std.proofs.lemmas.List.Concat.{flat_map-append}
+use Rattle.std.proofs.lemmas.List.Sums.{fold-append}
+use Rattle.steps.specs.declared.ask.Ask.{Ask}
+use Rattle.steps.specs.declared.ask.After.{After}
+use Rattle.steps.specs.declared.ask.After.TheVariants.{Done}
+use Rattle.steps.specs.declared.indices.enums.ReleaseMode.{ReleaseMode}
+use Rattle.steps.specs.declared.indices.enums.ReleaseMode.TheVariants.{LockIfLastIndex, Default}
+use Rattle.steps.specs.declared.indices.enums.ReleaseState.{ReleaseState}
+use Rattle.steps.specs.declared.indices.enums.ReleaseState as states
+use Rattle.steps.specs.declared.indices.enums.RobustUniqueIndexSetReleaseError.{RobustUniqueIndexSetReleaseError}
+use Rattle.steps.specs.declared.indices.enums.RobustUniqueIndexSetReleaseError.TheVariants.{IndexIsNotOwnedByProvidedOwner}
+use Rattle.steps.specs.declared.indices.robust.parts.Raise as raises
+use Rattle.steps.specs.declared.indices.robust.release.Release as calls
+use Rattle.steps.specs.declared.indices.robust.release.ReleaseStage.{ReleaseStage}
+use Rattle.steps.specs.declared.indices.robust.release.ReleaseStage as releases
+use Rattle.steps.specs.Indices.Robust.Parts.{empty, locked, greatest}
+use Rattle.steps.specs.Indices.Robust.Release.{Released}
+use Rattle.steps.specs.Routine.{went_on}
+use Rattle.model.specs.declared.event.Answer.TheVariants.{State, NotOwned}
+use Rattle.model.specs.declared.event.Event.{Event}
+use Rattle.model.specs.declared.event.Event.TheVariants.{FreedOf, Locked, Finished}
+use Rattle.model.specs.declared.event.Start.TheVariants.{Robust}
+use Rattle.model.specs.declared.families.indices.robust.RobustStart.TheVariants.{Release}
+use Rattle.model.specs.declared.families.indices.robust.calls.RobustFlight as flights
+use Rattle.model.specs.Families.Indices.Reading.{locked_after, is_locked}
+use Rattle.model.specs.Families.Indices.Robust.Bounds.{most_steps}
+use Rattle.model.specs.Families.Indices.Robust.Calls.{release_answer}
+use Rattle.model.specs.Families.Indices.Robust.Promises.{MayGiveBack, LivesToRelease}
+use Rattle.model.specs.Families.Indices.Robust.Reading.{Deed, Frees, Locks, deed, deeds, filled_of, holder_of, settled_of, is_dead}
+use Rattle.model.specs.Families.Indices.Robust.Spans.{HasDone}
+use Rattle.model.specs.Families.Queues.Calls.{as_it_is}
+use Rattle.model.specs.Moments.{SinceBegin}
+use Rattle.model.specs.Reading.{span_of}
+use Rattle.model.specs.Step.{as_call}
+use Rattle.model.specs.Turns.{words_after, step_count}
+use Rattle.laws_robust.specs.Gone.{GoneBy, Word, is_gone, GivesBackRight, IsHonest, IsCalm, AnswersBy}
+use Rattle.laws_robust.proofs.Core.{counter_of}
+use Rattle.laws_robust.proofs.Effects.{Stays, quiet_end, stays_same}
+use Rattle.laws_robust.proofs.Gone.{lives_freed}
+use Rattle.laws_robust.proofs.HeldRelease.{Caller, Ends, StepAt, held_step}
+use Rattle.laws_robust.proofs.Invariant.{IsWorn, Scene, Inv, wrote_of}
+use Rattle.laws_robust.proofs.Knows.{Knows, IsPaid}
+use Rattle.laws_robust.proofs.Standing.{release_at, release_number, ReleaseAt}
+use Rattle.laws_robust.proofs.Locks.{locks}
+use Rattle.laws_robust.proofs.Stages.{IsHere, all, now, sees, backs_then, StepOf, Leads, goes_on, ends, goes_quietly, ends_quietly}
+
+not_owned_done : (T : Type 0) (index owner : ℕ) (mode : ReleaseMode) (failure : RobustUniqueIndexSetReleaseError) (done : List Deed)
+    → done ≡ [] → HasDone {T = T} (Release index owner mode) (NotOwned failure) done
+not_owned_done T index owner Default failure done none = none
+not_owned_done T index owner LockIfLastIndex failure done none = none
+
+not_owned_right : {T : Type 0} (by : GoneBy) (worn : Type 0) (c p index owner : ℕ) (mode : ReleaseMode)
+    (failure : RobustUniqueIndexSetReleaseError) (events : List (Event T))
+    → filled_of index events ≢ Some owner
+    → AnswersBy by worn c events (Finished p (Robust (Release index owner mode)) (NotOwned failure))
+not_owned_right by worn c p index owner Default failure events other = other
+not_owned_right by worn c p index owner LockIfLastIndex failure events other = other
+
+module _ {T : Type 0} (scene : Scene T) (inv : Inv scene) (index owner : ℕ) (fits : owner < empty)
+    (below : index < scene.capacity) (alive : is_dead owner scene.events ≡ false) where
+  open scene use {by as by, capacity as c, party as p, steps as steps, backs as backs, events as events}
+
+  abbrev ws : List ℕ
+  ws = scene.set.words
+
+  -- what a step leads to that did this, by how the call goes on
+  abbrev Lead : ReleaseMode → Option Ask → Bool → List (Event T) → After calls.Release Released → Type 0
+  Lead mode ask back did a =
+      Leads scene (Release index owner mode) ask back did
+      (as_call flights.TheVariants.Release release_answer
+      (went_on as_it_is (record { index = index; owner = owner; mode = mode }) tt a))
+
+  module _ (mode : ReleaseMode) (here : IsHere scene (Release index owner mode)) where
+    lives : LivesToRelease owner events (span_of p events)
+    lives = subst (LivesToRelease owner events) (sym here) alive
+
+    gives_back : IsHonest (events ++ FreedOf p index owner ∷ []) → is_gone Word owner events ≡ false
+    gives_back honest = subst (GivesBackRight owner events) here (honest events [] (FreedOf p index owner) refl)
+
+    began : IsCalm by (events ++ FreedOf p index owner ∷ [])
+        → (is_gone by owner events ≡ false) × SinceBegin p (λ part since. settled_of index part ≡ Some owner) events
+    began calm = (
+      lives_freed by p index owner events alive gives_back calm.1,
+      subst (MayGiveBack p index events) here (calm.0 events [] (FreedOf p index owner) refl),
+    )
+
+    abbrev Says : List ℕ → ReleaseMode → ReleaseState → Type 0
+    Says words' m state = Ends scene inv index owner mode fits below lives began 0 words' m state
+
+    -- it ends with this state
+    ends_with : (m : ReleaseMode) → IsHere scene (Release index owner m)
+        → (state : ReleaseState) (ask : Option Ask) (back : Bool) → Stays scene (words_after ws ask)
+        → Says (words_after ws ask) m state → all scene ≡ Frees index owner ∷ []
+        → IsPaid (sees scene ask back)
+        → steps + step_count ask ≤ 0 + most_steps c (Release index owner m) (backs_then scene back)
+        → Lead m ask back [] (Done (Ok state))
+    ends_with Default is states.TheVariants.Locked ask back stays why done paid few = absurd why
+    ends_with Default is states.TheVariants.Unlocked ask back stays why done paid few =
+        ends_quietly scene inv (Release index owner Default) (State states.TheVariants.Unlocked) ask back is stays
+        (λ j o. refl) (λ j r. refl) tt done (omega arith) paid
+    ends_with LockIfLastIndex is states.TheVariants.Locked ask back stays why done paid few =
+        ends_quietly scene inv (Release index owner LockIfLastIndex) (State states.TheVariants.Locked) ask back is
+        stays (λ j o. refl) (λ j r. refl) why (inl done) (omega arith) paid
+    ends_with LockIfLastIndex is states.TheVariants.Unlocked ask back stays why done paid few =
+        ends_quietly scene inv (Release index owner LockIfLastIndex) (State states.TheVariants.Unlocked) ask back is
+        stays (λ j o. refl) (λ j r. refl) why done (omega arith) paid
+
+    all_done : all scene ≡ Frees index owner ∷ [] → deeds (wrote_of p events ++ Locked p ∷ []) ≡ Frees index owner ∷ Locks ∷ []
+    all_done done = flat_map-append deed (wrote_of p events) (Locked p ∷ []) ∙ ap (λ d. d ++ Locks ∷ []) done
+
+    now_locked : is_locked (events ++ Locked p ∷ []) ≡ true
+    now_locked = fold-append locked_after false events (Locked p ∷ [])
+
+    -- it locks
+    locks_with : (m : ReleaseMode) → IsHere scene (Release index owner m) → (ask : Option Ask) → m ≡ LockIfLastIndex
+        → (IsCalm by events → (i : ℕ) → holder_of i events ≡ None) → counter_of ws < greatest
+        → words_after ws ask ≡ set ws 0 locked
+        → all scene ≡ Frees index owner ∷ [] → IsPaid (sees scene ask false)
+        → steps + step_count ask ≤ 0 + most_steps c (Release index owner m) (backs_then scene false)
+        → Lead m ask false (Locked p ∷ []) (Done (Ok states.TheVariants.Locked))
+    locks_with Default is ask mode none less new done paid few = absurd (cc)
+    locks_with LockIfLastIndex is ask mode none less new done paid few =
+        ends scene (Release index owner LockIfLastIndex) (State states.TheVariants.Locked) ask false (Locked p ∷ []) is (λ start w. refl)
+        (locks scene inv (words_after ws ask) (Finished p (Robust (Release index owner LockIfLastIndex)) (State states.TheVariants.Locked) ∷ [])
+        (quiet_end p (Release index owner LockIfLastIndex) (State states.TheVariants.Locked) (λ j o. refl) (λ j r. refl))
+        (refl, tt) (tt, tt) (now_locked, tt) none less new)
+        (done, ((refl, inr (all_done done)), tt)) (tt, (tt, tt)) (omega arith) paid
+
+    caller : Caller scene inv index owner mode fits below lives began 0 (Lead mode)
+    caller =
+        record {
+          quiet =
+              λ next ask back stays at known few. goes_quietly scene inv (Release index owner mode)
+              (release_at c index owner mode next) ask back here stays (omega arith) (refl, refl, fits, below, at)
+              known;
+          freed = λ ask new does none known few.
+              goes_on scene (Release index owner mode)
+              (release_at c index owner mode (releases.TheVariants.Raises raises.TheVariants.LoadsCounter)) ask
+              false (FreedOf p index owner ∷ []) here (λ start w. refl) does
+              ((refl, refl, none), tt) (tt, tt) (omega arith) (refl, refl, fits, below, ap (λ d. d ++ Frees index owner ∷ []) none) known;
+          refused = λ ask same other none paid few.
+              ends_quietly scene inv (Release index owner mode) (NotOwned IndexIsNotOwnedByProvidedOwner) ask false
+              here (stays_same scene inv (words_after ws ask) same) (λ i o. refl) (λ i r. refl)
+              (not_owned_right by (IsWorn by (words_after ws ask)) c p index owner mode IndexIsNotOwnedByProvidedOwner events other)
+              (not_owned_done T index owner mode IndexIsNotOwnedByProvidedOwner (all scene) none) (omega arith) paid;
+          ended = ends_with mode here;
+          locks = locks_with mode here;
+        }
+
+    abbrev held : (stage : ReleaseStage) → ReleaseAt c index owner mode (all scene) stage
+        → Knows c (release_at c index owner mode stage) (now scene) → steps ≤ 0 + release_number c mode stage backs
+        → StepAt scene inv index owner mode fits below lives began 0 (Lead mode) caller stage
+    held = held_step scene inv index owner mode fits below lives began 0 (Lead mode) caller
+
+    pub release_step : (stage : ReleaseStage) → ReleaseAt c index owner mode (all scene) stage
+        → Knows c (release_at c index owner mode stage) (now scene) → steps ≤ release_number c mode stage backs
+        → StepOf scene (Release index owner mode) (release_at c index owner mode stage)
+    release_step releases.TheVariants.EmptiesCell at k s = held releases.TheVariants.EmptiesCell at k (omega arith)
+    release_step (releases.TheVariants.Raises raise) at k s = held (releases.TheVariants.Raises raise) at k (omega arith)
+    release_step (releases.TheVariants.Locks lock) at k s = held (releases.TheVariants.Locks lock) at k (omega arith)

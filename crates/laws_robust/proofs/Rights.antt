@@ -1,0 +1,49 @@
+-- Which party may give an index back, or will be granted it: the one whose acquire or add has filled it, until it has
+-- finished; then nobody before a release or a remove of it begins for its owner; then the party of that one.
+use Rattle.std.proofs.Common.{◌≡◌, ℕ, ◌==◌, if◌then◌else◌, Some, List, fold}
+use Rattle.model.specs.declared.event.Answer.TheVariants.{Index}
+use Rattle.model.specs.declared.event.Event.{Event}
+use Rattle.model.specs.declared.event.Event.TheVariants.{Begun, Filled, FreedOf, Finished}
+use Rattle.model.specs.declared.event.Start.TheVariants.{Robust, Container}
+use Rattle.model.specs.declared.families.container.ContainerStart.TheVariants.{Add, Remove}
+use Rattle.model.specs.declared.families.indices.robust.RobustStart.TheVariants.{Acquire, Release}
+use Rattle.model.specs.Families.Indices.Robust.Reading.{filled_of, holder_of, settled_of}
+
+pub data Right : Type 0 where
+  Nobody : Right
+  Settled : (owner : ℕ) → Right
+  By : (party : ℕ) → Right
+
+-- a release for this owner begins
+abbrev pub taken_by : ℕ → ℕ → Right → Right
+taken_by p owner Nobody = Nobody
+taken_by p owner (Settled other) = if other == owner then By p else Settled other
+taken_by p owner (By q) = By q
+
+module _ {T : Type 0} where
+  abbrev pub right_after : ℕ → Right → Event T → Right
+  right_after i right (Filled p index owner) = if index == i then By p else right
+  right_after i right (Finished p (Robust (Acquire owner)) (Index index)) =
+      if index == i then Settled owner else right
+  right_after i right (Finished p (Container (Add value owner)) (Index index)) =
+      if index == i then Settled owner else right
+  right_after i right (Begun p (Robust (Release index owner mode))) =
+      if index == i then taken_by p owner right else right
+  right_after i right (Begun p (Container (Remove index owner mode))) =
+      if index == i then taken_by p owner right else right
+  right_after i right (FreedOf p index owner) = if index == i then Nobody else right
+  right_after i right e = right
+
+  abbrev pub right_of : ℕ → List (Event T) → Right
+  right_of i events = fold (right_after i) Nobody events
+
+  -- the party has the right to an index that is filled with this owner
+  pub record IsBy (p i owner : ℕ) (events : List (Event T)) : Type 0 where
+    pub right : right_of i events ≡ By p
+    pub filled : filled_of i events ≡ Some owner
+
+  -- what is so of the indices in a well-formed run: one that is held, or may be given back, is filled with its owner
+  pub record AreOwned (events : List (Event T)) : Type 0 where
+    pub held : (i owner : ℕ) → holder_of i events ≡ Some owner → filled_of i events ≡ Some owner
+    pub settled : (i owner : ℕ) → settled_of i events ≡ Some owner
+        → (filled_of i events ≡ Some owner) × (right_of i events ≡ Settled owner)

@@ -1,0 +1,484 @@
+-- Every turn keeps what holds of the machine of a robust index set: the laws of the family.
+use Rattle.std.proofs.Common.{◌≡◌, ◌≢◌, ℕ, ◌+◌, ◌-◌, ◌^◌, ◌<◌, ◌≤◌, inl, Bool, true, false, Option, Some, None, List}
+use Rattle.std.proofs.Common.{[], ◌∷◌, ◌++◌, refl, sym, ap, subst, ◌∙◌, arith}
+use Rattle.steps.specs.declared.indices.enums.ReleaseMode.{ReleaseMode}
+use Rattle.steps.specs.declared.indices.robust.acquire.AcquireStage.{AcquireStage}
+use Rattle.steps.specs.declared.indices.robust.find.FindStage.{FindStage}
+use Rattle.steps.specs.declared.indices.robust.find.FindStage as finds
+use Rattle.steps.specs.declared.indices.robust.parts.Count.{Count}
+use Rattle.steps.specs.declared.indices.robust.parts.Lock.{Lock}
+use Rattle.steps.specs.declared.indices.robust.parts.Lock as locks
+use Rattle.steps.specs.declared.indices.robust.parts.Raise.{Raise}
+use Rattle.steps.specs.declared.indices.robust.parts.Raise as raises
+use Rattle.steps.specs.declared.indices.robust.recover.RecoverStage.{RecoverStage}
+use Rattle.steps.specs.declared.indices.robust.recover.RecoverStage as recovers
+use Rattle.steps.specs.declared.indices.robust.release.GiveBack.{GiveBack}
+use Rattle.steps.specs.declared.indices.robust.release.ReleaseStage.{ReleaseStage}
+use Rattle.steps.specs.Indices.Robust.Acquire.{acquire_asks}
+use Rattle.steps.specs.Indices.Robust.Parts.{empty, raise_want, count_want, lock_want}
+use Rattle.steps.specs.Indices.Robust.Release.{release_asks}
+use Rattle.model.specs.declared.event.Event.{Event}
+use Rattle.model.specs.declared.event.Event.TheVariants.{Begun, Died}
+use Rattle.model.specs.declared.event.Start.{Start}
+use Rattle.model.specs.declared.event.Start.TheVariants.{Robust}
+use Rattle.model.specs.declared.families.Flight.{Flight}
+use Rattle.model.specs.declared.families.Flight as flights
+use Rattle.model.specs.declared.families.Registry.{Registry}
+use Rattle.model.specs.declared.families.Registry as registries
+use Rattle.model.specs.declared.families.indices.robust.RobustStart.{RobustStart}
+use Rattle.model.specs.declared.families.indices.robust.RobustStart as starts
+use Rattle.model.specs.declared.families.indices.robust.calls.RobustFlight.{RobustFlight}
+use Rattle.model.specs.declared.families.indices.robust.calls.RobustFlight as calls
+use Rattle.model.specs.declared.party.Doing.TheVariants.{Going}
+use Rattle.model.specs.declared.party.Party.{Party}
+use Rattle.model.specs.declared.turn.Kind as kinds
+use Rattle.model.specs.declared.turn.Refusal.TheVariants.{OwnerIsDead, OwnerLives}
+use Rattle.model.specs.Coding.{Coding}
+use Rattle.model.specs.Families.{first_of, want_of, is_question, going_rows, beside_of, step_of, kept_after_death, kept_after_begin}
+use Rattle.model.specs.Families as families
+use Rattle.model.specs.Families.Indices.Robust.Calls.{want}
+use Rattle.model.specs.Families.Indices.Robust.Dead.{has_died, dead_with, acts_for_dead, frees_living}
+use Rattle.model.specs.Families.Indices.Robust.Dead as rows
+use Rattle.model.specs.Families.Indices.Robust.Opening.{opening_words, call_rows, kept_rows}
+use Rattle.model.specs.Families.Indices.Robust.Reading.{deeds, is_dead, wrote_in}
+use Rattle.model.specs.Families.Loan.Opening.{is_loan}
+use Rattle.model.specs.Parties.{party_of}
+use Rattle.model.specs.Reading.{Open, span_of}
+use Rattle.model.specs.Rows.{first_row}
+use Rattle.model.specs.Step.{Step}
+use Rattle.model.specs.Turns.{old_of, words_after, change_of, number_of, party_at_begin, party_after, events_of_step, IsReached}
+use Rattle.model.specs.World.{Trace, opening, capacity_error}
+use Rattle.model.proofs.Frame as frame
+use Rattle.model.proofs.Readings.{Each-nil, Each-append, span_of-own, span_of-death}
+use Rattle.model.proofs.Rows.{row_passed, MayBegin, MayDie}
+use Rattle.model.proofs.Scenes.{asked, StandsThere, stands_there, ComesFrom, comes_from}
+use Rattle.laws_robust.specs.Gone.{GoneBy, Death, Word, MayBeTold, AsksBy}
+use Rattle.laws_robust.proofs.Acquires.{acquire_step}
+use Rattle.laws_robust.proofs.Begins.{begins}
+use Rattle.laws_robust.proofs.Deaths.{death_good, death_known}
+use Rattle.laws_robust.proofs.Effects.{both_ways}
+use Rattle.laws_robust.proofs.Finds.{find_step, find_decided}
+use Rattle.laws_robust.proofs.Firsts.{IsFirst, first_is, IsOwn, begins_own}
+use Rattle.laws_robust.proofs.Invariant.{RobustSet, Represents, Scene, Inv, Shows, HasRoom, room_of_few, family}
+use Rattle.laws_robust.proofs.Invariant.{family_by, wrote_of, at_written, owes, holds_more}
+use Rattle.laws_robust.proofs.Knows.{Knows}
+use Rattle.laws_robust.proofs.Standing.{acquire_at, find_at, recover_at, borrowed_at, At, FindAt, RecoverAt}
+use Rattle.laws_robust.proofs.Standing as standing
+use Rattle.laws_robust.proofs.Looks.{borrowed_step, looks_step}
+use Rattle.laws_robust.proofs.Opening.{opening_good, admitted_is}
+use Rattle.laws_robust.proofs.RecoverSteps.{recover_step, recover_decided}
+use Rattle.laws_robust.proofs.Releases.{release_step}
+use Rattle.laws_robust.proofs.Stages.{IsHere, all, now, StepOf, DecisionOf}
+
+module _ {T : Type 0} where
+  pub kept_is : (kept : Registry T) (words : List ℕ) (s : RobustSet T) → Represents kept words s
+      → (kept ≡ registries.TheVariants.Owners s.dead) × (words ≡ s.words)
+  kept_is (registries.TheVariants.Owners dead) words s fit = (ap (λ o. registries.TheVariants.Owners o) fit.1, fit.0)
+  kept_is kept words s fit = absurd fit
+
+  fit_events : (kept : Registry T) (words : List ℕ) (s : RobustSet T) (events : List (Event T))
+      → Represents kept words s → Represents kept words (record { words = s.words; dead = s.dead; events = events })
+  fit_events (registries.TheVariants.Owners dead) words s events fit = fit
+  fit_events kept words s events fit = absurd fit
+
+-- ---- a step of a call that passes its rows
+
+-- no part of a call asks a question
+pub raise_asks_none : (raise : Raise) → is_question (raise_want raise) ≡ false
+raise_asks_none raises.TheVariants.LoadsCounter = refl
+raise_asks_none (raises.TheVariants.ExchangesCounter counter) = refl
+
+pub count_asks_none : (count : Count) → is_question (count_want count) ≡ false
+count_asks_none count = grind arith
+
+pub lock_asks_none : (lock : Lock) → is_question (lock_want lock) ≡ false
+lock_asks_none (locks.TheVariants.Counts count) = count_asks_none count
+lock_asks_none (locks.TheVariants.ExchangesCounter counter) = refl
+
+pub acquire_asks_none : (stage : AcquireStage) (owner : ℕ) → is_question (acquire_asks stage owner) ≡ false
+acquire_asks_none stage owner = grind arith
+
+pub release_asks_none : (stage : ReleaseStage) (given : GiveBack) → is_question (release_asks stage given) ≡ false
+release_asks_none stage given = grind arith
+
+-- where owners die a yes about one who lives is refused
+abbrev pub MayDecide : GoneBy → List ℕ → RobustFlight → Bool → Type 0
+MayDecide Death dead flight said = frees_living dead flight (Some said) ≡ false
+MayDecide Word dead flight said = Unit {0}
+
+module _ {T : Type 0} (scene : Scene T) (inv : Inv scene) where
+  open scene use {by as by, capacity as c, party as p, events as events}
+
+  lives : (owner : ℕ) → has_died owner scene.set.dead ≡ false → is_dead owner events ≡ false
+  lives owner alive = sym (inv.good.died owner) ∙ alive
+
+  abbrev Moves : RobustStart → RobustFlight → Type 0
+  Moves start flight =
+      acts_for_dead scene.set.dead flight ≡ false → scene.steps ≤ standing.number_of c flight scene.backs
+      → Knows c flight (now scene) → StepOf scene start flight
+
+  pub step_moves : (start : RobustStart) (flight : RobustFlight) → IsHere scene start → At c (all scene) start flight → Moves start flight
+  step_moves (starts.TheVariants.Acquire owner) (calls.TheVariants.Acquire run) here at =
+      subst (Moves (starts.TheVariants.Acquire owner))
+      (sym (ap (λ n. acquire_at n run.given run.call.stage) at.0 ∙ ap (λ o. acquire_at c o run.call.stage) at.1))
+      (λ alive s k. acquire_step scene inv owner at.2 (lives owner alive) here run.call.stage at.3 k s)
+  step_moves (starts.TheVariants.Release index owner mode) (calls.TheVariants.Release run) here at =
+      subst (Moves (starts.TheVariants.Release index owner mode))
+      (sym (ap
+      (λ n. calls.TheVariants.Release (record { call = record { capacity = n; stage = run.call.stage }; given = run.given; room = tt }))
+      at.0
+      ∙ ap
+      (λ (o : GiveBack). calls.TheVariants.Release (record { call = record { capacity = c; stage = run.call.stage }; given = o; room = tt })) at.1))
+      (λ alive s k. release_step scene inv index owner at.2 at.3 (lives owner alive) mode here run.call.stage at.4 k s)
+  step_moves (starts.TheVariants.Find owner) (calls.TheVariants.Find run) here at =
+      subst (Moves (starts.TheVariants.Find owner)) (sym (ap (λ n. find_at n run.given run.call.stage) at.0 ∙ ap (λ o. find_at c o run.call.stage) at.1))
+      (λ alive s k. find_step scene inv owner at.2 here run.call.stage at.3 k s)
+  step_moves (starts.TheVariants.Recover mode) (calls.TheVariants.Recover run) here at =
+      subst (Moves (starts.TheVariants.Recover mode))
+      (sym (ap (λ n. recover_at n run.given run.call.stage) at.0 ∙ ap (λ m. recover_at c m run.call.stage) at.1))
+      (λ alive s k. recover_step scene inv mode here run.call.stage at.2 k s)
+  step_moves starts.TheVariants.BorrowedIndices (calls.TheVariants.BorrowedIndices run) here at =
+      subst (Moves starts.TheVariants.BorrowedIndices) (sym (ap (λ n. borrowed_at n run.call.count) at.0))
+      (λ alive s k. borrowed_step scene inv here run.call.count at.1 at.2 k s)
+  step_moves starts.TheVariants.IsLocked (calls.TheVariants.IsLocked run) here at = λ alive s k. looks_step scene inv here at k s
+  step_moves start flight here at = absurd at
+
+  abbrev Decides : Bool → RobustStart → RobustFlight → Type 0
+  Decides said start flight =
+      MayDecide by scene.set.dead flight said → is_question (want flight) ≡ true
+      → scene.steps ≤ standing.number_of c flight scene.backs → Knows c flight (now scene)
+      → DecisionOf scene start flight said
+
+  -- a yes about an owner, where owners die, is of a dead one
+  may_tell : (b : GoneBy) (said : Bool) (mode : ReleaseMode) (index owner : ℕ)
+      → MayDecide b scene.set.dead (recover_at c mode (recovers.TheVariants.Asks index owner)) said → number_of said ≢ 0
+      → MayBeTold b owner events
+  may_tell b said mode index owner e ne = grind arith
+
+  find_decides : (said : Bool) (owner : ℕ) → owner < empty → IsHere scene (starts.TheVariants.Find owner)
+      → (stage : FindStage) → FindAt c (all scene) stage
+      → Decides said (starts.TheVariants.Find owner) (find_at c owner stage)
+  find_decides said owner fits here (finds.TheVariants.LoadsCell index found) at frees asks s k = absurd (cc)
+  find_decides said owner fits here (finds.TheVariants.Asks index found) at frees asks s k =
+      find_decided scene inv owner fits here index found at k s (number_of said)
+
+  recover_decides : (said : Bool) (mode : ReleaseMode) → IsHere scene (starts.TheVariants.Recover mode)
+      → (stage : RecoverStage) → RecoverAt c mode (all scene) stage
+      → Decides said (starts.TheVariants.Recover mode) (recover_at c mode stage)
+  recover_decides said mode here recovers.TheVariants.LoadsCounter at frees asks s k = absurd (cc)
+  recover_decides said mode here (recovers.TheVariants.LoadsCell index) at frees asks s k = absurd (cc)
+  recover_decides said mode here (recovers.TheVariants.Asks index owner) at frees asks s k =
+      recover_decided scene inv mode here index owner at k s (number_of said) (may_tell by said mode index owner frees)
+  recover_decides said mode here (recovers.TheVariants.EmptiesCell index owner) at frees asks s k = absurd (cc)
+  recover_decides said mode here (recovers.TheVariants.Raises index raise) at frees asks s k =
+      both_ways (is_question (raise_want raise)) (raise_asks_none raise) asks
+  recover_decides said mode here (recovers.TheVariants.Locks index lock) at frees asks s k = both_ways (is_question (lock_want lock)) (lock_asks_none lock) asks
+  recover_decides said mode here recovers.TheVariants.LoadsCounterAgain at frees asks s k = absurd (cc)
+
+  pub decision_moves : (said : Bool) (start : RobustStart) (flight : RobustFlight) → IsHere scene start
+      → At c (all scene) start flight → Decides said start flight
+  decision_moves said (starts.TheVariants.Acquire owner) (calls.TheVariants.Acquire run) here at =
+      λ frees asks s k. both_ways (is_question (acquire_asks run.call.stage run.given)) (acquire_asks_none run.call.stage run.given) asks
+  decision_moves said (starts.TheVariants.Release index owner mode) (calls.TheVariants.Release run) here at =
+      λ frees asks s k. both_ways (is_question (release_asks run.call.stage run.given))
+      (release_asks_none run.call.stage run.given) asks
+  decision_moves said (starts.TheVariants.Find owner) (calls.TheVariants.Find run) here at =
+      subst (Decides said (starts.TheVariants.Find owner)) (sym (ap (λ n. find_at n run.given run.call.stage) at.0 ∙ ap (λ o. find_at c o run.call.stage) at.1))
+      (find_decides said owner at.2 here run.call.stage at.3)
+  decision_moves said (starts.TheVariants.Recover mode) (calls.TheVariants.Recover run) here at =
+      subst (Decides said (starts.TheVariants.Recover mode))
+      (sym (ap (λ n. recover_at n run.given run.call.stage) at.0 ∙ ap (λ m. recover_at c m run.call.stage) at.1))
+      (recover_decides said mode here run.call.stage at.2)
+  decision_moves said starts.TheVariants.BorrowedIndices (calls.TheVariants.BorrowedIndices run) here at =
+      λ frees asks s k. both_ways (is_question (count_want run.call.count)) (count_asks_none run.call.count) asks
+  decision_moves said starts.TheVariants.IsLocked (calls.TheVariants.IsLocked run) here at = λ frees asks s k. absurd (cc)
+  decision_moves said start flight here at = absurd at
+
+-- ---- the laws of the family
+
+module _ {T : Type 0} (by : GoneBy) (code : Coding T) (c : ℕ) (t : Trace T) (s : frame.Sound (family_by by code c) t) where
+  abbrev pub scene_of : ℕ → Party T → ℕ → Scene T
+  scene_of p x since =
+      record {
+        by = by;
+        coding = code;
+        capacity = c;
+        set = s.state;
+        party = p;
+        steps = x.steps;
+        backs = x.backs;
+        since = since;
+        changes = t.world.changes;
+        turns = t.world.turns;
+        latest = t.world.latest;
+        events = t.events;
+      }
+
+  -- the counter has room, as of the words that the state holds
+  room_there : HasRoom by t.world.words → HasRoom by s.state.words
+  room_there room = subst (HasRoom by) (kept_is t.world.kept t.world.words s.state s.fit).1 room
+
+  module _ (p : ℕ) (x : Party T) (since : ℕ) (found : party_of p t.world.latest ≡ Some x) where
+    pub inv_with : HasRoom by t.world.words → Inv (scene_of p x since)
+    inv_with room = record { good = s.holds.good; begun = s.holds.begun p x found; room = room_there room }
+
+    pub has_room : t.world.turns < 2 ^ 64 - 2 → HasRoom by t.world.words
+    has_room small =
+        subst (HasRoom by) (sym (kept_is t.world.kept t.world.words s.state s.fit).1)
+        (room_of_few by c s.state.words s.state.dead t.events t.world.turns s.holds.good (s.holds.begun p x found) small)
+
+    pub inv_of : t.world.turns < 2 ^ 64 - 2 → Inv (scene_of p x since)
+    inv_of small = inv_with (has_room small)
+
+    -- its call stands there by the events
+    pub record IsThere (start : RobustStart) (flight : RobustFlight) : Type 0 where
+      pub here : IsHere (scene_of p x since) start
+      pub at : At c (all (scene_of p x since)) start flight
+      pub steps : x.steps ≤ standing.number_of c flight x.backs
+      pub knows : Knows c flight (now (scene_of p x since))
+
+    pub is_there : (start : RobustStart) (flight : RobustFlight)
+        → StandsThere (family_by by code c) t s p x since (Robust start) (flights.TheVariants.Robust flight)
+        → IsThere start flight
+    is_there start flight h = grind arith
+
+    -- the rows that it has passed
+    pub passes : (flight : RobustFlight) (said : Option Bool)
+        → first_row (going_rows t.world.coding t.world.kept (Some (flights.TheVariants.Robust flight)) said) ≡ None
+        → (acts_for_dead s.state.dead flight ≡ false) × (frees_living s.state.dead flight said ≡ false)
+    passes flight said r =
+        let is = kept_is t.world.kept t.world.words s.state s.fit in
+        let own : first_row (rows.going_rows s.state.dead flight said) ≡ None =
+        subst (λ kept. first_row (rows.kept_going_rows flight kept said) ≡ None) is.0 r in
+        let first = row_passed (acts_for_dead s.state.dead flight) OwnerIsDead (first_row ((frees_living s.state.dead flight said, OwnerLives) ∷ [])) own in
+        let second = row_passed (frees_living s.state.dead flight said) OwnerLives None first.1 in
+        (first.0, second.0)
+
+    -- it may decide so
+    pub decides_by : (b : GoneBy) (flight : RobustFlight) (said : Bool)
+        → first_row (going_rows t.world.coding t.world.kept (Some (flights.TheVariants.Robust flight)) (Some said)) ≡ None
+        → MayDecide b s.state.dead flight said
+    decides_by Death flight said r = (passes flight (Some said) r).1
+    decides_by Word flight said r = tt
+
+    -- ---- a step
+
+    comes : HasRoom by t.world.words → (start : Start T) (flight : Flight T)
+        → first_row (going_rows t.world.coding t.world.kept (Some flight) None) ≡ None
+        → StandsThere (family_by by code c) t s p x since start flight
+        → ComesFrom (family_by by code c) t s p x since code s.state.words (registries.TheVariants.Owners s.state.dead) start flight
+    comes room (Robust start) (flights.TheVariants.Robust flight) r h =
+        let there = is_there start flight h in
+        let moves = step_moves (scene_of p x since) (inv_with room) start flight there.here there.at (passes flight None r).0 there.steps there.knows in
+        record {
+          state = _;
+          fit = (refl, refl);
+          holds = holds_more (scene_of p x since) _ (Open (Robust start) (wrote_of p t.events)) _ _ _ moves s.holds s.inv;
+          owes = owes (scene_of p x since) _ (Open (Robust start) (wrote_of p t.events)) _ _ _ moves s.holds s.inv there.here;
+        }
+    comes room start flight r h = absurd h.at
+
+    pub step_comes : HasRoom by t.world.words → (flight : Flight T)
+        → first_row (going_rows t.world.coding t.world.kept (Some flight) None) ≡ None → x.doing ≡ Going flight since
+        → frame.ComesByStep (family_by by code c) t p x flight since (asked t.world.coding flight) (old_of t.world.words (asked t.world.coding flight))
+    step_comes room flight r doing =
+        let is = kept_is t.world.kept t.world.words s.state s.fit in
+        comes_from (family_by by code c) t s p x since s.state.words (registries.TheVariants.Owners s.state.dead)
+        flight is.1 is.0
+        (comes room x.start flight r (stands_there (family_by by code c) t s p x since flight found doing))
+
+    -- ---- a decision
+
+    abbrev decided : ℕ → List ℕ → Registry T → Start T → Flight T → Step (Flight T) (Registry T) T
+    decided answer words kept start flight =
+        step_of t.world.coding words (beside_of words kept t.world.latest p) p start flight answer kept
+
+    abbrev DecidesFrom : ℕ → List ℕ → Registry T → Start T → Flight T → Type 0
+    DecidesFrom answer words kept start flight =
+        frame.Comes (family_by by code c) t p (decided answer words kept start flight).kept (words_after words None)
+        (party_after (record x { start = start }) since t.world.changes 0 (change_of words None) (decided answer words kept start flight))
+        (events_of_step p start (decided answer words kept start flight))
+        (t.world.changes + change_of words None)
+
+    -- what a call that is one of the set may decide
+    abbrev pub MayDecideIn : Flight T → Bool → Type 0
+    MayDecideIn (flights.TheVariants.Robust flight) said = MayDecide by s.state.dead flight said
+    MayDecideIn flight said = Unit {0}
+
+    decides : HasRoom by t.world.words → (said : Bool) (start : Start T) (flight : Flight T)
+        → MayDecideIn flight said → is_question (want_of t.world.coding flight) ≡ true
+        → StandsThere (family_by by code c) t s p x since start flight
+        → DecidesFrom (number_of said) s.state.words (registries.TheVariants.Owners s.state.dead) start flight
+    decides room said (Robust start) (flights.TheVariants.Robust flight) r asks h =
+        let there = is_there start flight h in
+        let moves = decision_moves (scene_of p x since) (inv_with room) said start flight there.here there.at r asks there.steps there.knows in
+        record {
+          state = _;
+          fit = (refl, refl);
+          holds = holds_more (scene_of p x since) _ (Open (Robust start) (wrote_of p t.events)) _ _ _ moves s.holds s.inv;
+          owes = owes (scene_of p x since) _ (Open (Robust start) (wrote_of p t.events)) _ _ _ moves s.holds s.inv there.here;
+        }
+    decides room said start flight r asks h = absurd h.at
+
+    -- one that passes the machine's rows may
+    pub passes_in : (flight : Flight T) (said : Bool)
+        → first_row (going_rows t.world.coding t.world.kept (Some flight) (Some said)) ≡ None → MayDecideIn flight said
+    passes_in (flights.TheVariants.Robust flight) said r = decides_by by flight said r
+    passes_in flight said r = tt
+
+    pub decision_comes : HasRoom by t.world.words → (flight : Flight T) (said : Bool) → MayDecideIn flight said
+        → is_question (want_of t.world.coding flight) ≡ true
+        → x.doing ≡ Going flight since → frame.ComesByStep (family_by by code c) t p x flight since None (number_of said)
+    decision_comes room flight said r asks doing =
+        let is = kept_is t.world.kept t.world.words s.state s.fit in
+        subst (λ ws. DecidesFrom (number_of said) ws t.world.kept x.start flight) (sym is.1)
+        (subst (λ k. DecidesFrom (number_of said) s.state.words k x.start flight) (sym is.0)
+        (decides room said x.start flight r asks (stands_there (family_by by code c) t s p x since flight found doing)))
+
+  -- ---- a call begins
+
+  module _ (p : ℕ) where
+    begins_now : (start : RobustStart) (flight : RobustFlight)
+        → IsFirst T by c s.state.words t.events p t.world.changes start flight
+        → span_of p (t.events ++ Begun p (Robust start) ∷ []) ≡ Open (Robust start) []
+        → MayBegin t.world p (Robust start)
+        → frame.Comes (family_by by code c) t p t.world.kept t.world.words
+        (party_at_begin (Robust start) (flights.TheVariants.Robust flight) t.world.changes)
+        (Begun p (Robust start) ∷ []) t.world.changes
+    begins_now start flight known span may =
+        let y : Party T = party_at_begin (Robust start) (flights.TheVariants.Robust flight) t.world.changes in
+        let scene = scene_of p y t.world.changes in
+        let does = begins scene s.holds.good start in
+        let shows : Shows scene s.state.words (span_of p t.events) y (Begun p (Robust start) ∷ []) t.world.changes =
+        record {
+          does = does;
+          asks = (tt, tt);
+          stands = (frame.shut (family_by by code c) s.state p (party_of p t.world.latest) (span_of p t.events) may.free (s.inv.calls p), tt);
+          here =
+              record {
+                span = ap (λ es. Open (Robust start) es) (sym (ap wrote_in span));
+                steps = omega arith;
+                at =
+                    at_written c [] (wrote_of p (t.events ++ Begun p (Robust start) ∷ [])) (Robust start)
+                    (flights.TheVariants.Robust flight) (ap wrote_in span) known.at;
+              };
+          knows = known.knows;
+          seen = inl (refl, refl);
+        }
+        in
+        record {
+          state = _;
+          fit = fit_events t.world.kept t.world.words s.state (t.events ++ Begun p (Robust start) ∷ []) s.fit;
+          holds = holds_more scene s.state.words (span_of p t.events) y (Begun p (Robust start) ∷ []) t.world.changes shows s.holds s.inv;
+          owes = owes scene s.state.words (span_of p t.events) y (Begun p (Robust start) ∷ []) t.world.changes shows s.holds s.inv refl;
+        }
+
+    span_begun : (start : RobustStart) → span_of p (t.events ++ Begun p (Robust start) ∷ []) ≡ Open (Robust start) []
+    span_begun start = span_of-own p t.events (Begun p (Robust start) ∷ []) (refl, tt)
+
+    pub begin_comes : (start : Start T) (flight : Flight T) → MayBegin t.world p start → first_of t.world.kind t.world.capacity start t.world.kept ≡ Some flight
+        → frame.Comes (family_by by code c) t p
+        (kept_after_begin t.world.coding t.world.capacity start p t.world.kept) t.world.words
+        (party_at_begin start flight t.world.changes) (Begun p start ∷ []) t.world.changes
+    begin_comes (Robust start) (flights.TheVariants.Robust flight) may e =
+        let is = kept_is t.world.kept t.world.words s.state s.fit in
+        let listed : first_row (kept_rows {T = T} t.world.capacity start (registries.TheVariants.Owners s.state.dead) p) ≡ None =
+        subst (λ kept. first_row (kept_rows {T = T} t.world.capacity start kept p) ≡ None) is.0 may.rows in
+        let passed : first_row (call_rows c s.state.dead start) ≡ None = subst (λ n. first_row (call_rows n s.state.dead start) ≡ None) s.capacity listed in
+        let named : first_of {T = T} kinds.TheVariants.Robust t.world.capacity (Robust start) t.world.kept ≡ Some (flights.TheVariants.Robust flight) = subst
+        (λ kind. first_of {T = T} kind t.world.capacity (Robust start) t.world.kept ≡ Some (flights.TheVariants.Robust flight)) s.kind e in
+        let own : IsOwn T c (Robust start) (flights.TheVariants.Robust flight) =
+        subst (λ n. IsOwn T n (Robust start) (flights.TheVariants.Robust flight)) s.capacity
+        (begins_own T t.world.capacity t.world.kept (Robust start) (flights.TheVariants.Robust flight) named) in
+        let g = s.holds.good in
+        begins_now start flight
+        (subst (λ f. IsFirst T by c s.state.words t.events p t.world.changes start f) own.0
+        (first_is by c s.state.words t.events p t.world.changes g.some g.owned start own.1 s.state.dead passed
+        (ap (λ a. deeds (wrote_in a)) (span_begun start))))
+        (span_begun start) may
+    begin_comes start flight may e =
+        let named : first_of kinds.TheVariants.Robust t.world.capacity start t.world.kept ≡ Some flight =
+        subst (λ kind. first_of kind t.world.capacity start t.world.kept ≡ Some flight) s.kind e in
+        absurd (begins_own T t.world.capacity t.world.kept start flight named)
+
+  -- ---- an owner dies
+
+  fit_death : (kept : Registry T) (words : List ℕ) (state : RobustSet T) (o : ℕ) (events : List (Event T)) → Represents kept words state
+      → Represents (kept_after_death kept o) words (record { words = state.words; dead = dead_with o state.dead; events = events })
+  fit_death (registries.TheVariants.Owners dead) words state o events fit = (fit.0, ap (dead_with o) fit.1)
+  fit_death kept words state o events fit = absurd fit
+
+  lives_by : (kept : Registry T) (words : List ℕ) (state : RobustSet T) (o : ℕ) → Represents kept words state
+      → families.is_dead kept o ≡ false → has_died o state.dead ≡ false
+  lives_by (registries.TheVariants.Owners dead) words state o fit alive = subst (λ d. has_died o d ≡ false) fit.1 alive
+  lives_by kept words state o fit alive = absurd fit
+
+  pub death_comes : (o : ℕ) → MayDie t.world o → frame.ComesByDeath (family_by by code c) t s o
+  death_comes o may =
+      let g = s.holds.good in
+      let alive : is_dead o t.events ≡ false = sym (g.died o) ∙ lives_by t.world.kept t.world.words s.state o s.fit may.lives in
+      record {
+        state = record { words = s.state.words; dead = dead_with o s.state.dead; events = t.events ++ Died o ∷ [] };
+        fit = fit_death t.world.kept t.world.words s.state o (t.events ++ Died o ∷ []) s.fit;
+        holds =
+            record {
+              same = refl;
+              begun = λ p x found. omega arith;
+              good = death_good by c s.state.words s.state.dead t.events t.world.turns o g alive;
+              asks = Each-append (AsksBy by) t.events (Died o ∷ []) s.holds.asks (tt, tt);
+            };
+        calls = λ q start flight at.
+            let wrote : wrote_of q (t.events ++ Died o ∷ []) ≡ wrote_of q s.state.events =
+            ap wrote_in (span_of-death q t.events o) ∙ sym (ap (wrote_of q) s.holds.same) in
+            (at_written c (wrote_of q s.state.events) (wrote_of q (t.events ++ Died o ∷ [])) start flight wrote at, wrote);
+        calls_know =
+            λ q since backs flight h. death_known by c s.state.words s.state.dead t.events t.world.turns o g alive q
+            since t.world.changes backs flight h;
+      }
+
+module _ {T : Type 0} where
+  -- of a machine whose counter has room
+  pub laws_by : (by : GoneBy) (code : Coding T) (c : ℕ) → frame.LawsWhere (family_by by code c) (λ t. HasRoom by t.world.words)
+  laws_by by code c =
+      record {
+        step = λ t p x flight since s room r found doing. step_comes by code c t s p x since found room flight r doing;
+        decision =
+            λ t p x flight since said s room r found doing asks. decision_comes by code c t s p x since found room
+            flight said (passes_in by code c t s p x since found flight said r) asks doing;
+        begin = λ t p start flight s room may e. begin_comes by code c t s p start flight may e;
+        death = λ t o s may. death_comes by code c t s o may;
+      }
+
+  laws : (code : Coding T) (c : ℕ) → frame.Laws (family code c)
+  laws code c =
+      let on = laws_by Death code c in
+      record {
+        step = λ t p x flight since s small r found doing. on.step t p x flight since s (has_room Death code c t s p x since found small) r found doing;
+        decision =
+            λ t p x flight since said s small r found doing asks. on.decision t p x flight since said s
+            (has_room Death code c t s p x since found small) r found doing asks;
+        begin = λ t p start flight s small may e. begin_comes Death code c t s p start flight may e;
+        death = on.death;
+      }
+
+  pub opening_sound : (by : GoneBy) (code : Coding T) (c parties : ℕ) → 1 ≤ c → c < 2 ^ 32
+      → frame.Sound (family_by by code c) (opening code kinds.TheVariants.Robust c parties)
+  opening_sound by code c parties some few =
+      record {
+        coding = refl;
+        kind = refl;
+        capacity = refl;
+        state = record { words = opening_words c; dead = []; events = [] };
+        fit = (refl, refl);
+        holds = record { same = refl; begun = λ p x found. absurd (cc); good = opening_good by c some few; asks = Each-nil _ };
+        inv = record { spans = Each-nil _; calls = λ p. refl; knows = λ p. tt };
+      }
+
+  pub reached_sound : (t : Trace T) → t.world.kind ≡ kinds.TheVariants.Robust → IsReached t → frame.Sound (family t.world.coding t.world.capacity) t
+  reached_sound t is r =
+      let w = t.world in
+      let may = admitted_is w.capacity (subst (λ kind. capacity_error kind w.capacity ≡ None) is r.admitted) in
+      let first = opening_sound Death w.coding w.capacity w.parties may.0 may.1 in
+      frame.reached_sound (family w.coding w.capacity) (laws w.coding w.capacity) t (ap is_loan is)
+      (subst (λ kind. frame.Sound (family w.coding w.capacity) (opening w.coding kind w.capacity w.parties)) (sym is) first)
+      r

@@ -1,0 +1,263 @@
+-- What a step of a call of the robust index set has to show, and how a call goes on or ends.
+use Rattle.std.proofs.Common.{◌≡◌, ◌≢◌, ℕ, ◌+◌, ◌≤◌, ◌==◌, ⊎_elim, inl, inr, if◌then◌else◌, Bool, true, false, Option}
+use Rattle.std.proofs.Common.{Some, None, List, [], ◌∷◌, ◌++◌, get_or, set, fold, refl, sym, ap, subst, ◌∙◌}
+use Rattle.std.proofs.Common.{append-nil, arith, eq-eqb, ne_eqb}
+use Rattle.std.proofs.lemmas.Bool.Decides.{nat_tests}
+use Rattle.std.proofs.lemmas.List.{set-get_or}
+use Rattle.std.proofs.lemmas.List.Concat.{flat_map-append}
+use Rattle.std.proofs.lemmas.List.Sums.{fold-append}
+use Rattle.steps.specs.Ask.{written}
+use Rattle.steps.specs.declared.ask.Ask.{Ask}
+use Rattle.steps.specs.declared.ask.After.{After}
+use Rattle.steps.specs.declared.ask.After.TheVariants.{GoOn, Done}
+use Rattle.steps.specs.declared.ask.Op.TheVariants.{Load, Exchange}
+use Rattle.model.specs.declared.event.Answer.{Answer}
+use Rattle.model.specs.declared.event.Event.{Event}
+use Rattle.model.specs.declared.event.Event.TheVariants.{Finished}
+use Rattle.model.specs.declared.event.Start.TheVariants.{Robust}
+use Rattle.model.specs.declared.families.Flight.{Flight}
+use Rattle.model.specs.declared.families.Flight as flights
+use Rattle.model.specs.declared.families.Registry as registries
+use Rattle.model.specs.declared.families.indices.robust.RobustStart.{RobustStart}
+use Rattle.model.specs.declared.families.indices.robust.calls.RobustFlight.{RobustFlight}
+use Rattle.model.specs.declared.party.Doing.TheVariants.{Over}
+use Rattle.model.specs.declared.party.Party.{Party}
+use Rattle.model.specs.Families.{ask_of}
+use Rattle.model.specs.Families.Indices.Robust.Bounds.{most_steps}
+use Rattle.model.specs.Families.Indices.Robust.Calls.{want, after, goes_back}
+use Rattle.model.specs.Families.Indices.Robust.Promises.{promise}
+use Rattle.model.specs.Families.Indices.Robust.Reading.{Deed, deed, deeds, settled_after, wrote_in, deeds_of}
+use Rattle.model.specs.Families.Indices.Robust.Spans.{HasDone}
+use Rattle.model.specs.Families.Indices.Robust.Steps.{effects}
+use Rattle.model.specs.Promises.Spans.{Stands}
+use Rattle.model.specs.Reading.{Open, own_after, span_of}
+use Rattle.model.specs.Step.{as_call, answer_in}
+use Rattle.model.specs.Turns.{one_if, old_of, words_after, change_of, step_count, number_of, party_after, ending_of}
+use Rattle.model.proofs.Readings.{AreOwn, AllFollow, AreRight, span_of-own}
+use Rattle.model.proofs.Turns.{kept_words}
+use Rattle.laws_robust.specs.Gone.{AsksBy, AnswersBy}
+use Rattle.laws_robust.proofs.Core.{counter_of}
+use Rattle.laws_robust.proofs.Effects.{Stays, quiet_none, quiet_end, quietly}
+use Rattle.laws_robust.proofs.Invariant.{IsWorn, Scene, Inv, Does, Shows, wrote_of, view}
+use Rattle.laws_robust.proofs.Standing as standing
+use Rattle.laws_robust.proofs.Knows.{View, Knows, IsSeen, IsPaid, PaidUnless, Holding}
+use Rattle.laws_robust.proofs.Standing.{At}
+use Rattle.laws_robust.proofs.Rights.{Right, right_after}
+
+-- the words stay, or their changes go up
+pub is_seen : (words : List ℕ) (ask : Option Ask) (changes : ℕ) → IsSeen words (words_after words ask) changes (changes + change_of words ask)
+is_seen words None changes = inl (refl, omega arith)
+is_seen words (Some ask) changes = go (get_or (words_after words (Some ask)) ask.word 0 == get_or words ask.word 0) refl
+  where
+    go : (b : Bool) → (get_or (words_after words (Some ask)) ask.word 0 == get_or words ask.word 0) ≡ b
+        → IsSeen words (words_after words (Some ask)) changes (changes + (if b then 0 else 1))
+    go true t =
+        let same : get_or (words_after words (Some ask)) ask.word 0 ≡ get_or words ask.word 0 = grind (arith, nat_tests) in
+        inl (kept_words words ask.word (written ask.op (get_or words ask.word 0)) same, omega arith)
+    go false t = inr refl
+
+-- ---- the operations that the calls ask for
+
+abbrev pub loads : ℕ → Ask
+loads word = record { word = word; op = Load }
+
+abbrev pub exchanges : ℕ → ℕ → ℕ → Ask
+exchanges word from to = record { word = word; op = Exchange from to }
+
+pub loads_same : (words : List ℕ) (word : ℕ) → words_after words (Some (loads word)) ≡ words
+loads_same words word = set-get_or words word 0
+
+-- an exchange that finds another value changes nothing
+pub fails_same : (words : List ℕ) (word from to : ℕ) → get_or words word 0 ≢ from → words_after words (Some (exchanges word from to)) ≡ words
+fails_same words word from to other =
+    ap (λ b. set words word (if b then to else get_or words word 0)) (ne_eqb (get_or words word 0) from other) ∙ set-get_or words word 0
+
+pub exchange_sets : (words : List ℕ) (word from to : ℕ) → get_or words word 0 ≡ from → words_after words (Some (exchanges word from to)) ≡ set words word to
+exchange_sets words word from to is = ap (λ b. set words word (if b then to else get_or words word 0)) (eq-eqb (get_or words word 0) from is)
+
+module _ {T : Type 0} where
+  -- a call of the kind as one of any
+  abbrev pub any_call : After RobustFlight (Answer T) → After (Flight T) (Answer T)
+  any_call after = as_call flights.TheVariants.Robust (λ answer. answer) after
+
+  -- events that make a span longer
+  abbrev pub Lengthens : List (Event T) → Type 0
+  Lengthens es =
+      (start : RobustStart) (w : List (Event T)) → fold own_after (Open (Robust start) w) es ≡ Open (Robust start) (w ++ es)
+
+  pub none_lengthens : Lengthens []
+  none_lengthens start w = ap (λ es. Open (Robust start) es) (sym (append-nil w))
+
+module _ {T : Type 0} (scene : Scene T) where
+  open scene use {by as by, capacity as c, party as p, steps as steps, backs as backs, since as since, changes as changes, turns as turns, events as events}
+
+  abbrev pub ws : List ℕ
+  ws = scene.set.words
+
+  -- what the call under way has written, and done
+  abbrev pub wrote : List (Event T)
+  wrote = wrote_of p events
+
+  abbrev pub all : List Deed
+  all = deeds_of p events
+
+  -- the party has a call of this name under way
+  abbrev pub IsHere : RobustStart → Type 0
+  IsHere start = span_of p events ≡ Open (Robust start) (wrote_of p events)
+
+  -- ---- a step
+
+  abbrev party : RobustStart → Party T
+  party start = record { start = Robust start; steps = steps; backs = backs; doing = Over 0 }
+
+  abbrev pub party_then : RobustStart → Option Ask → Bool → After RobustFlight (Answer T) → Party T
+  party_then start ask back after =
+      party_after (party start) since changes (step_count ask) (change_of ws ask)
+      (record { after = any_call after; back = back; wrote = []; kept = registries.TheVariants.Owners scene.set.dead })
+
+  abbrev pub since_then : Option Ask → ℕ
+  since_then ask = since + change_of ws ask
+
+  abbrev pub changes_then : Option Ask → ℕ
+  changes_then ask = changes + change_of ws ask
+
+  abbrev pub backs_then : Bool → ℕ
+  backs_then back = backs + one_if back
+
+  -- what the call sees now, and after a step that writes these events
+  abbrev pub now : View T
+  now = view by ws events p since changes backs
+
+  abbrev pub seen : Option Ask → Bool → List (Event T) → View T
+  seen ask back later = view by (words_after ws ask) later p (since_then ask) (changes_then ask) (backs_then back)
+
+  abbrev pub then_sees : Option Ask → Bool → List (Event T) → View T
+  then_sees ask back es = seen ask back (events ++ es)
+
+  -- after a step that writes nothing
+  abbrev pub sees : Option Ask → Bool → View T
+  sees ask back = seen ask back events
+
+  -- a step with this operation that did this, after which the call goes on or is done
+  abbrev pub Leads : RobustStart → Option Ask → Bool → List (Event T) → After RobustFlight (Answer T) → Type 0
+  Leads start ask back did after =
+      Shows scene (words_after ws ask) (Open (Robust start) (wrote_of p events)) (party_then start ask back after)
+      (did ++ ending_of p (Robust start) (answer_in (any_call after))) (changes + change_of ws ask)
+
+  -- the step of a call that is handed this answer
+  abbrev pub AnswerOf : RobustStart → RobustFlight → Option Ask → ℕ → Type 0
+  AnswerOf start flight ask answer =
+      Leads start ask (goes_back flight answer) (effects p flight answer) (after flight answer)
+
+  abbrev pub StepOf : RobustStart → RobustFlight → Type 0
+  StepOf start flight = AnswerOf start flight (ask_of (want flight)) (old_of ws (ask_of (want flight)))
+
+  abbrev pub DecisionOf : RobustStart → RobustFlight → Bool → Type 0
+  DecisionOf start flight said = AnswerOf start flight None (number_of said)
+
+  -- ---- what a step leaves of what the call knows of the counts
+
+  pub paid_of : (P : Type 0) → PaidUnless P now → IsPaid now
+  paid_of P h = ⊎_elim (λ k. k.1) (λ k. omega arith) h
+
+  pub paid_then : (ask : Option Ask) (later : List (Event T)) → IsPaid now → IsPaid (seen ask false later)
+  paid_then ask later h = omega arith
+
+  -- a number that the counter does not have any more pays for a turn back
+  pub paid_back : (number : ℕ) (ask : Option Ask) (later : List (Event T)) → counter_of ws ≢ number → Holding number now → IsPaid (seen ask true later)
+  paid_back number ask later other h = ⊎_elim (λ k. absurd (other k.0)) (λ k. omega arith) h.paid
+
+  -- a step that leaves the counter leaves what is known of it
+  pub holds_on : (number : ℕ) (ask : Option Ask) (later : List (Event T))
+      → counter_of (words_after ws ask) ≡ counter_of ws → Holding number now → Holding number (seen ask false later)
+  holds_on number ask later same h = grind arith
+
+  -- ---- what the party has written
+
+  module _ (start : RobustStart) (here : IsHere start) (es : List (Event T)) (own : AreOwn p es) (longer : Lengthens es) where
+    wrote_more : wrote_of p (events ++ es) ≡ wrote_of p events ++ es
+    wrote_more = ap wrote_in (span_of-own p events es own ∙ (ap (λ s. fold own_after s es) here ∙ longer start (wrote_of p events)))
+
+    pub deeds_more : deeds_of p (events ++ es) ≡ deeds_of p events ++ deeds es
+    deeds_more = ap deeds wrote_more ∙ flat_map-append deed (wrote_of p events) es
+
+  -- ---- the call goes on, or is done
+
+  pub goes_on :
+      (start : RobustStart) (flight : RobustFlight) (ask : Option Ask) (back : Bool) (did : List (Event T)) → IsHere start → Lengthens (did ++ [])
+      → Does scene (words_after ws ask) (did ++ [])
+      → AllFollow (Stands promise c) (Open (Robust start) (wrote_of p events)) (did ++ [])
+      → AreRight (AsksBy by) events (did ++ [])
+      → steps + step_count ask ≤ standing.number_of c flight (backs_then back)
+      → At c (deeds_of p events ++ deeds (did ++ [])) start flight
+      → Knows c flight (then_sees ask back (did ++ []))
+      → Leads start ask back did (GoOn flight)
+  goes_on start flight ask back did here longer does stands asks few at known =
+      record {
+        does = does;
+        stands = stands;
+        asks = asks;
+        here =
+            record {
+              span = longer start (wrote_of p events) ∙ ap (λ es. Open (Robust start) es) (sym (wrote_more start here (did ++ []) does.own longer));
+              steps = few;
+              at = subst (λ d. At c d start flight) (sym (deeds_more start here (did ++ []) does.own longer)) at;
+            };
+        knows = known;
+        seen = is_seen ws ask changes;
+      }
+
+  pub ends :
+      (start : RobustStart) (answer : Answer T) (ask : Option Ask) (back : Bool) (did : List (Event T)) → IsHere start → Lengthens did
+      → Does scene (words_after ws ask) (did ++ Finished p (Robust start) answer ∷ [])
+      → AllFollow (Stands promise c) (Open (Robust start) (wrote_of p events)) (did ++ Finished p (Robust start) answer ∷ [])
+      → AreRight (AsksBy by) events (did ++ Finished p (Robust start) answer ∷ [])
+      → steps + step_count ask ≤ most_steps c start (backs_then back)
+      → IsPaid (then_sees ask back (did ++ Finished p (Robust start) answer ∷ []))
+      → Leads start ask back did (Done answer)
+  ends start answer ask back did here longer does stands asks few paid =
+      record {
+        does = does;
+        stands = stands;
+        asks = asks;
+        here =
+            record {
+              answer = answer;
+              wrote = wrote_of p events ++ did;
+              span =
+                  fold-append own_after (Open (Robust start) (wrote_of p events)) did (Finished p (Robust start) answer ∷ [])
+                  ∙ ap (λ s. own_after s (Finished p (Robust start) answer)) (longer start (wrote_of p events));
+              steps = few;
+            };
+        knows = omega arith;
+        seen = is_seen ws ask changes;
+      }
+
+  -- ---- the same of a step that writes nothing but an end, and leaves the cells
+
+  module _ (inv : Inv scene) where
+    pub goes_quietly :
+        (start : RobustStart) (flight : RobustFlight) (ask : Option Ask) (back : Bool) → IsHere start → Stays scene (words_after ws ask)
+        → steps + step_count ask ≤ standing.number_of c flight (backs_then back)
+        → At c (deeds_of p events) start flight
+        → Knows c flight (view by (words_after ws ask) events p (since_then ask) (changes_then ask) (backs_then back))
+        → Leads start ask back [] (GoOn flight)
+    goes_quietly start flight ask back here stays few at known =
+        goes_on start flight ask back [] here none_lengthens (quietly scene inv (words_after ws ask) [] stays.leaves quiet_none tt tt tt) tt tt few
+        (subst (λ d. At c d start flight) (sym (append-nil (deeds_of p events))) at)
+        (subst (λ es. Knows c flight (view by (words_after ws ask) es p (since_then ask) (changes_then ask) (backs_then back))) (sym (append-nil events)) known)
+
+    pub ends_quietly :
+        (start : RobustStart) (answer : Answer T) (ask : Option Ask) (back : Bool) → IsHere start → Stays scene (words_after ws ask)
+        → ((i : ℕ) (o : Option ℕ) → settled_after i o (Finished p (Robust start) answer) ≡ o)
+        → ((i : ℕ) (r : Right) → right_after i r (Finished p (Robust start) answer) ≡ r)
+        → AnswersBy by (IsWorn by (words_after ws ask)) c events (Finished p (Robust start) answer)
+        → HasDone start answer (deeds_of p events)
+        → steps + step_count ask ≤ most_steps c start (backs_then back)
+        → IsPaid (then_sees ask back (Finished p (Robust start) answer ∷ []))
+        → Leads start ask back [] (Done answer)
+    ends_quietly start answer ask back here stays settles rights right done few paid =
+        ends start answer ask back [] here none_lengthens
+        (quietly scene inv (words_after ws ask) (Finished p (Robust start) answer ∷ []) stays.leaves
+        (quiet_end p start answer settles rights) (refl, tt) (tt, tt) (right, tt))
+        ((refl, done), tt) (tt, tt) few paid

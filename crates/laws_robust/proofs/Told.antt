@@ -1,0 +1,283 @@
+-- What a decision comes to: a no ends a find at the index that it asked about, and a yes tells a recovery to free the index
+-- that it asked about. No other turn tells it.
+use Rattle.std.proofs.Common.{◌≡◌, ◌≢◌, ℕ, Bool, true, false, Option, Some, None, is_none, List, [], ◌∷◌, ◌++◌, refl, sym, ap, subst, ◌∙◌, arith}
+use Rattle.std.specs.List.{AllByRecursion}
+use Rattle.steps.specs.declared.ask.Want.{Want}
+use Rattle.steps.specs.declared.indices.enums.ReleaseMode.{ReleaseMode}
+use Rattle.steps.specs.declared.indices.robust.parts.Count.{Count}
+use Rattle.steps.specs.declared.indices.robust.parts.Lock.{Lock}
+use Rattle.steps.specs.declared.indices.robust.parts.Lock as locks
+use Rattle.steps.specs.declared.indices.robust.parts.Raise.{Raise}
+use Rattle.steps.specs.declared.indices.robust.parts.Raise as raises
+use Rattle.steps.specs.declared.indices.robust.recover.RecoverStage.{RecoverStage}
+use Rattle.steps.specs.declared.indices.robust.recover.RecoverStage as recovers
+use Rattle.steps.specs.Indices.Robust.Parts.{raise_want, count_want, lock_want}
+use Rattle.model.specs.declared.event.Answer.{Answer}
+use Rattle.model.specs.declared.event.Event.{Event}
+use Rattle.model.specs.declared.event.Start.{Start}
+use Rattle.model.specs.declared.event.Start.TheVariants.{Robust}
+use Rattle.model.specs.declared.families.Flight.{Flight}
+use Rattle.model.specs.declared.families.Flight as flights
+use Rattle.model.specs.declared.families.Registry.{Registry}
+use Rattle.model.specs.declared.families.Registry as registries
+use Rattle.model.specs.declared.families.indices.robust.RobustStart.{RobustStart}
+use Rattle.model.specs.declared.families.indices.robust.RobustStart as starts
+use Rattle.model.specs.declared.families.indices.robust.calls.RobustFlight.{RobustFlight}
+use Rattle.model.specs.declared.families.indices.robust.calls.RobustFlight as calls
+use Rattle.model.specs.declared.party.Doing.{Doing}
+use Rattle.model.specs.declared.party.Doing.TheVariants.{Going, Over}
+use Rattle.model.specs.declared.party.Party.{Party}
+use Rattle.model.specs.declared.turn.Refusal.TheVariants.{Idle, Undecided}
+use Rattle.model.specs.declared.turn.Turn.{Turn}
+use Rattle.model.specs.declared.turn.Turn.TheVariants.{Begin, Next, Decide, Die}
+use Rattle.model.specs.Coding.{Coding}
+use Rattle.model.specs.Families.{want_of, ask_of, is_question, beside_of, step_of}
+use Rattle.model.specs.Families.Indices.Robust.Calls.{want, after}
+use Rattle.model.specs.Families.Indices.Robust.Promises.{owned_by, owned_of, IsIn, IsStopped, FindsUpTo, ToldRight, TellsOnce, IsTold, YesTells}
+use Rattle.model.specs.Families.Indices.Robust.Steps.{effects}
+use Rattle.model.specs.Parties.{party_of, doing_of, flight_of}
+use Rattle.model.specs.Refusals.{refusal_of, is_due, call_refusal}
+use Rattle.model.specs.Shape.{IsOpenFor}
+use Rattle.model.specs.Step.{answer_in}
+use Rattle.model.specs.Turns.{old_of, number_of, ask_of_doing, events_of_step, events_of_answer, events_of_next}
+use Rattle.model.specs.Turns.{events_of_decision, events_of, ending_of, after_turn}
+use Rattle.model.specs.World.{Trace, flight_in}
+use Rattle.model.proofs.Frame as frame
+use Rattle.model.proofs.Rows.{row_passed, passes, must_be_due}
+use Rattle.model.proofs.Scenes.{StandsThere, stands_there}
+use Rattle.laws_robust.proofs.Invariant.{family}
+use Rattle.laws_robust.proofs.Knows.{Knows}
+use Rattle.laws_robust.specs.Gone.{Death}
+use Rattle.laws_robust.proofs.Sound.{kept_is, scene_of, is_there}
+use Rattle.laws_robust.proofs.Stages.{all, now, any_call}
+use Rattle.laws_robust.proofs.Standing.{recover_at, At}
+use Rattle.laws_robust.proofs.Written.{effects_hold}
+
+-- only a question asks about an index of an owner
+asks_owned : (w : Want (Unit {0})) (index owner : ℕ) → owned_by w ≡ Some (index, owner) → is_question w ≡ true
+asks_owned w index owner e = grind arith
+
+-- neither a raise nor a lock asks about any
+raise_asks_none : (raise : Raise) → is_question (raise_want raise) ≡ true → ⊥
+raise_asks_none raises.TheVariants.LoadsCounter e = absurd (cc)
+raise_asks_none (raises.TheVariants.ExchangesCounter counter) e = absurd (cc)
+
+count_asks_none : (count : Count) → is_question (count_want count) ≡ true → ⊥
+count_asks_none count e = grind arith
+
+lock_asks_none : (lock : Lock) → is_question (lock_want lock) ≡ true → ⊥
+lock_asks_none (locks.TheVariants.Counts count) e = count_asks_none count e
+lock_asks_none (locks.TheVariants.ExchangesCounter counter) e = absurd (cc)
+
+module _ {T : Type 0} where
+  robust_is : (a b : RobustStart) → ◌≡◌ {A = Start T} (Robust a) (Robust b) → a ≡ b
+  robust_is a b e = cc
+
+  pub joined : (P : Event T → Type 0) (xs ys : List (Event T)) → AllByRecursion P xs → AllByRecursion P ys → AllByRecursion P (xs ++ ys)
+  joined P [] ys h r = r
+  joined P (x ∷ xs) ys h r = (h.0, joined P xs ys h.1 r)
+
+module _ {T : Type 0} (code : Coding T) (c : ℕ) (t : Trace T) (s : frame.Sound (family code c) t) where
+  -- what the step of a call of this name writes that is handed this answer, where this is kept
+  abbrev writes : ℕ → ℕ → Registry T → Start T → Flight T → List (Event T)
+  writes p answer kept start flight =
+      events_of_step p start (step_of t.world.coding t.world.words (beside_of t.world.words kept t.world.latest p) p start flight answer kept)
+
+  abbrev own : Registry T
+  own = registries.TheVariants.Owners s.state.dead
+
+  same_kept : t.world.kept ≡ own
+  same_kept = (kept_is t.world.kept t.world.words s.state s.fit).0
+
+  -- ---- a decision
+
+  -- a call of this name waits for one, and writes this once it has come
+  pub record IsDecided (p : ℕ) (said : Bool) (start : RobustStart) : Type 0 where
+    pub party : Party T
+    pub since : ℕ
+    pub flight : RobustFlight
+    pub here : flight_in t.world p ≡ Some (flights.TheVariants.Robust flight)
+    pub due : is_question (want flight) ≡ true
+    pub at : At c (all (scene_of Death code c t s p party since)) start flight
+    pub knows : Knows c flight (now (scene_of Death code c t s p party since))
+    pub wrote : events_of t.world (Decide p said)
+        ≡ effects p flight (number_of said) ++ ending_of p (Robust start) (answer_in (any_call (after {T = T} flight (number_of said))))
+
+  module _ (p : ℕ) (said : Bool) (start : RobustStart) (x : Party T) (found : party_of p t.world.latest ≡ Some x) where
+    by_names : (since : ℕ) (a : Start T) (flight : Flight T) → StandsThere (family code c) t s p x since a flight
+        → a ≡ Robust start → is_question (want_of t.world.coding flight) ≡ true
+        → events_of t.world (Decide p said) ≡ writes p (number_of said) own a flight → IsDecided p said start
+    by_names since (Robust a) (flights.TheVariants.Robust flight) h name due e =
+        let there = is_there Death code c t s p x since found a flight h in
+        let same = robust_is a start name in
+        record {
+          party = x;
+          since = since;
+          flight = flight;
+          here = h.found;
+          due = due;
+          at = subst (λ b. At c (all (scene_of Death code c t s p x since)) b flight) same there.at;
+          knows = there.knows;
+          wrote =
+              subst (λ b. events_of t.world (Decide p said)
+              ≡ effects p flight (number_of said) ++ ending_of p (Robust b) (answer_in (any_call (after {T = T} flight (number_of said)))))
+              same e;
+        }
+    by_names since a flight h name due e = absurd h.at
+
+    by_doing : (doing : Doing T) → x.doing ≡ doing → IsIn p (Robust start) t → is_due t.world.coding (flight_of (Some doing)) ≡ true → IsDecided p said start
+    by_doing (Over others) d under_way due = absurd (cc)
+    by_doing (Going flight since) d under_way due =
+        let there = stands_there (family code c) t s p x since flight found d in
+        let name = (subst (IsOpenFor (Robust start) (λ wrote. Unit {0})) there.span under_way).0 in
+        let wrote : events_of t.world (Decide p said) ≡ writes p (number_of said) own x.start flight =
+        ap (events_of_decision t.world p said) found
+        ∙ (ap (events_of_answer t.world p x (number_of said)) d ∙ ap (λ kept. writes p (number_of said) kept x.start flight) same_kept)
+        in
+        by_names since x.start flight there name due wrote
+
+  pub decided : (p : ℕ) (said : Bool) (start : RobustStart) → refusal_of t.world (Decide p said) ≡ None → IsIn p (Robust start) t → IsDecided p said start
+  decided p said start r under_way = go (party_of p t.world.latest) refl
+    where
+      passed : is_due t.world.coding (flight_in t.world p) ≡ true
+      passed = frame.is_true (is_due t.world.coding (flight_in t.world p)) (must_be_due t.world p said (passes t.world (Decide p said) r).on)
+
+      go : (o : Option (Party T)) → party_of p t.world.latest ≡ o → IsDecided p said start
+      go None found =
+          let due : is_due t.world.coding (flight_of (doing_of None)) ≡ true =
+          subst (λ o. is_due t.world.coding (flight_of (doing_of o)) ≡ true) found passed in
+          absurd (cc)
+      go (Some x) found =
+          by_doing p said start x found x.doing refl under_way
+          (subst (λ o. is_due t.world.coding (flight_of (doing_of o)) ≡ true) found passed)
+
+  -- ---- a no ends a find
+
+  module _ (p owner : ℕ) where
+    -- by where its call stands
+    abbrev Stops : Party T → ℕ → RobustFlight → Type 0
+    Stops x since flight =
+        flight_in t.world p ≡ Some (flights.TheVariants.Robust flight) → is_question (want flight) ≡ true
+        → Knows c flight (now (scene_of Death code c t s p x since))
+        → events_of t.world (Decide p false)
+        ≡ effects p flight 0 ++ ending_of p (Robust (starts.TheVariants.Find owner)) (answer_in (any_call (after {T = T} flight 0)))
+        → IsStopped p owner t (after_turn t (Decide p false))
+
+    find_stops : (x : Party T) (since : ℕ) (flight : RobustFlight)
+        → At c (all (scene_of Death code c t s p x since)) (starts.TheVariants.Find owner) flight → Stops x since flight
+    find_stops x since flight at = grind arith
+
+  pub finds_up_to : (turn : Turn T) → refusal_of t.world turn ≡ None → FindsUpTo t turn (after_turn t turn)
+  finds_up_to turn r p owner is under_way =
+      let h = decided p false (starts.TheVariants.Find owner) (subst (λ u. refusal_of t.world u ≡ None) is r) under_way in
+      subst (λ u. IsStopped p owner t (after_turn t u)) (sym is) (find_stops p owner h.party h.since h.flight h.at h.here h.due h.knows h.wrote)
+
+  -- ---- a yes tells a recovery
+
+  module _ (p : ℕ) (mode : ReleaseMode) where
+    abbrev Hears : RobustFlight → Type 0
+    Hears flight =
+        is_question (want flight) ≡ true
+        → events_of t.world (Decide p true)
+        ≡ effects p flight 1 ++ ending_of p (Robust (starts.TheVariants.Recover mode)) (answer_in (any_call (after {T = T} flight 1)))
+        → IsTold p t (after_turn t (Decide p true))
+
+    stage_hears : (capacity : ℕ) (given : ReleaseMode) (stage : RecoverStage) → Hears (recover_at capacity given stage)
+    stage_hears capacity given recovers.TheVariants.LoadsCounter due e = absurd (cc)
+    stage_hears capacity given (recovers.TheVariants.LoadsCell index) due e = absurd (cc)
+    stage_hears capacity given (recovers.TheVariants.Asks index owner) due e = record { index = index; owner = owner; is = ap (λ es. t.events ++ es) e }
+    stage_hears capacity given (recovers.TheVariants.EmptiesCell index owner) due e = absurd (cc)
+    stage_hears capacity given (recovers.TheVariants.Raises index raise) due e = absurd (raise_asks_none raise due)
+    stage_hears capacity given (recovers.TheVariants.Locks index lock) due e = absurd (lock_asks_none lock due)
+    stage_hears capacity given recovers.TheVariants.LoadsCounterAgain due e = absurd (cc)
+
+    recovery_hears : (x : Party T) (since : ℕ) (flight : RobustFlight)
+        → At c (all (scene_of Death code c t s p x since)) (starts.TheVariants.Recover mode) flight → Hears flight
+    recovery_hears x since (calls.TheVariants.Recover run) at = stage_hears run.call.capacity run.given run.call.stage
+    recovery_hears x since flight at = absurd at
+
+  pub yes_tells : (turn : Turn T) → refusal_of t.world turn ≡ None → YesTells t turn (after_turn t turn)
+  yes_tells turn r p mode is under_way =
+      let h = decided p true (starts.TheVariants.Recover mode) (subst (λ u. refusal_of t.world u ≡ None) is r) under_way in
+      subst (λ u. IsTold p t (after_turn t u)) (sym is) (recovery_hears p mode h.party h.since h.flight h.at h.due h.wrote)
+
+  -- ---- no other turn tells it
+
+  module _ (turn : Turn T) (q answer : ℕ) where
+    abbrev Right : List (Event T) → Type 0
+    Right es = AllByRecursion (ToldRight t turn) es
+
+    -- it is told by a yes, if at all
+    abbrev ByYes : Flight T → Type 0
+    ByYes flight = is_question (want_of t.world.coding flight) ≡ true → answer ≢ 0 → turn ≡ Decide q true
+
+    end_right : (start : Start T) (outcome : Option (Answer T)) → Right (ending_of q start outcome)
+    end_right start None = tt
+    end_right start (Some answer) = (tt, tt)
+
+    step_right : (start : Start T) (flight : Flight T) → (family code c).At s.state q start flight
+        → flight_in t.world q ≡ Some flight → ByYes flight → Right (writes q answer own start flight)
+    step_right (Robust start) (flights.TheVariants.Robust flight) at here by =
+        joined (ToldRight t turn) (effects q flight answer) _
+        (effects_hold (ToldRight t turn) q
+        (record {
+          filled = λ index owner. tt;
+          granted_to = λ index owner. tt;
+          freed_of = λ index owner. tt;
+          asked = λ index owner. tt;
+          locked = tt;
+        })
+        flight
+        answer
+        (λ index owner is some. (by (asks_owned (want flight) index owner is) some, ap (owned_of t.world.coding) here ∙ is)))
+        (end_right (Robust start) (answer_in (any_call (after {T = T} flight answer))))
+    step_right start flight at here by = absurd at
+
+    flight_right : (x : Party T) (since : ℕ) (flight : Flight T) → party_of q t.world.latest ≡ Some x
+        → x.doing ≡ Going flight since → ByYes flight → Right (writes q answer t.world.kept x.start flight)
+    flight_right x since flight found d by =
+        let there = stands_there (family code c) t s q x since flight found d in
+        subst (λ kept. Right (writes q answer kept x.start flight)) (sym same_kept) (step_right x.start flight there.at there.found by)
+
+  next_right : (q : ℕ) → is_due t.world.coding (flight_in t.world q) ≡ false → (o : Option (Party T))
+      → party_of q t.world.latest ≡ o → AllByRecursion (ToldRight t (Next q)) (events_of_next t.world q o)
+  next_right q free None found = tt
+  next_right q free (Some x) found = go x.doing refl
+    where
+      go : (doing : Doing T) → x.doing ≡ doing
+          → AllByRecursion (ToldRight t (Next q))
+          (events_of_answer t.world q x (old_of t.world.words (ask_of_doing t.world.coding doing)) doing)
+      go (Over others) d = tt
+      go (Going flight since) d =
+          let here : flight_in t.world q ≡ Some flight = ap (λ o. flight_of (doing_of o)) found ∙ ap (λ d. flight_of (Some d)) d in
+          let asks : is_question (want_of t.world.coding flight) ≡ false = rw here at free in
+          flight_right (Next q) q (old_of t.world.words (ask_of (want_of t.world.coding flight))) x since flight found d (λ due some. absurd (cc))
+
+  decision_right : (q : ℕ) (said : Bool) (o : Option (Party T)) → party_of q t.world.latest ≡ o
+      → AllByRecursion (ToldRight t (Decide q said)) (events_of_decision t.world q said o)
+  decision_right q said None found = tt
+  decision_right q said (Some x) found = go x.doing refl
+    where
+      by : (b : Bool) → number_of b ≢ 0 → ◌≡◌ {A = Turn T} (Decide q b) (Decide q true)
+      by true some = refl
+      by false some = absurd (some refl)
+
+      go : (doing : Doing T) → x.doing ≡ doing → AllByRecursion (ToldRight t (Decide q said)) (events_of_answer t.world q x (number_of said) doing)
+      go (Over others) d = tt
+      go (Going flight since) d = flight_right (Decide q said) q (number_of said) x since flight found d (λ due some. by said some)
+
+  -- no decision is due in a step
+  not_due : (q : ℕ) → call_refusal t.world (Next q) ≡ None → is_due t.world.coding (flight_in t.world q) ≡ false
+  not_due q e =
+      let c = row_passed (is_none (flight_in t.world q)) Idle _ e in
+      let d = row_passed (is_due t.world.coding (flight_in t.world q)) Undecided _ c.1 in
+      d.0
+
+  all_told : (turn : Turn T) → refusal_of t.world turn ≡ None → AllByRecursion (ToldRight t turn) (events_of t.world turn)
+  all_told (Begin q start) r = (tt, tt)
+  all_told (Next q) r = next_right q (not_due q (passes t.world (Next q) r).on) (party_of q t.world.latest) refl
+  all_told (Decide q said) r = decision_right q said (party_of q t.world.latest) refl
+  all_told (Die owner) r = (tt, tt)
+
+  pub tells_once : (turn : Turn T) → refusal_of t.world turn ≡ None → TellsOnce t turn (after_turn t turn)
+  tells_once turn r = record { wrote = events_of t.world turn; is = refl; told = all_told turn r }

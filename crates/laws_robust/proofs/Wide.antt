@@ -1,0 +1,57 @@
+-- No turn changes how many words a machine has, so one of the robust set has its counter and a cell an index.
+use Rattle.std.proofs.Common.{◌≡◌, ℕ, ◌+◌, Bool, Option, Some, None, List, length, refl, sym, subst, ◌∙◌, arith}
+use Rattle.std.proofs.lemmas.List.{length-set, length-replicate}
+use Rattle.steps.specs.Indices.Robust.Parts.{empty}
+use Rattle.steps.specs.declared.ask.Ask.{Ask}
+use Rattle.model.specs.declared.event.Start.{Start}
+use Rattle.model.specs.declared.families.Flight.{Flight}
+use Rattle.model.specs.declared.party.Doing.{Doing}
+use Rattle.model.specs.declared.party.Doing.TheVariants.{Going, Over}
+use Rattle.model.specs.declared.party.Party.{Party}
+use Rattle.model.specs.declared.turn.Kind as kinds
+use Rattle.model.specs.declared.turn.Turn.{Turn}
+use Rattle.model.specs.declared.turn.Turn.TheVariants.{Begin, Next, Decide, Die}
+use Rattle.model.specs.Families.{first_of}
+use Rattle.model.specs.Families.Indices.Robust.Opening.{opening_words}
+use Rattle.model.specs.Parties.{party_of}
+use Rattle.model.specs.Turns.{old_of, words_after, number_of, ask_of_doing, after_begin, after_answer, after_next, after_decision, world_after}
+use Rattle.model.specs.World.{World, Trace, opening}
+use Rattle.laws_robust.specs.Open.{IsReachedOpen}
+use Rattle.laws_robust.proofs.OpenTurns.{reached_keeps}
+
+words_wide : (words : List ℕ) (ask : Option Ask) → length (words_after words ask) ≡ length words
+words_wide words None = refl
+words_wide words (Some ask) = length-set words ask.word _
+
+opening_wide : (c : ℕ) → length (opening_words c) ≡ c + 1
+opening_wide c = let long = length-replicate {A = ℕ} c empty in omega arith
+
+module _ {T : Type 0} where
+  answer_wide : (w : World T) (p : ℕ) (x : Party T) (ask : Option Ask) (answer : ℕ) (doing : Doing T)
+      → length (after_answer w p x ask answer doing).words ≡ length w.words
+  answer_wide w p x ask answer (Over others) = refl
+  answer_wide w p x ask answer (Going flight since) = words_wide w.words ask
+
+  begin_wide : (w : World T) (p : ℕ) (start : Start T) (o : Option (Flight T)) → length (after_begin w p start o).words ≡ length w.words
+  begin_wide w p start None = refl
+  begin_wide w p start (Some flight) = refl
+
+  next_wide : (w : World T) (p : ℕ) (o : Option (Party T)) → length (after_next w p o).words ≡ length w.words
+  next_wide w p None = refl
+  next_wide w p (Some x) = answer_wide w p x (ask_of_doing w.coding x.doing) (old_of w.words (ask_of_doing w.coding x.doing)) x.doing
+
+  decision_wide : (w : World T) (p : ℕ) (said : Bool) (o : Option (Party T)) → length (after_decision w p said o).words ≡ length w.words
+  decision_wide w p said None = refl
+  decision_wide w p said (Some x) = answer_wide w p x None (number_of said) x.doing
+
+  turn_wide : (w : World T) (turn : Turn T) → length (world_after w turn).words ≡ length w.words
+  turn_wide w (Begin p start) = begin_wide w p start (first_of w.kind w.capacity start w.kept)
+  turn_wide w (Next p) = next_wide w p (party_of p w.latest)
+  turn_wide w (Decide p said) = decision_wide w p said (party_of p w.latest)
+  turn_wide w (Die owner) = refl
+
+  pub reached_open_wide : (t : Trace T) → t.world.kind ≡ kinds.TheVariants.Robust → IsReachedOpen t → length t.world.words ≡ t.world.capacity + 1
+  reached_open_wide t is r =
+      let w = t.world in
+      reached_keeps (λ u. length u.world.words ≡ w.capacity + 1) (λ u turn e h. turn_wide u.world turn ∙ h) t r
+      (subst (λ kind. length (opening w.coding kind w.capacity w.parties).world.words ≡ w.capacity + 1) (sym is) (opening_wide w.capacity))

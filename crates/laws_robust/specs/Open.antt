@@ -1,0 +1,67 @@
+-- Runs of a robust index set, or of a container, where nobody sees an owner die, as between threads: no owner dies, and
+-- neither a yes of a recovery nor the begin of a container's is refused; and neither turns nor parties have a bound. And
+-- what holds of a robust index set that such a run leads to.
+use Rattle.std.specs.Prelude.{◌≡◌, ℕ, ◌<◌, ◌==◌, Bool, true, false, not, Option, None, is_some, is_none, List, [], ◌∷◌, slice_index}
+use Rattle.steps.specs.Indices.Robust.Parts.{cell_word, locked, greatest}
+use Rattle.model.specs.declared.event.Start.TheVariants.{Container}
+use Rattle.model.specs.declared.families.container.ContainerStart.TheVariants.{Recover}
+use Rattle.model.specs.declared.turn.Turn.{Turn}
+use Rattle.model.specs.declared.turn.Turn.TheVariants.{Begin, Decide, Die}
+use Rattle.model.specs.declared.turn.Refusal.{Refusal}
+use Rattle.model.specs.declared.turn.Refusal.TheVariants.{WrongCall, Busy, Idle, Undecided}
+use Rattle.model.specs.Coding.{IsCoding}
+use Rattle.model.specs.Families.{first_of}
+use Rattle.model.specs.Families.Indices.Reading.{is_locked}
+use Rattle.model.specs.Families.Indices.Robust.Promises.{cell_of, SetDoes, IsWellFormed, HoldsRight, KeepsDead}
+use Rattle.model.specs.Families.Indices.Robust.Reading.{filled_of, is_dead}
+use Rattle.model.specs.Reading.{Each}
+use Rattle.model.specs.Refusals.{is_due, call_rows}
+use Rattle.model.specs.Rows.{first_row}
+use Rattle.model.specs.Turns.{after_turn, unless_refused}
+use Rattle.model.specs.World.{World, Trace, opening, capacity_error, flight_in}
+use Rattle.laws_robust.specs.Gone.{Word, IsHonest, AsksBy, AnswersBy}
+
+module _ {T : Type 0} where
+  -- what is tested of a turn, in order
+  abbrev pub open_rows : World T → Turn T → List (Bool × Refusal)
+  open_rows w (Decide p said) =
+      (is_none (flight_in w p), Idle)
+      ∷ (not (is_due w.coding (flight_in w p)), Undecided)
+      ∷ []
+  open_rows w (Die owner) = (true, WrongCall) ∷ []
+  open_rows w (Begin p (Container (Recover owner mode))) =
+      (is_some (flight_in w p), Busy)
+      ∷ (is_none (first_of w.kind w.capacity (Container (Recover owner mode)) w.kept), WrongCall)
+      ∷ []
+  open_rows w turn = call_rows w turn
+
+  abbrev pub open_refusal : World T → Turn T → Option Refusal
+  open_refusal w turn = first_row (open_rows w turn)
+
+  abbrev pub attempt_open : Trace T → Turn T → Trace T
+  attempt_open t turn = unless_refused t (after_turn t turn) (open_refusal t.world turn)
+
+  abbrev pub run_open : List (Turn T) → Trace T → Trace T
+  run_open [] t = t
+  run_open (turn ∷ turns) t = run_open turns (attempt_open t turn)
+
+  -- such a run leads here from the opening
+  pub record IsReachedOpen (t : Trace T) : Type 0 where
+    pub coded : IsCoding t.world.coding
+    pub admitted : capacity_error t.world.kind t.world.capacity ≡ None
+    pub turns : List (Turn T)
+    pub is : t
+        ≡ run_open turns (opening t.world.coding t.world.kind t.world.capacity t.world.parties)
+
+  -- what its cells hold and whether it is locked, by its events; what each event says; and who holds an index, in a run
+  -- that is well-formed and honest
+  pub record IsOpenSet (t : Trace T) : Type 0 where
+    pub does : Each (SetDoes t.world.capacity) t.events
+    pub asks : Each (AsksBy Word) t.events
+    pub answers : Each (AnswersBy Word (slice_index t.world.words 0 ≡ greatest) t.world.capacity) t.events
+    pub holds : IsWellFormed t.events → IsHonest t.events → Each HoldsRight t.events
+    pub cells : (index : ℕ) → index < t.world.capacity
+        → slice_index t.world.words (cell_word index) ≡ cell_of (filled_of index t.events)
+    pub lock : (slice_index t.world.words 0 == locked) ≡ is_locked t.events
+    pub lives : (owner : ℕ) → is_dead owner t.events ≡ false
+    pub dead : KeepsDead t.world.kept t.events

@@ -1,0 +1,128 @@
+-- A call of the robust set puts no question again once it has an answer.
+use Rattle.std.proofs.Common.{◌≡◌, ℕ, ◌+◌, ◌==◌, nat_lt, Bool, true, false, Option, Some, None, refl, sym, ap, subst, ◌∙◌, if◌then◌else◌}
+use Rattle.steps.specs.declared.ask.After.{After}
+use Rattle.steps.specs.declared.ask.After.TheVariants.{GoOn, Done}
+use Rattle.steps.specs.declared.indices.robust.find.FindStage.{FindStage}
+use Rattle.steps.specs.declared.indices.robust.find.FindStage as finds
+use Rattle.steps.specs.declared.indices.robust.recover.RecoverStage.{RecoverStage}
+use Rattle.steps.specs.declared.indices.robust.recover.RecoverStage as recovers
+use Rattle.steps.specs.declared.indices.enums.ReleaseMode.{ReleaseMode}
+use Rattle.steps.specs.declared.indices.enums.ReleaseState.{ReleaseState}
+use Rattle.steps.specs.Indices.Robust.Parts.{raise_want, lock_want}
+use Rattle.steps.specs.Routine.{went_on}
+use Rattle.steps.specs.Indices.Robust.Acquire.{acquire_asks}
+use Rattle.steps.specs.Indices.Robust.Release.{release_asks}
+use Rattle.steps.specs.Indices.Robust.Parts.{count_want}
+use Rattle.model.specs.declared.event.Answer.{Answer}
+use Rattle.model.specs.declared.event.Answer.TheVariants.{Number, State}
+use Rattle.model.specs.declared.event.Start.{Start}
+use Rattle.model.specs.declared.event.Start.TheVariants.{Robust}
+use Rattle.model.specs.declared.families.Flight.{Flight}
+use Rattle.model.specs.declared.families.Flight as flights
+use Rattle.model.specs.declared.families.indices.robust.calls.RobustFlight.{RobustFlight}
+use Rattle.model.specs.declared.families.indices.robust.calls.RobustFlight as calls
+use Rattle.model.specs.declared.party.Party.{Party}
+use Rattle.model.specs.declared.turn.Kind as kinds
+use Rattle.model.specs.declared.turn.Turn.{Turn}
+use Rattle.model.specs.declared.turn.Turn.TheVariants.{Decide}
+use Rattle.model.specs.Coding.{Coding}
+use Rattle.model.specs.Families.{goes_of, want_of, is_question}
+use Rattle.model.specs.Families.Indices.Robust.Calls.{want, after}
+use Rattle.model.specs.Promises.Turns.{GoesOn}
+use Rattle.model.specs.Families.Queues.Calls.{as_it_is}
+use Rattle.model.specs.Step.{as_call}
+use Rattle.model.specs.Refusals.{refusal_of, is_due}
+use Rattle.model.specs.Turns.{number_of, after_turn, IsReached}
+use Rattle.model.specs.World.{Trace, flight_in}
+use Rattle.model.proofs.Frame as frame
+use Rattle.model.proofs.Reached.{turn_making}
+use Rattle.model.proofs.Rows.{passes, must_be_due}
+use Rattle.model.proofs.Scenes.{StandsThere}
+use Rattle.laws_robust.proofs.Effects.{both_ways}
+use Rattle.laws_robust.proofs.Invariant.{family}
+use Rattle.laws_robust.proofs.Justified.{robust_keeps}
+use Rattle.laws_robust.proofs.Sound.{reached_sound, raise_asks_none, count_asks_none, lock_asks_none, acquire_asks_none, release_asks_none}
+use Rattle.laws_robust.proofs.Stages.{any_call}
+use Rattle.laws_robust.proofs.Standing.{find_at, recover_at}
+use Rattle.laws_turns.specs.Questions.{IsAnswered}
+use Rattle.laws_turns.proofs.Standing.{left_by, decision_left, under_way}
+
+module _ {T : Type 0} (code : Coding T) where
+  abbrev due_by : After RobustFlight (Answer T) → Bool
+  due_by a = is_due code (left_by (any_call a))
+
+  find_done : (c owner : ℕ) (stage : FindStage) (answer : ℕ) → is_question (want (find_at c owner stage)) ≡ true
+      → due_by (after {T = T} (find_at c owner stage) answer) ≡ false
+  find_done c owner (finds.TheVariants.LoadsCell i found) answer due = absurd (cc)
+  find_done c owner (finds.TheVariants.Asks i found) answer due = go (answer == 0) (nat_lt (i + 1) c)
+    where
+      go : (b more : Bool) → due_by (as_call {A = ℕ} calls.TheVariants.Find Number
+          (went_on as_it_is owner tt
+          (if b then Done found else
+          (if more then GoOn (record { capacity = c; stage = finds.TheVariants.LoadsCell (i + 1) found }) else Done found))))
+          ≡ false
+      go true more = refl
+      go false true = refl
+      go false false = refl
+
+  recover_done : (c : ℕ) (mode : ReleaseMode) (stage : RecoverStage) (answer : ℕ)
+      → is_question (want (recover_at c mode stage)) ≡ true
+      → due_by (after {T = T} (recover_at c mode stage) answer) ≡ false
+  recover_done c mode recovers.TheVariants.LoadsCounter answer due = absurd (cc)
+  recover_done c mode (recovers.TheVariants.LoadsCell i) answer due = absurd (cc)
+  recover_done c mode (recovers.TheVariants.Asks i owner) answer due = go (answer == 0) (nat_lt (i + 1) c)
+    where
+      go : (b more : Bool) → due_by (as_call {A = ReleaseState} calls.TheVariants.Recover State
+          (went_on as_it_is mode tt
+          (if b then GoOn
+          (record { capacity = c; stage = if more then recovers.TheVariants.LoadsCell (i + 1) else recovers.TheVariants.LoadsCounterAgain })
+          else GoOn (record { capacity = c; stage = recovers.TheVariants.EmptiesCell i owner }))))
+          ≡ false
+      go true true = refl
+      go true false = refl
+      go false more = refl
+  recover_done c mode (recovers.TheVariants.EmptiesCell i owner) answer due = absurd (cc)
+  recover_done c mode (recovers.TheVariants.Raises i raise) answer due = both_ways (is_question (raise_want raise)) (raise_asks_none raise) due
+  recover_done c mode (recovers.TheVariants.Locks i lock) answer due = both_ways (is_question (lock_want lock)) (lock_asks_none lock) due
+  recover_done c mode recovers.TheVariants.LoadsCounterAgain answer due = absurd (cc)
+
+  set_done : (flight : RobustFlight) (answer : ℕ) → is_question (want flight) ≡ true → due_by (after {T = T} flight answer) ≡ false
+  set_done (calls.TheVariants.Acquire run) answer due =
+      both_ways (is_question (acquire_asks run.call.stage run.given)) (acquire_asks_none run.call.stage run.given) due
+  set_done (calls.TheVariants.Release run) answer due =
+      both_ways (is_question (release_asks run.call.stage run.given)) (release_asks_none run.call.stage run.given) due
+  set_done (calls.TheVariants.Find run) answer due = find_done run.call.capacity run.given run.call.stage answer due
+  set_done (calls.TheVariants.Recover run) answer due = recover_done run.call.capacity run.given run.call.stage answer due
+  set_done (calls.TheVariants.BorrowedIndices run) answer due = both_ways (is_question (count_want run.call.count)) (count_asks_none run.call.count) due
+  set_done (calls.TheVariants.IsLocked run) answer due = absurd (cc)
+
+module _ {T : Type 0} (t : Trace T) (is : t.world.kind ≡ kinds.TheVariants.Robust) (r : IsReached t) where
+  abbrev code : Coding T
+  code = t.world.coding
+
+  s : frame.Sound (family t.world.coding t.world.capacity) t
+  s = reached_sound t is r
+
+  flight_done : (p : ℕ) (x : Party T) (since : ℕ) (start : Start T) (flight : Flight T) (answer : ℕ)
+      → StandsThere (family t.world.coding t.world.capacity) t s p x since start flight
+      → is_question (want_of code flight) ≡ true
+      → is_due code (left_by (goes_of code p flight answer t.world.kept)) ≡ false
+  flight_done p x since (Robust start) (flights.TheVariants.Robust flight) answer h due = set_done code flight answer due
+  flight_done p x since start flight answer h due = absurd h.at
+
+  by_call : (p : ℕ) (said : Bool) → GoesOn t.world (Decide p said) (after_turn t (Decide p said)).world
+      → (o : Option (Flight T)) → flight_in t.world p ≡ o → is_due code o ≡ true
+      → is_due code (flight_in (after_turn t (Decide p said)).world p) ≡ false
+  by_call p said goes None here due = absurd (cc)
+  by_call p said goes (Some flight) here due =
+      let call = under_way (family t.world.coding t.world.capacity) t s p flight here in
+      ap (is_due code) (decision_left t.world (after_turn t (Decide p said)).world p flight here said goes)
+      ∙ flight_done p call.party call.since call.party.start flight (number_of said) call.there due
+
+  pub answered : (turn : Turn T) → refusal_of t.world turn ≡ None → IsAnswered turn (after_turn t turn)
+  answered turn free p said name =
+      let allowed = subst (λ u. refusal_of t.world u ≡ None) name free in
+      subst (λ u. is_due (after_turn t u).world.coding (flight_in (after_turn t u).world p) ≡ false) (sym name)
+      (subst (λ z. is_due z (flight_in (after_turn t (Decide p said)).world p) ≡ false) (sym (turn_making t.world (Decide p said)).coding)
+      (by_call p said (robust_keeps.turn t (Decide p said) is allowed r).call (flight_in t.world p) refl
+      (frame.is_true (is_due t.world.coding (flight_in t.world p)) (must_be_due t.world p said (passes t.world (Decide p said) allowed).on))))

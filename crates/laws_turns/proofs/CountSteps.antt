@@ -1,0 +1,111 @@
+-- What a step of a call of a container leaves of the number of changes: it goes up by 1 as a call ends that has changed the
+-- container, and else it stays.
+use Rattle.std.proofs.Common.{◌≡◌, ◌≢◌, ℕ, ◌<◌, Option, Some}
+use Rattle.std.proofs.Common.{None, List, refl, sym, ap, arith, get_or, get_or-set_other}
+use Rattle.steps.specs.Ask.{written}
+use Rattle.steps.specs.declared.ask.After.{After}
+use Rattle.steps.specs.declared.ask.Ask.{Ask}
+use Rattle.steps.specs.declared.container.add.AddStage.{AddStage}
+use Rattle.steps.specs.declared.container.find.FindStage.{FindStage}
+use Rattle.steps.specs.declared.container.look.LookStage.{LookStage}
+use Rattle.steps.specs.declared.container.recover.RecoverStage.{RecoverStage}
+use Rattle.steps.specs.declared.container.remove.RemoveStage.{RemoveStage}
+use Rattle.steps.specs.declared.container.replace.ReplaceStage.{ReplaceStage}
+use Rattle.steps.specs.declared.indices.enums.ReleaseMode.{ReleaseMode}
+use Rattle.steps.specs.declared.indices.enums.ReleaseState.{ReleaseState}
+use Rattle.steps.specs.declared.indices.robust.acquire.Acquire.{Acquire}
+use Rattle.steps.specs.declared.indices.robust.acquire.AcquireStage.{AcquireStage}
+use Rattle.steps.specs.declared.indices.robust.acquire.AcquireStage as acquires
+use Rattle.steps.specs.declared.indices.robust.parts.Count.{Count}
+use Rattle.steps.specs.declared.indices.robust.parts.Count as counts
+use Rattle.steps.specs.declared.indices.robust.parts.Lock.{Lock}
+use Rattle.steps.specs.declared.indices.robust.parts.Lock as locks
+use Rattle.steps.specs.declared.indices.robust.parts.Raise.{Raise}
+use Rattle.steps.specs.declared.indices.robust.parts.Raise as raises
+use Rattle.steps.specs.declared.indices.robust.release.GiveBack.{GiveBack}
+use Rattle.steps.specs.declared.indices.robust.release.Release.{Release}
+use Rattle.steps.specs.declared.indices.robust.release.ReleaseStage.{ReleaseStage}
+use Rattle.steps.specs.declared.indices.robust.release.ReleaseStage as releases
+use Rattle.steps.specs.Container.Layout.{change_word}
+use Rattle.steps.specs.Indices.Robust.Acquire.{acquire_asks}
+use Rattle.steps.specs.Indices.Robust.Parts.{cell_word, empty, locked, one_more, raise_want, count_want, lock_want}
+use Rattle.steps.specs.Indices.Robust.Release.{release_asks}
+use Rattle.model.specs.declared.event.Answer.{Answer}
+use Rattle.model.specs.declared.event.Event.TheVariants.{Finished}
+use Rattle.model.specs.declared.event.Start.TheVariants.{Container}
+use Rattle.model.specs.declared.families.container.ContainerStart.{ContainerStart}
+use Rattle.model.specs.declared.families.container.ContainerStart as starts
+use Rattle.model.specs.declared.families.container.calls.ContainerFlight.{ContainerFlight}
+use Rattle.model.specs.Families.{ask_of}
+use Rattle.model.specs.Families.Indices.Robust.Reading.{Deed}
+use Rattle.model.specs.Turns.{words_after}
+use Rattle.laws_robust.proofs.Stages.{loads, exchanges, loads_same}
+use Rattle.laws_robust.proofs.Standing.{AcquireAt}
+use Rattle.laws_container.proofs.Core.{change_at}
+use Rattle.laws_turns.specs.Changes.{change_in}
+
+module _ {T : Type 0} where
+  -- by how much an end changes the container
+  abbrev pub ends_count : ℕ → ContainerStart T → Option (Answer T) → ℕ
+  ends_count p start None = 0
+  ends_count p start (Some answer) = change_in (Finished p (Container start) answer)
+
+module _ (c : ℕ) (ws : List ℕ) where
+  abbrev pub IsCalm : Option Ask → Type 0
+  IsCalm ask = change_at c (words_after ws ask) ≡ change_at c ws
+
+  -- ---- operations that leave it
+
+  pub calm_apart : (ask : Ask) → ask.word ≢ change_word c → IsCalm (Some ask)
+  calm_apart ask ne = get_or-set_other ws ask.word (change_word c) (written ask.op (get_or ws ask.word 0)) 0 (λ e. ne (sym e))
+
+  pub calm_load : (word : ℕ) → IsCalm (Some (loads word))
+  calm_load word = ap (change_at c) (loads_same ws word)
+
+  pub raise_calm : (raise : Raise) → IsCalm (ask_of (raise_want raise))
+  raise_calm raises.TheVariants.LoadsCounter = calm_load 0
+  raise_calm (raises.TheVariants.ExchangesCounter counter) = calm_apart (exchanges 0 counter (one_more counter)) (λ e. absurd (omega arith))
+
+  pub count_calm : (count : Count) → IsCalm (ask_of (count_want count))
+  count_calm counts.TheVariants.LoadsCounter = calm_load 0
+  count_calm (counts.TheVariants.LoadsCell counter index filled) = calm_load (cell_word index)
+  count_calm (counts.TheVariants.ExchangesCounter counter filled) = calm_apart (exchanges 0 counter (one_more counter)) (λ e. absurd (omega arith))
+
+  pub lock_calm : (lock : Lock) → IsCalm (ask_of (lock_want lock))
+  lock_calm (locks.TheVariants.Counts count) = count_calm count
+  lock_calm (locks.TheVariants.ExchangesCounter counter) = calm_apart (exchanges 0 counter locked) (λ e. absurd (omega arith))
+
+  pub acquire_calm : (all : List Deed) (owner : ℕ) (stage : AcquireStage) → AcquireAt c owner all stage → IsCalm (ask_of (acquire_asks stage owner))
+  acquire_calm all owner acquires.TheVariants.LoadsCounter at = calm_load 0
+  acquire_calm all owner (acquires.TheVariants.FillsCell counter index) at = let below = at.0 in
+      calm_apart (exchanges (cell_word index) empty owner) (λ e. absurd (omega arith))
+  acquire_calm all owner (acquires.TheVariants.ChecksCounter counter) at = calm_apart (exchanges 0 counter counter) (λ e. absurd (omega arith))
+  acquire_calm all owner (acquires.TheVariants.Raises index raise) at = raise_calm raise
+
+  pub release_calm : (given : GiveBack) (stage : ReleaseStage) → given.index < c → IsCalm (ask_of (release_asks stage given))
+  release_calm given releases.TheVariants.EmptiesCell below = calm_apart (exchanges (cell_word given.index) given.owner empty) (λ e. absurd (omega arith))
+  release_calm given (releases.TheVariants.Raises raise) below = raise_calm raise
+  release_calm given (releases.TheVariants.Locks lock) below = lock_calm lock
+
+-- ---- the ends that change nothing
+
+module _ {T : Type 0} (p : ℕ) where
+  pub find_none : (owner : ℕ) (o : Option (Answer T)) → ends_count p (starts.TheVariants.Find owner) o ≡ 0
+  find_none owner None = refl
+  find_none owner (Some answer) = refl
+
+  pub get_none : (o : Option (Answer T)) → ends_count p starts.TheVariants.GetState o ≡ 0
+  get_none None = refl
+  get_none (Some answer) = refl
+
+  pub update_none : (o : Option (Answer T)) → ends_count p starts.TheVariants.UpdateState o ≡ 0
+  update_none None = refl
+  update_none (Some answer) = refl
+
+  pub len_none : (o : Option (Answer T)) → ends_count p starts.TheVariants.Len o ≡ 0
+  len_none None = refl
+  len_none (Some answer) = refl
+
+  pub empty_none : (o : Option (Answer T)) → ends_count p starts.TheVariants.IsEmpty o ≡ 0
+  empty_none None = refl
+  empty_none (Some answer) = refl

@@ -1,0 +1,470 @@
+-- Each step of a call of a container, and the changes that it counts.
+use Rattle.std.proofs.Common.{◌≡◌, ◌≢◌, ℕ, ◌+◌, ◌==◌, nat_lt, if◌then◌else◌, Bool, true, false, Option, Some}
+use Rattle.std.proofs.Common.{List, refl, sym, ap, subst, ◌∙◌, arith, get_or, Ok, Err}
+use Rattle.steps.specs.declared.ask.After.{After}
+use Rattle.steps.specs.declared.ask.After.TheVariants.{GoOn, Done}
+use Rattle.steps.specs.declared.ask.Ask.{Ask}
+use Rattle.steps.specs.declared.container.add.Add as add_calls
+use Rattle.steps.specs.declared.container.add.AddStage.{AddStage}
+use Rattle.steps.specs.declared.container.add.AddStage as adds
+use Rattle.steps.specs.declared.container.add.Owned.{Owned}
+use Rattle.steps.specs.declared.container.find.FindStage.{FindStage}
+use Rattle.steps.specs.declared.container.find.FindStage as finds
+use Rattle.steps.specs.declared.container.look.LookStage.{LookStage}
+use Rattle.steps.specs.declared.container.look.LookStage as looks
+use Rattle.steps.specs.declared.container.recover.DeadOwner.{DeadOwner}
+use Rattle.steps.specs.declared.container.recover.Recover as recover_calls
+use Rattle.steps.specs.declared.container.recover.RecoverStage.{RecoverStage}
+use Rattle.steps.specs.declared.container.recover.RecoverStage as recovers
+use Rattle.steps.specs.declared.container.enums.ContainerRemoveError.TheVariants.{ContainerHandleNotOwnedByContainer}
+use Rattle.steps.specs.declared.container.remove.Remove as remove_calls
+use Rattle.steps.specs.declared.container.remove.RemoveStage.{RemoveStage}
+use Rattle.steps.specs.declared.container.remove.RemoveStage as removes
+use Rattle.steps.specs.declared.container.replace.Replace as replace_calls
+use Rattle.steps.specs.declared.container.replace.ReplaceStage.{ReplaceStage}
+use Rattle.steps.specs.declared.container.replace.ReplaceStage as replaces
+use Rattle.steps.specs.declared.container.replace.Replacement.{Replacement}
+use Rattle.steps.specs.declared.container.state.ContainerState.{ContainerState}
+use Rattle.steps.specs.declared.copied.Buffer as buffers
+use Rattle.steps.specs.declared.indices.enums.ReleaseMode.{ReleaseMode}
+use Rattle.steps.specs.declared.indices.enums.ReleaseMode.TheVariants.{LockIfLastIndex, Default}
+use Rattle.steps.specs.declared.indices.enums.ReleaseState.{ReleaseState}
+use Rattle.steps.specs.declared.indices.enums.ReleaseState as states
+use Rattle.steps.specs.declared.indices.robust.acquire.Acquire.{Acquire}
+use Rattle.steps.specs.declared.indices.robust.acquire.AcquireStage.{AcquireStage}
+use Rattle.steps.specs.declared.indices.robust.parts.Count.{Count}
+use Rattle.steps.specs.declared.indices.robust.parts.Lock.{Lock}
+use Rattle.steps.specs.declared.indices.robust.parts.Raise.{Raise}
+use Rattle.steps.specs.declared.indices.robust.release.GiveBack.{GiveBack}
+use Rattle.steps.specs.declared.indices.robust.release.Release.{Release}
+use Rattle.steps.specs.declared.indices.robust.release.ReleaseStage.{ReleaseStage}
+use Rattle.steps.specs.Container.Add.{add_asks, Added, add_acquired, inner_acquire}
+use Rattle.steps.specs.Container.Find.{find_asks}
+use Rattle.steps.specs.Container.Layout.{change_word, count_word, element_word, is_even}
+use Rattle.steps.specs.Container.Look.{look_asks}
+use Rattle.steps.specs.Container.Recover.{recover_keeps, recover_asks, recover_takes, recover_comes_to, recover_raised, recover_locked}
+use Rattle.steps.specs.Container.Remove.{Removed, remove_asks, remove_released, inner_release}
+use Rattle.steps.specs.Container.Replace.{Replaced, replace_asks}
+use Rattle.steps.specs.Indices.Robust.Acquire.{Acquired, acquire_takes}
+use Rattle.steps.specs.Indices.Robust.Parts.{cell_word, empty, locked, one_more, raise_want, raise_after, lock_want, lock_after}
+use Rattle.steps.specs.Indices.Robust.Release.{Released, release_takes}
+use Rattle.steps.specs.Routine.{went_on}
+use Rattle.model.specs.declared.event.Answer.{Answer}
+use Rattle.model.specs.declared.event.Answer.TheVariants.{State}
+use Rattle.model.specs.declared.event.Start.TheVariants.{Container}
+use Rattle.model.specs.declared.families.container.ContainerStart.{ContainerStart}
+use Rattle.model.specs.declared.families.container.ContainerStart as starts
+use Rattle.model.specs.declared.families.container.calls.ContainerFlight.{ContainerFlight}
+use Rattle.model.specs.declared.families.container.calls.ContainerFlight as calls
+use Rattle.model.specs.Coding.{Coding}
+use Rattle.model.specs.Families.{ask_of, is_question}
+use Rattle.model.specs.Families.Container.Calls.{want, after, place_of, added, removed, replaced}
+use Rattle.model.specs.Families.Container.Reading.{Act}
+use Rattle.model.specs.Families.Indices.Robust.Reading.{Deed}
+use Rattle.model.specs.Families.Queues.Calls.{as_it_is, kept_at}
+use Rattle.model.specs.Step.{as_call, answer_in}
+use Rattle.model.specs.Turns.{words_after}
+use Rattle.laws_robust.proofs.Stages.{exchanges}
+use Rattle.laws_container.proofs.Core.{change_at}
+use Rattle.laws_container.proofs.Standing.{add_at, remove_at, replace_at, recover_at, AddAt, RemoveAt, RecoverAt, At, place_is}
+use Rattle.laws_container.proofs.Writing.{adds_one, stores_to}
+use Rattle.laws_robust.proofs.Effects.{both_ways}
+use Rattle.laws_robust.proofs.Sound.{raise_asks_none, lock_asks_none}
+use Rattle.laws_turns.proofs.Waiting.{add_asks_none, remove_asks_none, replace_asks_none}
+use Rattle.laws_turns.proofs.CountSteps.{IsCalm, acquire_calm, calm_apart, calm_load, count_calm, empty_none}
+use Rattle.laws_turns.proofs.CountSteps.{find_none, get_none, len_none, lock_calm, raise_calm, release_calm}
+use Rattle.laws_turns.proofs.CountSteps.{update_none}
+
+-- ---- steps
+module _ {T : Type 0} (code : Coding T) (c : ℕ) (ws : List ℕ) (state : Option (ContainerState T)) (p : ℕ) where
+  -- a step of a call of this name that is handed this
+  abbrev pub StepCounts : ContainerStart T → ContainerFlight T → ℕ → Type 0
+  StepCounts start flight old =
+      change_at c (words_after ws (ask_of (want code flight))) ≡ change_at c ws + ends_count p start (answer_in (after code state flight old))
+
+  abbrev EndsNone : ContainerStart T → ContainerFlight T → ℕ → Type 0
+  EndsNone start flight old = ends_count p start (answer_in (after code state flight old)) ≡ 0
+
+  calmly : (start : ContainerStart T) (flight : ContainerFlight T) (old : ℕ)
+      → IsCalm c ws (ask_of (want code flight)) → EndsNone start flight old → StepCounts start flight old
+  calmly start flight old calm none = omega arith
+
+  -- ---- an add
+
+  module _ (value : T) (owner : ℕ) where
+    abbrev adds_to : After (add_calls.Add T) Added → ℕ
+    adds_to a =
+        ends_count {T = T} p (starts.TheVariants.Add value owner)
+        (answer_in (as_call calls.TheVariants.Add added (went_on as_it_is (record { value = value; owner = owner }) tt a)))
+
+    abbrev add_call : AddStage → add_calls.Add T
+    add_call stage = record { capacity = c; stage = stage; of = record {} }
+
+    acquired_ends : (stage : AddStage) (r : After Acquire Acquired) → adds_to (add_acquired (add_call stage) r) ≡ 0
+    acquired_ends stage (GoOn acquire) = refl
+    acquired_ends stage (Done (Ok index)) = refl
+    acquired_ends stage (Done (Err failure)) = refl
+
+    add_either : (b : Bool) (x y : AddStage) → adds_to (if b then GoOn (add_call x) else GoOn (add_call y)) ≡ 0
+    add_either true x y = refl
+    add_either false x y = refl
+
+    add_ends : (stage : AddStage) (old : ℕ) → ((index : ℕ) → stage ≢ adds.TheVariants.AddsChange index)
+        → EndsNone (starts.TheVariants.Add value owner) (add_at c value owner stage) old
+    add_ends (adds.TheVariants.Acquires stage) old other = acquired_ends (adds.TheVariants.Acquires stage) (acquire_takes (inner_acquire c stage) stage old)
+    add_ends (adds.TheVariants.LoadsCount index) old other = add_either (is_even old) (adds.TheVariants.Stores index 0) (adds.TheVariants.Hides index old)
+    add_ends (adds.TheVariants.Hides index count) old other = refl
+    add_ends (adds.TheVariants.Stores index at) old other =
+        add_either (nat_lt (at + 1) code.size) (adds.TheVariants.Stores index (at + 1)) (adds.TheVariants.AddsCount index)
+    add_ends (adds.TheVariants.AddsCount index) old other = refl
+    add_ends (adds.TheVariants.AddsChange index) old other = absurd (other index refl)
+
+    module _ (all : List Deed) (done : List (Act T)) where
+      add_calm : (stage : AddStage) → AddAt c code.size all done owner stage
+          → ((index : ℕ) → stage ≢ adds.TheVariants.AddsChange index)
+          → IsCalm c ws (ask_of (want code (add_at c value owner stage)))
+      add_calm (adds.TheVariants.Acquires stage) at other = acquire_calm c ws all owner stage at.0
+      add_calm (adds.TheVariants.LoadsCount index) at other = calm_load c ws (count_word c index)
+      add_calm (adds.TheVariants.Hides index count) at other =
+          calm_apart c ws (exchanges (count_word c index) count (one_more count)) (λ e. absurd (omega arith))
+      add_calm (adds.TheVariants.Stores index k) at other =
+          calm_apart c ws (stores_to (element_word c code.size index k) (get_or (code.words_of value) k 0)) (λ e. absurd (omega arith))
+      add_calm (adds.TheVariants.AddsCount index) at other = calm_apart c ws (adds_one (count_word c index)) (λ e. absurd (omega arith))
+      add_calm (adds.TheVariants.AddsChange index) at other = absurd (other index refl)
+
+      add_counts : (raised : change_at c (words_after ws (Some (adds_one (change_word c)))) ≡ change_at c ws + 1) (stage : AddStage)
+          → AddAt c code.size all done owner stage → (old : ℕ)
+          → StepCounts (starts.TheVariants.Add value owner) (add_at c value owner stage) old
+      add_counts raised (adds.TheVariants.AddsChange index) at old = raised
+      add_counts raised (adds.TheVariants.Acquires stage) at old =
+          calmly (starts.TheVariants.Add value owner) (add_at c value owner (adds.TheVariants.Acquires stage)) old
+          (add_calm (adds.TheVariants.Acquires stage) at (λ i e. absurd (cc)))
+          (add_ends (adds.TheVariants.Acquires stage) old (λ i e. absurd (cc)))
+      add_counts raised (adds.TheVariants.LoadsCount index) at old =
+          calmly (starts.TheVariants.Add value owner) (add_at c value owner (adds.TheVariants.LoadsCount index)) old
+          (add_calm (adds.TheVariants.LoadsCount index) at (λ i e. absurd (cc)))
+          (add_ends (adds.TheVariants.LoadsCount index) old (λ i e. absurd (cc)))
+      add_counts raised (adds.TheVariants.Hides index count) at old =
+          calmly (starts.TheVariants.Add value owner) (add_at c value owner (adds.TheVariants.Hides index count))
+          old (add_calm (adds.TheVariants.Hides index count) at (λ i e. absurd (cc))) refl
+      add_counts raised (adds.TheVariants.Stores index k) at old =
+          calmly (starts.TheVariants.Add value owner) (add_at c value owner (adds.TheVariants.Stores index k)) old
+          (add_calm (adds.TheVariants.Stores index k) at (λ i e. absurd (cc)))
+          (add_ends (adds.TheVariants.Stores index k) old (λ i e. absurd (cc)))
+      add_counts raised (adds.TheVariants.AddsCount index) at old =
+          calmly (starts.TheVariants.Add value owner) (add_at c value owner (adds.TheVariants.AddsCount index)) old
+          (add_calm (adds.TheVariants.AddsCount index) at (λ i e. absurd (cc))) refl
+
+  -- ---- a remove
+
+  module _ (index owner : ℕ) (mode : ReleaseMode) where
+    abbrev place : ℕ
+    place = place_of c index
+
+    abbrev give : GiveBack
+    give = record { index = place; owner = owner; mode = mode }
+
+    abbrev removes_to : After remove_calls.Remove Removed → ℕ
+    removes_to a =
+        ends_count {T = T} p (starts.TheVariants.Remove index owner mode)
+        (answer_in {C = ContainerFlight T} (as_call calls.TheVariants.Remove removed (went_on as_it_is give tt a)))
+
+    abbrev remove_call : RemoveStage → remove_calls.Remove
+    remove_call stage = record { capacity = c; stage = stage }
+
+    released_ends : (stage : RemoveStage) (count : ℕ) (r : After Release Released) → removes_to (remove_released (remove_call stage) count r) ≡ 0
+    released_ends stage count (GoOn release) = refl
+    released_ends stage count (Done (Ok lock)) = go (is_even count)
+      where
+        go : (b : Bool) → removes_to (if b then GoOn (remove_call (removes.TheVariants.AddsChange lock)) else GoOn
+            (remove_call (removes.TheVariants.Hides count lock)))
+            ≡ 0
+        go true = refl
+        go false = refl
+    released_ends stage count (Done (Err failure)) = refl
+
+    remove_counts : (all : List Deed) (done : List (Act T))
+        (raised : change_at c (words_after ws (Some (adds_one (change_word c)))) ≡ change_at c ws + 1)
+        (stage : RemoveStage)
+        → RemoveAt c code.size all done index owner mode stage → (old : ℕ)
+        → StepCounts (starts.TheVariants.Remove index owner mode) (remove_at c place owner mode stage) old
+    remove_counts all done raised removes.TheVariants.Refuses at old =
+        calmly (starts.TheVariants.Remove index owner mode) (remove_at c place owner mode removes.TheVariants.Refuses) old refl refl
+    remove_counts all done raised removes.TheVariants.LoadsCount at old =
+        calmly (starts.TheVariants.Remove index owner mode)
+        (remove_at c place owner mode removes.TheVariants.LoadsCount) old (calm_load c ws (count_word c place)) refl
+    remove_counts all done raised (removes.TheVariants.Releases count stage) at old =
+        let same = place_is c index at.0 in
+        let below = at.0 in
+        calmly (starts.TheVariants.Remove index owner mode)
+        (remove_at c place owner mode (removes.TheVariants.Releases count stage)) old
+        (release_calm c ws give stage (omega arith))
+        (released_ends (removes.TheVariants.Releases count stage) count (release_takes (inner_release c stage) stage give old))
+    remove_counts all done raised (removes.TheVariants.Hides count lock) at old =
+        calmly (starts.TheVariants.Remove index owner mode)
+        (remove_at c place owner mode (removes.TheVariants.Hides count lock)) old
+        (calm_apart c ws (exchanges (count_word c place) count (one_more count)) (λ e. absurd (omega arith))) refl
+    remove_counts all done raised (removes.TheVariants.AddsChange lock) at old = raised
+
+  -- ---- a replace
+
+  module _ (index : ℕ) (value : T) (owner : ℕ) where
+    abbrev put_at : ℕ
+    put_at = place_of c index
+
+    abbrev new_value : Replacement T
+    new_value = record { index = put_at; owner = owner; value = value }
+
+    abbrev replaces_to : After (replace_calls.Replace T) Replaced → ℕ
+    replaces_to a =
+        ends_count {T = T} p (starts.TheVariants.Replace index value owner)
+        (answer_in (as_call calls.TheVariants.Replace replaced (went_on as_it_is new_value tt a)))
+
+    abbrev replace_call : ReplaceStage → replace_calls.Replace T
+    replace_call stage = record { capacity = c; stage = stage; of = record {} }
+
+    abbrev replaces_at : ReplaceStage → ContainerFlight T
+    replaces_at stage = replace_at c put_at value owner stage
+
+    abbrev Replaces : ReplaceStage → ℕ → Type 0
+    Replaces stage old = StepCounts (starts.TheVariants.Replace index value owner) (replaces_at stage) old
+
+    replace_either : (b : Bool) (x y : ReplaceStage) → replaces_to (if b then GoOn (replace_call x) else GoOn (replace_call y)) ≡ 0
+    replace_either true x y = refl
+    replace_either false x y = refl
+
+    replace_refused : (b : Bool)
+        → replaces_to (if b then GoOn (replace_call replaces.TheVariants.LoadsCount) else Done (Err ContainerHandleNotOwnedByContainer)) ≡ 0
+    replace_refused true = refl
+    replace_refused false = refl
+
+    replace_counts : (raised : change_at c (words_after ws (Some (adds_one (change_word c)))) ≡ change_at c ws + 1)
+        (stage : ReplaceStage) (old : ℕ)
+        → Replaces stage old
+    replace_counts raised replaces.TheVariants.Refuses old =
+        calmly (starts.TheVariants.Replace index value owner) (replaces_at replaces.TheVariants.Refuses) old refl refl
+    replace_counts raised replaces.TheVariants.LoadsCell old =
+        calmly (starts.TheVariants.Replace index value owner) (replaces_at replaces.TheVariants.LoadsCell) old
+        (calm_load c ws (cell_word put_at)) (replace_refused (old == owner))
+    replace_counts raised replaces.TheVariants.LoadsCount old =
+        calmly (starts.TheVariants.Replace index value owner) (replaces_at replaces.TheVariants.LoadsCount) old
+        (calm_load c ws (count_word c put_at))
+        (replace_either (is_even old) (replaces.TheVariants.Stores 0) (replaces.TheVariants.Hides old))
+    replace_counts raised (replaces.TheVariants.Hides count) old =
+        calmly (starts.TheVariants.Replace index value owner) (replaces_at (replaces.TheVariants.Hides count)) old
+        (calm_apart c ws (exchanges (count_word c put_at) count (one_more count)) (λ e. absurd (omega arith))) refl
+    replace_counts raised (replaces.TheVariants.Stores k) old =
+        calmly (starts.TheVariants.Replace index value owner) (replaces_at (replaces.TheVariants.Stores k)) old
+        (calm_apart c ws (stores_to (element_word c code.size put_at k) (get_or (code.words_of value) k 0)) (λ e. absurd (omega arith)))
+        (replace_either (nat_lt (k + 1) code.size) (replaces.TheVariants.Stores (k + 1)) replaces.TheVariants.AddsCount)
+    replace_counts raised replaces.TheVariants.AddsCount old =
+        calmly (starts.TheVariants.Replace index value owner) (replaces_at replaces.TheVariants.AddsCount) old
+        (calm_apart c ws (adds_one (count_word c put_at)) (λ e. absurd (omega arith))) refl
+    replace_counts raised replaces.TheVariants.AddsChange old = raised
+
+  -- ---- a recovery
+
+  module _ (owner : ℕ) (mode : ReleaseMode) (room : buffers.Buffer 128) where
+    abbrev dead_owner : DeadOwner
+    dead_owner = record { owner = owner; mode = mode }
+
+    abbrev recover_call : RecoverStage → recover_calls.Recover T (buffers.Buffer 128)
+    recover_call stage = record { capacity = c; stage = stage; of = record {} }
+
+    abbrev recovers_at : RecoverStage → ContainerFlight T
+    recovers_at stage = recover_at c owner mode room stage
+
+    -- whatever room it has then
+    abbrev Quiet : After (recover_calls.Recover T (buffers.Buffer 128)) ReleaseState → Type 0
+    Quiet a =
+        (kept : buffers.Buffer 128)
+        → ends_count {T = T} p (starts.TheVariants.Recover owner mode)
+        (answer_in (as_call calls.TheVariants.Recover State (went_on as_it_is dead_owner kept a)))
+        ≡ 0
+
+    either_quiet : (b : Bool) (x y : After (recover_calls.Recover T (buffers.Buffer 128)) ReleaseState) → Quiet x → Quiet y → Quiet (if b then x else y)
+    either_quiet true x y h k = h
+    either_quiet false x y h k = k
+
+    raised_quiet : (stage : RecoverStage) (i : ℕ) (m : ReleaseMode) (r : After Raise ReleaseState) → Quiet (recover_raised (recover_call stage) i m r)
+    raised_quiet stage i m (GoOn raise) kept = refl
+    raised_quiet stage i m (Done states.TheVariants.Locked) kept = refl
+    raised_quiet stage i LockIfLastIndex (Done states.TheVariants.Unlocked) kept = refl
+    raised_quiet stage i Default (Done states.TheVariants.Unlocked) kept = refl
+
+    locked_quiet : (stage : RecoverStage) (i : ℕ) (r : After Lock ReleaseState) → Quiet (recover_locked (recover_call stage) i r)
+    locked_quiet stage i (GoOn lock) kept = refl
+    locked_quiet stage i (Done lock) kept = refl
+
+    recover_quiet : (stage : RecoverStage) (old : ℕ)
+        → ((lock : ReleaseState) → stage ≢ recovers.TheVariants.AddsChange lock)
+        → Quiet (recover_takes code.size (recover_call stage) stage dead_owner old)
+    recover_quiet recovers.TheVariants.LoadsCounter old other = either_quiet (old == locked) _ _ (λ kept. refl) (λ kept. refl)
+    recover_quiet (recovers.TheVariants.LoadsCell i) old other = either_quiet (old == owner) _ _ (λ kept. refl) (λ kept. refl)
+    recover_quiet (recovers.TheVariants.LoadsCount i) old other = λ kept. refl
+    recover_quiet (recovers.TheVariants.LoadsWord i count k) old other = either_quiet (nat_lt (k + 1) code.size) _ _ (λ kept. refl) (λ kept. refl)
+    recover_quiet (recovers.TheVariants.ChecksCount i count) old other = either_quiet (old == count) _ _ (λ kept. refl) (λ kept. refl)
+    recover_quiet (recovers.TheVariants.Asks i count) old other = either_quiet (old == 0) _ _ (λ kept. refl) (λ kept. refl)
+    recover_quiet (recovers.TheVariants.EmptiesCell i count) old other =
+        either_quiet (old == owner) _ _ (either_quiet (is_even count) _ _ (λ kept. refl) (λ kept. refl)) (λ kept. refl)
+    recover_quiet (recovers.TheVariants.Hides i count) old other = λ kept. refl
+    recover_quiet (recovers.TheVariants.Raises i raise) old other = raised_quiet (recovers.TheVariants.Raises i raise) i mode (raise_after raise old)
+    recover_quiet (recovers.TheVariants.Locks i lock) old other = locked_quiet (recovers.TheVariants.Locks i lock) i (lock_after c lock old)
+    recover_quiet recovers.TheVariants.LoadsCounterAgain old other = λ kept. refl
+    recover_quiet (recovers.TheVariants.AddsChange lock) old other = absurd (other lock refl)
+
+    recover_counts : (all : List Deed) (done : List (Act T))
+        (raised : change_at c (words_after ws (Some (adds_one (change_word c)))) ≡ change_at c ws + 1)
+        (stage : RecoverStage)
+        → RecoverAt c code.size all done owner mode stage → (old : ℕ)
+        → StepCounts (starts.TheVariants.Recover owner mode) (recovers_at stage) old
+    recover_counts all done raised stage at old = go stage at
+      where
+        calm_so : (stage : RecoverStage) → IsCalm c ws (ask_of (recover_asks code.size c stage owner))
+            → ((lock : ReleaseState) → stage ≢ recovers.TheVariants.AddsChange lock)
+            → StepCounts (starts.TheVariants.Recover owner mode) (recovers_at stage) old
+        calm_so stage calm other =
+            calmly (starts.TheVariants.Recover owner mode) (recovers_at stage) old calm
+            (recover_quiet stage old other (recover_keeps kept_at stage room old))
+
+        go : (stage : RecoverStage) → RecoverAt c code.size all done owner mode stage
+            → StepCounts (starts.TheVariants.Recover owner mode) (recovers_at stage) old
+        go recovers.TheVariants.LoadsCounter at = calm_so recovers.TheVariants.LoadsCounter (calm_load c ws 0) (λ lock e. absurd (cc))
+        go (recovers.TheVariants.LoadsCell i) at = calm_so (recovers.TheVariants.LoadsCell i) (calm_load c ws (cell_word i)) (λ lock e. absurd (cc))
+        go (recovers.TheVariants.LoadsCount i) at = calm_so (recovers.TheVariants.LoadsCount i) (calm_load c ws (count_word c i)) (λ lock e. absurd (cc))
+        go (recovers.TheVariants.LoadsWord i count k) at =
+            calm_so (recovers.TheVariants.LoadsWord i count k) (calm_load c ws (element_word c code.size i k)) (λ lock e. absurd (cc))
+        go (recovers.TheVariants.ChecksCount i count) at =
+            calm_so (recovers.TheVariants.ChecksCount i count)
+            (calm_apart c ws (exchanges (count_word c i) count count) (λ e. absurd (omega arith)))
+            (λ lock e. absurd (cc))
+        go (recovers.TheVariants.Asks i count) at = calm_so (recovers.TheVariants.Asks i count) refl (λ lock e. absurd (cc))
+        go (recovers.TheVariants.EmptiesCell i count) at =
+            let below = at.0.within in
+            calm_so (recovers.TheVariants.EmptiesCell i count)
+            (calm_apart c ws (exchanges (cell_word i) owner empty) (λ e. absurd (omega arith)))
+            (λ lock e. absurd (cc))
+        go (recovers.TheVariants.Hides i count) at =
+            calm_so (recovers.TheVariants.Hides i count)
+            (calm_apart c ws (exchanges (count_word c i) count (one_more count)) (λ e. absurd (omega arith)))
+            (λ lock e. absurd (cc))
+        go (recovers.TheVariants.Raises i raise) at = calm_so (recovers.TheVariants.Raises i raise) (raise_calm c ws raise) (λ lock e. absurd (cc))
+        go (recovers.TheVariants.Locks i lock) at = calm_so (recovers.TheVariants.Locks i lock) (lock_calm c ws lock) (λ lock e. absurd (cc))
+        go recovers.TheVariants.LoadsCounterAgain at = calm_so recovers.TheVariants.LoadsCounterAgain (calm_load c ws 0) (λ lock e. absurd (cc))
+        go (recovers.TheVariants.AddsChange lock) at = raised
+
+  -- ---- the calls that change nothing
+
+  find_calm : (stage : FindStage) → IsCalm c ws (ask_of (find_asks code.size c stage))
+  find_calm (finds.TheVariants.LoadsCell index found) = calm_load c ws (cell_word index)
+  find_calm (finds.TheVariants.LoadsCount index found) = calm_load c ws (count_word c index)
+  find_calm (finds.TheVariants.LoadsWord index found count k) = calm_load c ws (element_word c code.size index k)
+  find_calm (finds.TheVariants.ChecksCount index found count) = calm_apart c ws (exchanges (count_word c index) count count) (λ e. absurd (omega arith))
+  find_calm (finds.TheVariants.Asks index found) = refl
+
+  look_calm : (stage : LookStage) → IsCalm c ws (ask_of (look_asks code.size c stage))
+  look_calm looks.TheVariants.LoadsChange = calm_load c ws (change_word c)
+  look_calm (looks.TheVariants.LoadsCount index) = calm_load c ws (count_word c index)
+  look_calm (looks.TheVariants.LoadsWord index count k) = calm_load c ws (element_word c code.size index k)
+  look_calm (looks.TheVariants.ChecksCount index count) = calm_apart c ws (exchanges (count_word c index) count count) (λ e. absurd (omega arith))
+
+  -- ---- any call
+
+  module _ (all : List Deed) (done : List (Act T)) where
+    pub step_counts : (start : ContainerStart T) (flight : ContainerFlight T) → At c code.size all done start flight
+        → change_at c (words_after ws (Some (adds_one (change_word c)))) ≡ change_at c ws + 1 → (old : ℕ)
+        → StepCounts start flight old
+    step_counts (starts.TheVariants.Add value owner) (calls.TheVariants.Add run) at =
+        subst (λ f. change_at c (words_after ws (Some (adds_one (change_word c)))) ≡ change_at c ws + 1 → (old : ℕ)
+        → StepCounts (starts.TheVariants.Add value owner) f old)
+        (sym (ap (λ n. add_at n run.given.value run.given.owner run.call.stage) at.0 ∙ ap (λ (o : Owned T). add_at c o.value o.owner run.call.stage) at.1))
+        (λ raised old. add_counts value owner all done raised run.call.stage at.3 old)
+    step_counts (starts.TheVariants.Remove index owner mode) (calls.TheVariants.Remove run) at =
+        subst (λ f. change_at c (words_after ws (Some (adds_one (change_word c)))) ≡ change_at c ws + 1 → (old : ℕ)
+        → StepCounts (starts.TheVariants.Remove index owner mode) f old)
+        (sym (ap (λ n. remove_at n run.given.index run.given.owner run.given.mode run.call.stage) at.0
+        ∙ ap (λ (o : GiveBack). remove_at c o.index o.owner o.mode run.call.stage) at.1))
+        (λ raised old. remove_counts index owner mode all done raised run.call.stage at.3 old)
+    step_counts (starts.TheVariants.Replace index value owner) (calls.TheVariants.Replace run) at =
+        subst (λ f. change_at c (words_after ws (Some (adds_one (change_word c)))) ≡ change_at c ws + 1 → (old : ℕ)
+        → StepCounts (starts.TheVariants.Replace index value owner) f old)
+        (sym (ap (λ n. replace_at n run.given.index run.given.value run.given.owner run.call.stage) at.0
+        ∙ ap (λ (o : Replacement T). replace_at c o.index o.value o.owner run.call.stage) at.1))
+        (λ raised old. replace_counts index value owner raised run.call.stage old)
+    step_counts (starts.TheVariants.Recover owner mode) (calls.TheVariants.Recover run) at =
+        subst (λ f. change_at c (words_after ws (Some (adds_one (change_word c)))) ≡ change_at c ws + 1 → (old : ℕ)
+        → StepCounts (starts.TheVariants.Recover owner mode) f old)
+        (sym (ap (λ n. recover_at n run.given.owner run.given.mode run.room run.call.stage) at.0
+        ∙ ap (λ (o : DeadOwner). recover_at c o.owner o.mode run.room run.call.stage) at.1))
+        (λ raised old. recover_counts owner mode run.room all done raised run.call.stage at.3 old)
+    step_counts (starts.TheVariants.Find owner) (calls.TheVariants.Find run) at = λ raised old.
+        calmly (starts.TheVariants.Find owner) (calls.TheVariants.Find run) old
+        (subst (λ n. IsCalm c ws (ask_of (find_asks code.size n run.call.stage))) (sym at.0) (find_calm run.call.stage))
+        (find_none p owner _)
+    step_counts starts.TheVariants.GetState (calls.TheVariants.Look which call) at = λ raised old.
+        calmly starts.TheVariants.GetState (calls.TheVariants.Look which call) old
+        (subst (λ n. IsCalm c ws (ask_of (look_asks code.size n call.stage))) (sym at.0) (look_calm call.stage))
+        (get_none p _)
+    step_counts starts.TheVariants.UpdateState (calls.TheVariants.Look which call) at = λ raised old.
+        calmly starts.TheVariants.UpdateState (calls.TheVariants.Look which call) old
+        (subst (λ n. IsCalm c ws (ask_of (look_asks code.size n call.stage))) (sym at.0) (look_calm call.stage))
+        (update_none p _)
+    step_counts starts.TheVariants.Len (calls.TheVariants.Count which run) at =
+        λ raised old. calmly starts.TheVariants.Len (calls.TheVariants.Count which run) old (count_calm c ws run.call.count) (len_none p _)
+    step_counts starts.TheVariants.IsEmpty (calls.TheVariants.Count which run) at =
+        λ raised old. calmly starts.TheVariants.IsEmpty (calls.TheVariants.Count which run) old
+        (count_calm c ws run.call.count) (empty_none p _)
+    step_counts starts.TheVariants.IsLocked (calls.TheVariants.IsLocked run) at =
+        λ raised old. calmly starts.TheVariants.IsLocked (calls.TheVariants.IsLocked run) old (calm_load c ws 0) refl
+    step_counts start flight at = absurd at
+
+-- ---- a decision
+
+module _ {T : Type 0} (code : Coding T) (state : Option (ContainerState T)) (p answer : ℕ) where
+  pub decision_counts : (start : ContainerStart T) (flight : ContainerFlight T) (c z : ℕ) (all : List Deed) (done : List (Act T))
+      → At c z all done start flight → is_question (want code flight) ≡ true
+      → ends_count p start (answer_in (after code state flight answer)) ≡ 0
+  decision_counts (starts.TheVariants.Add value owner) (calls.TheVariants.Add run) c z all done at due =
+      both_ways (is_question (add_asks code.words_of code.size run.call.capacity run.call.stage run.given))
+      (add_asks_none code run.call.capacity run.call.stage run.given) due
+  decision_counts (starts.TheVariants.Remove index owner mode) (calls.TheVariants.Remove run) c z all done at due =
+      both_ways (is_question (remove_asks run.call.capacity run.call.stage run.given))
+      (remove_asks_none run.call.capacity run.call.stage run.given) due
+  decision_counts (starts.TheVariants.Replace index value owner) (calls.TheVariants.Replace run) c z all done at due =
+      both_ways (is_question (replace_asks code.words_of code.size run.call.capacity run.call.stage run.given))
+      (replace_asks_none code run.call.capacity run.call.stage run.given) due
+  decision_counts (starts.TheVariants.Recover owner mode) (calls.TheVariants.Recover run) c z all done at due = go run.call.stage due
+    where
+      go : (stage : RecoverStage)
+          → is_question (recover_asks code.size run.call.capacity stage run.given.owner) ≡ true
+          → ends_count p (starts.TheVariants.Recover owner mode)
+          (answer_in (after code state (calls.TheVariants.Recover (record run { call = record run.call { stage = stage } })) answer))
+          ≡ 0
+      go recovers.TheVariants.LoadsCounter due = absurd (cc)
+      go (recovers.TheVariants.LoadsCell index) due = absurd (cc)
+      go (recovers.TheVariants.LoadsCount index) due = absurd (cc)
+      go (recovers.TheVariants.LoadsWord index count at) due = absurd (cc)
+      go (recovers.TheVariants.ChecksCount index count) due = absurd (cc)
+      go (recovers.TheVariants.Asks index count) due = by (answer == 0)
+        where
+          by : (b : Bool) → ends_count {T = T} p (starts.TheVariants.Recover owner mode)
+              (answer_in (as_call calls.TheVariants.Recover State
+              (went_on as_it_is run.given run.room
+              (if b then recover_comes_to (record run.call { stage = recovers.TheVariants.Asks index count })
+              (index + 1) else GoOn (record run.call { stage = recovers.TheVariants.EmptiesCell index count })))))
+              ≡ 0
+          by true = refl
+          by false = refl
+      go (recovers.TheVariants.EmptiesCell index count) due = absurd (cc)
+      go (recovers.TheVariants.Hides index count) due = absurd (cc)
+      go (recovers.TheVariants.Raises index raise) due = both_ways (is_question (raise_want raise)) (raise_asks_none raise) due
+      go (recovers.TheVariants.Locks index lock) due = both_ways (is_question (lock_want lock)) (lock_asks_none lock) due
+      go recovers.TheVariants.LoadsCounterAgain due = absurd (cc)
+      go (recovers.TheVariants.AddsChange lock) due = absurd (cc)
+  decision_counts (starts.TheVariants.Find owner) (calls.TheVariants.Find run) c z all done at due = find_none p owner _
+  decision_counts starts.TheVariants.GetState (calls.TheVariants.Look which call) c z all done at due = get_none p _
+  decision_counts starts.TheVariants.UpdateState (calls.TheVariants.Look which call) c z all done at due = update_none p _
+  decision_counts starts.TheVariants.Len (calls.TheVariants.Count which run) c z all done at due = len_none p _
+  decision_counts starts.TheVariants.IsEmpty (calls.TheVariants.Count which run) c z all done at due = empty_none p _
+  decision_counts starts.TheVariants.IsLocked (calls.TheVariants.IsLocked run) c z all done at due = absurd (cc)
+  decision_counts start flight c z all done at due = absurd at

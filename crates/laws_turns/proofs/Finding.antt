@@ -1,0 +1,155 @@
+-- A find of the robust set asks about an index just where its cell holds the owner.
+use Rattle.std.proofs.Common.{◌≡◌, ℕ, ◌+◌, ◌<◌, ◌==◌, nat_lt, Bool, true, false, Option, Some, None, List, refl, sym}
+use Rattle.std.proofs.Common.{ap, subst, ◌∙◌, if◌then◌else◌, slice_index, arith, ne_eqb}
+use Rattle.steps.specs.declared.ask.After.{After}
+use Rattle.steps.specs.declared.ask.After.TheVariants.{GoOn, Done}
+use Rattle.steps.specs.declared.ask.Ask.{Ask}
+use Rattle.steps.specs.declared.indices.robust.find.Find as find_calls
+use Rattle.steps.specs.declared.indices.robust.find.FindStage.{FindStage}
+use Rattle.steps.specs.declared.indices.robust.find.FindStage as finds
+use Rattle.steps.specs.Indices.Robust.Find.{at_find, find_comes_to}
+use Rattle.steps.specs.Indices.Robust.Parts.{cell_word, empty, one_more}
+use Rattle.steps.specs.Routine.{went_on}
+use Rattle.model.specs.declared.event.Answer.TheVariants.{Number}
+use Rattle.model.specs.declared.event.Start.{Start}
+use Rattle.model.specs.declared.event.Start.TheVariants.{Robust}
+use Rattle.model.specs.declared.families.Flight.{Flight}
+use Rattle.model.specs.declared.families.Flight as flights
+use Rattle.model.specs.declared.families.indices.robust.RobustStart.{RobustStart}
+use Rattle.model.specs.declared.families.indices.robust.RobustStart as starts
+use Rattle.model.specs.declared.families.indices.robust.calls.RobustFlight.{RobustFlight}
+use Rattle.model.specs.declared.families.indices.robust.calls.RobustFlight as calls
+use Rattle.model.specs.declared.party.Party.{Party}
+use Rattle.model.specs.declared.turn.Kind as kinds
+use Rattle.model.specs.declared.turn.Turn.{Turn}
+use Rattle.model.specs.declared.turn.Turn.TheVariants.{Next}
+use Rattle.model.specs.Coding.{Coding}
+use Rattle.model.specs.Families.{goes_of, want_of, ask_of}
+use Rattle.model.specs.Families.Indices.Robust.Calls.{want, after}
+use Rattle.model.specs.Families.Indices.Robust.Promises.{IsIn, asked_of, cell_of}
+use Rattle.model.specs.Families.Indices.Robust.Reading.{Deed, filled_of, deeds_of}
+use Rattle.model.specs.Promises.Turns.{ask_of_flight, ask_in, GoesOn}
+use Rattle.model.specs.Families.Queues.Calls.{as_it_is}
+use Rattle.model.specs.Step.{as_call}
+use Rattle.model.specs.Refusals.{refusal_of}
+use Rattle.model.specs.Shape.{IsOpenFor}
+use Rattle.model.specs.Turns.{old_of, after_turn, IsReached}
+use Rattle.model.specs.World.{Trace, flight_in}
+use Rattle.model.proofs.Frame as frame
+use Rattle.model.proofs.Reached.{turn_making}
+use Rattle.model.proofs.Scenes.{StandsThere}
+use Rattle.laws_robust.proofs.Core.{cell}
+use Rattle.laws_robust.proofs.Invariant.{family}
+use Rattle.laws_robust.proofs.Justified.{robust_keeps}
+use Rattle.laws_robust.proofs.Sound.{kept_is, reached_sound}
+use Rattle.laws_robust.proofs.Stages.{any_call}
+use Rattle.laws_robust.proofs.Standing.{find_at, At, FindAt}
+use Rattle.laws_turns.specs.Questions.{FindsAsking, index_if, loads_cell}
+use Rattle.laws_turns.proofs.Standing.{left_by, next_left, under_way}
+
+module _ {T : Type 0} (code : Coding T) where
+  abbrev asks_then : RobustFlight → ℕ → Option ℕ
+  asks_then flight old = asked_of code (left_by (any_call (after {T = T} flight old)))
+
+  -- ---- a find at a cell
+
+  module _ (c owner i found : ℕ) where
+    abbrev at_cell : find_calls.Find
+    at_cell = record { capacity = c; stage = finds.TheVariants.LoadsCell i found }
+
+    abbrev asks_by : After find_calls.Find ℕ → Option ℕ
+    asks_by a = asked_of code (left_by (any_call {T = T} (as_call calls.TheVariants.Find Number (went_on as_it_is owner tt a))))
+
+    -- the next cell and the end put no question
+    next_asks_none : asks_by (find_comes_to at_cell (i + 1) found) ≡ None
+    next_asks_none = go (nat_lt (i + 1) c)
+      where
+        go : (b : Bool) → asks_by (if b then GoOn (at_find at_cell (finds.TheVariants.LoadsCell (i + 1) found)) else Done found) ≡ None
+        go true = refl
+        go false = refl
+
+    by_owner : (b : Bool)
+        → asks_by (if b then GoOn (at_find at_cell (finds.TheVariants.Asks i (one_more found))) else find_comes_to at_cell (i + 1) found)
+        ≡ (if b then Some i else None)
+    by_owner true = refl
+    by_owner false = next_asks_none
+
+    pub cell_asks : owner < empty → (o : Option ℕ) → asks_then (find_at c owner (finds.TheVariants.LoadsCell i found)) (cell_of o) ≡ index_if owner i o
+    cell_asks fits None = by_owner (empty == owner) ∙ ap (λ b. if b then Some i else None) (ne_eqb empty owner (λ e. absurd (omega arith)))
+    cell_asks fits (Some other) = by_owner (other == owner)
+
+module _ {T : Type 0} (t : Trace T) (is : t.world.kind ≡ kinds.TheVariants.Robust) (r : IsReached t) where
+  abbrev code : Coding T
+  code = t.world.coding
+
+  abbrev c : ℕ
+  c = t.world.capacity
+
+  s : frame.Sound (family t.world.coding t.world.capacity) t
+  s = reached_sound t is r
+
+  pub cell_is : (i : ℕ) → i < c → slice_index t.world.words (cell_word i) ≡ cell_of (filled_of i t.events)
+  cell_is i below = ap (λ ws. cell ws i) (kept_is t.world.kept t.world.words s.state s.fit).1 ∙ s.holds.good.cells i below
+
+  -- ---- a find
+
+  some_ask : (a b : Ask) → ◌≡◌ {A = Option Ask} (Some a) (Some b) → a ≡ b
+  some_ask a b e = cc
+
+  module _ (index owner : ℕ) where
+    abbrev Asks : RobustFlight → Type 0
+    Asks flight =
+        ask_of (want flight) ≡ Some (loads_cell index)
+        → asks_then code flight (old_of t.world.words (ask_of (want flight))) ≡ index_if owner index (filled_of index t.events)
+
+    stage_asks : (all : List Deed) → owner < empty → (stage : FindStage) → FindAt c all stage → Asks (find_at c owner stage)
+    stage_asks all fits (finds.TheVariants.LoadsCell i found) at e =
+        let word : cell_word i ≡ cell_word index = ap (λ (a : Ask). a.word) (some_ask (loads_cell i) (loads_cell index) e) in
+        let same : i ≡ index = omega arith in
+        subst (λ j. asks_then code (find_at c owner (finds.TheVariants.LoadsCell i found)) (old_of t.world.words (Some (loads_cell i)))
+        ≡ index_if owner j (filled_of j t.events))
+        same
+        (ap (asks_then code (find_at c owner (finds.TheVariants.LoadsCell i found))) (cell_is i at.0)
+        ∙ cell_asks code c owner i found fits (filled_of i t.events))
+    stage_asks all fits (finds.TheVariants.Asks i found) at e = absurd (cc)
+
+    find_asks : (all : List Deed) (flight : RobustFlight) → At c all (starts.TheVariants.Find owner) flight → Asks flight
+    find_asks all (calls.TheVariants.Find run) at =
+        subst Asks (sym (ap (λ n. find_at n run.given run.call.stage) at.0 ∙ ap (λ o. find_at c o run.call.stage) at.1))
+        (stage_asks all at.2 run.call.stage at.3)
+    find_asks all flight at = absurd at
+
+  robust_is : (a b : RobustStart) → ◌≡◌ {A = Start T} (Robust a) (Robust b) → a ≡ b
+  robust_is a b e = cc
+
+  module _ (p owner index : ℕ) (under : IsIn p (Robust (starts.TheVariants.Find owner)) t) (goes : GoesOn t.world (Next p) (after_turn t (Next p)).world) where
+    abbrev Left : Flight T → Type 0
+    Left flight =
+        ask_of (want_of code flight) ≡ Some (loads_cell index)
+        → asked_of code (left_by (goes_of code p flight (old_of t.world.words (ask_of (want_of code flight))) t.world.kept))
+        ≡ index_if owner index (filled_of index t.events)
+
+    by_name : (x : Party T) (since : ℕ) (start : Start T) (flight : Flight T)
+        → StandsThere (family t.world.coding t.world.capacity) t s p x since start flight → Left flight
+    by_name x since (Robust start) (flights.TheVariants.Robust flight) h =
+        let name = (subst (IsOpenFor (Robust (starts.TheVariants.Find owner)) (λ wrote. Unit {0})) h.span under).0 in
+        find_asks index owner (deeds_of p s.state.events) flight
+        (subst (λ a. At c (deeds_of p s.state.events) a flight) (robust_is start (starts.TheVariants.Find owner) name) h.at)
+    by_name x since start flight h = absurd h.at
+
+    by_flight : (o : Option (Flight T)) → flight_in t.world p ≡ o → ask_of_flight code o ≡ Some (loads_cell index)
+        → asked_of code (flight_in (after_turn t (Next p)).world p) ≡ index_if owner index (filled_of index t.events)
+    by_flight None here e = absurd (cc)
+    by_flight (Some flight) here e =
+        let call = under_way (family t.world.coding t.world.capacity) t s p flight here in
+        ap (asked_of code) (next_left t.world (after_turn t (Next p)).world p flight here goes)
+        ∙ by_name call.party call.since call.party.start flight call.there e
+
+  pub finds_asking : (turn : Turn T) → refusal_of t.world turn ≡ None → FindsAsking t turn (after_turn t turn)
+  finds_asking turn free p owner index name under asks =
+      subst (λ u. asked_of (after_turn t u).world.coding (flight_in (after_turn t u).world p) ≡ index_if owner index (filled_of index t.events)) (sym name)
+      (subst (λ z. asked_of z (flight_in (after_turn t (Next p)).world p) ≡ index_if owner index (filled_of index t.events))
+      (sym (turn_making t.world (Next p)).coding)
+      (by_flight p owner index under
+      (robust_keeps.turn t (Next p) is (subst (λ u. refusal_of t.world u ≡ None) name free) r).call
+      (flight_in t.world p) refl (subst (λ u. ask_in t.world u ≡ Some (loads_cell index)) name asks)))

@@ -1,0 +1,293 @@
+-- What any call of the robust set leaves, of which a recovery in mode LockIfLastIndex is one.
+use Rattle.std.proofs.Common.{◌≡◌, ◌≢◌, ℕ, ◌-◌, ◌^◌, ◌<◌, true, Option, Some, None, List, [], ◌∷◌, ◌++◌, refl, sym, ap, subst, ◌∙◌, append_assoc, append-nil}
+use Rattle.std.specs.List.{AllByRecursion}
+use Rattle.steps.specs.declared.ask.After.{After}
+use Rattle.steps.specs.declared.ask.After.TheVariants.{GoOn, Done}
+use Rattle.steps.specs.declared.indices.enums.ReleaseMode.{ReleaseMode}
+use Rattle.steps.specs.declared.indices.enums.ReleaseMode.TheVariants.{LockIfLastIndex, Default}
+use Rattle.steps.specs.declared.indices.enums.ReleaseState.{ReleaseState}
+use Rattle.steps.specs.declared.indices.enums.ReleaseState as states
+use Rattle.steps.specs.declared.indices.robust.recover.Recover as recover_calls
+use Rattle.steps.specs.declared.indices.robust.recover.RecoverStage.{RecoverStage}
+use Rattle.steps.specs.declared.indices.robust.recover.RecoverStage as recovers
+use Rattle.steps.specs.Indices.Robust.Parts.{raise_want, lock_want}
+use Rattle.steps.specs.Indices.Robust.Recover.{recover_asks, recover_takes}
+use Rattle.steps.specs.declared.routine.Running.{Running}
+use Rattle.steps.specs.Routine.{went_on}
+use Rattle.steps.specs.Indices.Robust.Acquire.{acquire_after}
+use Rattle.steps.specs.Indices.Robust.Find.{find_after}
+use Rattle.steps.specs.Indices.Robust.Looks.{borrowed_after}
+use Rattle.steps.specs.Indices.Robust.Release.{release_after}
+use Rattle.model.specs.declared.event.Answer.{Answer}
+use Rattle.model.specs.declared.event.Answer.TheVariants.{State, Number}
+use Rattle.model.specs.declared.event.Event.{Event}
+use Rattle.model.specs.declared.event.Event.TheVariants.{Finished}
+use Rattle.model.specs.declared.event.Start.{Start}
+use Rattle.model.specs.declared.event.Start.TheVariants.{Robust}
+use Rattle.model.specs.declared.families.Flight.{Flight}
+use Rattle.model.specs.declared.families.indices.robust.RobustStart.{RobustStart}
+use Rattle.model.specs.declared.families.indices.robust.RobustStart as starts
+use Rattle.model.specs.declared.families.indices.robust.calls.RobustFlight.{RobustFlight}
+use Rattle.model.specs.declared.families.indices.robust.calls.RobustFlight as calls
+use Rattle.model.specs.declared.party.Party.{Party}
+use Rattle.model.specs.declared.turn.Kind as kinds
+use Rattle.model.specs.Families.{ask_of, is_question}
+use Rattle.model.specs.Families.Indices.Robust.Calls.{want, after, acquire_answer, release_answer}
+use Rattle.model.specs.Families.Indices.Robust.Steps.{effects, recover_effects}
+use Rattle.model.specs.Families.Queues.Calls.{as_it_is}
+use Rattle.model.specs.Parties.{party_of}
+use Rattle.model.specs.Reading.{whose}
+use Rattle.model.specs.Step.{as_call, answer_in}
+use Rattle.model.specs.Turns.{old_of, ending_of, IsReached}
+use Rattle.model.specs.World.{Trace}
+use Rattle.model.proofs.Frame as frame
+use Rattle.model.proofs.Readings.{AreOwn, AreRight}
+use Rattle.laws_robust.specs.Gone.{Death}
+use Rattle.laws_robust.proofs.Effects.{both_ways}
+use Rattle.laws_robust.proofs.Invariant.{Scene, Inv, family}
+use Rattle.laws_robust.proofs.Knows.{Knows}
+use Rattle.laws_robust.proofs.Sound.{reached_sound, scene_of, inv_of, raise_asks_none, lock_asks_none}
+use Rattle.laws_robust.proofs.Stages.{IsHere, all, now, any_call}
+use Rattle.laws_robust.proofs.Standing.{recover_at, At, RecoverAt}
+use Rattle.laws_robust.proofs.Written.{effects_hold}
+use Rattle.laws_turns.specs.Recoveries.{LocksRight}
+use Rattle.laws_turns.proofs.LockKnows.{StageKnows, CallKnows, FlightKnows}
+use Rattle.laws_turns.proofs.LockSteps.{Tells, steps, decided}
+use Rattle.laws_turns.proofs.Standing.{left_by}
+
+-- ---- what is right of the events of a turn
+
+module _ {T : Type 0} where
+  pub right_append : (P : List (Event T) → Event T → Type 0) (before xs ys : List (Event T)) → AreRight P before xs
+      → AreRight P (before ++ xs) ys → AreRight P before (xs ++ ys)
+  right_append P before [] ys h k = subst (λ b. AreRight P b ys) (append-nil before) k
+  right_append P before (x ∷ xs) ys h k =
+      (h.0, right_append P (before ++ x ∷ []) xs ys h.1 (subst (λ b. AreRight P b ys) (sym (append_assoc before (x ∷ []) xs)) k))
+
+  -- an event of which it is so whatever stands before it
+  abbrev pub IsFree : Event T → Type 0
+  IsFree e = (before : List (Event T)) → LocksRight before e
+
+  free_right : (before es : List (Event T)) → AllByRecursion IsFree es → AreRight LocksRight before es
+  free_right before [] h = tt
+  free_right before (e ∷ es) h = (h.0 before, free_right (before ++ e ∷ []) es h.1)
+
+  abbrev pub IsOf : ℕ → Event T → Type 0
+  IsOf p e = whose e ≡ Some p
+
+  pub all_own : (p : ℕ) (es : List (Event T)) (start : Start T) (outcome : Option (Answer T))
+      → AllByRecursion (IsOf p) es → AreOwn p (es ++ ending_of p start outcome)
+  all_own p [] start None h = tt
+  all_own p [] start (Some answer) h = (refl, tt)
+  all_own p (e ∷ es) start outcome h = (h.0, all_own p es start outcome h.1)
+
+module _ (T : Type 0) where
+  pub effects_free : (p : ℕ) (call : RobustFlight) (old : ℕ) → AllByRecursion (IsFree {T = T}) (effects {T = T} p call old)
+  effects_free p call old =
+      effects_hold (IsFree {T = T}) p
+      (record {
+        filled = λ index owner before. tt;
+        granted_to = λ index owner before. tt;
+        freed_of = λ index owner before. tt;
+        asked = λ index owner before. tt;
+        locked = λ before. tt;
+      })
+      call
+      old
+      (λ index owner is some before. tt)
+
+  pub effects_own : (p : ℕ) (call : RobustFlight) (old : ℕ) → AllByRecursion (IsOf {T = T} p) (effects {T = T} p call old)
+  effects_own p call old =
+      effects_hold (IsOf {T = T} p) p
+      (record { filled = λ index owner. refl; granted_to = λ index owner. refl; freed_of = λ index owner. refl; asked = λ index owner. refl; locked = refl })
+      call
+      old
+      (λ index owner is some. refl)
+
+-- ---- a step of a call
+
+module _ {T : Type 0} (c p : ℕ) (events : List (Event T)) where
+  abbrev pub wrote_by : RobustStart → RobustFlight → ℕ → List (Event T)
+  wrote_by start call answer =
+      effects p call answer ++ ending_of p (Robust start) (answer_in (any_call (after {T = T} call answer)))
+
+  -- what a call leaves that is handed this answer
+  pub record Leaves (start : RobustStart) (call : RobustFlight) (answer : ℕ) : Type 0 where
+    pub knows : FlightKnows c p (left_by (any_call (after {T = T} call answer))) (events ++ wrote_by start call answer)
+    pub right : AreRight LocksRight events (wrote_by start call answer)
+
+  -- a call of which nothing is to be known
+  module _ (call : RobustFlight) (answer : ℕ) where
+    freely : (start : RobustStart)
+        → FlightKnows c p (left_by (any_call (after {T = T} call answer))) (events ++ wrote_by start call answer)
+        → ((a : Answer T) → IsFree (Finished p (Robust start) a)) → Leaves start call answer
+    freely start knows free =
+        record {
+          knows = knows;
+          right =
+              right_append LocksRight events (effects p call answer)
+              (ending_of p (Robust start) (answer_in (any_call (after {T = T} call answer))))
+              (free_right events (effects p call answer) (effects_free T p call answer))
+              (ends (answer_in (any_call (after {T = T} call answer))));
+        }
+      where
+        ends : (o : Option (Answer T)) → AreRight LocksRight (events ++ effects p call answer) (ending_of p (Robust start) o)
+        ends None = tt
+        ends (Some a) = (free a (events ++ effects p call answer), tt)
+
+  none_known : (f : RobustFlight → Type 0) (a : After RobustFlight (Answer T)) (es : List (Event T))
+      → ((call : RobustFlight) → CallKnows c p call es) → FlightKnows c p (left_by (any_call a)) es
+  none_known f (GoOn call) es h = h call
+  none_known f (Done answer) es h = tt
+
+  -- a recovery
+  module _ (mode : ReleaseMode) (stage : RecoverStage) (answer : ℕ) where
+    abbrev outcome : After recover_calls.Recover ReleaseState
+    outcome = recover_takes (record { capacity = c; stage = stage }) stage mode answer
+
+    abbrev did : List (Event T)
+    did = recover_effects p stage answer
+
+    abbrev as_any : After recover_calls.Recover ReleaseState → After (Flight T) (Answer T)
+    as_any a = any_call (as_call calls.TheVariants.Recover State (went_on as_it_is mode tt a))
+
+    abbrev ends : After recover_calls.Recover ReleaseState → List (Event T)
+    ends a = ending_of p (Robust (starts.TheVariants.Recover mode)) (answer_in (as_any a))
+
+    knows : (a : After recover_calls.Recover ReleaseState) → Tells c mode p (events ++ did) a → FlightKnows c p (left_by (as_any a)) (events ++ (did ++ ends a))
+    knows (GoOn call) h = subst (λ es. StageKnows c mode p call.stage (events ++ es)) (sym (append-nil did)) h
+    knows (Done state) h = tt
+
+    ends_right : (m : ReleaseMode) (a : After recover_calls.Recover ReleaseState) → Tells c m p (events ++ did) a
+        → AreRight LocksRight (events ++ did)
+        (ending_of p (Robust (starts.TheVariants.Recover m))
+        (answer_in (any_call {T = T} (as_call calls.TheVariants.Recover State (went_on as_it_is m tt a)))))
+    ends_right m (GoOn call) h = tt
+    ends_right Default (Done state) h = (tt, tt)
+    ends_right LockIfLastIndex (Done states.TheVariants.Locked) h = (tt, tt)
+    ends_right LockIfLastIndex (Done states.TheVariants.Unlocked) h = (h, tt)
+
+    pub recovered : Tells c mode p (events ++ did) outcome → Leaves (starts.TheVariants.Recover mode) (recover_at c mode stage) answer
+    recovered tells =
+        record {
+          knows = knows outcome tells;
+          right =
+              right_append LocksRight events did (ends outcome)
+              (free_right events did (effects_free T p (recover_at c mode stage) answer))
+              (ends_right mode outcome tells);
+        }
+
+-- ---- a step of any call
+
+module _ {T : Type 0} where
+  goes_known : {C G M E A : Type 0} (c p : ℕ) (es : List (Event T)) (f : Running C G M → RobustFlight)
+      (g : A → Answer T) (h : E → G → M → A) (given : G) (room : M) (a : After C E)
+      → ((r : Running C G M) → CallKnows c p (f r) es)
+      → FlightKnows c p (left_by (any_call (as_call f g (went_on h given room a)))) es
+  goes_known c p es f g h given room (GoOn call) k = k (record { call = call; given = given; room = room })
+  goes_known c p es f g h given room (Done end) k = tt
+
+module _ {T : Type 0} (t : Trace T) (is : t.world.kind ≡ kinds.TheVariants.Robust) (r : IsReached t) where
+  abbrev c : ℕ
+  c = t.world.capacity
+
+  abbrev sound : Type 0
+  sound = frame.Sound (family t.world.coding t.world.capacity) t
+
+  abbrev s : sound
+  s = reached_sound t is r
+
+  module _ (p : ℕ) (x : Party T) (since : ℕ) (small : t.world.turns < 2 ^ 64 - 2) (found : party_of p t.world.latest ≡ Some x) where
+    abbrev scene : Scene T
+    scene = scene_of Death t.world.coding t.world.capacity t s p x since
+
+    inv : Inv scene
+    inv = inv_of Death t.world.coding t.world.capacity t s p x since found small
+
+    abbrev KnowsNow : RobustFlight → Type 0
+    KnowsNow call = CallKnows c p call t.events
+
+    -- handed the old value of its word
+    abbrev StepLeaves : RobustStart → RobustFlight → Type 0
+    StepLeaves start call = Knows c call (now scene) → KnowsNow call → Leaves c p t.events start call (old_of s.state.words (ask_of (want call)))
+
+    recover_leaves : (mode : ReleaseMode) → IsHere scene (starts.TheVariants.Recover mode) → (stage : RecoverStage)
+        → RecoverAt c mode (all scene) stage → StepLeaves (starts.TheVariants.Recover mode) (recover_at c mode stage)
+    recover_leaves mode here stage at k h =
+        recovered c p t.events mode stage (old_of s.state.words (ask_of (recover_asks stage))) (steps scene inv mode here refl stage at k h)
+
+    others_leave : (start : RobustStart) (call : RobustFlight) (answer : ℕ) → At c (all scene) start call
+        → ((mode : ReleaseMode) → start ≢ starts.TheVariants.Recover mode) → Leaves c p t.events start call answer
+    others_leave (starts.TheVariants.Acquire owner) (calls.TheVariants.Acquire run) answer at other =
+        freely c p t.events (calls.TheVariants.Acquire run) answer (starts.TheVariants.Acquire owner)
+        (goes_known c p _ calls.TheVariants.Acquire acquire_answer as_it_is run.given run.room
+        (acquire_after run.call answer) (λ r. tt))
+        (λ a before. tt)
+    others_leave (starts.TheVariants.Release index owner mode) (calls.TheVariants.Release run) answer at other =
+        freely c p t.events (calls.TheVariants.Release run) answer (starts.TheVariants.Release index owner mode)
+        (goes_known c p _ calls.TheVariants.Release release_answer as_it_is run.given run.room
+        (release_after run.call run.given answer) (λ r. tt))
+        (λ a before. tt)
+    others_leave (starts.TheVariants.Find owner) (calls.TheVariants.Find run) answer at other =
+        freely c p t.events (calls.TheVariants.Find run) answer (starts.TheVariants.Find owner)
+        (goes_known c p _ calls.TheVariants.Find Number as_it_is run.given run.room (find_after run.call run.given answer) (λ r. tt))
+        (λ a before. tt)
+    others_leave starts.TheVariants.BorrowedIndices (calls.TheVariants.BorrowedIndices run) answer at other =
+        freely c p t.events (calls.TheVariants.BorrowedIndices run) answer starts.TheVariants.BorrowedIndices
+        (goes_known c p _ calls.TheVariants.BorrowedIndices Number as_it_is run.given run.room
+        (borrowed_after run.call answer) (λ r. tt))
+        (λ a before. tt)
+    others_leave starts.TheVariants.IsLocked (calls.TheVariants.IsLocked run) answer at other =
+        freely c p t.events (calls.TheVariants.IsLocked run) answer starts.TheVariants.IsLocked tt (λ a before. tt)
+    others_leave (starts.TheVariants.Recover mode) call answer at other = absurd (other mode refl)
+    others_leave start call answer at other = absurd at
+
+    pub step_leaves : (start : RobustStart) (call : RobustFlight) → IsHere scene start → At c (all scene) start call → StepLeaves start call
+    step_leaves (starts.TheVariants.Recover mode) (calls.TheVariants.Recover run) here at =
+        subst (StepLeaves (starts.TheVariants.Recover mode))
+        (sym (ap (λ n. recover_at n run.given run.call.stage) at.0 ∙ ap (λ m. recover_at c m run.call.stage) at.1))
+        (recover_leaves mode here run.call.stage at.2)
+    step_leaves (starts.TheVariants.Acquire owner) call here at =
+        λ k h. others_leave (starts.TheVariants.Acquire owner) call (old_of s.state.words (ask_of (want call))) at (λ mode e. absurd (cc))
+    step_leaves (starts.TheVariants.Release index owner mode) call here at =
+        λ k h. others_leave (starts.TheVariants.Release index owner mode) call
+        (old_of s.state.words (ask_of (want call))) at (λ mode e. absurd (cc))
+    step_leaves (starts.TheVariants.Find owner) call here at =
+        λ k h. others_leave (starts.TheVariants.Find owner) call (old_of s.state.words (ask_of (want call))) at (λ mode e. absurd (cc))
+    step_leaves starts.TheVariants.BorrowedIndices call here at =
+        λ k h. others_leave starts.TheVariants.BorrowedIndices call (old_of s.state.words (ask_of (want call))) at (λ mode e. absurd (cc))
+    step_leaves starts.TheVariants.IsLocked call here at =
+        λ k h. others_leave starts.TheVariants.IsLocked call (old_of s.state.words (ask_of (want call))) at (λ mode e. absurd (cc))
+    step_leaves start call here at = absurd at
+
+    -- handed a decision
+    abbrev DecisionLeaves : ℕ → RobustStart → RobustFlight → Type 0
+    DecisionLeaves answer start call = is_question (want call) ≡ true → KnowsNow call → Leaves c p t.events start call answer
+
+    recover_decides : (answer : ℕ) (mode : ReleaseMode) → IsHere scene (starts.TheVariants.Recover mode)
+        → (stage : RecoverStage) → DecisionLeaves answer (starts.TheVariants.Recover mode) (recover_at c mode stage)
+    recover_decides answer mode here recovers.TheVariants.LoadsCounter due h = absurd (cc)
+    recover_decides answer mode here (recovers.TheVariants.LoadsCell index) due h = absurd (cc)
+    recover_decides answer mode here (recovers.TheVariants.Asks index owner) due h =
+        recovered c p t.events mode (recovers.TheVariants.Asks index owner) answer (decided scene inv mode here refl index owner answer h)
+    recover_decides answer mode here (recovers.TheVariants.EmptiesCell index owner) due h = absurd (cc)
+    recover_decides answer mode here (recovers.TheVariants.Raises index raise) due h = both_ways (is_question (raise_want raise)) (raise_asks_none raise) due
+    recover_decides answer mode here (recovers.TheVariants.Locks index lock) due h = both_ways (is_question (lock_want lock)) (lock_asks_none lock) due
+    recover_decides answer mode here recovers.TheVariants.LoadsCounterAgain due h = absurd (cc)
+
+    pub decision_leaves : (answer : ℕ) (start : RobustStart) (call : RobustFlight) → IsHere scene start
+        → At c (all scene) start call → DecisionLeaves answer start call
+    decision_leaves answer (starts.TheVariants.Recover mode) (calls.TheVariants.Recover run) here at =
+        subst (DecisionLeaves answer (starts.TheVariants.Recover mode))
+        (sym (ap (λ n. recover_at n run.given run.call.stage) at.0 ∙ ap (λ m. recover_at c m run.call.stage) at.1))
+        (recover_decides answer mode here run.call.stage)
+    decision_leaves answer (starts.TheVariants.Acquire owner) call here at =
+        λ due h. others_leave (starts.TheVariants.Acquire owner) call answer at (λ mode e. absurd (cc))
+    decision_leaves answer (starts.TheVariants.Release index owner mode) call here at =
+        λ due h. others_leave (starts.TheVariants.Release index owner mode) call answer at (λ mode e. absurd (cc))
+    decision_leaves answer (starts.TheVariants.Find owner) call here at =
+        λ due h. others_leave (starts.TheVariants.Find owner) call answer at (λ mode e. absurd (cc))
+    decision_leaves answer starts.TheVariants.BorrowedIndices call here at =
+        λ due h. others_leave starts.TheVariants.BorrowedIndices call answer at (λ mode e. absurd (cc))
+    decision_leaves answer starts.TheVariants.IsLocked call here at = λ due h. others_leave starts.TheVariants.IsLocked call answer at (λ mode e. absurd (cc))
+    decision_leaves answer start call here at = absurd at

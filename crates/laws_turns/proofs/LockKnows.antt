@@ -1,0 +1,71 @@
+-- What a recovery of the robust set in mode LockIfLastIndex knows of the indices that it has freed, and that it knows this
+-- still after any turn of another party.
+use Rattle.std.proofs.Common.{◌≡◌, ℕ, inl, Option, Some, List, ◌++◌, subst}
+use Rattle.steps.specs.declared.indices.enums.ReleaseMode.{ReleaseMode}
+use Rattle.steps.specs.declared.indices.robust.recover.RecoverStage.{RecoverStage}
+use Rattle.steps.specs.declared.indices.robust.recover.RecoverStage as recovers
+use Rattle.model.specs.declared.event.Event.{Event}
+use Rattle.model.specs.declared.families.Flight.{Flight}
+use Rattle.model.specs.declared.families.Flight as flights
+use Rattle.model.specs.declared.families.indices.robust.calls.RobustFlight.{RobustFlight}
+use Rattle.model.specs.declared.families.indices.robust.calls.RobustFlight as calls
+use Rattle.model.specs.Families.Indices.Robust.Reading.{Frees, deeds_of, IsOneOf}
+use Rattle.model.specs.Moments.{BeginsNone}
+use Rattle.laws_robust.proofs.Knows.{LockSays}
+use Rattle.laws_container.proofs.Keeping.{shut_later}
+use Rattle.laws_container.proofs.KeptLocks.{NoIndex, FilledBut, FoundFilled, filled_then, says_later}
+
+module _ {T : Type 0} where
+  -- some index was filled after each that it has freed, or the set is locked
+  abbrev pub Settled : ReleaseMode → ℕ → List (Event T) → Type 0
+  Settled mode p events = (owner : ℕ) → FilledBut ⊥ mode p owner NoIndex events
+
+  abbrev pub StageKnows : ℕ → ReleaseMode → ℕ → RecoverStage → List (Event T) → Type 0
+  StageKnows c mode p recovers.TheVariants.LoadsCounter events = Settled mode p events
+  StageKnows c mode p (recovers.TheVariants.LoadsCell index) events = Settled mode p events
+  StageKnows c mode p (recovers.TheVariants.Asks index owner) events = Settled mode p events
+  StageKnows c mode p (recovers.TheVariants.EmptiesCell index owner) events = Settled mode p events
+  StageKnows c mode p (recovers.TheVariants.Raises index raise) events = Unit {0}
+  StageKnows c mode p (recovers.TheVariants.Locks index lock) events =
+      LockSays c (FoundFilled p events) lock
+  StageKnows c mode p recovers.TheVariants.LoadsCounterAgain events = Settled mode p events
+
+  abbrev pub CallKnows : ℕ → ℕ → RobustFlight → List (Event T) → Type 0
+  CallKnows c p (calls.TheVariants.Recover run) events = StageKnows c run.given p run.call.stage events
+  CallKnows c p call events = Unit {0}
+
+  abbrev pub FlightKnows : ℕ → ℕ → Option (Flight T) → List (Event T) → Type 0
+  FlightKnows c p (Some (flights.TheVariants.Robust call)) events = CallKnows c p call events
+  FlightKnows c p flight events = Unit {0}
+
+  -- ---- once events are there in which it frees nothing
+
+  module _ (p : ℕ) (events es : List (Event T)) (none : BeginsNone p es)
+      (frees : (i owner : ℕ) → IsOneOf (Frees i owner) (deeds_of p (events ++ es)) → IsOneOf (Frees i owner) (deeds_of p events)) where
+    pub settled_then : (mode : ReleaseMode) → Settled mode p events → Settled mode p (events ++ es)
+    settled_then mode h owner =
+        filled_then p owner ⊥ ⊥ (λ worn. worn) mode NoIndex NoIndex events es none
+        (λ i was. inl (frees i owner was)) (λ i never. never) (shut_later events es) (h owner)
+
+  -- ---- once another party has moved
+
+  module _ (c p : ℕ) (events es : List (Event T)) (none : BeginsNone p es) (same : deeds_of p (events ++ es) ≡ deeds_of p events) where
+    still : (mode : ReleaseMode) → Settled mode p events → Settled mode p (events ++ es)
+    still mode h = settled_then p events es none (λ i owner was. subst (IsOneOf (Frees i owner)) same was) mode h
+
+    stage_later : (mode : ReleaseMode) (stage : RecoverStage) → StageKnows c mode p stage events → StageKnows c mode p stage (events ++ es)
+    stage_later mode recovers.TheVariants.LoadsCounter h = still mode h
+    stage_later mode (recovers.TheVariants.LoadsCell index) h = still mode h
+    stage_later mode (recovers.TheVariants.Asks index owner) h = still mode h
+    stage_later mode (recovers.TheVariants.EmptiesCell index owner) h = still mode h
+    stage_later mode (recovers.TheVariants.Raises index raise) h = tt
+    stage_later mode (recovers.TheVariants.Locks index lock) h = says_later p 0 c events es none same lock h
+    stage_later mode recovers.TheVariants.LoadsCounterAgain h = still mode h
+
+    call_later : (call : RobustFlight) → CallKnows c p call events → CallKnows c p call (events ++ es)
+    call_later (calls.TheVariants.Recover run) h = stage_later run.given run.call.stage h
+    call_later call h = tt
+
+    pub flight_later : (o : Option (Flight T)) → FlightKnows c p o events → FlightKnows c p o (events ++ es)
+    flight_later (Some (flights.TheVariants.Robust call)) h = call_later call h
+    flight_later o h = tt

@@ -1,0 +1,164 @@
+-- An update of a state that answers true has met a change, and one that answers false none: in every reached machine.
+use Rattle.std.proofs.Common.{◌≡◌, ◌≢◌, ℕ, ◌==◌, false, Option, Some, None, is_some, is_none, List, [], ◌∷◌, ◌++◌}
+use Rattle.std.proofs.Common.{if◌then◌else◌, refl, sym, ap, subst, ◌∙◌, arith, ne_eqb, eq-eqb}
+use Rattle.steps.specs.declared.container.state.ContainerState.{ContainerState}
+use Rattle.model.specs.declared.event.Event.TheVariants.{Begun, Died}
+use Rattle.model.specs.Families.Container.Keeping.{is_look_of}
+use Rattle.model.specs.declared.event.Start.{Start}
+use Rattle.model.specs.declared.event.Start.TheVariants.{Container}
+use Rattle.model.specs.declared.families.Flight.{Flight}
+use Rattle.model.specs.declared.families.Flight as flights
+use Rattle.model.specs.declared.families.container.ContainerStart.{ContainerStart}
+use Rattle.model.specs.declared.families.container.ContainerStart as starts
+use Rattle.model.specs.declared.families.container.calls.LookOf.{LookOf}
+use Rattle.model.specs.declared.families.container.calls.LookOf as kinds_of
+use Rattle.model.specs.declared.turn.Kind as kinds
+use Rattle.model.specs.declared.turn.Turn.{Turn}
+use Rattle.model.specs.declared.turn.Turn.TheVariants.{Begin, Next, Decide, Die}
+use Rattle.model.specs.Families.{first_of, kept_after_begin}
+use Rattle.model.specs.Families.Container.Calls.{first}
+use Rattle.model.specs.Families.Container.Looks.{state_in}
+use Rattle.model.specs.Families.Container.States.{state_of, with_state, fresh}
+use Rattle.model.specs.Reading.{Each}
+use Rattle.model.specs.Refusals.{refusal_of}
+use Rattle.model.specs.Turns.{after_begin, world_after, after_turn, IsReached}
+use Rattle.model.specs.World.{Trace, opened, flight_in}
+use Rattle.model.proofs.Parties.{found_put_same}
+use Rattle.model.proofs.Reached.{kept_by_runs, reached_more, turn_making}
+use Rattle.model.proofs.Readings.{Each-nil}
+use Rattle.model.proofs.Rows.{passes, may_begin}
+use Rattle.laws_container.proofs.Everything.{container_keeps}
+use Rattle.laws_container.proofs.Sound.{IsOwn, begins_own}
+use Rattle.laws_turns.specs.Changes.{Seen, seen_after, seen_by, MeetsChanges}
+use Rattle.laws_turns.proofs.SeenKnows.{Within, IsToLoad, Grows, CallSees, FlightSees, seen_number, one_more, within_later, begun_grows, IsNoLook}
+use Rattle.laws_turns.proofs.SeenTurns.{Extra, s, now_kept, same_kept, other_known, known_by, after_it, next_kept, decision_kept}
+use Rattle.model.specs.Coding.{Coding}
+use Rattle.model.specs.Families.Container.Opening.{states_at_begin}
+
+module _ {T : Type 0} (t : Trace T) (is : t.world.kind ≡ kinds.TheVariants.Container) (r : IsReached t) (h : Extra t) where
+  -- ---- a call begins
+
+  module _ (p : ℕ) (start : Start T) (free : refusal_of t.world (Begin p start) ≡ None) where
+    abbrev seen_now : Seen
+    seen_now = seen_by p t.events
+
+    -- the states before, and the party's
+    abbrev states : List (ℕ × ContainerState T)
+    states = (s t is r h).state.states
+
+    abbrev own : Option (ContainerState T)
+    own = state_of p states
+
+    rests : Within seen_now (seen_number own)
+    rests =
+        subst (λ kept. Within seen_now (seen_number (state_in kept p))) (same_kept t is r h)
+        (subst (λ o. FlightSees o seen_now (state_in t.world.kept p)) (may_begin t.world p start (passes t.world (Begin p start) free).on).free (h.known p))
+
+    abbrev SeesFirst : ContainerStart T → Option (ContainerState T) → Type 0
+    SeesFirst cs state = CallSees (first t.world.capacity cs) (seen_after p seen_now (Begun p (Container cs))) state
+
+    -- its look has begun now
+    begun_now : (if p == p then record seen_now { begun = seen_now.changes } else seen_now) ≡ record seen_now { begun = seen_now.changes }
+    begun_now = ap (λ b. if b then record seen_now { begun = seen_now.changes } else seen_now) (eq-eqb p p refl)
+
+    update_first : (o : Option (ContainerState T)) → own ≡ o
+        → SeesFirst starts.TheVariants.UpdateState
+        (state_of p (if is_some o then states else with_state p (fresh t.world.coding t.world.capacity) states))
+    update_first None found =
+        let within = subst (λ o. Within seen_now (seen_number o)) found rests in
+        subst (λ o. SeesFirst starts.TheVariants.UpdateState o) (sym (found_put_same p (fresh t.world.coding t.world.capacity) states))
+        (subst (λ z. IsToLoad kinds_of.TheVariants.UpdateState z (Some (fresh t.world.coding t.world.capacity)))
+        (sym begun_now) (record { least = within.least; most = within.most; now = within.now }, omega arith))
+    update_first (Some state) found =
+        let within = subst (λ o. Within seen_now (seen_number o)) found rests in
+        subst (λ o. SeesFirst starts.TheVariants.UpdateState o) (sym found)
+        (subst (λ z. IsToLoad kinds_of.TheVariants.UpdateState z (Some state)) (sym begun_now)
+        (record { least = within.least; most = within.most; now = within.now }, omega arith))
+
+    grown : (cs : ContainerStart T) → IsNoLook cs → Within (seen_after p seen_now (Begun p (Container cs))) (seen_number own)
+    grown cs other = within_later seen_now (seen_after p seen_now (Begun p (Container cs))) (begun_grows p seen_now p cs other) (seen_number own) rests
+
+    first_sees : (cs : ContainerStart T) → SeesFirst cs (state_of p (states_at_begin t.world.coding t.world.capacity cs p states))
+    first_sees starts.TheVariants.GetState =
+        subst (λ o. SeesFirst starts.TheVariants.GetState o) (sym (found_put_same p (fresh t.world.coding t.world.capacity) states))
+        (subst (λ z. IsToLoad kinds_of.TheVariants.GetState z (Some (fresh t.world.coding t.world.capacity))) (sym begun_now) (omega arith, refl))
+    first_sees starts.TheVariants.UpdateState = update_first own refl
+    first_sees (starts.TheVariants.Add value owner) = grown (starts.TheVariants.Add value owner) tt
+    first_sees (starts.TheVariants.Remove index owner mode) = grown (starts.TheVariants.Remove index owner mode) tt
+    first_sees (starts.TheVariants.Replace index value owner) = grown (starts.TheVariants.Replace index value owner) tt
+    first_sees (starts.TheVariants.Find owner) = grown (starts.TheVariants.Find owner) tt
+    first_sees (starts.TheVariants.Recover owner mode) = grown (starts.TheVariants.Recover owner mode) tt
+    first_sees starts.TheVariants.Len = grown starts.TheVariants.Len tt
+    first_sees starts.TheVariants.IsEmpty = grown starts.TheVariants.IsEmpty tt
+    first_sees starts.TheVariants.IsLocked = grown starts.TheVariants.IsLocked tt
+
+    -- by the call that begins
+    begun_sees : (a : Start T) (flight : Flight T) → IsOwn t.world.capacity a flight
+        → FlightSees (Some flight) (seen_by p (t.events ++ Begun p a ∷ []))
+        (state_in (kept_after_begin t.world.coding t.world.capacity a p (now_kept t is r h)) p)
+    begun_sees (Container cs) (flights.TheVariants.Container flight) owned =
+        subst (λ z. CallSees flight z (state_of p (states_at_begin t.world.coding t.world.capacity cs p states)))
+        (sym (one_more p t.events (Begun p (Container cs))))
+        (subst (λ f. CallSees f (seen_after p seen_now (Begun p (Container cs)))
+        (state_of p (states_at_begin t.world.coding t.world.capacity cs p states)))
+        owned.0 (first_sees cs))
+    begun_sees a flight owned = absurd owned
+
+    others_look : (a : Start T) (q : ℕ) → q ≢ p → is_look_of t.world q (Begin p a) ≡ false
+    others_look (Container starts.TheVariants.GetState) q ne = ne_eqb p q (λ e. ne (sym e))
+    others_look (Container starts.TheVariants.UpdateState) q ne = ne_eqb p q (λ e. ne (sym e))
+    others_look a q ne = refl
+
+    begin_by : (o : Option (Flight T)) → first_of t.world.kind t.world.capacity start t.world.kept ≡ o → Extra (after_turn t (Begin p start))
+    begin_by None e = let call = subst (λ o. is_none o ≡ false) e (may_begin t.world p start (passes t.world (Begin p start) free).on).call in absurd (cc)
+    begin_by (Some flight) e =
+        let flies : flight_in (world_after t.world (Begin p start)) p ≡ Some flight = (container_keeps.turn t (Begin p start) is free r).call ∙ e in
+        let kept : (world_after t.world (Begin p start)).kept ≡ kept_after_begin t.world.coding t.world.capacity start p (now_kept t is r h) =
+        ap (λ o. (after_begin t.world p start o).kept) e ∙ ap (kept_after_begin t.world.coding t.world.capacity start p) (same_kept t is r h)
+        in
+        let named : first_of kinds.TheVariants.Container t.world.capacity start t.world.kept ≡ Some flight =
+        subst (λ kind. first_of kind t.world.capacity start t.world.kept ≡ Some flight) is e in
+        let sees = begun_sees start flight (begins_own t.world.capacity t.world.kept start flight named) in
+        after_it t is r h (Begin p start) free
+        (known_by t is r h (Begin p start) free p (Begun p start ∷ []) (λ q its. its) (others_look start) (refl, tt)
+        (subst (λ o. FlightSees o (seen_by p (t.events ++ Begun p start ∷ [])) (state_in (world_after t.world (Begin p start)).kept p)) (sym flies)
+        (subst (λ k. FlightSees (Some flight) (seen_by p (t.events ++ Begun p start ∷ [])) (state_in k p)) (sym kept) sees)))
+        (tt, tt)
+
+  -- ---- any turn
+
+  turn_kept : (turn : Turn T) → refusal_of t.world turn ≡ None → Extra (after_turn t turn)
+  turn_kept (Begin p start) free = begin_by p start free (first_of t.world.kind t.world.capacity start t.world.kept) refl
+  turn_kept (Next p) free = next_kept t is r h p free
+  turn_kept (Decide p said) free = decision_kept t is r h p said free
+  turn_kept (Die owner) free =
+      after_it t is r h (Die owner) free
+      (λ q. other_known t is r h (Die owner) free (Died owner ∷ []) q (λ none. none) refl
+      (subst (Grows (seen_by q t.events)) (sym (one_more q t.events (Died owner)))
+      (record { begun = refl; least = refl; most = refl; changes = omega arith })))
+      (tt, tt)
+
+-- ---- every run
+
+module _ {T : Type 0} where
+  abbrev HasMet : Trace T → Type 0
+  HasMet t = IsReached t × (t.world.kind ≡ kinds.TheVariants.Container → Extra t)
+
+  first_known : (code : Coding T) (c queue parties : ℕ) → Extra (opened code kinds.TheVariants.Container c queue parties)
+  first_known code c queue parties =
+      record { known = λ p. record { least = omega arith; most = omega arith; now = omega arith }; right = Each-nil MeetsChanges }
+
+  pub meets_changes : (t : Trace T) → t.world.kind ≡ kinds.TheVariants.Container → IsReached t → Each MeetsChanges t.events
+  meets_changes t is r =
+      ((kept_by_runs HasMet
+      (λ u turn free h. (
+        reached_more u turn free h.0,
+        λ same. turn_kept u (sym (turn_making u.world turn).kind ∙ same) h.0 (h.1 (sym (turn_making u.world turn).kind ∙ same)) turn free,
+      ))
+      t
+      (λ queue queued. (
+        record { coded = r.coded; admitted = r.admitted; queue = queue; queued = queued; turns = []; is = refl },
+        λ same. subst (λ kind. Extra (opened t.world.coding kind t.world.capacity queue t.world.parties)) (sym same)
+            (first_known t.world.coding t.world.capacity queue t.world.parties),
+      ))
+      r).1 is).right

@@ -1,0 +1,122 @@
+-- The submission queue of a channel is as long as it was.
+use Rattle.std.proofs.Common.{◌≡◌, ℕ, Bool, Option, Some, None, List, [], ◌∷◌, fold, refl, sym, ap, subst, ◌∙◌}
+use Rattle.steps.specs.declared.ask.Ask.{Ask}
+use Rattle.model.specs.declared.event.Answer.{Answer}
+use Rattle.model.specs.declared.event.Answer.TheVariants as answers
+use Rattle.model.specs.declared.event.Event.{Event}
+use Rattle.model.specs.declared.event.Event.TheVariants.{Published, Claimed, Freed}
+use Rattle.model.specs.declared.event.Item.TheVariants.{Index}
+use Rattle.model.specs.declared.event.Start.{Start}
+use Rattle.model.specs.declared.event.Start.TheVariants as starts
+use Rattle.model.specs.declared.families.Flight.{Flight}
+use Rattle.model.specs.declared.families.Flight.TheVariants as flights
+use Rattle.model.specs.declared.families.Registry.{Registry}
+use Rattle.model.specs.declared.families.Registry.TheVariants as registries
+use Rattle.model.specs.declared.families.loan.Book.{Book}
+use Rattle.model.specs.declared.families.loan.LoanStart.{LoanStart}
+use Rattle.model.specs.declared.families.loan.LoanStart.TheVariants.{Loan, Receive, Reclaim}
+use Rattle.model.specs.declared.party.Doing.{Doing}
+use Rattle.model.specs.declared.party.Doing.TheVariants.{Going, Over}
+use Rattle.model.specs.declared.party.Party.{Party}
+use Rattle.model.specs.declared.turn.Kind as kinds
+use Rattle.model.specs.declared.turn.Refusal.{Refusal}
+use Rattle.model.specs.declared.turn.Turn.{Turn}
+use Rattle.model.specs.declared.turn.Turn.TheVariants.{Begin, Next, Decide, Die}
+use Rattle.model.specs.Coding.{Coding}
+use Rattle.model.specs.Families.{first_of, step_of, kept_after_begin, kept_after_death, beside_of}
+use Rattle.model.specs.Families.Loan.Calls.{after}
+use Rattle.model.specs.Families.Loan.Opening.{taken_from, asks_for}
+use Rattle.model.specs.Families.Loan.Steps.{book_after, ended_book, wrote}
+use Rattle.model.specs.Parties.{party_of}
+use Rattle.model.specs.Step.{answer_in}
+use Rattle.model.specs.Turns.{old_of, number_of, ask_of_doing, after_begin, after_answer, after_next, after_decision}
+use Rattle.model.specs.Turns.{world_after, after_turn, attempt, unless_refused, run, IsReached}
+use Rattle.model.specs.Refusals.{refusal_of}
+use Rattle.model.specs.World.{World, Trace, opened, kept_opened}
+use Rattle.laws_turns.specs.Others.{queue_in, KeepsQueue}
+
+taken : (book : Book) (o : Option ℕ) → (taken_from book o).queue ≡ book.queue
+taken book None = refl
+taken book (Some index) = refl
+
+module _ {T : Type 0} where
+  noted : (book : Book) (e : Event T) → (book_after book e).queue ≡ book.queue
+  noted book (Claimed p index) = refl
+  noted book (Published p (Index index)) = refl
+  noted book (Freed p index) = refl
+  noted book e = refl
+
+  all_noted : (es : List (Event T)) (book : Book) → (fold book_after book es).queue ≡ book.queue
+  all_noted [] book = refl
+  all_noted (e ∷ es) book = all_noted es (book_after book e) ∙ noted book e
+
+  settled : (p : ℕ) (start : LoanStart) (outcome : Option (Answer T)) (book : Book) → (ended_book p start outcome book).queue ≡ book.queue
+  settled p Loan (Some (answers.Index index)) book = refl
+  settled p Receive (Some (answers.PoppedIndex index)) book = refl
+  settled p Reclaim (Some (answers.Number number)) book = refl
+  settled p start outcome book = refl
+
+  stepped : (code : Coding T) (words : List ℕ) (beside : Option (ℕ × ℕ)) (p : ℕ) (start : Start T)
+      (flight : Flight T) (old : ℕ) (kept : Registry T)
+      → queue_in (step_of code words beside p start flight old kept).kept ≡ queue_in kept
+  stepped code words beside p (starts.Loan start) (flights.Loan flight) old (registries.Loan book) =
+      ap Some
+      (settled p start (answer_in (after book.places flight old))
+      (fold book_after book (wrote words beside p flight old (answer_in (after book.places flight old))))
+      ∙ all_noted (wrote words beside p flight old (answer_in (after book.places flight old))) book)
+  stepped code words beside p (starts.Queues start) (flights.Queues flight) old (registries.Queues roles) = refl
+  stepped code words beside p (starts.Atomic start) (flights.Atomic flight) old (registries.Atomic producer) = refl
+  stepped code words beside p (starts.Bits start) (flights.Bits flight) old registries.Nothing = refl
+  stepped code words beside p (starts.Indices start) (flights.Indices flight) old (registries.Indices holders) = refl
+  stepped code words beside p (starts.Robust start) (flights.Robust flight) old (registries.Owners dead) = refl
+  stepped code words beside p (starts.Container start) (flights.Container flight) old (registries.Container dead states) = refl
+  stepped code words beside p start flight old kept = refl
+
+  answered : (w : World T) (p : ℕ) (x : Party T) (ask : Option Ask) (answer : ℕ) (doing : Doing T) → KeepsQueue w (after_answer w p x ask answer doing)
+  answered w p x ask answer (Over others) = refl
+  answered w p x ask answer (Going flight since) = stepped w.coding w.words (beside_of w.words w.kept w.latest p) p x.start flight answer w.kept
+
+  went : (w : World T) (p : ℕ) (o : Option (Party T)) → KeepsQueue w (after_next w p o)
+  went w p None = refl
+  went w p (Some x) = answered w p x (ask_of_doing w.coding x.doing) (old_of w.words (ask_of_doing w.coding x.doing)) x.doing
+
+  decided : (w : World T) (p : ℕ) (said : Bool) (o : Option (Party T)) → KeepsQueue w (after_decision w p said o)
+  decided w p said None = refl
+  decided w p said (Some x) = answered w p x None (number_of said) x.doing
+
+  begins : (code : Coding T) (capacity : ℕ) (start : Start T) (p : ℕ) (kept : Registry T)
+      → queue_in (kept_after_begin code capacity start p kept) ≡ queue_in kept
+  begins code capacity (starts.Loan start) p (registries.Loan book) = ap Some (taken book (asks_for start))
+  begins code capacity (starts.Container start) p (registries.Container dead states) = refl
+  begins code capacity start p kept = refl
+
+  begun : (w : World T) (p : ℕ) (start : Start T) (o : Option (Flight T)) → KeepsQueue w (after_begin w p start o)
+  begun w p start None = refl
+  begun w p start (Some flight) = begins w.coding w.capacity start p w.kept
+
+  dies : (kept : Registry T) (owner : ℕ) → queue_in (kept_after_death kept owner) ≡ queue_in kept
+  dies (registries.Loan book) owner = refl
+  dies kept owner = refl
+
+  pub keeps_queue : (w : World T) (turn : Turn T) → KeepsQueue w (world_after w turn)
+  keeps_queue w (Begin p start) = begun w p start (first_of w.kind w.capacity start w.kept)
+  keeps_queue w (Next p) = went w p (party_of p w.latest)
+  keeps_queue w (Decide p said) = decided w p said (party_of p w.latest)
+  keeps_queue w (Die owner) = dies w.kept owner
+
+  -- ---- and as long as the number that it was made with
+
+  pub queue_is : (t : Trace T) → t.world.kind ≡ kinds.TheVariants.Loan → (r : IsReached t) → queue_in t.world.kept ≡ Some r.queue
+  queue_is t is r =
+      subst (λ (u : Trace T). queue_in u.world.kept ≡ Some r.queue) (sym r.is)
+      (run_keeps r.turns (opened t.world.coding t.world.kind t.world.capacity r.queue t.world.parties)
+      (subst (λ kind. queue_in (kept_opened {T = T} kind t.world.capacity r.queue) ≡ Some r.queue) (sym is) refl))
+    where
+      attempt_keeps : (u : Trace T) (turn : Turn T) (o : Option Refusal) → queue_in u.world.kept ≡ Some r.queue
+          → queue_in (unless_refused u (after_turn u turn) o).world.kept ≡ Some r.queue
+      attempt_keeps u turn None h = keeps_queue u.world turn ∙ h
+      attempt_keeps u turn (Some refusal) h = h
+
+      run_keeps : (turns : List (Turn T)) (u : Trace T) → queue_in u.world.kept ≡ Some r.queue → queue_in (run turns u).world.kept ≡ Some r.queue
+      run_keeps [] u h = h
+      run_keeps (turn ∷ turns) u h = run_keeps turns (attempt u turn) (attempt_keeps u turn (refusal_of u.world turn) h)

@@ -1,0 +1,412 @@
+-- What the turns of a call under way leave known of the changes of a container.
+use Rattle.std.proofs.Common.{◌≡◌, ◌≢◌, ⊎_elim, ℕ, ◌==◌, ◌&&◌, Bool, true, false, Option, Some, None, is_some, IfSome}
+use Rattle.std.proofs.Common.{List, [], ◌∷◌, ◌++◌, refl, sym, ap, subst, ◌∙◌, ne_eqb, eq-eqb}
+use Rattle.std.proofs.lemmas.Bool.{cases_eq}
+use Rattle.std.specs.List.{AllByRecursion}
+use Rattle.steps.specs.declared.container.look.Look.{Look}
+use Rattle.steps.specs.declared.container.look.LookStage as stages
+use Rattle.steps.specs.declared.container.state.ContainerState.{ContainerState}
+use Rattle.steps.specs.Container.Look.{look_asks}
+use Rattle.steps.specs.Container.Look as look_steps
+use Rattle.model.specs.declared.event.Answer.{Answer}
+use Rattle.model.specs.declared.event.Event.{Event}
+use Rattle.model.specs.declared.event.Event.TheVariants.{Begun, Died, Acted, Finished}
+use Rattle.model.specs.Families.Container.Keeping.{is_look_of}
+use Rattle.model.specs.Families.Container.Reading.{Act}
+use Rattle.model.specs.Families.Container.Steps.{effects, questions}
+use Rattle.model.specs.Families.Indices.Robust.Reading.{Deed}
+use Rattle.laws_container.proofs.Allowed.{allowed_by}
+use Rattle.laws_container.proofs.KeptStates.{keeps_states}
+use Rattle.laws_container.proofs.Stages.{any_call}
+use Rattle.model.specs.declared.event.Start.{Start}
+use Rattle.model.specs.declared.event.Start.TheVariants.{Container}
+use Rattle.model.specs.declared.families.Flight.{Flight}
+use Rattle.model.specs.declared.families.Flight as flights
+use Rattle.model.specs.declared.families.Registry.{Registry}
+use Rattle.model.specs.declared.families.Registry as registries
+use Rattle.model.specs.declared.families.container.ContainerStart.{ContainerStart}
+use Rattle.model.specs.declared.families.container.ContainerStart as starts
+use Rattle.model.specs.declared.families.container.calls.ContainerFlight.{ContainerFlight}
+use Rattle.model.specs.declared.families.container.calls.ContainerFlight as calls
+use Rattle.model.specs.declared.families.container.calls.LookOf.{LookOf}
+use Rattle.model.specs.declared.party.Party.{Party}
+use Rattle.model.specs.declared.turn.Kind as kinds
+use Rattle.model.specs.declared.turn.Turn.{Turn}
+use Rattle.model.specs.declared.turn.Turn.TheVariants.{Next, Decide}
+use Rattle.model.specs.Families.{want_of, ask_of, is_question, goes_of, beside_of, step_of}
+use Rattle.model.specs.Families.Container.Calls.{want, after, look_shows, settled_if, writes_state}
+use Rattle.model.specs.Families.Container.Looks.{state_in, is_looking}
+use Rattle.model.specs.Families.Container.States.{state_of}
+use Rattle.model.specs.Parties.{party_of}
+use Rattle.model.specs.Promises.Turns.{IsParty, IsEffectOf}
+use Rattle.model.specs.Reading.{Each, whose}
+use Rattle.model.specs.Refusals.{refusal_of, is_due}
+use Rattle.model.specs.Step.{answer_in}
+use Rattle.model.specs.Turns.{old_of, number_of, ending_of, events_of, events_of_answer, events_of_next}
+use Rattle.model.specs.Turns.{events_of_decision, events_of_step, ask_of_doing, step_in, after_answer, after_next}
+use Rattle.model.specs.Turns.{after_decision, world_after, after_turn, IsReached}
+use Rattle.model.specs.World.{Trace, flight_in}
+use Rattle.model.proofs.Frame as frame
+use Rattle.model.proofs.Readings.{AreOwn, AreRight, Each-append}
+use Rattle.model.proofs.Rows.{passes, may_next, may_decide, must_be_due}
+use Rattle.model.proofs.Scenes.{StandsThere}
+use Rattle.laws_robust.proofs.Effects.{both_ways}
+use Rattle.laws_container.proofs.Everything.{shown, container_keeps}
+use Rattle.laws_container.proofs.Invariant.{family}
+use Rattle.laws_container.proofs.Looks.{looks_as, written_same}
+use Rattle.laws_container.proofs.Sound.{kept_is, may_go_on, reached_sound, is_there}
+use Rattle.laws_container.proofs.Standing.{At}
+use Rattle.laws_container.proofs.Written.{all_effects}
+use Rattle.laws_container.proofs.Terms.{dying}
+use Rattle.laws_turns.specs.Changes.{Seen, seen_by, MeetsChanges}
+use Rattle.laws_turns.proofs.Counting.{counts_changes}
+use Rattle.laws_turns.proofs.Others.{others_stay}
+use Rattle.laws_turns.proofs.SeenCalls.{Leaves, wrote_by, others_leave, look_leaves, look_stays}
+use Rattle.laws_turns.proofs.SeenKnows.{Within, Grows, LookSees, CallSees, FlightSees, seen_number, changes_are, others_grow, sees_later, IsNoLook}
+use Rattle.laws_turns.proofs.Standing.{left_by, next_left, decision_left, under_way}
+use Rattle.laws_turns.proofs.Waiting.{look_asks_none}
+
+-- what each party's state and look know of the changes, and that the updates that have ended met them
+module _ {T : Type 0} where
+  pub record Extra (t : Trace T) : Type 0 where
+    pub known : (p : ℕ) → FlightSees (flight_in t.world p) (seen_by p t.events) (state_in t.world.kept p)
+    pub right : Each MeetsChanges t.events
+
+module _ {T : Type 0} (t : Trace T) (is : t.world.kind ≡ kinds.TheVariants.Container) (r : IsReached t) (h : Extra t) where
+  abbrev fam : frame.Family T
+  fam = family t.world.coding t.world.capacity
+
+  abbrev pub s : frame.Sound (family t.world.coding t.world.capacity) t
+  s = reached_sound shown t is r
+
+  abbrev pub now_kept : Registry T
+  now_kept = registries.TheVariants.Container s.state.dead s.state.states
+
+  same_words : t.world.words ≡ s.state.words
+  same_words = (kept_is t.world.kept t.world.words s.state s.fit).1
+
+  pub same_kept : t.world.kept ≡ now_kept
+  same_kept = (kept_is t.world.kept t.world.words s.state s.fit).0
+
+  -- ---- the other parties
+
+  module _ (turn : Turn T) (free : refusal_of t.world turn ≡ None) where
+    moves : (q : ℕ) → is_look_of t.world q turn ≡ false → state_in (world_after t.world turn).kept q ≡ state_in t.world.kept q
+    moves =
+        let passed = passes t.world turn free in
+        (keeps_states shown dying t.world.coding t turn (allowed_by t.world turn passed.on) s
+        (may_go_on dying t.world.coding t.world.capacity t s passed.turns)).moves
+
+    abbrev pub SeesThen : List (Event T) → ℕ → Type 0
+    SeesThen es q = FlightSees (flight_in (world_after t.world turn) q) (seen_by q (t.events ++ es)) (state_in (world_after t.world turn).kept q)
+
+    pub other_known : (es : List (Event T)) (q : ℕ) → ¬ IsParty turn q → is_look_of t.world q turn ≡ false
+        → Grows (seen_by q t.events) (seen_by q (t.events ++ es)) → SeesThen es q
+    other_known es q ne still grows =
+        subst (λ o. FlightSees o (seen_by q (t.events ++ es)) (state_in (world_after t.world turn).kept q)) (sym (others_stay t.world turn q ne))
+        (subst (FlightSees (flight_in t.world q) (seen_by q (t.events ++ es))) (sym (moves q still))
+        (sees_later (seen_by q t.events) (seen_by q (t.events ++ es)) grows (state_in t.world.kept q)
+        (flight_in t.world q) (h.known q)))
+
+    -- where all events are the party's own
+    pub known_by : (p : ℕ) (es : List (Event T)) → ((q : ℕ) → IsParty turn q → q ≡ p)
+        → ((q : ℕ) → q ≢ p → is_look_of t.world q turn ≡ false) → AreOwn p es → SeesThen es p → (q : ℕ) → SeesThen es q
+    known_by p es mine still own here q =
+        ⊎_elim (λ same. subst (SeesThen es) (sym same) here)
+        (λ ne. other_known es q (λ its. ne (mine q its)) (still q ne) (others_grow q p t.events es (λ e. ne (sym e)) own))
+        (cases_eq q p)
+
+    pub after_it : ((q : ℕ) → SeesThen (events_of t.world turn) q) → AreRight MeetsChanges t.events (events_of t.world turn) → Extra (after_turn t turn)
+    after_it known right = record { known = known; right = Each-append MeetsChanges t.events (events_of t.world turn) h.right right }
+
+  -- a turn of another party is no look of this one
+  not_its : (p q : ℕ) (b : Bool) → q ≢ p → ((p == q) && b) ≡ false
+  not_its p q b ne = ap (λ a. a && b) (ne_eqb p q (λ e. ne (sym e)))
+
+  -- ---- a turn of a call under way
+
+  all_own : (p : ℕ) (turn : Turn T) (es : List (Event T)) (start : Start T) (outcome : Option (Answer T))
+      → ((q : ℕ) → IsParty turn q → q ≡ p) → AllByRecursion (IsEffectOf turn) es
+      → AreOwn p (es ++ ending_of p start outcome)
+  all_own p turn [] start None mine h = tt
+  all_own p turn [] start (Some answer) mine h = (refl, tt)
+  all_own p turn (e ∷ es) start outcome mine h = (effect_own e h.0, all_own p turn es start outcome mine h.1)
+    where
+      by_whose : (o : Option ℕ) → IfSome o (IsParty turn) → is_some o ≡ true → o ≡ Some p
+      by_whose None its some = absurd (cc)
+      by_whose (Some q) its some = ap Some (mine q its)
+
+      effect_own : (e : Event T) → IsEffectOf turn e → whose e ≡ Some p
+      effect_own (Begun q start) h = absurd h
+      effect_own (Finished q start answer) h = absurd h
+      effect_own (Acted q start answer) h = absurd h
+      effect_own (Died o) h = absurd h
+      effect_own e h = by_whose (whose e) h refl
+
+  module _ (turn : Turn T) (free : refusal_of t.world turn ≡ None) (p : ℕ) (its : IsParty turn p)
+      (mine : (q : ℕ) → IsParty turn q → q ≡ p) (still : (q : ℕ) → q ≢ p → is_look_of t.world q turn ≡ false)
+      (answer : ℕ) where
+    -- by the party's name and call
+    abbrev Comes : Registry T → Start T → Flight T → Type 0
+    Comes kept start flight =
+        (flight_in (world_after t.world turn) p ≡ left_by (goes_of t.world.coding p flight answer kept))
+        × (events_of t.world turn
+        ≡ events_of_step p start
+        (step_of t.world.coding t.world.words (beside_of t.world.words kept t.world.latest p) p start flight answer kept))
+        × ((world_after t.world turn).kept
+        ≡ (step_of t.world.coding t.world.words (beside_of t.world.words kept t.world.latest p) p start flight answer kept).kept)
+
+    abbrev state : Option (ContainerState T)
+    state = state_of p s.state.states
+
+    leaves_it : (start : ContainerStart T) (flight : ContainerFlight T) (new : Option (ContainerState T))
+        → Leaves t.world.coding p t.events state turn its new start flight answer
+        → state_in (world_after t.world turn).kept p ≡ new
+        → Comes now_kept (Container start) (flights.TheVariants.Container flight) → Extra (after_turn t turn)
+    leaves_it start flight new leaves new_is comes =
+        let es = wrote_by t.world.coding p t.events state turn its start flight answer in
+        let outcome = answer_in (any_call (after t.world.coding state flight answer)) in
+        after_it turn free
+        (subst (λ ys. (q : ℕ) → SeesThen turn free ys q) (sym comes.1)
+        (known_by turn free p es mine still
+        (all_own p turn (effects t.world.coding p state flight answer ++ questions p flight answer)
+        (Container start) outcome mine (all_effects turn p its t.world.coding state flight answer))
+        (subst (λ o. FlightSees o (seen_by p (t.events ++ es)) (state_in (world_after t.world turn).kept p))
+        (sym comes.0)
+        (subst (FlightSees (left_by (any_call (after t.world.coding state flight answer))) (seen_by p (t.events ++ es)))
+        (sym new_is) leaves.sees))))
+        (subst (AreRight MeetsChanges t.events) (sym comes.1) leaves.right)
+
+    -- the state is what it was
+    state_is : state_in t.world.kept p ≡ state
+    state_is = ap (λ kept. state_in kept p) same_kept
+
+    other_call : (start : ContainerStart T) (flight : ContainerFlight T) (all : List Deed) (done : List (Act T))
+        → At t.world.capacity t.world.coding.size all done start flight → IsNoLook start
+        → is_look_of t.world p turn ≡ false → Within (seen_by p t.events) (seen_number state)
+        → Comes now_kept (Container start) (flights.TheVariants.Container flight) → Extra (after_turn t turn)
+    other_call start flight all done at other rests within comes =
+        leaves_it start flight state
+        (others_leave t.world.coding p t.events state turn its t.world.capacity t.world.coding.size all done start
+        flight answer at other within)
+        (moves turn free p rests ∙ state_is) comes
+
+    -- ---- a look
+
+    module _ (which : LookOf) (call : Look T) where
+      abbrev left : Option (ContainerState T) → Option (ContainerState T)
+      left None = None
+      left (Some st) = Some (settled_if (look_steps.look_after t.world.coding.size call st.seen answer) (look_shows t.world.coding call st answer))
+
+      look_leaves_so : (o : Option (ContainerState T)) → LookSees which call.stage (seen_by p t.events) o
+          → (call.stage ≡ stages.TheVariants.LoadsChange → answer ≡ (seen_by p t.events).changes)
+          → Leaves t.world.coding p t.events o turn its (left o) (looks_as which) (calls.TheVariants.Look which call) answer
+      look_leaves_so None sees loads = look_stays t.world.coding p t.events turn its call answer which (looks_as which) sees
+      look_leaves_so (Some st) sees loads = look_leaves t.world.coding p t.events st turn its call answer which sees loads
+
+      writes_so : (o : Option (ContainerState T)) → state_of p s.state.states ≡ o
+          → state_of p (writes_state t.world.coding p call answer o s.state.states) ≡ left o
+      writes_so None found = found
+      writes_so (Some st) found = written_same p _ st s.state.states found
+
+      look_call : (start : ContainerStart T) → start ≡ looks_as which
+          → LookSees which call.stage (seen_by p t.events) state
+          → (call.stage ≡ stages.TheVariants.LoadsChange → answer ≡ (seen_by p t.events).changes)
+          → Comes now_kept (Container start) (flights.TheVariants.Container (calls.TheVariants.Look which call)) → Extra (after_turn t turn)
+      look_call start name sees loads comes =
+          leaves_it start (calls.TheVariants.Look which call) (left state)
+          (subst (λ a. Leaves t.world.coding p t.events state turn its (left state) a (calls.TheVariants.Look which call) answer)
+          (sym name) (look_leaves_so state sees loads))
+          (ap (λ kept. state_in kept p) comes.2 ∙ writes_so state refl) comes
+
+  -- a call that is no look
+  rests_within : (start : ContainerStart T) (flight : ContainerFlight T) (all : List Deed) (done : List (Act T))
+      (seen : Seen) (o : Option (ContainerState T))
+      → At t.world.capacity t.world.coding.size all done start flight → IsNoLook start → CallSees flight seen o
+      → Within seen (seen_number o)
+  rests_within starts.TheVariants.GetState flight all done seen o at other sees = absurd other
+  rests_within starts.TheVariants.UpdateState flight all done seen o at other sees = absurd other
+  rests_within start (calls.TheVariants.Look which call) all done seen o at other sees = absurd at
+  rests_within start flight all done seen o at other sees = sees
+
+  not_looking : (start : ContainerStart T) (flight : ContainerFlight T) (all : List Deed) (done : List (Act T))
+      → At t.world.capacity t.world.coding.size all done start flight → IsNoLook start
+      → is_looking {T = T} (Some (flights.TheVariants.Container flight)) ≡ false
+  not_looking starts.TheVariants.GetState flight all done at other = absurd other
+  not_looking starts.TheVariants.UpdateState flight all done at other = absurd other
+  not_looking start (calls.TheVariants.Look which call) all done at other = absurd at
+  not_looking start flight all done at other = refl
+
+  -- ---- a step
+
+  module _ (p : ℕ) (free : refusal_of t.world (Next p) ≡ None) where
+    abbrev on_next : (q : ℕ) → q ≢ p → is_look_of t.world q (Next p) ≡ false
+    on_next q ne = not_its p q (is_looking (flight_in t.world p)) ne
+
+    abbrev StepComes : ContainerStart T → ContainerFlight T → Type 0
+    StepComes start flight =
+        Comes (Next p) free p refl (λ q its. its) on_next (old_of s.state.words (ask_of (want t.world.coding flight)))
+        now_kept (Container start) (flights.TheVariants.Container flight)
+
+    -- a look loads the number of changes
+    loads_changes : (which : LookOf) (call : Look T) → call.capacity ≡ t.world.capacity
+        → call.stage ≡ stages.TheVariants.LoadsChange
+        → old_of s.state.words (ask_of (want t.world.coding (calls.TheVariants.Look which call))) ≡ (seen_by p t.events).changes
+    loads_changes which call wide stage =
+        ap (λ n. old_of s.state.words (ask_of (look_asks t.world.coding.size call.capacity n))) stage
+        ∙ (ap (λ n. old_of s.state.words (ask_of (look_asks t.world.coding.size n stages.TheVariants.LoadsChange))) wide
+        ∙ (ap (λ ws. old_of ws (ask_of (look_asks t.world.coding.size t.world.capacity stages.TheVariants.LoadsChange)))
+        (sym same_words)
+        ∙ (counts_changes t is r ∙ sym (changes_are p t.events))))
+
+    step_other : (start : ContainerStart T) (flight : ContainerFlight T) (all : List Deed) (done : List (Act T))
+        → At t.world.capacity t.world.coding.size all done start flight
+        → flight_in t.world p ≡ Some (flights.TheVariants.Container flight)
+        → IsNoLook start → CallSees flight (seen_by p t.events) (state_of p s.state.states) → StepComes start flight → Extra (after_turn t (Next p))
+    step_other start flight all done at flies other sees comes =
+        other_call (Next p) free p refl (λ q its. its) on_next (old_of s.state.words (ask_of (want t.world.coding flight))) start flight all done at other
+        (ap (λ o. (p == p) && is_looking o) flies
+        ∙ (ap (λ b. (p == p) && b) (not_looking start flight all done at other) ∙ ap (λ a. a && false) (eq-eqb p p refl)))
+        (rests_within start flight all done (seen_by p t.events) (state_of p s.state.states) at other sees) comes
+
+    step_by : (start : ContainerStart T) (flight : ContainerFlight T) (all : List Deed) (done : List (Act T))
+        → At t.world.capacity t.world.coding.size all done start flight
+        → flight_in t.world p ≡ Some (flights.TheVariants.Container flight)
+        → CallSees flight (seen_by p t.events) (state_of p s.state.states) → StepComes start flight → Extra (after_turn t (Next p))
+    step_by starts.TheVariants.GetState (calls.TheVariants.Look which call) all done at flies sees comes =
+        look_call (Next p) free p refl (λ q its. its) on_next _ which call starts.TheVariants.GetState
+        (ap looks_as (sym at.1)) sees (loads_changes which call at.0) comes
+    step_by starts.TheVariants.UpdateState (calls.TheVariants.Look which call) all done at flies sees comes =
+        look_call (Next p) free p refl (λ q its. its) on_next _ which call starts.TheVariants.UpdateState
+        (ap looks_as (sym at.1)) sees (loads_changes which call at.0) comes
+    step_by starts.TheVariants.GetState flight all done at flies sees comes = absurd at
+    step_by starts.TheVariants.UpdateState flight all done at flies sees comes = absurd at
+    step_by (starts.TheVariants.Add value owner) flight all done at flies sees comes =
+        step_other (starts.TheVariants.Add value owner) flight all done at flies tt sees comes
+    step_by (starts.TheVariants.Remove index owner mode) flight all done at flies sees comes =
+        step_other (starts.TheVariants.Remove index owner mode) flight all done at flies tt sees comes
+    step_by (starts.TheVariants.Replace index value owner) flight all done at flies sees comes =
+        step_other (starts.TheVariants.Replace index value owner) flight all done at flies tt sees comes
+    step_by (starts.TheVariants.Find owner) flight all done at flies sees comes =
+        step_other (starts.TheVariants.Find owner) flight all done at flies tt sees comes
+    step_by (starts.TheVariants.Recover owner mode) flight all done at flies sees comes =
+        step_other (starts.TheVariants.Recover owner mode) flight all done at flies tt sees comes
+    step_by starts.TheVariants.Len flight all done at flies sees comes = step_other starts.TheVariants.Len flight all done at flies tt sees comes
+    step_by starts.TheVariants.IsEmpty flight all done at flies sees comes = step_other starts.TheVariants.IsEmpty flight all done at flies tt sees comes
+    step_by starts.TheVariants.IsLocked flight all done at flies sees comes = step_other starts.TheVariants.IsLocked flight all done at flies tt sees comes
+
+    by_step : (x : Party T) (since : ℕ) → party_of p t.world.latest ≡ Some x → (start : Start T) (flight : Flight T)
+        → StandsThere fam t s p x since start flight → flight_in t.world p ≡ Some flight
+        → Comes (Next p) free p refl (λ q its. its) on_next
+        (old_of s.state.words (ask_of (want_of t.world.coding flight))) now_kept start flight
+        → Extra (after_turn t (Next p))
+    by_step x since found (Container start) (flights.TheVariants.Container flight) stands flies comes =
+        let there = is_there shown dying t.world.coding t.world.capacity t s p x since found start flight stands in
+        step_by start flight _ _ there.at flies
+        (subst (λ kept. CallSees flight (seen_by p t.events) (state_in kept p)) same_kept
+        (subst (λ o. FlightSees o (seen_by p t.events) (state_in t.world.kept p)) flies (h.known p)))
+        comes
+    by_step x since found start flight stands flies comes = absurd stands.at
+
+    pub next_kept : Extra (after_turn t (Next p))
+    next_kept =
+        let flies = may_next t.world p (passes t.world (Next p) free).on in
+        let call = under_way fam t s p flies.flight flies.is in
+        let x = call.party in
+        let left = next_left t.world (world_after t.world (Next p)) p flies.flight flies.is (container_keeps.turn t (Next p) is free r).call in
+        let wrote : events_of t.world (Next p)
+        ≡ events_of_step p x.start
+        (step_in t.world p x flies.flight (old_of t.world.words (ask_of (want_of t.world.coding flies.flight)))) =
+        ap (events_of_next t.world p) call.found ∙ ap (λ d. events_of_answer t.world p x (old_of t.world.words (ask_of_doing t.world.coding d)) d) call.doing
+        in
+        let kept : (world_after t.world (Next p)).kept
+        ≡ (step_in t.world p x flies.flight (old_of t.world.words (ask_of (want_of t.world.coding flies.flight)))).kept =
+        ap (λ o. (after_next t.world p o).kept) call.found
+        ∙ ap
+        (λ d. (after_answer t.world p x (ask_of_doing t.world.coding d) (old_of t.world.words (ask_of_doing t.world.coding d)) d).kept)
+        call.doing
+        in
+        by_step x call.since call.found x.start flies.flight call.there flies.is
+        (subst (λ k. Comes (Next p) free p refl (λ q its. its) on_next
+        (old_of s.state.words (ask_of (want_of t.world.coding flies.flight))) k x.start flies.flight)
+        same_kept
+        (subst (λ ws. Comes (Next p) free p refl (λ q its. its) on_next
+        (old_of ws (ask_of (want_of t.world.coding flies.flight))) t.world.kept x.start flies.flight)
+        same_words (left, wrote, kept)))
+
+  -- ---- a decision
+
+  module _ (p : ℕ) (said : Bool) (free : refusal_of t.world (Decide p said) ≡ None) where
+    abbrev DecisionComes : Registry T → Start T → Flight T → Type 0
+    DecisionComes kept start flight = Comes (Decide p said) free p refl (λ q its. its) (λ q ne. refl) (number_of said) kept start flight
+
+    decided_other : (start : ContainerStart T) (flight : ContainerFlight T) (all : List Deed) (done : List (Act T))
+        → At t.world.capacity t.world.coding.size all done start flight → IsNoLook start
+        → CallSees flight (seen_by p t.events) (state_of p s.state.states)
+        → DecisionComes now_kept (Container start) (flights.TheVariants.Container flight)
+        → Extra (after_turn t (Decide p said))
+    decided_other start flight all done at other sees comes =
+        other_call (Decide p said) free p refl (λ q its. its) (λ q ne. refl) (number_of said) start flight all done
+        at other refl
+        (rests_within start flight all done (seen_by p t.events) (state_of p s.state.states) at other sees) comes
+
+    decided_by : (start : ContainerStart T) (flight : ContainerFlight T) (all : List Deed) (done : List (Act T))
+        → At t.world.capacity t.world.coding.size all done start flight
+        → is_question (want t.world.coding flight) ≡ true
+        → CallSees flight (seen_by p t.events) (state_of p s.state.states)
+        → DecisionComes now_kept (Container start) (flights.TheVariants.Container flight)
+        → Extra (after_turn t (Decide p said))
+    decided_by starts.TheVariants.GetState (calls.TheVariants.Look which call) all done at due sees comes =
+        both_ways (is_question (look_asks t.world.coding.size call.capacity call.stage))
+        (look_asks_none t.world.coding.size call.capacity call.stage) due
+    decided_by starts.TheVariants.UpdateState (calls.TheVariants.Look which call) all done at due sees comes =
+        both_ways (is_question (look_asks t.world.coding.size call.capacity call.stage))
+        (look_asks_none t.world.coding.size call.capacity call.stage) due
+    decided_by starts.TheVariants.GetState flight all done at due sees comes = absurd at
+    decided_by starts.TheVariants.UpdateState flight all done at due sees comes = absurd at
+    decided_by (starts.TheVariants.Add value owner) flight all done at due sees comes =
+        decided_other (starts.TheVariants.Add value owner) flight all done at tt sees comes
+    decided_by (starts.TheVariants.Remove index owner mode) flight all done at due sees comes =
+        decided_other (starts.TheVariants.Remove index owner mode) flight all done at tt sees comes
+    decided_by (starts.TheVariants.Replace index value owner) flight all done at due sees comes =
+        decided_other (starts.TheVariants.Replace index value owner) flight all done at tt sees comes
+    decided_by (starts.TheVariants.Find owner) flight all done at due sees comes =
+        decided_other (starts.TheVariants.Find owner) flight all done at tt sees comes
+    decided_by (starts.TheVariants.Recover owner mode) flight all done at due sees comes =
+        decided_other (starts.TheVariants.Recover owner mode) flight all done at tt sees comes
+    decided_by starts.TheVariants.Len flight all done at due sees comes = decided_other starts.TheVariants.Len flight all done at tt sees comes
+    decided_by starts.TheVariants.IsEmpty flight all done at due sees comes = decided_other starts.TheVariants.IsEmpty flight all done at tt sees comes
+    decided_by starts.TheVariants.IsLocked flight all done at due sees comes = decided_other starts.TheVariants.IsLocked flight all done at tt sees comes
+
+    by_decision : (x : Party T) (since : ℕ) → party_of p t.world.latest ≡ Some x
+        → (start : Start T) (flight : Flight T) → StandsThere fam t s p x since start flight
+        → flight_in t.world p ≡ Some flight → is_question (want_of t.world.coding flight) ≡ true
+        → DecisionComes now_kept start flight → Extra (after_turn t (Decide p said))
+    by_decision x since found (Container start) (flights.TheVariants.Container flight) stands flies due comes =
+        let there = is_there shown dying t.world.coding t.world.capacity t s p x since found start flight stands in
+        decided_by start flight _ _ there.at due
+        (subst (λ kept. CallSees flight (seen_by p t.events) (state_in kept p)) same_kept
+        (subst (λ o. FlightSees o (seen_by p t.events) (state_in t.world.kept p)) flies (h.known p)))
+        comes
+    by_decision x since found start flight stands flies due comes = absurd stands.at
+
+    pub decision_kept : Extra (after_turn t (Decide p said))
+    decision_kept =
+        let allowed = passes t.world (Decide p said) free in
+        let flies = may_decide t.world p said allowed.on in
+        let call = under_way fam t s p flies.flight flies.is in
+        let x = call.party in
+        let left =
+        decision_left t.world (world_after t.world (Decide p said)) p flies.flight flies.is said
+        (container_keeps.turn t (Decide p said) is free r).call in
+        let wrote : events_of t.world (Decide p said) ≡ events_of_step p x.start (step_in t.world p x flies.flight (number_of said)) =
+        ap (events_of_decision t.world p said) call.found ∙ ap (events_of_answer t.world p x (number_of said)) call.doing
+        in
+        let kept : (world_after t.world (Decide p said)).kept ≡ (step_in t.world p x flies.flight (number_of said)).kept =
+        ap (λ o. (after_decision t.world p said o).kept) call.found ∙ ap (λ d. (after_answer t.world p x None (number_of said) d).kept) call.doing
+        in
+        let due =
+        subst (λ o. is_due t.world.coding o ≡ true) flies.is
+        (frame.is_true (is_due t.world.coding (flight_in t.world p)) (must_be_due t.world p said allowed.on)) in
+        by_decision x call.since call.found x.start flies.flight call.there flies.is due
+        (subst (λ k. DecisionComes k x.start flies.flight) same_kept (left, wrote, kept))

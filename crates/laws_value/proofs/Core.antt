@@ -1,0 +1,125 @@
+-- The value that the words hold, and what each operation on a word does to it. No event and no party is in it.
+-- size is the number of the words of a value.
+use Rattle.std.proofs.Common.{◌≡◌, ◌≢◌, ℕ, zero, suc, ◌+◌, ◌-◌, ◌*◌, ◌%◌, ◌<◌, ◌≤◌, ⊎_elim, Option, Some, None, List}
+use Rattle.std.proofs.Common.{[], ◌∷◌, length, get_or, set, take, replicate, refl, ◌∙◌, arith, length-set}
+use Rattle.std.proofs.Common.{get_or-set_same, get_or-set_other}
+use Rattle.std.proofs.lemmas.Bool.{cases_lt}
+use Rattle.std.proofs.Math.Nat.{mul-le-mul_left}
+
+-- ---- the two cells
+
+-- the words of different cells are different
+cells_apart : (size a b i j : ℕ) → i < size → j < size → a ≢ b → size * a + i ≢ size * b + j
+cells_apart size a b i j is js ne e = ⊎_elim less more (cases_lt a b)
+  where
+    less : a < b → ⊥
+    less h = let step : size * (a + 1) ≤ size * b = mul-le-mul_left size (omega arith) in absurd (omega arith)
+
+    more : b ≤ a → ⊥
+    more h =
+        let before : b < a = omega arith in
+        let step : size * (b + 1) ≤ size * a = mul-le-mul_left size (omega arith) in
+        absurd (omega arith)
+
+-- a word of a cell lies among the cells
+pub cell_within : (size n i : ℕ) → i < size → size * (n % 2) + i < size * 2
+cell_within x0 x1 x2 x3 = grind arith
+
+-- lists that begin with the same words
+pub same_words : (n : ℕ) (xs ys : List ℕ) → length ys ≡ n → n ≤ length xs → ((i : ℕ) → i < n → get_or xs i 0 ≡ get_or ys i 0) → take n xs ≡ ys
+same_words zero xs [] long enough same = refl
+same_words zero xs (y ∷ ys) long enough same = absurd (omega arith)
+same_words (suc n) [] ys long enough same = absurd (omega arith)
+same_words (suc n) (x ∷ xs) [] long enough same = absurd (omega arith)
+same_words (suc n) (x ∷ xs) (y ∷ ys) long enough same =
+    let first : x ≡ y = same 0 (omega arith) in
+    let rest : take n xs ≡ ys = same_words n xs ys (omega arith) (omega arith) (λ i below. same (suc i) (omega arith)) in
+    rw (first, rest) refl
+
+-- the same number is read everywhere
+pub zeros : (n i d : ℕ) → get_or (replicate n d) i d ≡ d
+zeros zero i d = refl
+zeros (suc n) zero d = refl
+zeros (suc n) (suc i) d = zeros n i d
+
+-- ---- the words
+
+-- a role's word is 1 while nobody holds it
+abbrev pub free : Option ℕ → ℕ
+free None = 1
+free (Some p) = 0
+
+module _ (a b : ℕ) (cells : List ℕ) where
+  -- a word of a cell is found behind the first two
+  pub word_at : (n i : ℕ) → n ≡ 2 + i → get_or (a ∷ b ∷ cells) n 0 ≡ get_or cells i 0
+  word_at n i e = let two : n ≡ suc (suc i) = omega arith in rw two refl
+
+  pub set_at : (n i v : ℕ) → n ≡ 2 + i → set (a ∷ b ∷ cells) n v ≡ a ∷ b ∷ set cells i v
+  set_at n i v e = let two : n ≡ suc (suc i) = omega arith in rw two refl
+
+pub record Core : Type 0 where
+  pub version : ℕ
+  pub now : List ℕ  -- the words of the value that stands
+  pub cells : List ℕ
+
+abbrev pub layout : Option ℕ → Core → List ℕ
+layout holder k = k.version ∷ free holder ∷ k.cells
+
+-- the version does not go down, and what it goes up by are changes of words
+pub record GoesUp (k k' : Core) (changes changes' : ℕ) : Type 0 where
+  pub version : k.version ≤ k'.version
+  pub paid : k'.version + changes ≤ k.version + changes'
+
+module _ (size : ℕ) where
+  -- the value that stands is in the cell before the version's
+  pub record Good (k : Core) : Type 0 where
+    pub some : 1 ≤ k.version
+    pub sized : length k.now ≡ size
+    pub cells : length k.cells ≡ size * 2
+    pub held : (i : ℕ) → i < size → get_or k.cells (size * ((k.version - 1) % 2) + i) 0 ≡ get_or k.now i 0
+
+  -- the first of these words stand in the version's cell
+  abbrev pub IsFilled : Core → List ℕ → ℕ → Type 0
+  IsFilled k words count = (i : ℕ) → i < count → get_or k.cells (size * (k.version % 2) + i) 0 ≡ get_or words i 0
+
+  abbrev pub filled : Core → ℕ → ℕ → Core
+  filled k at word = record { version = k.version; now = k.now; cells = set k.cells (size * (k.version % 2) + at) word }
+
+  abbrev pub stored : Core → List ℕ → Core
+  stored k words = record { version = k.version + 1; now = words; cells = k.cells }
+
+  -- a word stored in the version's cell
+  pub fills : (k : Core) (at word : ℕ) → at < size → Good k → Good (filled k at word)
+  fills k at word below g =
+      let some = g.some in
+      record {
+        some = g.some;
+        sized = g.sized;
+        cells = length-set k.cells (size * (k.version % 2) + at) word ∙ g.cells;
+        held = λ i is.
+            let other : (k.version - 1) % 2 ≢ k.version % 2 = λ e. absurd (omega arith) in
+            let place : size * ((k.version - 1) % 2) + i ≢ size * (k.version % 2) + at =
+            cells_apart size ((k.version - 1) % 2) (k.version % 2) i at is below other in
+            get_or-set_other k.cells (size * (k.version % 2) + at) (size * ((k.version - 1) % 2) + i) word 0 place ∙ g.held i is;
+      }
+
+  -- the words stored so far, and one more
+  pub one_filled : (k : Core) (words : List ℕ) (at : ℕ) → at < size → Good k → IsFilled k words at → IsFilled (filled k at (get_or words at 0)) words (at + 1)
+  one_filled k words at below g so_far i is = ⊎_elim before here (cases_lt i at)
+    where
+      before : i < at → get_or (set k.cells (size * (k.version % 2) + at) (get_or words at 0)) (size * (k.version % 2) + i) 0 ≡ get_or words i 0
+      before h =
+          let place : size * (k.version % 2) + i ≢ size * (k.version % 2) + at = λ e. absurd (omega arith) in
+          get_or-set_other k.cells (size * (k.version % 2) + at) (size * (k.version % 2) + i) (get_or words at 0) 0 place ∙ so_far i h
+
+      here : at ≤ i → get_or (set k.cells (size * (k.version % 2) + at) (get_or words at 0)) (size * (k.version % 2) + i) 0 ≡ get_or words i 0
+      here h =
+          let same : i ≡ at = omega arith in
+          let cells = g.cells in
+          let low = cell_within size k.version at below in
+          let within : size * (k.version % 2) + at < length k.cells = omega arith in
+          rw same (get_or-set_same k.cells (size * (k.version % 2) + at) (get_or words at 0) 0 within)
+
+  -- 1 added to the version over a whole cell
+  pub stores : (k : Core) (words : List ℕ) → length words ≡ size → Good k → IsFilled k words size → Good (stored k words)
+  stores x0 x1 x2 x3 x4 = grind arith

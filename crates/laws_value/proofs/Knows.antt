@@ -1,0 +1,115 @@
+-- What a call of the single value knows where it stands: of the words, and of the counts.
+use Rattle.std.proofs.Common.{◌≡◌, ℕ, ◌+◌, ◌-◌, ◌*◌, ◌^◌, ◌<◌, ◌≤◌, Option, Some, List, length, get_or, arith}
+use Rattle.steps.specs.declared.atomic.StoreStage.{StoreStage}
+use Rattle.steps.specs.declared.atomic.StoreStage as storing
+use Rattle.steps.specs.declared.atomic.LoadStage.{LoadStage}
+use Rattle.steps.specs.declared.atomic.LoadStage as loading
+use Rattle.steps.specs.declared.copied.Buffer as buffers
+use Rattle.steps.specs.Atomic.{cell_word, before_version}
+use Rattle.model.specs.declared.families.atomic.AtomicStart.{AtomicStart}
+use Rattle.model.specs.declared.families.atomic.AtomicStart as starts
+use Rattle.model.specs.declared.families.atomic.calls.AtomicFlight.{AtomicFlight}
+use Rattle.model.specs.declared.families.atomic.calls.AtomicFlight.TheVariants.{Acquire, Release, Store, Load}
+use Rattle.model.specs.Coding.{Coding}
+use Rattle.laws_value.proofs.Core.{Core, GoesUp, IsFilled}
+
+-- ---- the calls by their stages
+
+abbrev pub store_at : {T : Type 0} → T → StoreStage → AtomicFlight T
+store_at value stage =
+    Store (record { call = record { stage = stage; of = record {} }; given = value; room = tt })
+
+abbrev pub load_at : {T : Type 0} → buffers.Buffer 128 → LoadStage → AtomicFlight T
+load_at room stage =
+    Load (record { call = record { stage = stage; of = record {} }; given = tt; room = room })
+
+-- ---- how many steps they have taken at most
+
+abbrev pub store_number : ℕ → StoreStage → ℕ
+store_number size storing.TheVariants.LoadsVersion = 0
+store_number size (storing.TheVariants.StoresCell cell at) = 1 + at
+store_number size storing.TheVariants.AddsVersion = 1 + size
+
+abbrev pub load_number : ℕ → LoadStage → ℕ → ℕ
+load_number size loading.TheVariants.LoadsVersion backs = 0
+load_number size (loading.TheVariants.LoadsCell version cell at) backs = 1 + at + backs * (1 + size)
+load_number size (loading.TheVariants.ChecksVersion version) backs = 1 + size + backs * (1 + size)
+
+abbrev pub number_of : {T : Type 0} → ℕ → AtomicFlight T → ℕ → ℕ
+number_of size (Acquire run) backs = 0
+number_of size (Release run) backs = 0
+number_of size (Store run) backs = store_number size run.call.stage
+number_of size (Load run) backs = load_number size run.call.stage backs
+
+-- ---- what they know of the words
+
+-- of a store of these words: the version that it found is not the last
+abbrev pub KnowsStore : ℕ → Core → List ℕ → StoreStage → Type 0
+KnowsStore size k words storing.TheVariants.LoadsVersion = Unit {0}
+KnowsStore size k words (storing.TheVariants.StoresCell cell at) =
+    (cell ≡ cell_word size k.version) × (at < size) × IsFilled size k words at × (k.version < 2 ^ 64 - 1)
+KnowsStore size k words storing.TheVariants.AddsVersion = IsFilled size k words size × (k.version < 2 ^ 64 - 1)
+
+-- so many words of the value that stands are in the room
+abbrev pub IsCopied : Core → buffers.Buffer 128 → ℕ → Type 0
+IsCopied k room count = (i : ℕ) → i < count → get_or room.words i 0 ≡ get_or k.now i 0
+
+-- while the version is the one that was loaded, the room has words of the value that stands
+abbrev pub KnowsLoad : ℕ → Core → buffers.Buffer 128 → LoadStage → Type 0
+KnowsLoad size k room loading.TheVariants.LoadsVersion = length room.words ≡ 128
+KnowsLoad size k room (loading.TheVariants.LoadsCell version cell at) =
+    (length room.words ≡ 128) × (cell ≡ cell_word size (before_version version)) × (at < size)
+    × (version ≤ k.version) × (version ≡ k.version → IsCopied k room at)
+KnowsLoad size k room (loading.TheVariants.ChecksVersion version) =
+    (length room.words ≡ 128) × (version ≤ k.version) × (version ≡ k.version → IsCopied k room size)
+
+-- each turn back is paid by a change since the call began, and so is each move
+-- of the version since it was loaded, which is to be the next turn back
+abbrev pub KnowsBacks : Core → ℕ → ℕ → ℕ → LoadStage → Type 0
+KnowsBacks k since changes backs loading.TheVariants.LoadsVersion = backs + since ≤ changes
+KnowsBacks k since changes backs (loading.TheVariants.LoadsCell version cell at) =
+    (version ≤ k.version) × (backs + since + k.version ≤ changes + version)
+KnowsBacks k since changes backs (loading.TheVariants.ChecksVersion version) =
+    (version ≤ k.version) × (backs + since + k.version ≤ changes + version)
+
+-- where a call under way stands
+abbrev pub At : {T : Type 0} → Coding T → Option ℕ → Core → ℕ → AtomicStart T → AtomicFlight T → Type 0
+At code holder k p starts.TheVariants.AcquireProducer (Acquire run) = run.call.word ≡ 1
+At code holder k p starts.TheVariants.ReleaseProducer (Release run) = (run.call.word ≡ 1) × (holder ≡ Some p)
+At code holder k p (starts.TheVariants.Store value) (Store run) =
+    (holder ≡ Some p) × (run.given ≡ value) × KnowsStore code.size k (code.words_of value) run.call.stage
+At code holder k p starts.TheVariants.Load (Load run) = KnowsLoad code.size k run.room run.call.stage
+At code holder k p start flight = ⊥
+
+-- what it knows of the counts: a call without a loop has not turned back
+abbrev pub KnowsFlight : {T : Type 0} → Core → ℕ → ℕ → ℕ → AtomicFlight T → Type 0
+KnowsFlight k since changes backs (Acquire run) = backs ≡ 0
+KnowsFlight k since changes backs (Release run) = backs ≡ 0
+KnowsFlight k since changes backs (Store run) = backs ≡ 0
+KnowsFlight k since changes backs (Load run) = KnowsBacks k since changes backs run.call.stage
+
+-- ---- what a step of another party keeps
+
+module _ (k k' : Core) (changes changes' : ℕ) (up : GoesUp k k' changes changes') where
+  pub flight_keeps : {T : Type 0} (since backs : ℕ) (flight : AtomicFlight T)
+      → KnowsFlight k since changes backs flight → KnowsFlight k' since changes' backs flight
+  flight_keeps x0 x1 x2 x3 = grind arith
+
+-- a store of a word, and the coming or going of the role, leave the version and the value that stands
+pub load_stays : (size : ℕ) (k k' : Core) (room : buffers.Buffer 128) (stage : LoadStage) → k'.version ≡ k.version
+    → k'.now ≡ k.now → KnowsLoad size k room stage → KnowsLoad size k' room stage
+load_stays x0 x1 x2 x3 x4 x5 x6 x7 = grind arith
+
+-- once the version has moved, the copy is not asked about
+pub load_passed : (size : ℕ) (k k' : Core) (room : buffers.Buffer 128) (stage : LoadStage) → k.version < k'.version
+    → KnowsLoad size k room stage → KnowsLoad size k' room stage
+load_passed x0 x1 x2 x3 x4 x5 x6 = grind arith
+
+module _ {T : Type 0} (code : Coding T) (ho ho' : Option ℕ) (k k' : Core) (q : ℕ) where
+  pub record Keeps : Type 0 where
+    pub holder : ho ≡ Some q → ho' ≡ Some q
+    pub store : ho ≡ Some q → (words : List ℕ) (stage : StoreStage) → KnowsStore code.size k words stage → KnowsStore code.size k' words stage
+    pub load : (room : buffers.Buffer 128) (stage : LoadStage) → KnowsLoad code.size k room stage → KnowsLoad code.size k' room stage
+
+  pub kept : Keeps → (start : AtomicStart T) (flight : AtomicFlight T) → At code ho k q start flight → At code ho' k' q start flight
+  kept x0 x1 x2 x3 = grind arith

@@ -1,0 +1,187 @@
+-- The steps of a load.
+use Rattle.std.proofs.Common.{◌≡◌, ◌≢◌, ℕ, ◌+◌, ◌*◌, ◌^◌, ◌<◌, ◌≤◌, ◌==◌, nat_lt, Bool, true, false, ⊎_elim, Option}
+use Rattle.std.proofs.Common.{Some, length, get_or, set, take, refl, sym, ap, subst, ◌∙◌, arith, length-set}
+use Rattle.std.proofs.Common.{get_or-set_same, get_or-set_other}
+use Rattle.std.proofs.lemmas.Bool.{cases_lt}
+use Rattle.std.proofs.lemmas.Bool.Decides.{nat_tests}
+use Rattle.std.proofs.lemmas.List.{set-get_or}
+use Rattle.steps.specs.declared.ask.Ask.{Ask}
+use Rattle.steps.specs.declared.ask.Op.TheVariants.{Load, Exchange}
+use Rattle.steps.specs.declared.ask.After.{After}
+use Rattle.steps.specs.declared.ask.After.TheVariants.{GoOn, Done}
+use Rattle.steps.specs.declared.atomic.LoadStage.{LoadStage}
+use Rattle.steps.specs.declared.atomic.LoadStage as loading
+use Rattle.steps.specs.declared.copied.Buffer as buffers
+use Rattle.steps.specs.Atomic.{cell_word, before_version, load_begins}
+use Rattle.steps.specs.Queues.Ring.{word_at}
+use Rattle.model.specs.declared.event.Answer.{Answer}
+use Rattle.model.specs.declared.event.Answer as answers
+use Rattle.model.specs.declared.event.Start.TheVariants.{Atomic}
+use Rattle.model.specs.declared.families.atomic.AtomicStart as starts
+use Rattle.model.specs.declared.families.atomic.calls.AtomicFlight.{AtomicFlight}
+use Rattle.model.specs.Coding.{IsCoding}
+use Rattle.model.specs.Families.Atomic.Calls.{after, goes_back}
+use Rattle.model.specs.Families.Queues.Calls.{kept_at, read_in}
+use Rattle.model.specs.Turns.{change_of}
+use Rattle.laws_value.proofs.Core as core
+use Rattle.laws_value.proofs.Core.{Core, Good, layout, same_words}
+use Rattle.laws_value.proofs.Invariant.{Scene, Inv}
+use Rattle.laws_value.proofs.Knows.{KnowsLoad, KnowsBacks, IsCopied, load_at, load_number}
+use Rattle.laws_value.proofs.Stages.{Comes, StepOf, quiet, changes_then}
+
+-- the words of a room that has them all
+whole_room : (size : ℕ) (k : Core) (room : buffers.Buffer 128) → size ≤ 128 → length room.words ≡ 128
+    → length k.now ≡ size → IsCopied k room size → take size room.words ≡ k.now
+whole_room size k room few long sized copied = same_words size room.words k.now sized (omega arith) copied
+
+module _ {T : Type 0} (scene : Scene T) (inv : Inv scene) (small : scene.core.version < 2 ^ 64) where
+  open scene use {coding as code, holder as ho, core as k, party as p, steps, backs, since, changes}
+
+  g : Good code.size k
+  g = inv.value.good
+
+  coded : IsCoding code
+  coded = inv.value.coded
+
+  abbrev Does : Option Ask → Bool → After (AtomicFlight T) (Answer T) → Type 0
+  Does ask back after = Comes scene starts.TheVariants.Load ask back after
+
+  abbrev DoesOf : buffers.Buffer 128 → LoadStage → Type 0
+  DoesOf room stage = StepOf scene starts.TheVariants.Load (load_at room stage)
+
+  -- the loads of the version's cell begin
+  begins : (room : buffers.Buffer 128) → length room.words ≡ 128 → KnowsLoad code.size k room (load_begins code.size k.version)
+  begins x0 x1 = grind arith
+
+  loads : (room : buffers.Buffer 128) → length room.words ≡ 128 → steps ≤ 0 → backs + since ≤ changes → DoesOf room loading.TheVariants.LoadsVersion
+  loads x0 x1 x2 x3 = grind arith
+
+  -- ---- the cell
+
+  module _ (room : buffers.Buffer 128) (version at : ℕ) (long : length room.words ≡ 128) (below : at < code.size)
+      (copied : version ≡ k.version → IsCopied k room at) where
+    abbrev place : ℕ
+    place = word_at (cell_word code.size (before_version version)) at
+
+    abbrev loads_word : Option Ask
+    loads_word = Some (record { word = place; op = Load })
+
+    abbrev found : ℕ
+    found = get_or (layout ho k) place 0
+
+    abbrev room_then : buffers.Buffer 128
+    room_then = kept_at room at found
+
+    -- while the version is the same, this is a word of the value that stands
+    found_is : version ≡ k.version → found ≡ get_or k.now at 0
+    found_is x0 = grind arith
+
+    copied_more : version ≡ k.version → IsCopied k room_then (at + 1)
+    copied_more same i is = ⊎_elim before here (cases_lt i at)
+      where
+        before : i < at → get_or (set room.words at found) i 0 ≡ get_or k.now i 0
+        before h =
+            let other : i ≢ at = λ e. absurd (omega arith) in
+            get_or-set_other room.words at i found 0 other ∙ copied same i h
+
+        here : at ≤ i → get_or (set room.words at found) i 0 ≡ get_or k.now i 0
+        here h =
+            let last : i ≡ at = omega arith in
+            let few = coded.few in
+            let within : at < length room.words = omega arith in
+            rw last (get_or-set_same room.words at found 0 within ∙ found_is same)
+
+    -- a word is loaded, and the call goes on so
+    loaded_word : (stage : LoadStage) → KnowsLoad code.size k room_then stage
+        → steps + 1 ≤ load_number code.size stage (backs + 0)
+        → KnowsBacks k (since + change_of (layout ho k) loads_word) (changes_then scene loads_word) (backs + 0) stage
+        → Does loads_word false (GoOn (load_at room_then stage))
+    loaded_word stage knows s paid =
+        quiet scene inv false starts.TheVariants.Load loads_word (load_at room_then stage) k refl refl g
+        (set-get_or (layout ho k) place 0) s knows paid (λ q ne st f h. h)
+
+    abbrev next_cell : LoadStage
+    next_cell = loading.TheVariants.LoadsCell version (cell_word code.size (before_version version)) (at + 1)
+
+    loads_cell : version ≤ k.version → backs + since + k.version ≤ changes + version
+        → steps ≤ 1 + at + backs * (1 + code.size)
+        → DoesOf room (loading.TheVariants.LoadsCell version (cell_word code.size (before_version version)) at)
+    loads_cell low paid s = go (nat_lt (at + 1) code.size) refl
+      where
+        long_then : length room_then.words ≡ 128
+        long_then = length-set room.words at found ∙ long
+
+        go : (t : Bool) → nat_lt (at + 1) code.size ≡ t → DoesOf room (loading.TheVariants.LoadsCell version (cell_word code.size (before_version version)) at)
+        go true t =
+            let next : at + 1 < code.size = grind (arith, nat_tests) in
+            let goes : after code
+            (load_at room (loading.TheVariants.LoadsCell version (cell_word code.size (before_version version)) at))
+            found
+            ≡ GoOn (load_at room_then next_cell) =
+            rw t refl in
+            subst (λ a. Does loads_word false a) (sym goes)
+            (loaded_word next_cell (long_then, refl, next, low, copied_more) (omega arith) (low, omega arith))
+        go false t =
+            let last : at + 1 ≡ code.size = grind (arith, nat_tests) in
+            let goes : after code
+            (load_at room (loading.TheVariants.LoadsCell version (cell_word code.size (before_version version)) at))
+            found
+            ≡ GoOn (load_at room_then (loading.TheVariants.ChecksVersion version)) =
+            rw t refl in
+            subst (λ a. Does loads_word false a) (sym goes)
+            (loaded_word (loading.TheVariants.ChecksVersion version)
+            (long_then, low, λ same. subst (λ n. IsCopied k room_then n) last (copied_more same)) (omega arith)
+            (low, omega arith))
+
+  -- ---- the version again
+
+  abbrev checks : ℕ → Option Ask
+  checks version = Some (record { word = 0; op = Exchange version version })
+
+  value_is : (room : buffers.Buffer 128) → length room.words ≡ 128 → IsCopied k room code.size → read_in code room ≡ code.value_of k.now
+  value_is room long copied =
+      let few = coded.few in
+      let t : nat_lt (length room.words) code.size ≡ false = grind (arith, nat_tests) in
+      rw t (ap code.value_of (whole_room code.size k room few long g.sized copied))
+
+  ends : (version : ℕ) → backs + since ≤ changes → steps ≤ 1 + code.size + backs * (1 + code.size)
+      → Does (checks version) false (Done (answers.TheVariants.Loaded (code.value_of k.now)))
+  ends x0 x1 x2 = grind arith
+
+  goes_again : (room : buffers.Buffer 128) (version : ℕ) → length room.words ≡ 128 → version < k.version
+      → backs + since + k.version ≤ changes + version → steps ≤ 1 + code.size + backs * (1 + code.size)
+      → Does (checks version) true (GoOn (load_at room (load_begins code.size k.version)))
+  goes_again x0 x1 x2 x3 x4 x5 = grind arith
+
+  abbrev checking : ℕ → LoadStage
+  checking version = loading.TheVariants.ChecksVersion version
+
+  checks_version : (room : buffers.Buffer 128) (version : ℕ) → length room.words ≡ 128 → version ≤ k.version
+      → (version ≡ k.version → IsCopied k room code.size) → backs + since + k.version ≤ changes + version
+      → steps ≤ 1 + code.size + backs * (1 + code.size)
+      → DoesOf room (loading.TheVariants.ChecksVersion version)
+  checks_version room version long low copied paid s = go (k.version == version) refl
+    where
+      go : (b : Bool) → (k.version == version) ≡ b → DoesOf room (checking version)
+      go true t =
+          let same : version ≡ k.version = grind (arith, nat_tests) in
+          let goes : after code (load_at room (checking version)) k.version ≡ Done (answers.TheVariants.Loaded (read_in code room)) = rw t refl in
+          let back : goes_back {T = T} (load_at room (checking version)) k.version ≡ false = rw t refl in
+          subst (λ a. Does (checks version) (goes_back {T = T} (load_at room (checking version)) k.version) a) (sym goes)
+          (subst (λ b. Does (checks version) b (Done (answers.TheVariants.Loaded (read_in code room)))) (sym back)
+          (subst (λ x. Does (checks version) false (Done (answers.TheVariants.Loaded x)))
+          (sym (value_is room long (copied same))) (ends version (omega arith) s)))
+      go false t =
+          let ne : k.version ≢ version = grind (arith, nat_tests) in
+          let less : version < k.version = (let other : version ≢ k.version = λ e. ne (sym e) in omega arith) in
+          let goes : after code (load_at room (checking version)) k.version ≡ GoOn (load_at room (load_begins code.size k.version)) = rw t refl in
+          let back : goes_back {T = T} (load_at room (checking version)) k.version ≡ true = rw t refl in
+          subst (λ a. Does (checks version) (goes_back {T = T} (load_at room (checking version)) k.version) a) (sym goes)
+          (subst (λ b. Does (checks version) b (GoOn (load_at room (load_begins code.size k.version)))) (sym back) (goes_again room version long less paid s))
+
+  pub load_step : (room : buffers.Buffer 128) (stage : LoadStage) → KnowsLoad code.size k room stage
+      → KnowsBacks k since changes backs stage → steps ≤ load_number code.size stage backs → DoesOf room stage
+  load_step room loading.TheVariants.LoadsVersion knows paid s = loads room knows s paid
+  load_step room (loading.TheVariants.LoadsCell version cell at) knows paid s =
+      subst (λ n. DoesOf room (loading.TheVariants.LoadsCell version n at)) (sym knows.1) (loads_cell room version at knows.0 knows.2 knows.4 knows.3 paid.1 s)
+  load_step room (loading.TheVariants.ChecksVersion version) knows paid s = checks_version room version knows.0 knows.1 knows.2 paid.1 s

@@ -1,0 +1,100 @@
+-- What a step of a call of the single value has to show.
+use Rattle.std.proofs.Common.{◌≡◌, ◌≢◌, ℕ, ◌+◌, ◌≤◌, Bool, false, Option, Some, List, [], ◌∷◌, ◌++◌, fold, sym, ◌∙◌, arith}
+use Rattle.steps.specs.declared.ask.Ask.{Ask}
+use Rattle.steps.specs.declared.ask.After.{After}
+use Rattle.steps.specs.declared.ask.After.TheVariants.{GoOn, Done}
+use Rattle.model.specs.declared.event.Answer.{Answer}
+use Rattle.model.specs.declared.event.Event.{Event}
+use Rattle.model.specs.declared.event.Event.TheVariants.{Finished}
+use Rattle.model.specs.declared.event.Start.TheVariants.{Atomic}
+use Rattle.model.specs.declared.families.Flight.{Flight}
+use Rattle.model.specs.declared.families.Flight as flights
+use Rattle.model.specs.declared.families.Registry as registries
+use Rattle.model.specs.declared.families.atomic.AtomicStart.{AtomicStart}
+use Rattle.model.specs.declared.families.atomic.calls.AtomicFlight.{AtomicFlight}
+use Rattle.model.specs.declared.party.Doing.TheVariants.{Over}
+use Rattle.model.specs.declared.party.Party.{Party}
+use Rattle.model.specs.Families.{ask_of}
+use Rattle.model.specs.Families.Atomic.Bounds.{most_steps}
+use Rattle.model.specs.Families.Atomic.Calls.{want, after, goes_back}
+use Rattle.model.specs.Families.Atomic.Reading.{holder_after}
+use Rattle.model.specs.Families.Atomic.Roles.{GrantsRight}
+use Rattle.model.specs.Families.Atomic.Spans.{moments_of}
+use Rattle.model.specs.Families.Atomic.Steps.{acted, producer_after}
+use Rattle.model.specs.Reading.{Open}
+use Rattle.model.specs.Step.{as_call, answer_in}
+use Rattle.model.specs.Turns.{one_if, old_of, words_after, change_of, step_count, party_after, ending_of}
+use Rattle.laws_value.proofs.Core.{Core, Good, layout}
+use Rattle.laws_value.proofs.Invariant.{Scene, Inv, Shows, family}
+use Rattle.laws_value.proofs.Knows.{At, KnowsFlight}
+
+-- a role has one holder
+pub clash : (o : Option ℕ) (p q : ℕ) → q ≢ p → o ≡ Some p → o ≡ Some q → ⊥
+clash o p q ne a b = let same : Some p ≡ Some q = sym a ∙ b in ne (cc)
+
+module _ {T : Type 0} where
+  -- a call of the value as one of any family
+  abbrev pub any_call : After (AtomicFlight T) (Answer T) → After (Flight T) (Answer T)
+  any_call after = as_call flights.TheVariants.Atomic (λ answer. answer) after
+
+  -- the events of a step, the end of the call last
+  abbrev pub told_after : ℕ → AtomicStart T → After (AtomicFlight T) (Answer T) → List (Event T)
+  told_after p start after = acted p start (answer_in after) ++ ending_of p (Atomic start) (answer_in (any_call after))
+
+module _ {T : Type 0} (scene : Scene T) where
+  open scene use {coding as code, holder as ho, core as k, party as p}
+
+  abbrev words : List ℕ
+  words = layout scene.holder scene.core
+
+  -- the party as it stands before the step
+  abbrev party : AtomicStart T → Party T
+  party start = record { start = Atomic start; steps = scene.steps; backs = scene.backs; doing = Over 0 }
+
+  -- and after a step that does this operation
+  abbrev pub party_then : AtomicStart T → Option Ask → Bool → After (AtomicFlight T) (Answer T) → Party T
+  party_then start ask back after =
+      party_after (party start) scene.since scene.changes (step_count ask) (change_of words ask)
+      (record { after = any_call after; back = back; wrote = []; kept = registries.TheVariants.Atomic ho })
+
+  -- how often words have changed then
+  abbrev pub changes_then : Option Ask → ℕ
+  changes_then ask = scene.changes + change_of words ask
+
+  -- a step after which the call is this, which leaves the role with this holder and writes these events
+  abbrev pub Leaves : Option ℕ → List (Event T) → AtomicStart T → Option Ask → Bool → After (AtomicFlight T) (Answer T) → Type 0
+  Leaves holder' es start ask back after =
+      (k' : Core) × (words_after words ask ≡ layout holder' k')
+      × Shows scene holder' k' (Open (Atomic start) []) (party_then start ask back after) es (changes_then ask)
+
+  -- the old value of the word that a call asks for
+  abbrev pub old_for : AtomicFlight T → ℕ
+  old_for flight = old_of words (ask_of (want code flight))
+
+  abbrev pub Comes : AtomicStart T → Option Ask → Bool → After (AtomicFlight T) (Answer T) → Type 0
+  Comes start ask back after = Leaves (producer_after p start (answer_in after) ho) (told_after p start after) start ask back after
+
+  abbrev pub StepOf : AtomicStart T → AtomicFlight T → Type 0
+  StepOf start flight = Comes start (ask_of (want code flight)) (goes_back flight (old_for flight)) (after code flight (old_for flight))
+
+  module _ (inv : Inv scene) where
+    -- the call goes on, and the version and the value that stands stay
+    pub quiet :
+        (back : Bool) (start : AtomicStart T) (ask : Option Ask) (flight : AtomicFlight T) (k' : Core)
+        → k'.version ≡ k.version → k'.now ≡ k.now → Good code.size k' → words_after words ask ≡ layout ho k'
+        → scene.steps + step_count ask ≤ (family code scene.capacity).number [] (flights.TheVariants.Atomic flight) (scene.backs + one_if back)
+        → At code ho k' p start flight
+        → KnowsFlight k' (scene.since + change_of words ask) (changes_then ask) (scene.backs + one_if back) flight
+        → ((q : ℕ) → q ≢ p → (s : AtomicStart T) (f : AtomicFlight T) → At code ho k q s f → At code ho k' q s f)
+        → Leaves ho [] start ask back (GoOn flight)
+    quiet x0 x1 x2 x3 x4 x5 x6 x7 x8 x9 x10 x11 x12 = grind arith
+
+    -- the call is done, and nothing acted
+    pub ends :
+        (holder' : Option ℕ) (start : AtomicStart T) (answer : Answer T) (ask : Option Ask)
+        → [] ≡ moments_of start answer → GrantsRight scene.events (Finished p (Atomic start) answer)
+        → fold holder_after ho (Finished p (Atomic start) answer ∷ []) ≡ holder'
+        → scene.steps + step_count ask ≤ most_steps code.size start (scene.backs + 0) → scene.backs ≡ 0 → words_after words ask ≡ layout holder' k
+        → ((q : ℕ) → q ≢ p → (s : AtomicStart T) (f : AtomicFlight T) → At code ho k q s f → At code holder' k q s f)
+        → Leaves holder' (Finished p (Atomic start) answer ∷ []) start ask false (Done answer)
+    ends x0 x1 x2 x3 x4 x5 x6 x7 x8 x9 x10 = grind arith

@@ -1,0 +1,97 @@
+//! Containers of one caller: a state that memory is refused to, and values of 128 words.
+use plain::Container;
+use std::alloc::Global;
+use std::test::Fail;
+use steps::container::state::ContainerState;
+use steps::enums::{CallbackProgression, OwnerId, UniqueIndexCreationError};
+use steps::indices::enums::{ReleaseMode, ReleaseState};
+use tests_calls::long_values::Greatest;
+use tests_calls::numbered::Numbered;
+
+/// Whether this value goes to this index.
+fn adds<T: Numbered>(container: &mut Container<T>, value: u64, owner: OwnerId, index: u32) -> bool {
+    match container.add(T::of_number(value), owner) {
+        Ok(handle) => handle.index == index && handle.owner == owner && handle.container == 9,
+        Err(_) => false,
+    }
+}
+
+fn state_of(container: &mut Container<u64>) -> Option<ContainerState<u64>> {
+    container.get_state().ok()
+}
+
+/// Whether the state is as it was, and the container too: two values, and no lock.
+fn stands(container: &mut Container<u64>, state: &mut ContainerState<u64>) -> bool {
+    let same = container.is_state_of(state) && !container.update_state(state);
+    let number = container.len();
+    same && number == 2 && !container.is_empty() && !container.is_locked()
+}
+
+/// Whether a second state shows 5 and 6, or changes nothing where memory is refused to it alone. None where memory is
+/// refused.
+fn second_state(container: &mut Container<u64>) -> Option<bool> {
+    let mut first = state_of(container)?;
+    let second = state_of(container);
+    if !stands(container, &mut first) {
+        return Some(false);
+    }
+    let second = second?;
+    Some((second.get(0), second.get(1), second.get(2)) == (Some(&5), Some(&6), None))
+}
+
+/// The same of a new container with these values.
+fn of_two(alloc: Global, owner: OwnerId) -> Result<Option<bool>, UniqueIndexCreationError> {
+    let mut container = Container::<u64>::new(alloc, 3, 9)?;
+    let added = adds(&mut container, 5, owner, 0) & adds(&mut container, 6, owner, 1);
+    Ok(second_state(&mut container).map(|right| right && added))
+}
+
+/// Where memory is refused to a second state the test fails by that alone: the first one tells that nothing has changed.
+#[test]
+fn a_refused_state(rt: HostRuntime) -> Result<(), Fail> {
+    let owner = OwnerId::new(1)?;
+    let right = of_two(rt.alloc(), owner)?.ok_or("no memory")?;
+    assert!(rt; right);
+    Ok(())
+}
+
+/// Whether a find of the owner comes to the values 1 and 4, at the first two indices.
+fn finds(container: &mut Container<Greatest>, owner: OwnerId) -> bool {
+    let mut digits = 0u64;
+    let found = container.find(owner, |value, handle| {
+        digits = digits
+            .wrapping_mul(10)
+            .wrapping_add(value.number())
+            .wrapping_mul(10)
+            .wrapping_add(handle.index as u64)
+            .wrapping_mul(10)
+            .wrapping_add(handle.container);
+        CallbackProgression::Continue
+    });
+    found == 2 && digits == 109_419
+}
+
+/// Whether a recovery that frees both asks about them, and locks.
+fn recovers(container: &mut Container<Greatest>, owner: OwnerId) -> bool {
+    let mut digits = 0u64;
+    let state = container.recover(
+        owner,
+        |value| {
+            digits = digits.wrapping_mul(10).wrapping_add(value.number());
+            true
+        },
+        ReleaseMode::LockIfLastIndex,
+    );
+    digits == 14 && state == ReleaseState::Locked
+}
+
+#[test]
+fn values_of_128_words(rt: HostRuntime) -> Result<(), Fail> {
+    let owner = OwnerId::new(1)?;
+    let mut container = Container::<Greatest>::new(rt.alloc(), 2, 9)?;
+    let mut right = adds(&mut container, 1, owner, 0) & adds(&mut container, 4, owner, 1);
+    right &= finds(&mut container, owner);
+    right &= recovers(&mut container, owner);
+    assert!(rt; right);
+    Ok(())
+}

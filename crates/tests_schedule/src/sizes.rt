@@ -1,0 +1,93 @@
+//! Containers of values of one word, of two and of 128.
+use machine::Machine;
+use machine::event::{Answer, Event, Start};
+use machine::families::container::ContainerStart;
+use machine::turn::{Kind, Turn};
+use schedule::bare::{made_of, state, step};
+use std::alloc::Global;
+use steps::enums::OwnerId;
+use steps::words::Words;
+use tests_calls::long_values::Greatest;
+
+/// Whether the call takes so many turns, of which the last gives this answer.
+fn answers<T: Words + PartialEq>(
+    machine: &mut Machine<T>,
+    start: ContainerStart<T>,
+    turns: usize,
+    answer: Answer<T>,
+) -> bool {
+    let mut taken = step(machine, Turn::Begin(0, Start::Container(start))).is_ok();
+    for _ in 0..turns {
+        taken &= step(machine, Turn::Next(0)).is_ok();
+    }
+    let last = Event::Finished(0, Start::Container(start), answer);
+    taken && machine.events().last() == Some(&last)
+}
+
+/// Whether the state shows these two.
+fn shows<T: Words + PartialEq>(machine: &Machine<T>, first: &T, second: &T) -> bool {
+    match state(machine, 0) {
+        Some(state) => state.get(0) == Some(first) && state.get(1) == Some(second),
+        None => false,
+    }
+}
+
+/// Whether two values are added, shown, and the first of them replaced: each call takes a step more for each word.
+fn goes_on<T: Words + PartialEq>(
+    machine: &mut Machine<T>,
+    first: T,
+    second: T,
+    owner: OwnerId,
+) -> bool {
+    let size = T::WORDS;
+    let copies = size.saturating_add(2);
+    answers(
+        machine,
+        ContainerStart::Add(first, owner),
+        size.saturating_add(7),
+        Answer::Index(0),
+    ) && answers(
+        machine,
+        ContainerStart::Add(second, owner),
+        size.saturating_add(8),
+        Answer::Index(1),
+    ) && answers(
+        machine,
+        ContainerStart::GetState,
+        copies.saturating_mul(2).saturating_add(1),
+        Answer::Number(2),
+    ) && shows(machine, &first, &second)
+        && answers(
+            machine,
+            ContainerStart::Replace(0, second, owner),
+            size.saturating_add(5),
+            Answer::Done,
+        )
+        && shows(machine, &first, &second)
+        && answers(
+            machine,
+            ContainerStart::UpdateState,
+            copies.saturating_add(2),
+            Answer::Truth(true),
+        )
+        && shows(machine, &second, &second)
+        && machine.words().len() == size.saturating_mul(2).saturating_add(6)
+}
+
+/// Whether they do so on a container for two.
+fn holds<T: Words + PartialEq>(alloc: Global, first: T, second: T) -> bool {
+    let Ok(owner) = OwnerId::new(7) else {
+        return false;
+    };
+    let Ok(mut machine) = made_of(alloc, Kind::Container, 2, 1) else {
+        return false;
+    };
+    goes_on(&mut machine, first, second, owner)
+}
+
+#[test]
+fn values_of_one_word_of_two_and_of_128(rt: HostRuntime) {
+    assert!(rt; holds::<u64>(rt.alloc(), u64::MAX, 5));
+    assert!(rt; holds::<u128>(rt.alloc(), 18446744073709551618, 36893488147419103233));
+    assert!(rt; holds::<Greatest>(rt.alloc(), Greatest(1, 9, u64::MAX), Greatest(3, 9, 4)));
+}

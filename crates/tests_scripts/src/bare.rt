@@ -1,0 +1,297 @@
+//! Calls over written words: the calls of a machine without its rules.
+use crate::calls;
+use crate::stage::Stage;
+use crate::text::{number, numbers};
+use machine::event::{Event, Start};
+use machine::families::loan::is_loan;
+use machine::families::{Beside, Flight, Registry};
+use machine::party::{Doing, Latest, Party, Progress, Seat};
+use machine::turn::{Kind, Refusal, Turn};
+use schedule::bare::read_words;
+use schedule::grammar::Setup;
+use std::alloc::Global;
+use std::collections::BTreeMap;
+use steps::ask::Want;
+use steps::container::state::ContainerState;
+use steps::enums::OwnerId;
+use steps::indices::head::HeadDetails;
+use turns::families::loan::opening::open;
+use turns::families::{self, is_asking};
+use turns::party::{flight_of, progress_of};
+use turns::words;
+
+/// Words, what a family keeps beside them, and the latest call of each party.
+#[derive(Drop)]
+pub struct Bare {
+    alloc: Global,
+    kind: Kind,
+    capacity: u32,
+    words: Vec<u64>,
+    kept: Registry<u128>,
+    latest: Latest<u128>,
+    events: Vec<Event<u128>>,
+}
+
+// (of any values: of these alone the checker has a bug)
+fn write_death<T: Copy>(events: &mut Vec<Event<T>>, owner: OwnerId) -> bool {
+    let Ok(()) = events.reserve(1) else {
+        return false;
+    };
+    events.push_reserved(Event::Died(owner));
+    true
+}
+
+fn opening(alloc: Global, setup: Setup) -> Option<(Vec<u64>, Registry<u128>)> {
+    let capacity = u32::try_from(setup.capacity).ok()?;
+    if is_loan(setup.kind) {
+        return open::<u128>(alloc, capacity, u32::try_from(setup.queue).ok()?).ok();
+    }
+    families::opening::<u128>(alloc, setup.kind, capacity).ok()
+}
+
+fn said_number(said: Option<bool>) -> u64 {
+    match said {
+        Some(true) => 1,
+        _ => 0,
+    }
+}
+
+/// Lets a call take its step, or hands it a decision: as a machine does.
+fn advance(
+    party: &mut Party<u128>,
+    number: u32,
+    said: Option<bool>,
+    beside: Beside,
+    words: &mut Vec<u64>,
+    kept: &mut Registry<u128>,
+    events: &mut Vec<Event<u128>>,
+) -> Result<(), Refusal> {
+    let Doing::Going(flight, _) = &mut party.doing else {
+        return Err(Refusal::Idle);
+    };
+    let (want, most) = families::going(flight);
+    let (ask, answer) = match (want, said) {
+        (Want::Question(_), Some(_)) => (None, said_number(said)),
+        (Want::Ask(ask), None) => (Some(ask), words::old(words, Some(ask))),
+        (Want::Nothing, None) => (None, 0),
+        _ => return Err(Refusal::Undecided),
+    };
+    if let Some(refusal) = families::going_refusal(flight, kept, said) {
+        return Err(refusal);
+    }
+    let Ok(()) = events.reserve(most + 1) else {
+        return Err(Refusal::NoMemory);
+    };
+    let went = families::go_on(
+        flight,
+        number,
+        &party.start,
+        words,
+        beside,
+        answer,
+        kept,
+        events,
+    );
+    party.steps = party.steps.wrapping_add(words::count(ask));
+    party.backs = party.backs.wrapping_add(u64::from(went.back));
+    if let Some(answer) = went.done {
+        events.push_reserved(Event::Finished(number, party.start, answer));
+        party.doing = Doing::Over(0);
+    }
+    words::write(words, ask);
+    Ok(())
+}
+
+impl Bare {
+    /// The calls of this kind and capacity, over the words of its opening, by the first line of a schedule.
+    pub fn opened(alloc: Global, line: &str) -> Option<Bare> {
+        let setup = read_words(line.as_bytes()).ok()?;
+        let (words, kept) = opening(alloc, setup)?;
+        Some(Bare {
+            alloc,
+            kind: setup.kind,
+            capacity: u32::try_from(setup.capacity).ok()?,
+            words,
+            kept,
+            latest: BTreeMap::new(alloc),
+            events: Vec::new(alloc),
+        })
+    }
+
+    /// The party's latest call is this one.
+    fn seats(&mut self, number: u32, party: Party<u128>) -> Result<(), Refusal> {
+        let Ok(party) = Box::new(self.alloc, party) else {
+            return Err(Refusal::NoMemory);
+        };
+        match self.latest.insert(number, Seat { party }) {
+            Ok(_) => Ok(()),
+            Err(_) => Err(Refusal::NoMemory),
+        }
+    }
+
+    fn begins(&mut self, number: u32, start: Start<u128>) -> Result<(), Refusal> {
+        if flight_of(&self.latest, number).is_some() {
+            return Err(Refusal::Busy);
+        }
+        let flight = families::begin(
+            self.alloc,
+            self.kind,
+            self.capacity,
+            &self.kept,
+            number,
+            &start,
+        )?;
+        let party = Party {
+            start,
+            steps: 0,
+            backs: 0,
+            doing: Doing::Going(flight, 0),
+        };
+        self.seats(number, party)?;
+        if !families::keep(&mut self.kept, self.capacity, &start, number) {
+            return Err(Refusal::NoMemory);
+        }
+        let Ok(()) = self.events.reserve(1) else {
+            return Err(Refusal::NoMemory);
+        };
+        self.events.push_reserved(Event::Begun(number, start));
+        Ok(())
+    }
+
+    fn goes_on(&mut self, number: u32, said: Option<bool>) -> Result<(), Refusal> {
+        let beside = families::look_beside(&self.kept, &self.words, &self.latest, number);
+        let Some(seat) = self.latest.get_mut(&number) else {
+            return Err(Refusal::Idle);
+        };
+        advance(
+            &mut *seat.party,
+            number,
+            said,
+            beside,
+            &mut self.words,
+            &mut self.kept,
+            &mut self.events,
+        )
+    }
+
+    fn keeps_dead(&mut self, owner: OwnerId) -> bool {
+        families::die(&mut self.kept, owner)
+    }
+
+    fn dies(&mut self, owner: OwnerId) -> Result<(), Refusal> {
+        if let Some(refusal) = families::death_refusal(&self.kept, owner) {
+            return Err(refusal);
+        }
+        if self.keeps_dead(owner) && write_death(&mut self.events, owner) {
+            Ok(())
+        } else {
+            Err(Refusal::NoMemory)
+        }
+    }
+
+    /// The words are these from now on.
+    fn sets(&mut self, rest: &str) -> Option<bool> {
+        self.words = numbers(self.alloc, rest)?;
+        Some(true)
+    }
+
+    fn puts(&mut self, at: usize, word: u64) -> bool {
+        match self.words.get_mut(at) {
+            Some(old) => {
+                *old = word;
+                true
+            }
+            None => false,
+        }
+    }
+
+    /// `3 7`: another party writes this word.
+    fn writes(&mut self, rest: &str) -> Option<bool> {
+        let (at, word) = rest.split_once(' ')?;
+        Some(self.puts(at.parse().ok()?, number(word)?))
+    }
+
+    /// `0 65535 2`: it writes the head of a unique index set.
+    fn writes_head(&mut self, rest: &str) -> Option<bool> {
+        let (head, rest) = rest.split_once(' ')?;
+        let (aba, borrowed) = rest.split_once(' ')?;
+        let details = HeadDetails {
+            head: head.parse().ok()?,
+            aba: aba.parse().ok()?,
+            borrowed_indices: borrowed.parse().ok()?,
+        };
+        Some(self.puts(0, details.value()))
+    }
+
+    fn flight(&self, party: u32) -> Option<&Flight<u128>> {
+        flight_of(&self.latest, party)
+    }
+
+    /// The party holds this index from now on.
+    fn holds(&mut self, party: u32, index: u32) -> bool {
+        match &mut self.kept {
+            Registry::Indices(holders) => {
+                holders.put(index, Some(party));
+                true
+            }
+            _ => false,
+        }
+    }
+}
+
+impl Stage for Bare {
+    fn kind(&self) -> Kind {
+        self.kind
+    }
+
+    fn step(&mut self, turn: Turn<u128>) -> Result<(), Refusal> {
+        match turn {
+            Turn::Begin(number, start) => self.begins(number, start),
+            Turn::Next(number) => self.goes_on(number, None),
+            Turn::Decide(number, said) => self.goes_on(number, Some(said)),
+            Turn::Die(owner) => self.dies(owner),
+        }
+    }
+
+    fn words(&self) -> &[u64] {
+        &self.words
+    }
+
+    fn events(&self) -> &[Event<u128>] {
+        &self.events
+    }
+
+    fn progress(&self, party: u32) -> Option<Progress> {
+        progress_of(&self.latest, 0, party)
+    }
+
+    fn is_going(&self, party: u32) -> bool {
+        match self.flight(party) {
+            Some(flight) => !is_asking(flight),
+            None => false,
+        }
+    }
+
+    fn state(&self, party: u32) -> Option<&ContainerState<u128>> {
+        match &self.kept {
+            Registry::Container(_, states) => states.get(party),
+            _ => None,
+        }
+    }
+
+    fn row(&mut self, word: &str, rest: &str) -> Option<bool> {
+        match word {
+            "words" => self.sets(rest),
+            "write" => self.writes(rest),
+            "head" => self.writes_head(rest),
+            _ => None,
+        }
+    }
+
+    fn row_of(&mut self, party: u32, word: &str, rest: &str) -> Option<bool> {
+        match word {
+            "holds" => Some(self.holds(party, rest.parse().ok()?)),
+            _ => calls::row(self.flight(party)?, word, rest),
+        }
+    }
+}

@@ -1,0 +1,192 @@
+-- Which runs of a container are well-formed: a worked one that is, and two that are not.
+use Rattle.std.proofs.Common.{◌≡◌, ℕ, zero, suc, ◌+◌, Option, Some, None, List, [], ◌∷◌, ◌++◌, refl, subst, arith}
+use Rattle.steps.specs.declared.indices.enums.ReleaseMode.TheVariants.{Default}
+use Rattle.steps.specs.declared.indices.enums.ReleaseState as states
+use Rattle.model.specs.declared.event.Answer.TheVariants.{Done, Index, State}
+use Rattle.model.specs.declared.event.Event.{Event}
+use Rattle.model.specs.declared.event.Event.TheVariants.{Begun, Filled, Granted, FreedOf, Placed, Hidden, Finished}
+use Rattle.model.specs.declared.event.Start.{Start}
+use Rattle.model.specs.declared.event.Start.TheVariants.{Container}
+use Rattle.model.specs.declared.families.container.ContainerStart.TheVariants.{Add, Remove, Replace}
+use Rattle.model.specs.declared.party.Party.{Party}
+use Rattle.model.specs.declared.turn.Kind as kinds
+use Rattle.model.specs.declared.turn.Turn.{Turn}
+use Rattle.model.specs.Families.Container.Promises.{IsWellFormedRun, ReplacesRight, StandsWellFormed}
+use Rattle.model.specs.Families.Container.Reading.{MayReplace, NoneTakes}
+use Rattle.model.specs.Families.Indices.Robust.Promises.{FreesRight, IsFilledWith}
+use Rattle.model.specs.Families.Indices.Robust.Reading.{settled_of}
+use Rattle.model.specs.Moments.{BeginsNone, HeldSometime, SinceBegin}
+use Rattle.model.specs.Parties.{party_of}
+use Rattle.model.specs.World.{Trace}
+use Rattle.model.proofs.Parties.{apart}
+use Rattle.model.proofs.Readings.{Each-append, Each-nil}
+use Rattle.model.proofs.Runs.{two_words, begins, ran}
+
+abbrev add : ℕ → ℕ → Start ℕ
+add value owner = Container (Add value owner)
+
+abbrev remove : ℕ → ℕ → Start ℕ
+remove index owner = Container (Remove index owner Default)
+
+abbrev replace : ℕ → ℕ → ℕ → Start ℕ
+replace index value owner = Container (Replace index value owner)
+
+abbrev ran_on : List (Turn ℕ) → Trace ℕ
+ran_on turns = ran two_words kinds.TheVariants.Container 1 2 turns
+
+-- ---- an add, a replace and a remove of its handle, one after another: a well-formed run
+
+abbrev handled : List (Turn ℕ)
+handled = begins 0 (add 5 1) 9 ++ (begins 0 (replace 0 6 1) 7 ++ begins 0 (remove 0 1) 6)
+
+abbrev added : List (Event ℕ)
+added =
+    Begun 0 (add 5 1)
+    ∷ Filled 0 0 1
+    ∷ Granted 0 0 1
+    ∷ Placed 0 0 5
+    ∷ Finished 0 (add 5 1) (Index 0)
+    ∷ []
+
+abbrev replaced : List (Event ℕ)
+replaced =
+    added
+    ++ Begun 0 (replace 0 6 1)
+    ∷ Hidden 0 0
+    ∷ Placed 0 0 6
+    ∷ Finished 0 (replace 0 6 1) Done
+    ∷ []
+
+pub handled_events : (ran_on handled).events
+    ≡ replaced
+    ++ Begun 0 (remove 0 1)
+    ∷ FreedOf 0 0 1
+    ∷ Hidden 0 0
+    ∷ Finished 0 (remove 0 1) (State states.TheVariants.Unlocked)
+    ∷ []
+handled_events = refl
+
+-- nobody else has begun a call
+nobody_else : (n : ℕ) (x : Party ℕ) (events : List (Event ℕ))
+    → StandsWellFormed (suc n) (party_of (suc n) ((0, x) ∷ [])) events
+nobody_else n x events = rw (apart (suc n) 0 (λ e. cc)) tt
+
+-- and the last call of this party has ended
+stands : (p : ℕ)
+    → StandsWellFormed p (party_of p (ran_on handled).world.latest) (ran_on handled).events
+stands zero = λ index owner value wrote is steps held. absurd (cc)
+stands (suc n) = nobody_else n _ _
+
+abbrev replaces : List (Event ℕ)
+replaces = added ++ Begun 0 (replace 0 6 1) ∷ Hidden 0 0 ∷ Placed 0 0 6 ∷ []
+
+may_replace : MayReplace 0 0 1 replaces
+may_replace =
+    record {
+      before = added;
+      start = replace 0 6 1;
+      since = Hidden 0 0 ∷ Placed 0 0 6 ∷ [];
+      is = refl;
+      within = tt;
+      holds = (refl, (tt, (tt, tt)));
+    }
+
+may_remove : FreesRight (replaced ++ Begun 0 (remove 0 1) ∷ []) (FreedOf 0 0 1)
+may_remove =
+    record {
+      before = replaced;
+      start = remove 0 1;
+      since = [];
+      is = refl;
+      within = tt;
+      holds = refl;
+    }
+
+pub is_well_formed : IsWellFormedRun (ran_on handled)
+is_well_formed =
+    record {
+      frees =
+          Each-append FreesRight [] (ran_on handled).events (Each-nil FreesRight)
+          (tt, (tt, (tt, (tt, (tt, (tt, (tt, (tt, (tt, (tt, (may_remove, (tt, (tt, tt)))))))))))));
+      replaced =
+          Each-append ReplacesRight [] (ran_on handled).events (Each-nil ReplacesRight)
+          (tt, (tt, (tt, (tt, (tt, (tt, (tt, (tt, (may_replace, (tt, (tt, (tt, (tt, tt)))))))))))));
+      replaces = stands;
+    }
+
+-- ---- a remove that is begun before the add has finished
+
+abbrev hasty : List (Turn ℕ)
+hasty = begins 0 (add 5 1) 3 ++ begins 1 (remove 0 1) 2
+
+abbrev filled : List (Event ℕ)
+filled = Begun 0 (add 5 1) ∷ Filled 0 0 1 ∷ []
+
+pub hasty_events : (ran_on hasty).events ≡ filled ++ Begun 1 (remove 0 1) ∷ FreedOf 1 0 1 ∷ []
+hasty_events = refl
+
+-- the index is not settled for its owner as the remove begins
+too_early : (before since : List (Event ℕ)) (start : Start ℕ)
+    → filled ++ Begun 1 (remove 0 1) ∷ [] ≡ before ++ Begun 1 start ∷ since
+    → settled_of 0 before ≡ Some 1 → ⊥
+too_early [] since start is holds = absurd (cc)
+too_early (a ∷ []) since start is holds = absurd (cc)
+too_early (a ∷ b ∷ []) since start is holds =
+    let same : a ∷ b ∷ [] ≡ filled = cc in
+    let never : settled_of 0 filled ≡ Some 1 =
+    subst (λ events. settled_of 0 events ≡ Some 1) same holds in
+    absurd (cc)
+too_early (a ∷ b ∷ c ∷ []) since start is holds = absurd (cc)
+too_early (a ∷ b ∷ c ∷ d ∷ rest) since start is holds = absurd (cc)
+
+no_give_back : SinceBegin 1 (λ before since. settled_of 0 before ≡ Some 1)
+    (filled ++ Begun 1 (remove 0 1) ∷ []) → ⊥
+no_give_back h = too_early h.before h.since h.start h.is h.holds
+
+pub hasty_is_not_well_formed : IsWellFormedRun (ran_on hasty) → ⊥
+hasty_is_not_well_formed h =
+    no_give_back (h.frees (filled ++ Begun 1 (remove 0 1) ∷ []) [] (FreedOf 1 0 1) refl)
+
+-- ---- a replace that is begun beside a replace of the same handle
+
+abbrev beside : List (Turn ℕ)
+beside = begins 0 (add 5 1) 9 ++ (begins 0 (replace 0 6 1) 1 ++ begins 1 (replace 0 7 1) 0)
+
+abbrev both : List (Event ℕ)
+both = added ++ Begun 0 (replace 0 6 1) ∷ Begun 1 (replace 0 7 1) ∷ []
+
+pub beside_events : (ran_on beside).events ≡ both
+beside_events = refl
+
+-- since the first has begun, another has
+too_many : (before since : List (Event ℕ)) (start : Start ℕ)
+    → both ≡ before ++ Begun 0 start ∷ since → BeginsNone 0 since → NoneTakes 0 1 since → ⊥
+too_many [] since start is within none =
+    let same : since
+    ≡ Filled 0 0 1
+    ∷ Granted 0 0 1
+    ∷ Placed 0 0 5
+    ∷ Finished 0 (add 5 1) (Index 0)
+    ∷ Begun 0 (replace 0 6 1)
+    ∷ Begun 1 (replace 0 7 1)
+    ∷ [] = cc in
+    let begins_none = subst (BeginsNone 0) same within in begins_none.0 refl
+too_many (a ∷ []) since start is within none = absurd (cc)
+too_many (a ∷ b ∷ []) since start is within none = absurd (cc)
+too_many (a ∷ b ∷ c ∷ []) since start is within none = absurd (cc)
+too_many (a ∷ b ∷ c ∷ d ∷ []) since start is within none = absurd (cc)
+too_many (a ∷ b ∷ c ∷ d ∷ e ∷ []) since start is within none =
+    let same : since ≡ Begun 1 (replace 0 7 1) ∷ [] = cc in
+    let takes_none = subst (NoneTakes 0 1) same none in takes_none.0 (refl, refl)
+too_many (a ∷ b ∷ c ∷ d ∷ e ∷ f ∷ []) since start is within none = absurd (cc)
+too_many (a ∷ b ∷ c ∷ d ∷ e ∷ f ∷ g ∷ []) since start is within none = absurd (cc)
+too_many (a ∷ b ∷ c ∷ d ∷ e ∷ f ∷ g ∷ h ∷ rest) since start is within none = absurd (cc)
+
+no_replace : MayReplace 0 0 1 both → ⊥
+no_replace h = too_many h.before h.since h.start h.is h.within h.holds.1
+
+was_filled : HeldSometime 0 (IsFilledWith 1 0) both
+was_filled = record { part = both; rest = []; is = refl; within = tt; held = refl }
+
+pub beside_is_not_well_formed : IsWellFormedRun (ran_on beside) → ⊥
+beside_is_not_well_formed h = no_replace (h.replaces zero 0 1 6 [] refl (omega arith) was_filled)

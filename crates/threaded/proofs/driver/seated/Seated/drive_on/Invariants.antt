@@ -1,0 +1,22 @@
+use Rattle.std.proofs.Common.{◌≡◌}
+use Rattle.threaded.specs.Driver.{Told}
+use Rattle.threaded.specs.Seats.{seen, IsSame}
+use Rattle.threaded.proofs.driver.seated.Seated.drive_on.Given as goal
+
+abbrev pub invariant-steps : goal.invariant-steps
+invariant-steps g l =
+    IsSame l.fn.self l.self × (g.Q.Rule.capacity_seen (seen l.self) ≡ g.Q.Rule.capacity_seen (seen l.fn.self))
+    × g.D.Drives.at l.fn.given (seen l.fn.self) (seen l.self) l.call l.room
+
+abbrev pub invariant-alike : goal.invariant-alike
+invariant-alike g l =
+    IsSame l.fn.self l.self × (g.Q.Rule.capacity_seen (seen l.self) ≡ g.Q.Rule.capacity_seen (seen l.fn.self))
+    × g.D.Drives.at l.fn.given (seen l.fn.self) (seen l.self) l.call l.room
+
+abbrev pub ghosts-once : goal.ghosts-once
+ghosts-once g a =
+    record {
+      told =
+          Told g.Q.Rule.capacity_seen (g.D.Drives.at a.given.now) (g.D.Drives.ends a.given.now)
+          (λ c k. g.C.Routine.after c a.given.now k) g.C.Routine.kept a.call a.room.now;
+    }

@@ -1,0 +1,10 @@
+use Rattle.threaded.specs.Driver.{Told}
+use Rattle.threaded.proofs.driver.seated.Seated.step.Given as goal
+
+abbrev pub ghosts-once : goal.ghosts-once
+ghosts-once g a =
+    record {
+      told =
+          Told g.Q.Rule.capacity_seen (g.D.Drives.at a.given.now) (g.D.Drives.ends a.given.now)
+          (λ c k. g.C.Routine.after c a.given.now k) g.C.Routine.kept a.call a.room.now;
+    }

@@ -1,0 +1,5 @@
+use Rattle.threaded.proofs.Fractions as fractions
+use Rattle.threaded.proofs.laws.any_order.Goals as goal
+
+pub returns : goal.returns
+returns c whole ks s ts any parts all = fractions.any_order whole ks s ts any parts all

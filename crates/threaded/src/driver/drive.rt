@@ -1,0 +1,262 @@
+//! One operation on a word, one step of a call, and whole calls.
+ghost use Rattle.std.specs.Prelude.{◌≡◌, ℕ};
+ghost use Rattle.threaded.specs.Driver.{Owes, OwesAsk, Next, Told, KeepsRule, moves};
+ghost use Rattle.threaded.specs.Seats.{seen, table_of, key_of, IsSame, IsAt};
+
+use super::rule::{Drives, Rule, Tells};
+use super::seated::Seated;
+use atomic_table::Play;
+use std::marker::{Brand, PhantomData};
+use std::sync::Wait;
+use steps::ask::{After, Ask, Op, Want};
+use steps::routine::{Ends, Routine};
+
+impl<V> Tells<V> for Brand {
+    ghost told = { λ _ _ _. Unit {0} };
+}
+
+/// A step that tells what its caller picks.
+pub struct Says<M> {
+    of: PhantomData<M>,
+}
+
+impl<V, M: Tells<V>> Play<(), V> for Says<M> {
+    ghost then = { λ step. moves M.told };
+}
+
+impl<V, K, Q: Rule<V, K>> Seated<V, K, Q> {
+    /// One operation on one word: its old value, and the new one at a store.
+    #[inline(always)]
+    fn perform<M: Tells<V>>(&mut self, ask: Ask) -> u64
+        requires owes { OwesAsk (Q.holds (key_of self.old)) (table_of self.old).words
+            (table_of self.old).slots self.old.seat.id M.told ask.word ask.op self.old.seat.me }
+        requires capacity { (v : V) (n : ℕ) (w : V) → M.told v n w
+            → Q.capacity_seen w ≡ Q.capacity_seen v }
+        ensures same { IsSame self.old self.new }
+        ensures told { M.told (seen self.old) result (seen self.new) }
+    {
+        let word = ask.word;
+        let table = &self.table;
+        match ask.op {
+            Op::Load => table.shared.load::<Says<M>>(&mut self.seat, word),
+            Op::Store(new) => {
+                table.shared.store::<Says<M>>(&mut self.seat, word, new);
+                new
+            }
+            Op::Swap(new) => table.shared.swap::<Says<M>>(&mut self.seat, word, new),
+            Op::Add(by) => table.shared.fetch_add::<Says<M>>(&mut self.seat, word, by),
+            Op::Sub(by) => table.shared.fetch_sub::<Says<M>>(&mut self.seat, word, by),
+            Op::And(bits) => table
+                .shared
+                .fetch_and::<Says<M>>(&mut self.seat, word, bits),
+            Op::Or(bits) => table.shared.fetch_or::<Says<M>>(&mut self.seat, word, bits),
+            Op::Exchange(from, to) => {
+                table
+                    .shared
+                    .compare_exchange::<Says<M>>(&mut self.seat, word, from, to)
+            }
+        }
+    }
+
+    /// What a call hears where it stands: the word's old value; at a question, which only its caller can answer, 0.
+    #[inline(always)]
+    fn answer<M: Tells<V>, C: Routine>(&mut self, call: C, given: &C::Given) -> u64
+        requires owes { Owes (Q.holds (key_of self.old)) (table_of self.old).words
+            (table_of self.old).slots self.old.seat.id M.told (C.want_of call given.now) self.old.seat.me }
+        requires capacity { (v : V) (n : ℕ) (w : V) → M.told v n w
+            → Q.capacity_seen w ≡ Q.capacity_seen v }
+        ensures same { IsSame self.old self.new }
+        ensures told { M.told (seen self.old) result (seen self.new) }
+    {
+        match call.ask(given) {
+            Want::Ask(ask) => self.perform::<M>(ask),
+            Want::Question(_) => 0,
+            Want::Nothing => 0,
+        }
+    }
+
+    /// One step of a call, whose caller picks what it tells.
+    #[inline(always)]
+    pub fn step_telling<M: Tells<V>, C: Routine>(
+        &mut self,
+        call: C,
+        given: &C::Given,
+        room: &mut C::Room,
+    ) -> After<C, C::End>
+        requires owes { Owes (Q.holds (key_of self.old)) (table_of self.old).words
+            (table_of self.old).slots self.old.seat.id M.told (C.want_of call given.now) self.old.seat.me }
+        requires capacity { (v : V) (n : ℕ) (w : V) → M.told v n w
+            → Q.capacity_seen w ≡ Q.capacity_seen v }
+        ensures same { IsSame self.old self.new }
+        ensures told { (n : ℕ) × (result ≡ C.after call given.now n)
+            × (room.new ≡ C.kept call room.old n) × M.told (seen self.old) n (seen self.new) }
+    {
+        let old = self.answer::<M, C>(call, given);
+        call.take(given, room, old)
+    }
+
+    /// One step of a call. Whoever has a closure answers the questions himself, between two steps; here the answer is 0.
+    #[inline(always)]
+    fn once<M: Tells<V>, C: Routine, D: Drives<V, C>>(
+        &mut self,
+        call: C,
+        given: &C::Given,
+        room: &mut C::Room,
+    ) -> After<C, C::End>
+        requires gives { (v : V) (n : ℕ) (w : V) → M.told v n w
+            → Told Q.capacity_seen (D.at given.now) (D.ends given.now)
+            (λ c k. C.after c given.now k) C.kept call room.old v n w }
+        requires takes { (v : V) (n : ℕ) (w : V)
+            → Told Q.capacity_seen (D.at given.now) (D.ends given.now)
+            (λ c k. C.after c given.now k) C.kept call room.old v n w
+            → M.told v n w }
+        requires table { IsAt Q.size Q.capacity Q.capacity_seen self.old }
+        requires rule { KeepsRule Q.capacity_seen (D.at given.now) (D.ends given.now) Q.size
+            Q.capacity Q.holds (λ c. C.want_of c given.now) (λ c k. C.after c given.now k) C.kept }
+        requires at { (base : V) × D.at given.now base (seen self.old) call room.old }
+        ensures same { IsSame self.old self.new }
+        ensures capacity { Q.capacity_seen (seen self.new) ≡ Q.capacity_seen (seen self.old) }
+        ensures taken { (n : ℕ) × (result ≡ C.after call given.now n)
+            × (room.new ≡ C.kept call room.old n) }
+        ensures told { (base : V) → D.at given.now base (seen self.old) call room.old
+            → Next Q.capacity_seen (D.at given.now) (D.ends given.now) base
+            result room.new (seen self.new) }
+    {
+        let old = self.answer::<M, C>(call, given);
+        call.take(given, room, old)
+    }
+
+    /// One step of a call, for a caller who acts between two of them.
+    #[inline(always)]
+    pub fn step<C: Routine, D: Drives<V, C>>(
+        &mut self,
+        call: C,
+        given: &C::Given,
+        room: &mut C::Room,
+    ) -> After<C, C::End>
+        requires table { IsAt Q.size Q.capacity Q.capacity_seen self.old }
+        requires rule { KeepsRule Q.capacity_seen (D.at given.now) (D.ends given.now) Q.size
+            Q.capacity Q.holds (λ c. C.want_of c given.now) (λ c k. C.after c given.now k) C.kept }
+        requires at { (base : V) × D.at given.now base (seen self.old) call room.old }
+        ensures same { IsSame self.old self.new }
+        ensures capacity { Q.capacity_seen (seen self.new) ≡ Q.capacity_seen (seen self.old) }
+        ensures taken { (n : ℕ) × (result ≡ C.after call given.now n)
+            × (room.new ≡ C.kept call room.old n) }
+        ensures told { (base : V) → D.at given.now base (seen self.old) call room.old
+            → Next Q.capacity_seen (D.at given.now) (D.ends given.now) base
+            result room.new (seen self.new) }
+    {
+        self.once::<Brand, C, D>(call, given, room)
+    }
+
+    /// Drives a call that ends by itself to its end.
+    #[inline(always)]
+    pub fn drive<C: Ends, D: Drives<V, C>>(
+        &mut self,
+        call: C,
+        given: &C::Given,
+        room: &mut C::Room,
+    ) -> C::End
+        requires table { IsAt Q.size Q.capacity Q.capacity_seen self.old }
+        requires rule { KeepsRule Q.capacity_seen (D.at given.now) (D.ends given.now) Q.size
+            Q.capacity Q.holds (λ c. C.want_of c given.now) (λ c k. C.after c given.now k) C.kept }
+        requires at { D.at given.now (seen self.old) (seen self.old) call room.old }
+        ensures same { IsSame self.old self.new }
+        ensures capacity { Q.capacity_seen (seen self.new) ≡ Q.capacity_seen (seen self.old) }
+        ensures end { D.ends given.now (seen self.old) result room.new (seen self.new) }
+    {
+        // The first steps stand by themselves, so that a compiler sees at each of them at which stage the call is.
+        let call = match self.once::<Brand, C, D>(call, given, room) {
+            After::GoOn(next) => next,
+            After::Done(end) => return end,
+        };
+        let call = match self.once::<Brand, C, D>(call, given, room) {
+            After::GoOn(next) => next,
+            After::Done(end) => return end,
+        };
+        let call = match self.once::<Brand, C, D>(call, given, room) {
+            After::GoOn(next) => next,
+            After::Done(end) => return end,
+        };
+        let call = match self.once::<Brand, C, D>(call, given, room) {
+            After::GoOn(next) => next,
+            After::Done(end) => return end,
+        };
+        let mut call = call;
+        loop {
+            match self.once::<Brand, C, D>(call, given, room) {
+                After::GoOn(next) => call = next,
+                After::Done(end) => return end,
+            }
+        }
+    }
+
+    /// Drives a call that may go back for as long as others step.
+    #[inline(always)]
+    pub fn drive_on<C: Routine, D: Drives<V, C>>(
+        &mut self,
+        rt: &impl Wait,
+        call: C,
+        given: &C::Given,
+        room: &mut C::Room,
+    ) -> C::End
+        requires table { IsAt Q.size Q.capacity Q.capacity_seen self.old }
+        requires rule { KeepsRule Q.capacity_seen (D.at given.now) (D.ends given.now) Q.size
+            Q.capacity Q.holds (λ c. C.want_of c given.now) (λ c k. C.after c given.now k) C.kept }
+        requires at { D.at given.now (seen self.old) (seen self.old) call room.old }
+        ensures same { IsSame self.old self.new }
+        ensures capacity { Q.capacity_seen (seen self.new) ≡ Q.capacity_seen (seen self.old) }
+        ensures end { D.ends given.now (seen self.old) result room.new (seen self.new) }
+    {
+        // The first steps stand by themselves, as in `drive`.
+        let call = match self.once::<Brand, C, D>(call, given, room) {
+            After::GoOn(next) => next,
+            After::Done(end) => return end,
+        };
+        let call = match self.once::<Brand, C, D>(call, given, room) {
+            After::GoOn(next) => next,
+            After::Done(end) => return end,
+        };
+        let call = match self.once::<Brand, C, D>(call, given, room) {
+            After::GoOn(next) => next,
+            After::Done(end) => return end,
+        };
+        let call = match self.once::<Brand, C, D>(call, given, room) {
+            After::GoOn(next) => next,
+            After::Done(end) => return end,
+        };
+        let call = match self.once::<Brand, C, D>(call, given, room) {
+            After::GoOn(next) => next,
+            After::Done(end) => return end,
+        };
+        let call = match self.once::<Brand, C, D>(call, given, room) {
+            After::GoOn(next) => next,
+            After::Done(end) => return end,
+        };
+        let call = match self.once::<Brand, C, D>(call, given, room) {
+            After::GoOn(next) => next,
+            After::Done(end) => return end,
+        };
+        let call = match self.once::<Brand, C, D>(call, given, room) {
+            After::GoOn(next) => next,
+            After::Done(end) => return end,
+        };
+        let mut call = call;
+        'steps: for _ in rt.forever() {
+            match self.once::<Brand, C, D>(call, given, room) {
+                After::GoOn(next) => call = next,
+                After::Done(end) => return end,
+            }
+            'alike: for _ in rt.forever() {
+                if !D::repeats(call) {
+                    break;
+                }
+                match self.once::<Brand, C, D>(call, given, room) {
+                    After::GoOn(next) => call = next,
+                    After::Done(end) => return end,
+                }
+            }
+        }
+        unreachable!()
+    }
+}

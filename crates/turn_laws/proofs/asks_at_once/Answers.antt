@@ -1,5 +1,0 @@
-use Rattle.turn_laws.proofs.Asking as laws
-use Rattle.turn_laws.proofs.asks_at_once.Goals as goal
-
-pub returns : goal.returns
-returns g c t turn is r = laws.asks_at_once t turn is r

@@ -1,5 +1,0 @@
-use Rattle.turn_laws.proofs.Counting as laws
-use Rattle.turn_laws.proofs.counts_changes.Goals as goal
-
-pub returns : goal.returns
-returns g c t is r = laws.counts_changes t is r

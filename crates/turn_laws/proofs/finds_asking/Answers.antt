@@ -1,5 +1,0 @@
-use Rattle.turn_laws.proofs.Finding as laws
-use Rattle.turn_laws.proofs.finds_asking.Goals as goal
-
-pub returns : goal.returns
-returns g c t turn is r free = laws.finds_asking t is r turn free

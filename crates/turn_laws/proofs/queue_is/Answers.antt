@@ -1,5 +1,0 @@
-use Rattle.turn_laws.proofs.Queue as laws
-use Rattle.turn_laws.proofs.queue_is.Goals as goal
-
-pub returns : goal.returns
-returns g c t is r = laws.queue_is t is r

@@ -1,5 +1,0 @@
-use Rattle.turn_laws.proofs.Changing as laws
-use Rattle.turn_laws.proofs.state.adds.Goals as goal
-
-pub returns : goal.returns
-returns g c s owner value may = laws.adds s owner value may

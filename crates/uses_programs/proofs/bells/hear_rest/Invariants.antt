@@ -1,0 +1,11 @@
+use Rattle.std.proofs.Common.{◌≡◌, []}
+use Rattle.lock_free.specs.Bits.Calls.{set_of, share, made, MissesNothing}
+use Rattle.uses_programs.specs.Bells.{HearsMore}
+use Rattle.uses_programs.proofs.bells.hear_rest.Given as goal
+
+abbrev pub invariant-loop : goal.invariant-loop
+invariant-loop g l =
+    (set_of l.pass ≡ set_of l.fn.pass)
+    × (share l.pass ≡ share l.fn.pass)
+    × MissesNothing l.pass
+    × HearsMore [] l.heard.items (made l.fn.pass) (made l.pass)

@@ -1,0 +1,24 @@
+use Rattle.std.proofs.Common.{rules, sym, subst}
+use Rattle.lock_free.specs.Bits.Calls.{history, made}
+use Rattle.uses_programs.specs.Bells.{WereSet, HasRung, BothRung}
+use Rattle.uses_programs.proofs.Rings.{both_rung, rang_still}
+use Rattle.uses_programs.proofs.bells.ring_both.Goals as goal
+
+pub returns-clause-rung : goal.returns-clause-rung
+returns-clause-rung g c =
+    let one = c.in_ok-pass in
+    let two = c.in_ok-further in
+    let h : HasRung one.rung.items (made one.pass) = search rules in
+    let k : HasRung two.also.items (made two.further) = search rules in
+    subst (BothRung one.rung.items two.also.items) (sym c.join.ensures.joined.made)
+    (both_rung one.rung.items two.also.items (made one.pass) (made two.further) h k)
+
+pub returns-clause-all : goal.returns-clause-all
+returns-clause-all g c =
+    let one = c.in_ok-pass in
+    let two = c.in_ok-further in
+    let h : WereSet c.args.first.now (history one.pass) = search rules in
+    let k : WereSet c.args.second.now (history two.further) = search rules in (
+      rang_still c.args.first.now (history one.pass) (history c.join.new.self) c.join.ensures.joined.ours h,
+      rang_still c.args.second.now (history two.further) (history c.join.new.self) c.join.ensures.joined.others k,
+    )

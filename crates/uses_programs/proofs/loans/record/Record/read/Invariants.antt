@@ -1,0 +1,5 @@
+use Rattle.std.proofs.Common.{◌≡◌, ◌≤◌, ◌*◌, ◌^◌}
+use Rattle.uses_programs.proofs.loans.record.Record.read.Given as goal
+
+abbrev pub invariant-loop-at : goal.invariant-loop-at
+invariant-loop-at l = (l.total ≡ l.at * l.self.number) × (l.total ≤ l.at * 2 ^ 32)

@@ -1,0 +1,34 @@
+use Rattle.std.proofs.Common.{rules, arith, ap, subst, sym, ◌≡◌, ◌<◌, ◌∙◌, [], ◌∷◌, ◌++◌, append_assoc, append-nil, refl, Some, None}
+use Rattle.std.proofs.lemmas.Grind.{common_steps}
+use Rattle.std.specs.Option.{option_map}
+use Rattle.lock_free.specs.Queues.Item.TheVariants.{Index}
+use Rattle.lock_free.specs.Queues.Overflowing.{consumer_view, consumer_queue, QueueId}
+use Rattle.lock_free.specs.Queues.Told.{HasPopped}
+use Rattle.uses_programs.proofs.TakenOut.{takes_here, takes_one, drained}
+use Rattle.uses_programs.proofs.relay_overflow.drain.Goals as goal
+
+pub loop-init : goal.loop-init
+loop-init g c = (refl, [], sym (append-nil _), λ some. takes_here _)
+
+pub loop-preserved : goal.loop-preserved
+loop-preserved g c =
+    let items : c.push.new.self.items ≡ c.loop.numbers.items ++ c.in-Some-pop.number ∷ [] = grind (arith, common_steps) in
+    let same = ap (λ (q : QueueId). q.capacity) c.loop.invariant.0 in
+    let is : c.pop.result ≡ Some c.in-Some-pop.number = first_of (search rules, grind (arith, common_steps)) in (
+      search rules,
+      c.loop.invariant.1 ++ c.in-Some-pop.number ∷ [],
+      items ∙ (ap (λ z. z ++ c.in-Some-pop.number ∷ []) c.loop.invariant.2 ∙ append_assoc _ c.loop.invariant.1 (c.in-Some-pop.number ∷ [])),
+      λ some. (let wide : 0 < (consumer_queue c.loop.consumer).capacity = subst (λ n. 0 < n) (sym same) some in
+          takes_one _ _ _ _ _ _ (c.loop.invariant.3 some) (c.pop.ensures.goes wide)
+          (subst (λ o. HasPopped (option_map Index o) (consumer_view c.loop.consumer) (consumer_view c.pop.new.self))
+          is (c.pop.ensures.called wide))),
+    )
+
+pub returns-in-None-pop-clause-drained : goal.returns-in-None-pop-clause-drained
+returns-in-None-pop-clause-drained g c some =
+    let same = ap (λ (q : QueueId). q.capacity) c.loop.invariant.0 in
+    let wide : 0 < (consumer_queue c.loop.consumer).capacity = subst (λ n. 0 < n) (sym same) some in
+    let is : c.pop.result ≡ None = first_of (search rules, grind (arith, common_steps)) in
+    drained _ _ _ c.loop.invariant.1 _ _ _ c.loop.invariant.2 (c.loop.invariant.3 some) (c.pop.ensures.goes wide)
+    (subst (λ o. HasPopped (option_map Index o) (consumer_view c.loop.consumer) (consumer_view c.pop.new.self)) is
+    (c.pop.ensures.called wide))

@@ -1,0 +1,11 @@
+use Rattle.std.proofs.Common.{◌≡◌, ◌<◌, ℕ, List, ◌++◌}
+use Rattle.lock_free.specs.Queues.Overflowing.{consumer_view, consumer_queue}
+use Rattle.uses_programs.specs.Overflow.{HasTaken}
+use Rattle.uses_programs.proofs.relay_overflow.drain.Given as goal
+
+abbrev pub invariant-loop : goal.invariant-loop
+invariant-loop g l =
+    (consumer_queue l.consumer ≡ consumer_queue l.fn.consumer)
+    × (more : List ℕ)
+    × (l.numbers.items ≡ l.fn.numbers.items ++ more)
+    × (0 < (consumer_queue l.fn.consumer).capacity → HasTaken more (consumer_view l.fn.consumer) (consumer_view l.consumer))

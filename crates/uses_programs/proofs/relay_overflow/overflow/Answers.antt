@@ -1,0 +1,31 @@
+use Rattle.std.proofs.Common.{rules, arith, ◌≡◌, ◌<◌, ◌-◌, ◌^◌, ◌∙◌, ap, subst, sym, length}
+use Rattle.std.proofs.lemmas.Grind.{common_steps}
+use Rattle.lock_free.specs.Queues.Views.{first_view}
+use Rattle.lock_free.specs.Queues.Overflowing.{view, queue_of, consumer_view, consumer_queue}
+use Rattle.lock_free.specs.Queues.Role.TheVariants as roles
+use Rattle.lock_free.specs.Queues.Told.{HasSplit}
+use Rattle.uses_programs.specs.Overflow.{HasPushedUpTo, HasTaken, HasDrained}
+use Rattle.uses_programs.proofs.Merging.{overflowed}
+use Rattle.uses_programs.proofs.relay_overflow.overflow.Goals as goal
+
+pub returns : goal.returns
+returns g c =
+    let all = c.args.numbers.now in
+    let back = c.in_ok-pass.handed_back.items in
+    let came = c.in_ok-further.popped.items in
+    let first : view c.in_ok-queue.mine ≡ first_view 4 = first_of (search rules, grind (arith, common_steps)) in
+    let room : (queue_of c.in_ok-queue.mine).capacity ≡ 4 = first_of (search rules, grind (arith, common_steps)) in
+    let wide : 0 < (queue_of c.in_ok-queue.mine).capacity = subst (λ n. 0 < n) (sym room) (omega arith) in
+    let cut : HasSplit (view c.in_ok-queue.mine) (view c.split.new.self) (view c.in_ok-other.other) = search rules in
+    let push : 0 < (queue_of c.split.new.self).capacity → HasPushedUpTo all back (view c.split.new.self) (view c.in_ok-pass.pass) = search rules in
+    let pop : 0 < (queue_of c.in_ok-other.other).capacity → HasTaken came (view c.in_ok-other.other) (view c.in_ok-further.further) = search rules in
+    let pushed : HasPushedUpTo all back (view c.split.new.self) (view c.in_ok-pass.pass) = push (first_of (search rules, grind (arith, common_steps))) in
+    let popped : HasTaken came (view c.in_ok-other.other) (view c.in_ok-further.further) = pop (first_of (search rules, grind (arith, common_steps))) in
+    let drains : 0 < (consumer_queue c.in-Ok.consumer).capacity
+    → HasDrained came c.drain.new.numbers.items (consumer_view c.in-Ok.consumer) (consumer_view c.drain.new.consumer) =
+    search rules in
+    let drain : HasDrained came c.drain.new.numbers.items (consumer_view c.in-Ok.consumer) (consumer_view c.drain.new.consumer) =
+    drains (first_of (search rules, grind (arith, common_steps))) in
+    let fits : length all < 2 ^ 64 - 1 = first_of (search rules, grind (arith, common_steps)) in
+    overflowed _ 4 roles.Consumer all back came c.drain.new.numbers.items _ _ _ _ _ _ _ _ fits first cut pushed
+    popped c.join.ensures.joined c.join.ensures.all c.in-Ok.ensures.acquired.1 c.in-Ok.ensures.acquired.2 drain

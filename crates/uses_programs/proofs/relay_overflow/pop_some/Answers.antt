@@ -1,0 +1,51 @@
+use Rattle.std.proofs.Common.{rules, arith, ap, subst, sym, ◌≡◌, ◌<◌, [], ◌∷◌, ◌++◌, Ok, Some, None}
+use Rattle.std.proofs.lemmas.Grind.{common_steps}
+use Rattle.std.proofs.lemmas.Result.{IfOk-at_ok}
+use Rattle.std.specs.Option.{option_map}
+use Rattle.lock_free.specs.Queues.Item.TheVariants.{Index}
+use Rattle.lock_free.specs.Queues.Overflowing.{view, consumer_view, consumer_queue, QueueId}
+use Rattle.lock_free.specs.Queues.Role.TheVariants as roles
+use Rattle.lock_free.specs.Queues.Told.{HasPopped}
+use Rattle.uses_programs.specs.Overflow.{HasTaken}
+use Rattle.uses_programs.proofs.TakenOut.{takes_none, takes_one, takes_nothing, takes_all}
+use Rattle.uses_programs.proofs.relay_overflow.pop_some.Goals as goal
+
+pub loop-init : goal.loop-init
+loop-init g c =
+    let is : c.acquire_consumer.result ≡ Ok c.in-Ok.consumer = first_of (search rules, grind (arith, common_steps)) in
+    let told = IfOk-at_ok _ is c.acquire_consumer.ensures.acquired in (
+      told.0,
+      λ some. subst (λ z. HasTaken z (view c.args.pass) (consumer_view c.in-Ok.consumer))
+          (sym c.new-numbers.ensures.items) (takes_none _ roles.Consumer _ _ told.1 told.2),
+    )
+
+pub loop-preserved : goal.loop-preserved
+loop-preserved g c =
+    let items : c.push.new.self.items ≡ c.loop.numbers.items ++ c.in-Some.number ∷ [] = grind (arith, common_steps) in
+    let same = ap (λ (q : QueueId). q.capacity) c.loop.invariant.0 in
+    let is : c.pop.result ≡ Some c.in-Some.number = first_of (search rules, grind (arith, common_steps)) in (
+      search rules,
+      λ some. (let wide : 0 < (consumer_queue c.loop.consumer).capacity = subst (λ n. 0 < n) (sym same) some in
+          subst (λ z. HasTaken z (view c.args.pass) (consumer_view c.pop.new.self)) (sym items)
+          (takes_one _ c.loop.numbers.items c.in-Some.number (view c.args.pass) (consumer_view c.loop.consumer)
+          (consumer_view c.pop.new.self) (c.loop.invariant.1 some) (c.pop.ensures.goes wide)
+          (subst (λ o. HasPopped (option_map Index o) (consumer_view c.loop.consumer) (consumer_view c.pop.new.self))
+          is (c.pop.ensures.called wide)))),
+    )
+
+pub loop-preserved-in-None : goal.loop-preserved-in-None
+loop-preserved-in-None g c =
+    let same = ap (λ (q : QueueId). q.capacity) c.loop.invariant.0 in
+    let is : c.pop.result ≡ None = first_of (search rules, grind (arith, common_steps)) in (
+      search rules,
+      λ some. (let wide : 0 < (consumer_queue c.loop.consumer).capacity = subst (λ n. 0 < n) (sym same) some in
+          takes_nothing _ c.loop.numbers.items (view c.args.pass) (consumer_view c.loop.consumer)
+          (consumer_view c.pop.new.self) (c.loop.invariant.1 some) (c.pop.ensures.goes wide)
+          (subst (λ o. HasPopped (option_map Index o) (consumer_view c.loop.consumer) (consumer_view c.pop.new.self))
+          is (c.pop.ensures.called wide))),
+    )
+
+pub returns-clause-popped : goal.returns-clause-popped
+returns-clause-popped g c some =
+    takes_all _ c.loop.numbers.items roles.Consumer (view c.args.pass) (consumer_view c.loop.consumer) _
+    (c.loop.invariant.1 some) c.release-pass.ensures.goes c.release-pass.ensures.released

@@ -1,0 +1,10 @@
+use Rattle.std.proofs.Common.{◌≡◌, ◌<◌, length, take}
+use Rattle.lock_free.specs.Queues.Overflowing.{view, queue_of, producer_view, producer_queue}
+use Rattle.uses_programs.specs.Overflow.{HasPushedUpTo}
+use Rattle.uses_programs.proofs.relay_overflow.push_all.Given as goal
+
+abbrev pub invariant-loop-next : goal.invariant-loop-next
+invariant-loop-next l =
+    (producer_queue l.producer ≡ queue_of l.fn.pass)
+    × (l.next-end ≡ length l.numbers)
+    × (0 < (queue_of l.fn.pass).capacity → HasPushedUpTo (take l.next l.numbers) l.handed_back.items (view l.fn.pass) (producer_view l.producer))

@@ -1,0 +1,18 @@
+use Rattle.std.proofs.Common.{rules, arith, ◌≡◌, [], ◌∷◌, ◌++◌, sym, subst}
+use Rattle.std.proofs.lemmas.Grind.{common_steps}
+use Rattle.lock_free.specs.Value.Calls.{view}
+use Rattle.uses_programs.specs.Readings.{HasRead}
+use Rattle.uses_programs.proofs.Readings.{read_more}
+use Rattle.uses_programs.proofs.relay_readings.load_some.Goals as goal
+
+pub loop-done-preserved : goal.loop-done-preserved
+loop-done-preserved g c =
+    let pushed : c.push.new.self.items ≡ c.loop-done.readings.items ++ c.load-reading.result ∷ [] = first_of (search rules, grind (arith, common_steps)) in (
+      search rules,
+      first_of (search rules, grind (arith, common_steps)),
+      first_of (search rules, grind (arith, common_steps)),
+      subst (λ xs. HasRead xs (view c.args.pass) (view c.load-reading.new.pass)) (sym pushed)
+          (read_more c.loop-done.readings.items c.load-reading.result (view c.args.pass) (view c.loop-done.pass)
+          (view c.load-reading.new.pass) c.loop-done.invariant.3 c.load-reading.ensures.goes
+          c.load-reading.ensures.loaded),
+    )

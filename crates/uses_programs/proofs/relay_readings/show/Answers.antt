@@ -1,0 +1,26 @@
+use Rattle.std.proofs.Common.{rules, arith, ◌≡◌}
+use Rattle.std.proofs.lemmas.Grind.{common_steps}
+use Rattle.lock_free.specs.Value.Calls.{view}
+use Rattle.lock_free.specs.Value.Opened.{opened_view}
+use Rattle.lock_free.specs.Value.Told.{HasSplit}
+use Rattle.uses_programs.specs.Readings.{HasWritten, HasRead}
+use Rattle.uses_programs.proofs.Readings.{all_seen, last_is}
+use Rattle.uses_programs.proofs.relay_readings.show.Goals as goal
+
+pub returns-clause-seen : goal.returns-clause-seen
+returns-clause-seen g c =
+    let first : view c.in-Ok.mine ≡ opened_view c.args.first 1 = first_of (search rules, grind (arith, common_steps)) in
+    let cut : HasSplit (view c.in-Ok.mine) (view c.split.new.self) (view c.in_ok-other.other) = search rules in
+    let wrote : HasWritten c.args.readings.now (view c.split.new.self) (view c.in_ok-pass.pass) = search rules in
+    let read : HasRead c.in_ok-further.seen.items (view c.in_ok-other.other) (view c.in_ok-further.further) = search rules in
+    all_seen c.args.first c.args.readings.now c.in_ok-further.seen.items _ _ _ _ _ _ first cut wrote read c.join.ensures.joined c.join.ensures.all
+
+pub returns-clause-last : goal.returns-clause-last
+returns-clause-last g c =
+    let first : view c.in-Ok.mine ≡ opened_view c.args.first 1 = first_of (search rules, grind (arith, common_steps)) in
+    let cut : HasSplit (view c.in-Ok.mine) (view c.split.new.self) (view c.in_ok-other.other) = search rules in
+    let wrote : HasWritten c.args.readings.now (view c.split.new.self) (view c.in_ok-pass.pass) = search rules in
+    let read : HasRead c.in_ok-further.seen.items (view c.in_ok-other.other) (view c.in_ok-further.further) = search rules in
+    last_is c.args.first c.args.readings.now c.in_ok-further.seen.items _ _ _ _ _ _ first cut wrote read
+    c.join.ensures.joined c.join.ensures.all c.load-last.result _ c.load-last.ensures.goes
+    c.load-last.ensures.loaded

@@ -1,0 +1,14 @@
+use Rattle.std.proofs.Common.{◌≡◌, ℕ, ◌<◌, ◌≤◌, ◌-◌, ◌%◌, ◌^◌, length, slice_index}
+use Rattle.lock_free.specs.Counts.Calls.{set_of, capacity_of, share, made}
+use Rattle.lock_free.specs.Sums.{counts, takes}
+use Rattle.uses_programs.proofs.tallies.read_counts.Given as goal
+
+abbrev pub invariant-loop-bell : goal.invariant-loop-bell
+invariant-loop-bell l =
+    (l.bell-end ≡ capacity_of l.set)
+    × (set_of l.pass ≡ set_of l.fn.pass)
+    × (share l.pass ≡ share l.fn.pass)
+    × (length l.read.items ≡ l.bell)
+    × ((b : ℕ) → takes b (made l.pass) ≡ takes b (made l.fn.pass))
+    × ((b : ℕ) → l.bell ≤ b → counts b (made l.pass) ≡ counts b (made l.fn.pass))
+    × ((b : ℕ) → b < l.bell → slice_index l.read.items b ≡ (counts b (made l.fn.pass) - takes b (made l.fn.pass)) % 2 ^ 64)
