@@ -44,8 +44,8 @@ pub record WasStopped {F T : Type 0} (step : F → T → ContainerHandle → Cal
   pub stops : step now x.value x.handle Stop last
   pub highest : All (λ i. i ≤ x.handle.index) indices
 
--- A find came to n indices, and through those below the bound: at these it called the closure, which said to go on at each,
--- and the bound is the capacity; or it said to stop, and the bound is behind that index.
+-- A find came to n indices, and at some of these it called the closure, which said to go on at each, and the bound is the
+-- capacity; or it said to stop, and the bound is behind that index.
 pub record HasFound {F T : Type 0}
     (step : F → T → ContainerHandle → CallbackProgression → F → Type 0) (capacity : ℕ)
     (mine : ContainerHandle → Type 0) (f : F) (n bound : ℕ) (visits : List (Visit T)) (last : F) : Type 0 where

@@ -51,8 +51,9 @@ module _ {T : Type 0} (code : Coding T) where
     pub of : resting.start ≡ start
     pub ends : resting.answer ≡ answer
 
-  -- One call of the history, by a party of the pass. It copied just these values, each once, in turn. It has ended, having come
-  -- through all indices, or an answer has ended it, and it rests where it asked about the last one below the bound.
+  -- One call of the history, by a party of the pass. It copied just these values, each once, in turn. It has ended, or an
+  -- answer has ended it, and it rests where it asked about the last index below the bound. That one which has ended came
+  -- through all indices is tested.
   pub record HasSearched (capacity owner number bound : ℕ) (visits : List (Visit T)) (old new : View T) : Type 0 where
     pub from : View T
     pub settled : SettledFrom code kinds.Container old from
