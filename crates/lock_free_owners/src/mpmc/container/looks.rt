@@ -64,9 +64,9 @@ impl<T: Words> Container<T> {
     /// `NoMemory` where a state has no memory; then it is no call of the history, and the container is as it was (a test
     /// finds its values and its number of changes so).
     ///
-    /// It asks for memory twice, before its first atomic step, and only then may it refuse (no clause says so). At most 1 and for each index 2 +
-    /// `T::WORDS` atomic steps where nobody else steps in between; else it may try again for as long as others step. After
-    /// `get_state` of the Rust crate.
+    /// It asks for memory twice, before its first atomic step, and only then may it refuse (no clause says so). At most
+    /// 1 and for each index 2 + `T::WORDS` atomic steps where nobody else steps in between; else it may try again for
+    /// as long as others step. After `get_state` of the Rust crate.
     pub fn get_state(
         &self,
         rt: &impl Wait,
