@@ -73,7 +73,7 @@ use Rattle.laws_robust.proofs.Sound.{raise_asks_none, lock_asks_none}
 use Rattle.laws_turns.proofs.Waiting.{add_asks_none, remove_asks_none, replace_asks_none}
 use Rattle.laws_turns.proofs.CountSteps.{IsCalm, acquire_calm, calm_apart, calm_load, count_calm, empty_none}
 use Rattle.laws_turns.proofs.CountSteps.{find_none, get_none, len_none, lock_calm, raise_calm, release_calm}
-use Rattle.laws_turns.proofs.CountSteps.{update_none}
+use Rattle.laws_turns.proofs.CountSteps.{update_none, ends_count}
 
 -- ---- steps
 module _ {T : Type 0} (code : Coding T) (c : ℕ) (ws : List ℕ) (state : Option (ContainerState T)) (p : ℕ) where
