@@ -1,5 +1,5 @@
 -- A step of a call as a turn of the machine: what the view says then.
-use Rattle.std.proofs.Common.{false, ◌≡◌, inl, inr, ℕ, ◌<◌, Option, Some, IfSome, List, [], ◌∷◌, ◌++◌, refl, sym, ap}
+use Rattle.std.proofs.Common.{false, ◌≡◌, inl, inr, ℕ, ◌<◌, Option, Some, None, IfSome, List, [], ◌∷◌, ◌++◌, refl, sym, ap}
 use Rattle.std.proofs.Common.{subst, ◌∙◌, append_assoc, sum_by, fold}
 use Rattle.std.proofs.lemmas.List.Sums.{sum_by-append}
 use mathlib.Core.Option.{some}
@@ -24,7 +24,7 @@ use Rattle.model.specs.World.{World, Trace}
 use Rattle.threaded.specs.Shares.{IsAll}
 use Rattle.history.specs.declared.view.View.{View}
 use Rattle.history.specs.Known.{events_by}
-use Rattle.history.specs.History.{IsRun, IsLate, IsOfParties, call_in}
+use Rattle.history.specs.History.{IsRun, IsLate, IsOfParties, LastStep, call_in, refusal_as}
 use Rattle.history.specs.Stages.{Calling, LeavesState, Since, opened, IsUnderWay, At, Ends}
 use Rattle.laws_queues.proofs.Queues.Knows.{IsFreshCall}
 use Rattle.history.proofs.Known.{by_more}
@@ -176,14 +176,34 @@ module _ {T C M E : Type 0} (code : Coding T) (kind : Kind) (effects : World T �
         let same : under.party ≡ y.p = cc in
         under.state leaves (was ∙ ap Some (sym same))
 
+    -- nothing refuses the step
+    free_then : refusal_as kind y.u.world (Next y.p) ≡ None
+    free_then =
+        next_as kind y.u.world y.p
+        (goes_free code kind key (size_of key) effects (laws key) y.owner s id y.p y.gained y.u y.between call.start
+        flight_now ask low y.there asks_it finds)
+
     state_then : (base : View T) → Stage base v c m → LeavesState call → base.party ≡ Some y.p → view_then.state ≡ base.state
     state_then base stage leaves was =
         (laws key).states y.u (Next y.p) y.between.run next_between.run
-        (next_as kind y.u.world y.p
-        (goes_free code kind key (size_of key) effects (laws key) y.owner s id y.p y.gained y.u y.between call.start
-        flight_now ask low y.there asks_it finds))
-        y.p (next_no_look y.u.world y.p call.start flight_now y.there (leaves.flight c m))
+        free_then y.p (next_no_look y.u.world y.p call.start flight_now y.there (leaves.flight c m))
         ∙ (y.state leaves (party_now base stage was) ∙ state_now base stage leaves was)
+
+    -- where it ends the call, it is the last turn of what is seen then
+    last_then : (base : View T) → Stage base v c m → (end : Event T) → ending_of y.p call.start (answer_in (comes_now)) ≡ end ∷ []
+        → LastStep code kind base.capacity y.p end view_then.seen
+    last_then base stage end ends =
+        record {
+          old = y.u;
+          run = (met base stage).run;
+          free = free_then;
+          wrote = effs;
+          writes =
+              turn_told code kind key (size_of key) effects (laws key) y.owner s id y.p y.gained y.u y.between call.start
+              flight_now ask low y.there asks_it finds
+              ∙ ap (λ zs. effs ++ zs) ends;
+          is = refl;
+        }
 
     -- the call goes on
     pub goes_then : (base : View T) (stage : Stage base v c m) (d : C) (m' : M)
@@ -213,6 +233,7 @@ module _ {T C M E : Type 0} (code : Coding T) (kind : Kind) (effects : World T �
               since_then base (before.wrote ++ before.late) [] before.prior
               (ap (λ (a : After (Flight T) (Answer T)). ending_of y.p call.start (answer_in a)) afters);
           history = record { trace = then_trace; run = run_then base stage; is = refl };
+          stood = record { trace = then_trace; run = run_then base stage; is = refl; there = going_then ∙ ap (call_then call.start) afters };
           all = all_then base stage;
           parties = parties_then;
         }
@@ -241,6 +262,8 @@ module _ {T C M E : Type 0} (code : Coding T) (kind : Kind) (effects : World T �
               since_then base (before.wrote ++ before.late) (Finished y.p call.start (call.answer end m') ∷ [])
               before.prior (ap (λ (a : After (Flight T) (Answer T)). ending_of y.p call.start (answer_in a)) afters);
           history = record { trace = then_trace; run = run_then base stage; is = refl };
+          last = last_then base stage (Finished y.p call.start (call.answer end m'))
+              (ap (λ (a : After (Flight T) (Answer T)). ending_of y.p call.start (answer_in a)) afters);
           all = all_then base stage;
           parties = parties_then;
         }

@@ -8,7 +8,7 @@ use Rattle.model.specs.declared.turn.Kind.{Kind}
 use Rattle.model.specs.Coding.{Coding}
 use Rattle.threaded.specs.Shares.{IsAll}
 use Rattle.history.specs.declared.view.View.{View}
-use Rattle.history.specs.History.{IsHistory, Called}
+use Rattle.history.specs.History.{IsHistory, HasStood, Called}
 use Rattle.history.specs.Stages.{Calling, opened, At, Ends}
 
 module _ {T C M E : Type 0} (code : Coding T) (kind : Kind) (call : Calling T C M E) where
@@ -61,6 +61,7 @@ module _ {T C M E : Type 0} (code : Coding T) (kind : Kind) (call : Calling T C 
         wrote = [];
         tells = subst (λ (o : Option (Start T × Flight T)). call.wrote v.capacity under.party o c m []) (sym under.going) (none v.capacity under.party);
         history = subst (λ n. IsHistory code kind n v.seen) (sym under.capacity) under.history;
+        stood = subst (λ n. HasStood code kind n under.party call.start (call.flight c m) v.seen) (sym under.capacity) under.stood;
         all = λ all. under.all (subst IsAll under.share all);
         parties = under.parties;
         since = record {

@@ -27,11 +27,12 @@ use Rattle.model.specs.declared.event.Start.{Start}
 use Rattle.model.specs.declared.event.Start.TheVariants.{Container}
 use Rattle.model.specs.declared.families.Flight.{Flight}
 use Rattle.model.specs.declared.families.Flight.TheVariants as flights
+use Rattle.model.specs.declared.families.Registry.{Registry}
 use Rattle.model.specs.declared.families.container.ContainerStart.TheVariants.{Find}
 use Rattle.model.specs.declared.families.container.calls.ContainerFlight.TheVariants as calls
 use Rattle.model.specs.declared.turn.Kind.TheVariants as kinds
 use Rattle.model.specs.Coding.{Coding, IsCoding}
-use Rattle.model.specs.Families.{opening_of, is_question}
+use Rattle.model.specs.Families.{opening_of, goes_of, is_question}
 use Rattle.model.specs.Families.Container.Calls.{find_of}
 use Rattle.model.specs.Families.Indices.Robust.Opening.{is_owner}
 use Rattle.model.specs.Families.Container.Steps.{find_effects}
@@ -370,7 +371,7 @@ module _ {T R : Type 0} (code : Coding T) (law : IsCoding code) (words_in : R �
 
   -- ---- what it has copied is told by what its pass has seen
 
-  copies_span : (p : ℕ) (start : Start T) (ws : List (Event T)) (xs : List (ℕ × T))
+  pub copies_span : (p : ℕ) (start : Start T) (ws : List (Event T)) (xs : List (ℕ × T))
       → fold own_after (Open start ws) (copies_of p xs) ≡ Open start (ws ++ copies_of p xs)
   copies_span p start ws [] = ap (Open start) (sym (append-nil ws))
   copies_span p start ws (x ∷ xs) =
@@ -452,7 +453,24 @@ module _ {T R : Type 0} (code : Coding T) (law : IsCoding code) (words_in : R �
           let same : found ≡ e = cc in
           ap (λ n. Done (answers.Number n)) same
 
+  asks_room : (capacity : ℕ) (stage : FindStage) (m : Room) → is_question (find_asks code.size capacity stage) ≡ true
+      → find_keeps kept_at stage (room m.0) (number_of false) ≡ room m.0
+  asks_room capacity (finds.LoadsCell index found) m due = absurd (cc)
+  asks_room capacity (finds.LoadsCount index found) m due = absurd (cc)
+  asks_room capacity (finds.LoadsWord index found count at) m due = absurd (cc)
+  asks_room capacity (finds.ChecksCount index found count) m due = absurd (cc)
+  asks_room capacity (finds.Asks index found) m due = refl
+
   -- a no would end it, with the number that it has answered
+  pub no_ends : (base v : View T) (e : ℕ) (m : Room) (h : RestsAt code kinds.Container after kept finding base v e m) (there : Registry T)
+      → goes_of code h.before.party (finding.flight h.asking m) (number_of false) there ≡ Done (answers.Number e)
+  no_ends base v e m h there =
+      goes_plain code h.before.party (finding.flight h.asking m) (number_of false) there tt
+      ∙ (ap
+      (λ x. as_model x (find_takes code.size (call_at h.asking.capacity h.asking.stage) h.asking.stage owner (number_of false)))
+      (asks_room h.asking.capacity h.asking.stage m h.asks)
+      ∙ asked_at h.asking h.said e h.asking.stage h.asks h.goes m)
+
   pub find_rests : (base v : View T) (e : ℕ) (m : Room) → RestsAt code kinds.Container after kept finding base v e m → IsResting code v
   find_rests base v e m h =
       let under = h.before in
@@ -464,23 +482,10 @@ module _ {T R : Type 0} (code : Coding T) (law : IsCoding code) (words_in : R �
         going = under.going;
         asks = h.asks;
         answer = answers.Number e;
-        ends = λ there.
-            goes_plain code under.party (finding.flight h.asking m) (number_of false) there tt
-            ∙ (ap
-            (λ x. as_model x (find_takes code.size (call_at h.asking.capacity h.asking.stage) h.asking.stage owner (number_of false)))
-            (asks_room h.asking.stage h.asks)
-            ∙ asked_at h.asking h.said e h.asking.stage h.asks h.goes m);
+        ends = no_ends base v e m h;
         alone = under.alone;
         some = under.some;
       }
-    where
-      asks_room : (stage : FindStage) → is_question (find_asks code.size h.asking.capacity stage) ≡ true
-          → find_keeps kept_at stage (room m.0) (number_of false) ≡ room m.0
-      asks_room (finds.LoadsCell index found) due = absurd (cc)
-      asks_room (finds.LoadsCount index found) due = absurd (cc)
-      asks_room (finds.LoadsWord index found count at) due = absurd (cc)
-      asks_room (finds.ChecksCount index found count) due = absurd (cc)
-      asks_room (finds.Asks index found) due = refl
 
   -- as the party of the find, with its number
   pub find_rests_so : (base v : View T) (e : ℕ) (m : Room) (h : RestsAt code kinds.Container after kept finding base v e m)

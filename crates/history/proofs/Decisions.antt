@@ -26,10 +26,10 @@ use Rattle.threaded.specs.Shares.{IsAll}
 use Rattle.threaded.specs.Driver.{Owes, OwesAsk, Next as NextKnown, Told, KeepsRule}
 use Rattle.history.specs.declared.view.View.{View}
 use Rattle.history.specs.Known.{events_by}
-use Rattle.history.specs.History.{IsRun, IsMachine, call_in}
+use Rattle.history.specs.History.{IsRun, IsMachine, HasStood, call_in, refusal_as}
 use Rattle.history.specs.Stages.{Calling, LeavesState, Since, IsUnderWay, At, Ends, HasHeard, AtAsked}
 use Rattle.history.proofs.Known.{by_more, within}
-use Rattle.history.proofs.Reached.{MayDecide, refusal_as, decide_as}
+use Rattle.history.proofs.Reached.{MayDecide, decide_as}
 use Rattle.history.proofs.Calls.{stands, flight_is}
 use Rattle.history.proofs.Turns.{KeptLaws, Between, heard, decided, decided_at, made_between}
 use Rattle.history.proofs.Steps.{view_after, settle}
@@ -157,6 +157,7 @@ module _ {T C M E : Type 0} (code : Coding T) (kind : Kind) (decides : MayDecide
                 (ap (λ z. kept z k.room (number_of k.said)) (sym same_asking) ∙ (sym k.keeps ∙ h.keeps)) under.tells;
             since = under.since;
             history = under.history;
+            stood = subst (λ z. HasStood code kind base.capacity under.party call.start z v.seen) same under.stood;
             all = under.all;
             parties = under.parties;
           })
@@ -193,6 +194,9 @@ module _ {T C M E : Type 0} (code : Coding T) (kind : Kind) (decides : MayDecide
           (laws key).states y.u (Decide y.p h.said) y.between.run between_heard.run free y.p refl
           ∙ (y.state leaves is_p ∙ k.before.state leaves (was ∙ ap Some (sym same)))
 
+      run_then : IsRun code kind base.capacity u_then
+      run_then = subst (λ i. IsRun code kind i u_then) (sym (sym k.before.capacity ∙ known)) between_heard.run
+
       lifted : IsUnderWay code kind call base view_heard c m
       lifted =
           record {
@@ -210,7 +214,8 @@ module _ {T C M E : Type 0} (code : Coding T) (kind : Kind) (decides : MayDecide
             wrote = (told_by.wrote ++ told_by.late) ++ events_by y.p effs;
             tells = subst (λ zs. call.wrote base.capacity y.p base.going c m zs) (sym all_its_own) tells_then;
             since = since_then;
-            history = record { trace = u_then; run = subst (λ i. IsRun code kind i u_then) (sym (sym k.before.capacity ∙ known)) between_heard.run; is = refl };
+            history = record { trace = u_then; run = run_then; is = refl };
+            stood = record { trace = u_then; run = run_then; is = refl; there = there_heard };
             all = λ all f. made_between code kind key y.owner id y.p gained_then u_then s between_heard v at (subst IsAll (sym k.before.share) all) f;
             parties = record { owner = y.owner; seat = id; sums = λ f. sum_by-append f v.made gained_then ∙ between_heard.made_own v at f };
           }

@@ -1,5 +1,5 @@
 -- How machines are reached, by kind: one turn more, and what is so of each kind but the two on owners.
-use Rattle.std.proofs.Common.{Bool, true, is_none, ◌≡◌, ℕ, Option, Some, None, [], ◌∷◌, refl, sym, subst}
+use Rattle.std.proofs.Common.{Bool, true, is_none, ◌≡◌, ℕ, Some, None, [], ◌∷◌, refl, sym, subst}
 use Rattle.model.specs.declared.event.Start.{Start}
 use Rattle.model.specs.declared.event.Start.TheVariants.{Container}
 use Rattle.model.specs.declared.families.container.ContainerStart.TheVariants.{Recover}
@@ -9,7 +9,6 @@ use Rattle.model.specs.declared.families.queues.QueueKind.{QueueKind}
 use Rattle.model.specs.declared.families.queues.QueueKind as queues
 use Rattle.model.specs.declared.turn.Kind.{Kind}
 use Rattle.model.specs.declared.turn.Kind.TheVariants as kinds
-use Rattle.model.specs.declared.turn.Refusal.{Refusal}
 use Rattle.model.specs.declared.turn.Refusal.TheVariants.{WrongCall}
 use Rattle.model.specs.declared.turn.Turn.{Turn}
 use Rattle.model.specs.declared.turn.Turn.TheVariants.{Begin, Next, Decide}
@@ -24,9 +23,8 @@ use Rattle.model.proofs.Rows.{row_passed}
 use Rattle.laws_queues.specs.Fresh.{IsFreshTurn, IsFreshRun}
 use Rattle.laws_queues.proofs.Queues.Invariant.{machine_kind}
 use Rattle.laws_queues.proofs.Queues.Sound.{fresh_more, fresh_opening}
-use Rattle.laws_robust.specs.Open.{open_refusal}
 use Rattle.laws_robust.proofs.OpenRuns.{reached_open_more, reached_open_opening}
-use Rattle.history.specs.History.{IsReachedAs, IsFreshAs, IsRun}
+use Rattle.history.specs.History.{IsReachedAs, IsFreshAs, IsRun, refusal_as}
 use Rattle.history.specs.Stages.{rows_as}
 
 -- whose questions threads answer themselves: the two on owners
@@ -37,12 +35,6 @@ MayDecide kind = ⊥
 
 module _ {T : Type 0} where
   -- ---- one turn more
-
-  -- what refuses a turn
-  abbrev pub refusal_as : Kind → World T → Turn T → Option Refusal
-  refusal_as kinds.Robust w turn = open_refusal w turn
-  refusal_as kinds.Container w turn = open_refusal w turn
-  refusal_as kind w turn = call_refusal w turn
 
   -- of its rows are those of a begin in a history
   pub rows_free : (kind : Kind) (capacity : ℕ) (kept : Registry T) (p : ℕ) (start : Start T) → first_row (begin_rows kind capacity kept p start) ≡ None

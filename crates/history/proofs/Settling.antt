@@ -28,11 +28,11 @@ use Rattle.threaded.specs.Driver.{Owes, OwesAsk, Next as NextKnown, Told, KeepsR
 use Rattle.threaded.specs.Shares.{IsAll}
 use Rattle.history.specs.declared.view.View.{View}
 use Rattle.history.specs.Known.{events_by}
-use Rattle.history.specs.History.{IsRun, IsMachine, Fits, IsLate, call_in}
+use Rattle.history.specs.History.{IsRun, IsMachine, Fits, IsLate, call_in, refusal_as}
 use Rattle.history.specs.Settled.{IsResting, Settles, SettledFrom, Waits, AtWaiting, AtRested, EndsSettled, EndsRested}
 use Rattle.history.proofs.Known.{by_more, within}
 use Rattle.history.proofs.AllSeen.{known_whole}
-use Rattle.history.proofs.Reached.{MayDecide, refusal_as, decide_as}
+use Rattle.history.proofs.Reached.{MayDecide, decide_as}
 use Rattle.history.proofs.Calls.{stands, flight_is}
 use Rattle.history.proofs.Turns.{KeptLaws, Between, at_first, heard, own_heard, decided, decided_at, made_between}
 use Rattle.history.proofs.Passes.{set_same}

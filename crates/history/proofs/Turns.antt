@@ -38,11 +38,11 @@ use Rattle.laws_queues.proofs.Queues.Sound.{IsFreshTurn}
 use Rattle.threaded.specs.Shares.{Shares, IsAll}
 use Rattle.history.specs.declared.view.View.{View}
 use Rattle.history.specs.Known.{events_by, owned, of_none}
-use Rattle.history.specs.History.{IsRun, IsMachine, Fits, call_in, IsLate}
+use Rattle.history.specs.History.{IsRun, IsMachine, Fits, call_in, IsLate, refusal_as}
 use Rattle.history.specs.Stages.{rows_as}
 use Rattle.history.proofs.Known.{by_more, by_same, by_other, by_mine, owned_one, late_none, none_late, AreOf, sum_first}
 use Rattle.history.proofs.AllSeen.{owned_whole}
-use Rattle.history.proofs.Reached.{refusal_as, begin_as, next_as, reached_as_more, fresh_as_more}
+use Rattle.history.proofs.Reached.{begin_as, next_as, reached_as_more, fresh_as_more}
 use Rattle.history.proofs.StillFits.{still_fits}
 use Rattle.history.proofs.Calls.{IsStateless, goes_alike, stateless_none, look_begin, look_next, stands, flight_is}
 use Rattle.history.proofs.Calls.{no_flight, next_other, begin_other, decision_other, begin_own, begin_kept, next_kept}

@@ -18,13 +18,17 @@ use Rattle.model.specs.declared.party.Doing.TheVariants.{Going, Over}
 use Rattle.model.specs.declared.party.Party.{Party}
 use Rattle.model.specs.declared.turn.Kind.{Kind}
 use Rattle.model.specs.declared.turn.Kind as kinds
+use Rattle.model.specs.declared.turn.Refusal.{Refusal}
+use Rattle.model.specs.declared.turn.Turn.{Turn}
+use Rattle.model.specs.declared.turn.Turn.TheVariants.{Next}
 use Rattle.model.specs.Coding.{Coding}
 use Rattle.model.specs.Families.Container.Looks.{state_in}
 use Rattle.model.specs.Parties.{party_of}
-use Rattle.model.specs.Turns.{IsReachedOn}
+use Rattle.model.specs.Refusals.{call_refusal}
+use Rattle.model.specs.Turns.{IsReachedOn, after_turn, events_of}
 use Rattle.model.specs.World.{World, Trace}
 use Rattle.laws_queues.specs.Fresh.{IsFreshRun}
-use Rattle.laws_robust.specs.Open.{IsReachedOpen}
+use Rattle.laws_robust.specs.Open.{IsReachedOpen, open_refusal}
 use Rattle.threaded.specs.Shares.{IsAll}
 use Rattle.history.specs.Known.{Known, events_by, by_party, owned}
 use Rattle.history.specs.declared.view.View.{View}
@@ -127,6 +131,12 @@ module _ {T : Type 0} where
     pub made_none : (j : ℕ) → length s.views ≤ j → events_by j trace.events ≡ []
     pub known : Known s.views trace.events
 
+  -- what refuses a turn of such a machine
+  abbrev pub refusal_as : Kind → World T → Turn T → Option Refusal
+  refusal_as kinds.TheVariants.Robust w turn = open_refusal w turn
+  refusal_as kinds.TheVariants.Container w turn = open_refusal w turn
+  refusal_as kind w turn = call_refusal w turn
+
   -- ---- what a caller knows
 
   -- what was made is just the events of some parties in what was seen
@@ -141,6 +151,24 @@ module _ {T : Type 0} where
     pub trace : Trace T
     pub run : IsRun code kind capacity trace
     pub is : events ≡ trace.events
+
+  -- the same, of a machine on which the party's call stands so
+  pub record HasStood (code : Coding T) (kind : Kind) (capacity p : ℕ) (start : Start T)
+      (flight : Flight T) (events : List (Event T)) : Type 0 where
+    pub trace : Trace T
+    pub run : IsRun code kind capacity trace
+    pub is : events ≡ trace.events
+    pub there : call_in trace.world p ≡ Some (start, flight)
+
+  -- the last turn of this history was a step of the party, which wrote this event last
+  pub record LastStep (code : Coding T) (kind : Kind) (capacity p : ℕ) (last : Event T)
+      (events : List (Event T)) : Type 0 where
+    pub old : Trace T
+    pub run : IsRun code kind capacity old
+    pub free : refusal_as kind old.world (Next p) ≡ None
+    pub wrote : List (Event T)
+    pub writes : events_of old.world (Next p) ≡ wrote ++ last ∷ []
+    pub is : events ≡ (after_turn old (Next p)).events
 
   -- A pass that knew `old` made one call and knows `new`. After what it had seen come the doings
   -- of others, none where it had the whole; then the call begins, things happen, among them what

@@ -25,7 +25,7 @@ use Rattle.model.specs.World.{Trace}
 use Rattle.threaded.specs.Shares.{IsAll}
 use Rattle.history.specs.declared.view.View.{View}
 use Rattle.history.specs.Known.{events_by, owned}
-use Rattle.history.specs.History.{IsHistory, IsOfParties, IsRun}
+use Rattle.history.specs.History.{IsHistory, IsOfParties, IsRun, LastStep, HasStood}
 use Rattle.history.specs.Views.{Looks}
 
 -- A call of the driver as a call of the model.
@@ -122,6 +122,7 @@ module _ {T C M E : Type 0} (code : Coding T) (kind : Kind) (call : Calling T C 
     pub tells : call.wrote base.capacity party base.going c m wrote
     pub since : Since party call.start wrote [] base v
     pub history : IsHistory code kind base.capacity v.seen
+    pub stood : HasStood code kind base.capacity party call.start (call.flight c m) v.seen
     -- who has the whole has made all of it
     pub all : IsAll base.share → (f : Event T → ℕ) → sum_by f v.seen ≡ sum_by f v.made
     pub parties : IsOfParties v
@@ -145,7 +146,7 @@ module _ {T C M E : Type 0} (code : Coding T) (kind : Kind) (call : Calling T C 
     pub seen : w.seen ≡ trace.events
     pub found : slice_index trace.world.words ask.word ≡ word
 
-  -- it has ended
+  -- it has ended with a step of its own
   pub record Ends (base : View T) (e : E) (m : M) (w : View T) : Type 0 where
     pub capacity : w.capacity ≡ base.capacity
     pub share : w.share ≡ base.share
@@ -160,6 +161,8 @@ module _ {T C M E : Type 0} (code : Coding T) (kind : Kind) (call : Calling T C 
     pub since : Since party call.start wrote
         (Finished party call.start (call.answer e m) ∷ []) base w
     pub history : IsHistory code kind base.capacity w.seen
+    pub last : LastStep code kind base.capacity party
+        (Finished party call.start (call.answer e m)) w.seen
     -- who has the whole has made all of it
     pub all : IsAll base.share → (f : Event T → ℕ) → sum_by f w.seen ≡ sum_by f w.made
     pub parties : IsOfParties w

@@ -7,6 +7,7 @@ pub mod Passes
 pub mod Began
 pub mod SameStates
 pub mod Looks
+pub mod FindCounts
 pub mod FindTurns
 pub mod Finds
 pub mod RecoverTurns

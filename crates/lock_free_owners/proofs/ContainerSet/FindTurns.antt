@@ -1,6 +1,6 @@
 -- A find of a container between two turns, as a call of the history.
 use Rattle.std.proofs.Common.{◌≡◌, ◌⊎◌, inl, inr, ℕ, ◌+◌, ◌<◌, ◌==◌, nat_lt, Bool, true, false, Option, Some}
-use Rattle.std.proofs.Common.{None, List, [], ◌∷◌, ◌++◌, slice_set, refl, sym, ap, subst, ◌∙◌, append-nil, arith}
+use Rattle.std.proofs.Common.{None, List, [], ◌∷◌, ◌++◌, slice_set, refl, sym, ap, subst, ◌∙◌, append-nil, fold, arith}
 use Rattle.steps.specs.Container.Find.{first_find, find_asks, find_want, find_keeps as keeps_of, find_takes}
 use Rattle.steps.specs.Indices.Robust.Parts.{empty}
 use Rattle.steps.specs.Picks.{by_test}
@@ -18,7 +18,9 @@ use Rattle.model.specs.declared.families.container.ContainerStart.TheVariants as
 use Rattle.model.specs.declared.turn.Kind.TheVariants as kinds
 use Rattle.model.specs.Coding.{Coding, IsCoding}
 use Rattle.model.specs.Families.{is_question}
+use Rattle.model.specs.Families.Indices.Robust.Promises.{IsFilledWith, IsCount}
 use Rattle.model.specs.Families.Queues.Calls.{fresh_cell, kept_at}
+use Rattle.model.specs.Reading.{Open, own_after, span_of}
 use Rattle.model.specs.Turns.{number_of}
 use Rattle.threaded.specs.Driver.{Next, Told}
 use Rattle.history.specs.declared.view.View.{View}
@@ -28,9 +30,9 @@ use Rattle.history.specs.Rooms.{room_of}
 use Rattle.history.specs.Settled.{IsResting, SettledFrom, Waits, RestsAt}
 use Rattle.history.specs.Stages.{IsUnderWay, Ends}
 use Rattle.history.specs.Value.{value_of_room}
-use Rattle.history.proofs.CallsIn.{AsksFor}
+use Rattle.history.proofs.CallsIn.{AsksFor, span_since}
 use Rattle.history.proofs.ContainerFinds.{find_call, container_find_keeps, container_find_word, container_find_hears}
-use Rattle.history.proofs.ContainerFinds.{container_find_first, find_copied, find_rests_so}
+use Rattle.history.proofs.ContainerFinds.{container_find_first, find_copied, find_rests_so, no_ends, copies_span}
 use Rattle.history.proofs.Containers.{container_words}
 use Rattle.history.proofs.ContainerRests.{rested_words, apart_asked}
 use Rattle.history.proofs.Settling.{KeepsWhere}
@@ -40,6 +42,7 @@ use Rattle.lock_free_owners.specs.Container.FindTurns.{words_in, Copying, Begins
 use Rattle.lock_free_owners.specs.Container.FindTurns.{FindBegun, FindOver, FindAt, FindDone, FindTells, IsAtWord, IsLeft}
 use Rattle.lock_free_owners.specs.Container.Visits.{visits_of}
 use Rattle.lock_free_owners.specs.Container.Idle.{asks, may_rest, IsIdle}
+use Rattle.lock_free_owners.proofs.ContainerSet.FindCounts.{counts_whole, counts_below}
 use Rattle.lock_free_owners.proofs.ContainerSet.Idle.{rests, idle_none}
 use Rattle.lock_free_owners.proofs.ContainerSet.Began.{idle_from, capacity_from, share_from, seen_is, made_is}
 use Rattle.lock_free_owners.proofs.ContainerSet.Began.{ended_goes, ended_called, ended_answered, under_goes}
@@ -241,6 +244,22 @@ module _ {T : Type 0} (code : Coding T) (law : IsCoding code) (owner : ℕ) wher
             ends = so.3;
           }
 
+      -- it has counted the indices up to the one that it asks about
+      counted_at : IsCount under.party (IsFilledWith owner) (below_question rest.asking.stage) e w.seen
+      counted_at =
+          let h = under.stood in
+          let start = Container (starts.Find owner) in
+          let own = rests_so.during_own ∙ sym (named_copies under.party owner id m.1) in
+          let at_work : span_of under.party h.trace.events ≡ Open start (copies_of under.party m.1) =
+          ap (span_of under.party) (sym h.is ∙ rests_so.is)
+          ∙ (span_since under.party start (from.seen ++ rests_so.others) rests_so.during
+          ∙ (ap (fold own_after (Open start [])) own ∙ copies_span code law words_in kept_at put_in owner under.party start [] m.1))
+          in
+          subst (λ es. IsCount under.party (IsFilledWith owner) (below_question rest.asking.stage) e es) (sym h.is)
+          (counts_below code from.capacity under.party owner e rest.asking.capacity (room_of code.size (words_in m.0)) rest.asking.stage
+          h.trace h.run h.there rest.asks
+          (no_ends code law words_in kept_at put_in owner from w e m rest h.trace.world.kept) (copies_of under.party m.1) at_work)
+
       pub rested_so : HasSearched code cap owner e (below_question rest.asking.stage) (visits_of owner id m.1) base w
       rested_so =
           record {
@@ -248,6 +267,7 @@ module _ {T : Type 0} (code : Coding T) (law : IsCoding code) (owner : ℕ) wher
             settled = settled;
             by = under.party;
             mine = under.mine;
+            counts = counted_at;
             over = inr (rests_so, sym (ap asked_below under.going));
           }
 
@@ -273,13 +293,20 @@ module _ {T : Type 0} (code : Coding T) (law : IsCoding code) (owner : ℕ) wher
           }
 
     module _ (ends : Ends code kinds.Container (finding code owner) from e m w) where
-      ended_so : HasSearched code cap owner e cap (visits_of owner id m.1) base w
-      ended_so =
+      -- it has counted the indices of the whole
+      counted_so : cap ≡ base.capacity → IsCount ends.party (IsFilledWith owner) cap e w.seen
+      counted_so size =
+          subst (λ n. IsCount ends.party (IsFilledWith owner) n e w.seen) (capacity_from code base from settled ∙ sym size)
+          (counts_whole code from.capacity ends.party owner e w.seen ends.last)
+
+      ended_so : cap ≡ base.capacity → HasSearched code cap owner e cap (visits_of owner id m.1) base w
+      ended_so size =
           record {
             from = from;
             settled = settled;
             by = ends.party;
             mine = ends.mine;
+            counts = counted_so size;
             over = inl (
               subst (λ es. Called ends.party (Container (starts.Find owner)) (Number e) es from w)
                   (ends.tells (idle_from code base from settled) ∙ named_copies ends.party owner id m.1)
@@ -300,9 +327,10 @@ module _ {T : Type 0} (code : Coding T) (law : IsCoding code) (owner : ℕ) wher
             keeps = ended_keeps code base from settled (finding code owner) w (record { start = refl; flight = λ c k. refl }) (λ was p by. by) e m ends;
           }
 
-  pub over_so : (cap : ℕ) (base w : View T) (e : ℕ) (m : Copying T) (id : ℕ) → FindDone code owner base e m w
+  pub over_so : (cap : ℕ) (base w : View T) (e : ℕ) (m : Copying T) (id : ℕ) → cap ≡ base.capacity → FindDone code owner base e m w
       → IsLeft code base w × HasSearched code cap owner e cap (visits_of owner id m.1) base w
-  over_so cap base w e m id x = (ended_left cap base w x.from x.settled e m id x.over, ended_so cap base w x.from x.settled e m id x.over)
+  over_so cap base w e m id size x =
+      (ended_left cap base w x.from x.settled e m id x.over, ended_so cap base w x.from x.settled e m id x.over size)
 
   -- the answer has ended it at its question
   pub answer_over : (cap : ℕ) (base v : View T) (c : Find T (Buffer 128)) (m : Copying T) (index found : ℕ) → c.stage ≡ finds.Asks index found

@@ -55,8 +55,8 @@ module _ {T F : Type 0} (code : Coding T) (step : F → T → ContainerHandle �
   whole w n bound q copies x found =
       record { left = x.0; bound = bound; visits = visits_of owner id copies; searched = x.1; found = found }
 
-  module _ (law : IsCoding code) (small : cap < 2 ^ 32) (v : View T) (c : Find T (Buffer 128)) (m : Buffer 128) (p : F)
-      (h : Searching v c m p) where
+  module _ (law : IsCoding code) (small : cap < 2 ^ 32) (size : cap ≡ base.capacity) (v : View T) (c : Find T (Buffer 128)) (m : Buffer 128)
+      (p : F) (h : Searching v c m p) where
     stood : (k : ℕ) → StillStands code.size cap (find_goes code owner c k)
     stood k = (let some = law.some in still_stands code.size some cap c owner k h.stands)
 
@@ -66,7 +66,7 @@ module _ {T F : Type 0} (code : Coding T) (step : F → T → ContainerHandle �
         → Next (λ (z : View T). z.capacity) (FindAt code owner) (FindDone code owner) base a (left, copies) w
         → Onward step cap owner id f a copies (value_in_room left) p → Further w a left p
     stepped w (GoOn d) left copies stands at so = record { copies = copies; at = at; stands = stands; so_far = so }
-    stepped w (Done n) left copies stands ends found = whole w n cap p copies (over_so code law owner cap base w n (left, copies) id ends) found
+    stepped w (Done n) left copies stands ends found = whole w n cap p copies (over_so code law owner cap base w n (left, copies) id size ends) found
 
     by_step : (stage : FindStage) → c.stage ≡ stage → (still : IsQuiet step cap owner id f stage)
         → (w : View T) (a : After (Find T (Buffer 128)) ℕ) (left : Buffer 128)

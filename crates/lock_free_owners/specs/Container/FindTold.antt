@@ -13,6 +13,7 @@ use Rattle.model.specs.declared.families.container.calls.ContainerFlight as call
 use Rattle.model.specs.declared.families.container.ContainerStart.TheVariants.{Find}
 use Rattle.model.specs.declared.turn.Kind.TheVariants as kinds
 use Rattle.model.specs.Coding.{Coding}
+use Rattle.model.specs.Families.Indices.Robust.Promises.{IsFilledWith, IsCount}
 use Rattle.threaded.specs.Shares.{IsAll}
 use Rattle.history.specs.declared.view.View.{View}
 use Rattle.history.specs.History.{Called}
@@ -51,14 +52,16 @@ module _ {T : Type 0} (code : Coding T) where
     pub of : resting.start ≡ start
     pub ends : resting.answer ≡ answer
 
-  -- One call of the history, by a party of the pass. It copied just these values, each once, in turn. It has ended, or an
-  -- answer has ended it, and it rests where it asked about the last index below the bound. That one which has ended came
-  -- through all indices is tested.
+  -- One call of the history, by a party of the pass. It copied just these values, each once, in turn. Of the indices below
+  -- the bound it counted each that was the owner's throughout, and none that was his at no moment: as many as HasFound has;
+  -- that they are the same no clause says. It has ended, and the bound is the capacity; or an answer has ended it, and it
+  -- rests where it asked about the last index below the bound.
   pub record HasSearched (capacity owner number bound : ℕ) (visits : List (Visit T)) (old new : View T) : Type 0 where
     pub from : View T
     pub settled : SettledFrom code kinds.Container old from
     pub by : ℕ
     pub mine : new.party ≡ Some by
+    pub counts : IsCount by (IsFilledWith owner) bound number new.seen
     pub over : (Called by (Container (Find owner)) (Number number) (copied by visits) from new
         × Answered code (Find owner) (Number number) old new × (bound ≡ capacity))
         ⊎ (Rests by (Container (Find owner)) (Number number) (copied by visits) from new

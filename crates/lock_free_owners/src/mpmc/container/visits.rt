@@ -123,9 +123,9 @@ impl<T: Words> Container<T> {
     /// Comes to the indices of `owner`, ascending, each at most once and below the capacity, and calls `visit` with a
     /// copy of the value that stands there and the handle that names it, until it says `Stop`: how many indices it came
     /// to, the one on which it was told to stop among them. An index without a value, or whose value has changed while
-    /// it was copied, counts too, but `visit` is not called there. Told to go on at each, it has ended in the
-    /// history, or rests where it asked about the last index. That it comes to each that `owner` has through the whole call,
-    /// up to the one on which it is told to stop, is tested.
+    /// it was copied, counts too, but `visit` is not called there. Up to the one on which it is told to stop, or of all, it
+    /// counts each that `owner` has through the whole call, and none that he has at no moment of it. Told to go on at
+    /// each, it has ended in the history, or rests where it asked about the last index.
     ///
     /// It is a call of the history, in which it copied just what `visit` was called with, in turn; in a well-formed faithful
     /// history of few turns each copy is whole (`laws`). A find that an answer ends, a `Stop` or the one at the last

@@ -1,4 +1,4 @@
-use Rattle.std.proofs.Common.{◌<◌, ◌^◌, rules, refl, subst, ◌∙◌}
+use Rattle.std.proofs.Common.{◌<◌, ◌^◌, rules, refl, sym, subst, ◌∙◌}
 use Rattle.model.specs.Coding.{Coding, IsCoding, coding_of}
 use Rattle.model.specs.Families.Queues.Calls.{fresh_cell}
 use Rattle.threaded.specs.Seats.{seen}
@@ -25,7 +25,8 @@ find_next-after-requires-clause-asks g c =
     let code : Coding g.row.T.Denot = coding_of g.T.Words.WORDS g.T.Words.words_of g.T.Words.value_of in
     let law : IsCoding code = record { some = met.some; few = met.few; sized = met.sized; given_back = met.given_back } in
     let small : c.args.capacity < 2 ^ 32 = search rules in
-    may_go code (λ p x h a q. given.F-step g p x h a q) c.args.capacity c.args.owner c.args.id (seen c.args.seat.now) c.args.visit law small
+    may_go code (λ p x h a q. given.F-step g p x h a q) c.args.capacity c.args.owner c.args.id
+    (seen c.args.seat.now) c.args.visit law small (sym c.requires.known)
     (seen c.loop-next.seat) c.loop-next.call c.loop-next.room c.loop-next.visit c.loop-next.invariant.2 c.requires.visits
 
 pub loop-next-preserved : goal.loop-next-preserved
@@ -41,7 +42,7 @@ loop-next-preserved g c =
       subst (λ a. Further code (λ p x h a q. given.F-step g p x h a q) c.args.capacity c.args.owner c.args.id (seen c.args.seat.now) c.args.visit
           (seen called.new.seat) a called.new.room called.result.1) c.in-GoOn.is
           (further code (λ p x h a q. given.F-step g p x h a q) c.args.capacity c.args.owner c.args.id
-          (seen c.args.seat.now) c.args.visit law small
+          (seen c.args.seat.now) c.args.visit law small (sym c.requires.known)
           (seen c.loop-next.seat) c.loop-next.call c.loop-next.room c.loop-next.visit so_far.2
           (seen called.new.seat) called.result.0 called.new.room called.result.1 called.ensures.turns called.ensures.moves),
     )
@@ -58,7 +59,7 @@ returns-in-Done-clause-left g c =
     = subst (λ a. Further code (λ p x h a q. given.F-step g p x h a q) c.args.capacity c.args.owner c.args.id (seen c.args.seat.now) c.args.visit
     (seen called.new.seat) a called.new.room called.result.1) c.in-Done.is
     (further code (λ p x h a q. given.F-step g p x h a q) c.args.capacity c.args.owner c.args.id
-    (seen c.args.seat.now) c.args.visit law small
+    (seen c.args.seat.now) c.args.visit law small (sym c.requires.known)
     (seen c.loop-next.seat) c.loop-next.call c.loop-next.room c.loop-next.visit c.loop-next.invariant.2
     (seen called.new.seat) called.result.0 called.new.room called.result.1 called.ensures.turns called.ensures.moves) in
     over.left
@@ -75,7 +76,7 @@ returns-in-Done-clause-found g c =
     = subst (λ a. Further code (λ p x h a q. given.F-step g p x h a q) c.args.capacity c.args.owner c.args.id (seen c.args.seat.now) c.args.visit
     (seen called.new.seat) a called.new.room called.result.1) c.in-Done.is
     (further code (λ p x h a q. given.F-step g p x h a q) c.args.capacity c.args.owner c.args.id
-    (seen c.args.seat.now) c.args.visit law small
+    (seen c.args.seat.now) c.args.visit law small (sym c.requires.known)
     (seen c.loop-next.seat) c.loop-next.call c.loop-next.room c.loop-next.visit c.loop-next.invariant.2
     (seen called.new.seat) called.result.0 called.new.room called.result.1 called.ensures.turns called.ensures.moves) in
     (over.visits, over.bound, over.searched, over.found)
