@@ -1,4 +1,4 @@
-use Rattle.std.proofs.Common.{◌≡◌, ◌<◌, ◌^◌, ◌⊎◌, false, sym, ap, subst, ◌∙◌}
+use Rattle.std.proofs.Common.{rules, ◌≡◌, ◌<◌, ◌^◌, ◌⊎◌, false, sym, ap, subst, ◌∙◌}
 use Rattle.steps.specs.Queues.Ring.{first_push}
 use Rattle.model.specs.Coding.{one_word}
 use Rattle.model.specs.declared.turn.Kind.TheVariants as kinds
@@ -6,8 +6,10 @@ use Rattle.model.specs.declared.event.Item.TheVariants.{Index}
 use Rattle.threaded.specs.Seats.{seen}
 use Rattle.laws_queues.proofs.Ring.Kinds.{of_indices}
 use Rattle.history.specs.Stages.{At}
+use Rattle.history.specs.Passes.{Goes}
 use Rattle.history.specs.Queues.{pushes_index}
 use Rattle.history.proofs.QueueCalls.{push_keeps, push_first}
+use Rattle.lock_free_queues.proofs.Queues.Facts.{goes_over}
 use Rattle.lock_free_queues.proofs.Queues.Ended.{pushed, published_if, full}
 use Rattle.lock_free_queues.proofs.Queues.Indices.{index_push}
 use Rattle.lock_free_queues.specs.Queues.Told.{HasPushed, WasFull, WasAtEnd}
@@ -52,3 +54,15 @@ returns-clause-pushed c =
     subst (λ b. HasPushed (Index v) b x w ⊎ (b ≡ false) × WasAtEnd x w) (sym c.answer.ensures)
     (pushed one_word of_indices x w mine.idle (Index v) (pushes_index v) (index_push v) mine.alone mine.some.0
     c.requires c.drive-end.result tt c.drive-end.ensures.end)
+
+pub returns-clause-same : goal.returns-clause-same
+returns-clause-same c =
+    let mine = c.args.self.now in
+    let v = seen mine.seated in
+    let w = seen c.drive-end.new.self in
+    record {
+      queue = search rules;
+      goes =
+          subst (λ n. Goes one_word kinds.IndexQueue n v w) mine.known
+          (goes_over one_word kinds.IndexQueue (pushes_index c.args.value) v w c.drive-end.result tt c.drive-end.ensures.end);
+    }
