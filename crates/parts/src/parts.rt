@@ -106,7 +106,7 @@ fn finish<T: Words>(party: &mut Party<T>, others: u64)
 }
 
 /// The party's call takes its step, or is handed a decision, unless it is refused.
-fn go_on<T: Words>(
+fn take_step<T: Words>(
     party: &mut Party<T>,
     number: u32,
     said: Option<bool>,
@@ -150,7 +150,7 @@ fn go_on<T: Words>(
         return Err(Refusal::NoMemory);
     };
     let change = words::change(words, ask);
-    let went = families::go_on(
+    let went = families::advance(
         flight,
         number,
         &party.start,
@@ -259,7 +259,7 @@ impl<T: Words> Parts<T> {
             return Err(Refusal::Busy);
         }
         let alloc = *self.events.allocator();
-        let flight = families::begin(alloc, self.kind, self.capacity, &self.kept, number, &start)?;
+        let flight = families::admit(alloc, self.kind, self.capacity, &self.kept, number, &start)?;
         let Ok(()) = self.events.reserve(1) else {
             return Err(Refusal::NoMemory);
         };
@@ -306,7 +306,7 @@ impl<T: Words> Parts<T> {
             return Err(Refusal::Idle);
         };
         let turns = self.turns;
-        let gone = go_on(
+        let gone = take_step(
             &mut *seat.party,
             number,
             said,
@@ -347,7 +347,7 @@ impl<T: Words> Parts<T> {
         let Ok(()) = self.events.reserve(1) else {
             return Err(Refusal::NoMemory);
         };
-        if !families::die(&mut self.kept, owner) {
+        if !families::mark_dead(&mut self.kept, owner) {
             return Err(Refusal::NoMemory);
         }
         self.events.push_reserved(Event::Died(owner));

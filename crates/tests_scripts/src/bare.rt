@@ -82,7 +82,7 @@ fn advance(
     let Ok(()) = events.reserve(most + 1) else {
         return Err(Refusal::NoMemory);
     };
-    let went = families::go_on(
+    let went = families::advance(
         flight,
         number,
         &party.start,
@@ -133,7 +133,7 @@ impl Bare {
         if flight_of(&self.latest, number).is_some() {
             return Err(Refusal::Busy);
         }
-        let flight = families::begin(
+        let flight = families::admit(
             self.alloc,
             self.kind,
             self.capacity,
@@ -175,7 +175,7 @@ impl Bare {
     }
 
     fn keeps_dead(&mut self, owner: OwnerId) -> bool {
-        families::die(&mut self.kept, owner)
+        families::mark_dead(&mut self.kept, owner)
     }
 
     fn dies(&mut self, owner: OwnerId) -> Result<(), Refusal> {

@@ -48,7 +48,7 @@ pub fn opening<T: Words>(
 }
 
 /// The call that this party begins, or why it may not, unless memory for its room is refused.
-pub fn begin<T: Words>(
+pub fn admit<T: Words>(
     alloc: Global,
     kind: Kind,
     capacity: u32,
@@ -66,31 +66,31 @@ pub fn begin<T: Words>(
 {
     match (start, kept) {
         (Start::Queues(start), Registry::Queues(roles)) => {
-            let flight = queues::opening::begin(alloc, kind, capacity, roles, number, start)?;
+            let flight = queues::opening::permit(alloc, kind, capacity, roles, number, start)?;
             Ok(Flight::Queues(flight))
         }
         (Start::Atomic(start), Registry::Atomic(producer)) => {
-            let flight = atomic::opening::begin(alloc, kind, *producer, number, start)?;
+            let flight = atomic::opening::permit(alloc, kind, *producer, number, start)?;
             Ok(Flight::Atomic(flight))
         }
         (Start::Bits(start), Registry::Nothing) => {
-            let flight = bits::opening::begin(kind, capacity, *start)?;
+            let flight = bits::opening::permit(kind, capacity, *start)?;
             Ok(Flight::Bits(flight))
         }
         (Start::Indices(start), Registry::Indices(holders)) => {
-            let flight = indices::opening::begin(kind, capacity, holders, number, start)?;
+            let flight = indices::opening::permit(kind, capacity, holders, number, start)?;
             Ok(Flight::Indices(flight))
         }
         (Start::Robust(start), Registry::Owners(dead)) => {
-            let flight = indices::robust::opening::begin(kind, capacity, dead, start)?;
+            let flight = indices::robust::opening::permit(kind, capacity, dead, start)?;
             Ok(Flight::Robust(flight))
         }
         (Start::Container(start), Registry::Container(dead, _)) => {
-            let flight = container::opening::begin(alloc, kind, capacity, dead, start)?;
+            let flight = container::opening::permit(alloc, kind, capacity, dead, start)?;
             Ok(Flight::Container(flight))
         }
         (Start::Loan(start), Registry::Loan(book)) => {
-            let flight = loan::opening::begin(kind, capacity, book, number, *start)?;
+            let flight = loan::opening::permit(kind, capacity, book, number, *start)?;
             Ok(Flight::Loan(flight))
         }
         _ => Err(Refusal::WrongCall),
@@ -157,7 +157,7 @@ pub fn death_refusal<T>(kept: &Registry<T>, owner: OwnerId) -> Option<Refusal>
 }
 
 /// This owner is dead from now on, unless memory for it is refused. Then nothing changes.
-pub fn die<T>(kept: &mut Registry<T>, owner: OwnerId) -> bool
+pub fn mark_dead<T>(kept: &mut Registry<T>, owner: OwnerId) -> bool
     ensures dies { result ≡ true → kept.new ≡ kept_after_death kept.old owner }
     ensures same { result ≡ false → kept.new ≡ kept.old }
 {
@@ -241,7 +241,7 @@ pub fn going_refusal<T: Words>(
 
 /// Lets the call go on from an answer, where it lies, and writes down what its step does, in the room that was kept
 /// for it. The words are those before the step.
-pub fn go_on<T: Words>(
+pub fn advance<T: Words>(
     flight: &mut Flight<T>,
     number: u32,
     start: &Start<T>,
@@ -268,25 +268,25 @@ pub fn go_on<T: Words>(
 {
     match (flight, start, kept) {
         (Flight::Queues(call), Start::Queues(start), Registry::Queues(roles)) => {
-            queues::effects::go_on(call, number, start, words, beside, answer, roles, events)
+            queues::effects::perform(call, number, start, words, beside, answer, roles, events)
         }
         (Flight::Atomic(call), Start::Atomic(start), Registry::Atomic(producer)) => {
-            atomic::effects::go_on(call, number, start, answer, producer, events)
+            atomic::effects::perform(call, number, start, answer, producer, events)
         }
         (Flight::Bits(call), Start::Bits(_), Registry::Nothing) => {
-            bits::effects::go_on(call, number, answer, events)
+            bits::effects::perform(call, number, answer, events)
         }
         (Flight::Indices(call), Start::Indices(_), Registry::Indices(holders)) => {
-            indices::effects::go_on(call, number, answer, holders, events)
+            indices::effects::perform(call, number, answer, holders, events)
         }
         (Flight::Robust(call), Start::Robust(_), Registry::Owners(dead)) => {
-            indices::robust::effects::go_on(call, number, answer, dead, events)
+            indices::robust::effects::perform(call, number, answer, dead, events)
         }
         (Flight::Container(call), Start::Container(_), Registry::Container(_, states)) => {
-            container::effects::go_on(call, number, answer, states, events)
+            container::effects::perform(call, number, answer, states, events)
         }
         (Flight::Loan(call), Start::Loan(start), Registry::Loan(book)) => {
-            loan::effects::go_on(call, number, *start, words, beside, answer, book, events)
+            loan::effects::perform(call, number, *start, words, beside, answer, book, events)
         }
         _ => Went {
             back: false,

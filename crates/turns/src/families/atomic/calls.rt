@@ -67,7 +67,7 @@ pub fn goes_back<T: Words>(flight: &AtomicFlight<T>, answer: u64) -> bool
 }
 
 /// Lets the call go on from an answer, where it lies: its own answer, where it is done.
-pub fn resume<T: Words>(flight: &mut AtomicFlight<T>, answer: u64) -> Option<Answer<T>>
+pub fn feed<T: Words>(flight: &mut AtomicFlight<T>, answer: u64) -> Option<Answer<T>>
     ensures { CameTo result flight.new (after ⟦<T as Coded>⟧.coding flight.old answer) }
 {
     match flight {

@@ -3,7 +3,7 @@ ghost use Rattle.std.specs.Prelude.{◌≡◌, ◌+◌, ◌≤◌, ◌++◌, vec
 ghost use Rattle.steps.specs.Ask.{CameTo};
 ghost use Rattle.model.specs.Families.Atomic.Steps.{acted, producer_after, step};
 
-use super::calls::{goes_back, resume};
+use super::calls::{feed, goes_back};
 use model::coding::Coded;
 use model::event::{Answer, Event, Start};
 use model::families::Went;
@@ -54,7 +54,7 @@ fn settle<T: Copy>(
 }
 
 /// Lets the call go on from an answer, where it lies, with what its step writes down.
-pub fn go_on<T: Words>(
+pub fn perform<T: Words>(
     flight: &mut AtomicFlight<T>,
     number: u32,
     start: &AtomicStart<T>,
@@ -75,7 +75,7 @@ pub fn go_on<T: Words>(
     ensures room { vec_capacity events.new ≡ vec_capacity events.old }
 {
     let back = goes_back(flight, answer);
-    let done = resume(flight, answer);
+    let done = feed(flight, answer);
     tell(events, number, start, done);
     settle(producer, number, start, done);
     Went { back, done }

@@ -51,7 +51,7 @@ fn is_value(kind: Kind) -> bool
 }
 
 /// The call that this party begins, or why it may not, unless memory for its room is refused.
-pub fn begin<T: Words>(
+pub fn permit<T: Words>(
     alloc: Global,
     kind: Kind,
     producer: Option<u32>,

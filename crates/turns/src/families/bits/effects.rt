@@ -5,7 +5,7 @@ ghost use Rattle.steps.specs.Bits.Places.{first_place};
 ghost use Rattle.model.specs.Families.Bits.Calls.{after, goes_back, most_effects};
 ghost use Rattle.model.specs.Families.Bits.Steps.{clear_events, effects_of};
 
-use super::calls::{goes_back, resume};
+use super::calls::{feed, goes_back};
 use model::event::Event;
 use model::families::Went;
 use model::families::bits::calls::BitsFlight;
@@ -85,7 +85,7 @@ fn tell<T>(flight: &BitsFlight, number: u32, answer: u64, events: &mut Vec<Event
 }
 
 /// Lets the call go on from an answer, where it lies, with what its step writes down.
-pub fn go_on<T>(
+pub fn perform<T>(
     flight: &mut BitsFlight,
     number: u32,
     answer: u64,
@@ -100,6 +100,6 @@ pub fn go_on<T>(
 {
     tell(flight, number, answer, events);
     let back = goes_back(flight, answer);
-    let done = resume(flight, answer);
+    let done = feed(flight, answer);
     Went { back, done }
 }

@@ -46,7 +46,7 @@ fn is_past(capacity: u32, start: BitsStart) -> bool
 }
 
 /// The call that this party begins, or why it may not.
-pub fn begin(kind: Kind, capacity: u32, start: BitsStart) -> Result<BitsFlight, Refusal>
+pub fn permit(kind: Kind, capacity: u32, start: BitsStart) -> Result<BitsFlight, Refusal>
     ensures ok { IfOk result (λ flight. first kind capacity start ≡ Some flight) }
     ensures allowed { OnOk result (first_row
         ((is_none (first kind capacity start), WrongCall) ∷ call_rows capacity start) ≡ None) }

@@ -251,7 +251,7 @@ pub fn goes_back<T: Words>(flight: &ContainerFlight<T>, answer: u64) -> bool
 
 /// Lets the call go on from an answer, where it lies: its own answer, where it is done. A look writes into the state
 /// of its party; where that has none it does not go on.
-pub fn resume<T: Words>(
+pub fn feed<T: Words>(
     flight: &mut ContainerFlight<T>,
     number: u32,
     states: &mut States<T>,

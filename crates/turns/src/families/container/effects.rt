@@ -5,7 +5,7 @@ ghost use Rattle.model.specs.Families.Container.Calls.{after, goes_back, states_
 ghost use Rattle.model.specs.Families.Container.States.{state_of};
 ghost use Rattle.model.specs.Families.Container.Steps.{placed, hidden, copied, shown, checked, add_effects, remove_effects, replace_effects, find_effects, recover_effects, look_effects, copy_in, effects, question_of, questions};
 
-use super::calls::{goes_back, resume};
+use super::calls::{feed, goes_back};
 use crate::families::indices::robust::effects::{acquire_effect, freed, locked_by, release_effect};
 use model::coding::Coded;
 use model::event::Event;
@@ -238,7 +238,7 @@ fn question<T: Words>(flight: &ContainerFlight<T>, number: u32, answer: u64) -> 
 }
 
 /// Lets the call go on from an answer, where it lies, with what its step writes down.
-pub fn go_on<T: Words>(
+pub fn perform<T: Words>(
     flight: &mut ContainerFlight<T>,
     number: u32,
     answer: u64,
@@ -264,6 +264,6 @@ pub fn go_on<T: Words>(
     if let Some(event) = question(flight, number, answer) {
         events.push_reserved(event);
     }
-    let done = resume(flight, number, states, answer);
+    let done = feed(flight, number, states, answer);
     Went { back, done }
 }

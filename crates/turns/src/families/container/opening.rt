@@ -46,7 +46,7 @@ fn is_container(kind: Kind) -> bool
 }
 
 /// The call that begins, or why it may not.
-pub fn begin<T: Words>(
+pub fn permit<T: Words>(
     alloc: Global,
     kind: Kind,
     capacity: u32,

@@ -99,7 +99,7 @@ pub fn goes_back(flight: &IndexFlight, answer: u64) -> bool
 }
 
 /// Lets the call go on from an answer, where it lies: its own answer, where it is done.
-pub fn resume<T>(flight: &mut IndexFlight, answer: u64) -> Option<Answer<T>>
+pub fn feed<T>(flight: &mut IndexFlight, answer: u64) -> Option<Answer<T>>
     ensures { CameTo result flight.new (after flight.old answer) }
 {
     match flight {

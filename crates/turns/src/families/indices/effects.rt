@@ -3,7 +3,7 @@ ghost use Rattle.std.specs.Prelude.{◌≡◌, ◌+◌, ◌≤◌, ◌++◌, fol
 ghost use Rattle.steps.specs.Ask.{CameTo};
 ghost use Rattle.model.specs.Families.Indices.Steps.{clears, frees, effects, holders_after, step};
 
-use super::calls::{goes_back, resume};
+use super::calls::{feed, goes_back};
 use model::event::{Answer, Event};
 use model::families::Went;
 use model::families::indices::calls::IndexFlight;
@@ -78,7 +78,7 @@ fn frees(flight: &IndexFlight) -> Option<u32>
 }
 
 /// Lets the call go on from an answer, where it lies, with what its step writes down.
-pub fn go_on<T: Copy>(
+pub fn perform<T: Copy>(
     flight: &mut IndexFlight,
     number: u32,
     answer: u64,
@@ -96,7 +96,7 @@ pub fn go_on<T: Copy>(
 {
     let back = goes_back(flight, answer);
     let freed = frees(flight);
-    let done = resume(flight, answer);
+    let done = feed(flight, answer);
     tell(events, holders, number, freed, done);
     Went { back, done }
 }

@@ -46,7 +46,7 @@ fn is_set(kind: Kind) -> bool
 }
 
 /// The call that this party begins, or why it may not.
-pub fn begin(
+pub fn permit(
     kind: Kind,
     capacity: u32,
     holders: &Holders,

@@ -148,7 +148,7 @@ pub fn goes_back(flight: &LoanFlight, answer: u64) -> bool
 }
 
 /// Lets the call go on from an answer, where it lies, by the sender's table: its own answer, where it is done.
-pub fn resume<T>(flight: &mut LoanFlight, places: &Places, answer: u64) -> Option<Answer<T>>
+pub fn feed<T>(flight: &mut LoanFlight, places: &Places, answer: u64) -> Option<Answer<T>>
     ensures { CameTo result flight.new (after places.now flight.old answer) }
 {
     match flight {

@@ -3,7 +3,7 @@ ghost use Rattle.std.specs.Prelude.{◌≡◌, ◌+◌, ◌≤◌, ◌++◌, fol
 ghost use Rattle.steps.specs.Ask.{CameTo};
 ghost use Rattle.model.specs.Families.Loan.Steps.{sent_at, given_back_at, pending, beside, push_effect, release_effect, send_effect, receive_effect, take_back_effect, give_back_effect, drains_effect, empties_effect, reclaim_effect, effect_of, claimed, room_made, effects_of, book_after, ended_book, step};
 
-use super::calls::{goes_back, resume};
+use super::calls::{feed, goes_back};
 use crate::party::flight_of;
 use crate::words::word_at;
 use model::event::{Answer, Event, Item, Start};
@@ -321,7 +321,7 @@ fn settle<T>(book: &mut Book, number: u32, start: LoanStart, done: &Option<Answe
 }
 
 /// Lets the call go on from an answer, where it lies, with what its step writes down.
-pub fn go_on<T: Copy>(
+pub fn perform<T: Copy>(
     flight: &mut LoanFlight,
     number: u32,
     start: LoanStart,
@@ -345,7 +345,7 @@ pub fn go_on<T: Copy>(
 {
     let effect = effect_of(words, push, flight, answer);
     let back = goes_back(flight, answer);
-    let done = resume(flight, &book.places, answer);
+    let done = feed(flight, &book.places, answer);
     note(book, number, effect, &done);
     settle(book, number, start, &done);
     tell(events, number, effect, done);

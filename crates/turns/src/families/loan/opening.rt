@@ -110,7 +110,7 @@ pub fn keep(book: &mut Book, start: LoanStart)
 }
 
 /// The call that this party begins, or why it may not.
-pub fn begin(
+pub fn permit(
     kind: Kind,
     slots: u32,
     book: &Book,

@@ -3,7 +3,7 @@ ghost use Rattle.std.specs.Prelude.{◌≡◌, ◌+◌, ◌≤◌, ◌<◌, ◌+
 ghost use Rattle.steps.specs.Ask.{CameTo};
 ghost use Rattle.model.specs.Families.Queues.Steps.{pending_at, pending, beside, push_effect, pop_effect, overflow_push_effect, overflow_pop_effect, effect_of, acts_if_done, effects_of, roles_after, step};
 
-use super::calls::{goes_back, resume};
+use super::calls::{feed, goes_back};
 use super::opening::holds;
 use crate::party::flight_of;
 use crate::words::word_at;
@@ -273,7 +273,7 @@ fn settle<T: Copy>(roles: &mut Roles, number: u32, start: &QueueStart<T>, done: 
 }
 
 /// Lets the call go on from an answer, where it lies, with what its step writes down.
-pub fn go_on<T: Words>(
+pub fn perform<T: Words>(
     flight: &mut QueueFlight<T>,
     number: u32,
     start: &QueueStart<T>,
@@ -297,7 +297,7 @@ pub fn go_on<T: Words>(
 {
     let effect = effect_of(words, waits, flight, answer);
     let back = goes_back(flight, answer);
-    let done = resume(flight, answer);
+    let done = feed(flight, answer);
     tell(events, number, start, effect, done);
     settle(roles, number, start, done);
     Went { back, done }

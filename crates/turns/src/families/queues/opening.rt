@@ -120,7 +120,7 @@ fn lacks_call<T: Words>(kind: QueueKind, start: &QueueStart<T>) -> bool
 }
 
 /// The call that this party begins, or why it may not, unless memory for its room is refused.
-pub fn begin<T: Words>(
+pub fn permit<T: Words>(
     alloc: Global,
     kind: Kind,
     capacity: u32,

@@ -20,19 +20,19 @@ returns-in_default-reserve-clause-refused g c =
     let rows : first_row (death_rows c.args.self.now.kept c.args.owner) ≡ None = sym c.in_default.ensures in
     inr (death_passes w c.args.owner c.requires there rows, refl)
 
-pub returns-then-not-die-clause-refused : goal.returns-then-not-die-clause-refused
-returns-then-not-die-clause-refused g c =
+pub returns-then-not-mark_dead-clause-refused : goal.returns-then-not-mark_dead-clause-refused
+returns-then-not-mark_dead-clause-refused g c =
     let w = (trace_of (coding_of g.T.Words.WORDS g.T.Words.words_of g.T.Words.value_of) c.args.self.now).world in
     let there : lacks_party c.args.self.now.kept c.args.self.now.parties c.args.owner ≡ false = sym c.if-lacks_party.ensures in
     let rows : first_row (death_rows c.args.self.now.kept c.args.owner) ≡ None = sym c.in_default.ensures in
     inr (death_passes w c.args.owner c.requires there rows, refl)
 
-pub returns-then-not-die-clause-err : goal.returns-then-not-die-clause-err
-returns-then-not-die-clause-err g c =
-    let same : c.die.new.kept ≡ c.args.self.now.kept = c.if-not-die.ensures.same refl in
+pub returns-then-not-mark_dead-clause-err : goal.returns-then-not-mark_dead-clause-err
+returns-then-not-mark_dead-clause-err g c =
+    let same : c.mark_dead.new.kept ≡ c.args.self.now.kept = c.if-not-mark_dead.ensures.same refl in
     rw (same, c.reserve.ensures.items) refl
 
 pub returns-clause-ok : goal.returns-clause-ok
 returns-clause-ok g c =
-    let kept : c.die.new.kept ≡ kept_after_death c.args.self.now.kept c.args.owner = c.if-not-die.ensures.dies refl in
+    let kept : c.mark_dead.new.kept ≡ kept_after_death c.args.self.now.kept c.args.owner = c.if-not-mark_dead.ensures.dies refl in
     rw (kept, c.push_reserved.ensures.items, c.reserve.ensures.items) refl

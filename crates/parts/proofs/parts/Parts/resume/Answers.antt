@@ -9,8 +9,8 @@ use Rattle.parts.specs.Parts.{trace_of}
 use Rattle.parts.proofs.Going.{refusal_is, is_refusal, going_is, goes_on_nowhere, is_idle}
 use Rattle.parts.proofs.parts.Parts.resume.Goals as goal
 
-pub go_on-gone-requires-clause-small : goal.go_on-gone-requires-clause-small
-go_on-gone-requires-clause-small g c =
+pub take_step-gone-requires-clause-small : goal.take_step-gone-requires-clause-small
+take_step-gone-requires-clause-small g c =
     c.requires.small.latest c.args.number c.deref_mut.result.now (sym c.in-Some.ensures.value ∙ ap Some (sym (c.deref_mut.ensures.value ∙ c.seat.view_is)))
 
 pub returns-in-Ok-clause-allowed : goal.returns-in-Ok-clause-allowed
@@ -26,7 +26,7 @@ pub returns-in-Ok-clause-ok : goal.returns-in-Ok-clause-ok
 returns-in-Ok-clause-ok g c =
     let w = (trace_of (coding_of g.T.Words.WORDS g.T.Words.words_of g.T.Words.value_of) c.args.self.now).world in
     let x = c.deref_mut.result.now in
-    let y = c.go_on-gone.new.party in
+    let y = c.take_step-gone.new.party in
     let found : party_of c.args.number w.latest ≡ Some x = sym c.in-Some.ensures.value ∙ ap Some (sym (c.deref_mut.ensures.value ∙ c.seat.view_is)) in
     let written : (c.get_mut.follows.lender y).entries ≡ put c.args.number y w.latest =
     (c.get_mut.follows.holds y).0 ∙ set_is_put c.args.number y x w.latest c.in-Some.ensures.ordered found
@@ -46,7 +46,7 @@ pub returns-in-Err-clause-err : goal.returns-in-Err-clause-err
 returns-in-Err-clause-err g c =
     let w = (trace_of (coding_of g.T.Words.WORDS g.T.Words.words_of g.T.Words.value_of) c.args.self.now).world in
     let x = c.deref_mut.result.now in
-    let same : (c.get_mut.follows.lender c.go_on-gone.new.party).entries ≡ w.latest =
+    let same : (c.get_mut.follows.lender c.take_step-gone.new.party).entries ≡ w.latest =
     ap (λ y. (c.get_mut.follows.lender y).entries) c.in-Err.ensures.party
     ∙ ((c.get_mut.follows.holds x).0
     ∙ set_value_same (is_at (nat_cmp c.args.number)) w.latest x

@@ -3,7 +3,7 @@ ghost use Rattle.std.specs.Prelude.{◌≡◌, ◌+◌, ◌≤◌, ◌++◌, vec
 ghost use Rattle.steps.specs.Ask.{CameTo};
 ghost use Rattle.model.specs.Families.Indices.Robust.Steps.{freed, acquire_effects, release_effects, recover_effects, effects, locked_by, step};
 
-use super::calls::{goes_back, resume};
+use super::calls::{feed, goes_back};
 use model::event::{Answer, Event};
 use model::families::Went;
 use model::families::indices::robust::calls::RobustFlight;
@@ -122,7 +122,7 @@ fn effect<T>(flight: &RobustFlight, number: u32, answer: u64) -> Option<Event<T>
 }
 
 /// Lets the call go on from an answer, where it lies, with what its step writes down. Who has died stays.
-pub fn go_on<T: Copy>(
+pub fn perform<T: Copy>(
     flight: &mut RobustFlight,
     number: u32,
     answer: u64,
@@ -142,6 +142,6 @@ pub fn go_on<T: Copy>(
     if let Some(event) = effect(flight, number, answer) {
         events.push_reserved(event);
     }
-    let done = resume(flight, answer);
+    let done = feed(flight, answer);
     Went { back, done }
 }

@@ -37,7 +37,7 @@ fn is_set(kind: Kind) -> bool
 }
 
 /// The call that begins, or why it may not.
-pub fn begin(
+pub fn permit(
     kind: Kind,
     capacity: u32,
     dead: &Dead,

@@ -1,22 +1,22 @@
 use Rattle.std.proofs.Common.{rules}
-use Rattle.turns.proofs.families.go_on.Goals as goal
-use Rattle.turns.proofs.families.go_on.Goals.{in-Queues-Queues-Queues, in-Atomic-Atomic-Atomic, in-Bits-Bits-Nothing}
-use Rattle.turns.proofs.families.go_on.Goals.{in-Indices-Indices-Indices, in-Robust-Robust-Owners}
-use Rattle.turns.proofs.families.go_on.Goals.{in-Container-Container-Container, in-Loan-Loan-Loan, in_default}
-use Rattle.turns.proofs.families.go_on.Goals.{in_default-via-in-Queues+in-Queues+in_default}
-use Rattle.turns.proofs.families.go_on.Goals.{in_default-via-in-Queues+in_default}
-use Rattle.turns.proofs.families.go_on.Goals.{in_default-via-in-Atomic+in-Atomic+in_default}
-use Rattle.turns.proofs.families.go_on.Goals.{in_default-via-in-Atomic+in_default}
-use Rattle.turns.proofs.families.go_on.Goals.{in_default-via-in-Bits+in-Bits+in_default}
-use Rattle.turns.proofs.families.go_on.Goals.{in_default-via-in-Bits+in_default}
-use Rattle.turns.proofs.families.go_on.Goals.{in_default-via-in-Indices+in-Indices+in_default}
-use Rattle.turns.proofs.families.go_on.Goals.{in_default-via-in-Indices+in_default}
-use Rattle.turns.proofs.families.go_on.Goals.{in_default-via-in-Robust+in-Robust+in_default}
-use Rattle.turns.proofs.families.go_on.Goals.{in_default-via-in-Robust+in_default}
-use Rattle.turns.proofs.families.go_on.Goals.{in_default-via-in-Container+in-Container+in_default}
-use Rattle.turns.proofs.families.go_on.Goals.{in_default-via-in-Container+in_default}
-use Rattle.turns.proofs.families.go_on.Goals.{in_default-via-in-Loan+in-Loan+in_default}
-use Rattle.turns.proofs.families.go_on.Goals.{in_default-via-in-Loan+in_default}
+use Rattle.turns.proofs.families.advance.Goals as goal
+use Rattle.turns.proofs.families.advance.Goals.{in-Queues-Queues-Queues, in-Atomic-Atomic-Atomic, in-Bits-Bits-Nothing}
+use Rattle.turns.proofs.families.advance.Goals.{in-Indices-Indices-Indices, in-Robust-Robust-Owners}
+use Rattle.turns.proofs.families.advance.Goals.{in-Container-Container-Container, in-Loan-Loan-Loan, in_default}
+use Rattle.turns.proofs.families.advance.Goals.{in_default-via-in-Queues+in-Queues+in_default}
+use Rattle.turns.proofs.families.advance.Goals.{in_default-via-in-Queues+in_default}
+use Rattle.turns.proofs.families.advance.Goals.{in_default-via-in-Atomic+in-Atomic+in_default}
+use Rattle.turns.proofs.families.advance.Goals.{in_default-via-in-Atomic+in_default}
+use Rattle.turns.proofs.families.advance.Goals.{in_default-via-in-Bits+in-Bits+in_default}
+use Rattle.turns.proofs.families.advance.Goals.{in_default-via-in-Bits+in_default}
+use Rattle.turns.proofs.families.advance.Goals.{in_default-via-in-Indices+in-Indices+in_default}
+use Rattle.turns.proofs.families.advance.Goals.{in_default-via-in-Indices+in_default}
+use Rattle.turns.proofs.families.advance.Goals.{in_default-via-in-Robust+in-Robust+in_default}
+use Rattle.turns.proofs.families.advance.Goals.{in_default-via-in-Robust+in_default}
+use Rattle.turns.proofs.families.advance.Goals.{in_default-via-in-Container+in-Container+in_default}
+use Rattle.turns.proofs.families.advance.Goals.{in_default-via-in-Container+in_default}
+use Rattle.turns.proofs.families.advance.Goals.{in_default-via-in-Loan+in-Loan+in_default}
+use Rattle.turns.proofs.families.advance.Goals.{in_default-via-in-Loan+in_default}
 
 pub returns-clause-after : goal.returns-clause-after
 returns-clause-after g c =

@@ -1,7 +1,7 @@
 use Rattle.std.proofs.Common.{◌≡◌, Some, None, refl, sym}
 use Rattle.model.specs.Families.Container.States.{state_of}
-use Rattle.turns.proofs.families.container.calls.resume.Goals as goal
-use Rattle.turns.proofs.families.container.calls.resume.Goals.{in-Some, in-None}
+use Rattle.turns.proofs.families.container.calls.feed.Goals as goal
+use Rattle.turns.proofs.families.container.calls.feed.Goals.{in-Some, in-None}
 
 pub returns-after-get_mut-clause-after : goal.returns-after-get_mut-clause-after
 returns-after-get_mut-clause-after g c =

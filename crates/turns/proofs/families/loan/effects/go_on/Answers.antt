@@ -1,9 +1,0 @@
-use Rattle.turns.proofs.families.loan.effects.go_on.Goals as goal
-use Rattle.turns.proofs.LoanBooks.{kept_as}
-
-pub returns-clause-kept : goal.returns-clause-kept
-returns-clause-kept g c =
-    kept_as g.row.T.Denot c.args.words.now.items c.args.push c.args.number c.args.start c.args.flight.now
-    c.resume-done.new.flight c.args.answer c.args.book.now c.note.new.book c.settle.new.book
-    c.effect_of-effect.result c.resume-done.result c.effect_of-effect.ensures c.resume-done.ensures c.note.ensures
-    c.settle.ensures
