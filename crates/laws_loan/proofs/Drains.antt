@@ -1,8 +1,7 @@
 -- The steps of a reclaim that pops the submission queue, until that is empty.
-use Rattle.std.proofs.Common.{◌≡◌, ◌≢◌, ℕ, suc, ◌+◌, ◌%◌, ◌^◌, ◌*◌, ◌-◌, ◌<◌, ◌≤◌, ◌==◌, inl, ⊎_elim, Bool, true}
+use Rattle.std.proofs.Common.{◌≡◌, ◌≢◌, ℕ, suc, ◌+◌, ◌%◌, ◌^◌, ◌*◌, ◌-◌, ◌<◌, ◌≤◌, ◌==◌, inl, Bool, true}
 use Rattle.std.proofs.Common.{false, not, Option, Some, List, [], ◌∷◌, ◌++◌, length, get_or, refl, sym, ap, subst, ◌∙◌}
 use Rattle.std.proofs.Common.{append-nil, length-append, arith}
-use Rattle.std.proofs.lemmas.Bool.{cases_eq}
 use Rattle.std.proofs.lemmas.Bool.Decides.{nat_tests}
 use Rattle.std.proofs.lemmas.List.{set-get_or}
 use Rattle.std.proofs.lemmas.List.Concat.{flat_map-append}
@@ -10,14 +9,12 @@ use Rattle.std.proofs.lemmas.List.Sums.{fold-append}
 use Rattle.steps.specs.declared.ask.Ask.{Ask}
 use Rattle.steps.specs.declared.ask.After.{After}
 use Rattle.steps.specs.declared.ask.After.TheVariants.{GoOn}
-use Rattle.steps.specs.declared.loan.places.Place.TheVariants as places
 use Rattle.steps.specs.declared.loan.reclaim.ReclaimStage.{ReclaimStage}
 use Rattle.steps.specs.declared.loan.reclaim.ReclaimStage as reclaims
 use Rattle.steps.specs.declared.queues.overflow.PopStage.{PopStage}
 use Rattle.steps.specs.declared.queues.overflow.PopStage as pops
 use Rattle.steps.specs.declared.queues.ring.PopStage as ring_pops
 use Rattle.steps.specs.Loan.Layout.{submission_word}
-use Rattle.steps.specs.Loan.Places.{place_at}
 use Rattle.steps.specs.Queues.Overflow.{cell_word, pop_asks}
 use Rattle.steps.specs.Queues.Ring.{load}
 use Rattle.model.specs.declared.event.Answer.{Answer}
@@ -32,8 +29,7 @@ use Rattle.model.specs.declared.families.loan.effects.Effect.TheVariants as effe
 use Rattle.model.specs.declared.party.Party.{Party}
 use Rattle.model.specs.Coding.{Coding}
 use Rattle.model.specs.Families.{ask_of}
-use Rattle.model.specs.Families.Loan.Promises.{IsIn}
-use Rattle.model.specs.Families.Loan.Reading.{Passing, Waiting, Move, spot_of, receiver_after, takes_back, taken_back, frees, freed}
+use Rattle.model.specs.Families.Loan.Reading.{Waiting, spot_of, receiver_after, takes_back, taken_back, frees, freed}
 use Rattle.model.specs.Families.Loan.Steps.{sent_at}
 use Rattle.model.specs.Families.Queues.Calls.{words_of_index}
 use Rattle.model.specs.Families.Queues.Objects.{answer_of_item}
@@ -51,11 +47,11 @@ use Rattle.laws_loan.proofs.Lists.{first_there}
 use Rattle.laws_loan.proofs.Parts.{submission_old, submission_words, submission_change}
 use Rattle.laws_loan.proofs.ReclaimGoes as steps
 use Rattle.laws_loan.proofs.ReclaimGoes.{start, asked, old, Does}
-use Rattle.laws_loan.proofs.Reclaiming.{reclaim_at, none_more}
+use Rattle.laws_loan.proofs.Reclaiming.{reclaim_at, none_more, passing_before, passing_sent}
 use Rattle.laws_loan.proofs.Rooms.{sent_below}
-use Rattle.laws_loan.proofs.Spots.{is_waiting, waits_there, spot_other, spot_moved}
+use Rattle.laws_loan.proofs.Spots.{is_waiting, waits_there}
 use Rattle.laws_loan.proofs.Submission as submission
-use Rattle.laws_loan.proofs.Table.{sent_there, waiting_away, hands_it_out}
+use Rattle.laws_loan.proofs.Table.{waiting_away, hands_it_out}
 use Rattle.laws_loan.proofs.Told.{items, Tells}
 
 abbrev drains : PopStage → ReclaimStage
@@ -211,9 +207,6 @@ module _ {T : Type 0} (code : Coding T) (slots queue : ℕ) (s : Channel T) (lat
       abbrev k : Core ℕ
       k = taken 1 words_of_index (queue + 1) s.submission rest
 
-      abbrev handing : Move
-      handing = record { index = u; from = Waiting; to = Passing 0 }
-
       on_moves : 1 < length queued
       on_moves = let all = wide in omega arith
 
@@ -222,31 +215,6 @@ module _ {T : Type 0} (code : Coding T) (slots queue : ℕ) (s : Channel T) (lat
 
       was_waiting : spot_of u s.events ≡ Waiting
       was_waiting = waits_there (spot_of u s.events) (first_there is_waiting s.submission.waiting rest s.events u first h.parts.placed.waits)
-
-      now_passing : spot_of u (s.events ++ hands ∷ []) ≡ Passing 0
-      now_passing = spot_moved s.events hands handing refl
-
-      elsewhere : (i : ℕ) → u ≢ i → spot_of i (s.events ++ hands ∷ []) ≡ spot_of i s.events
-      elsewhere i ne = spot_other s.events hands handing refl i ne
-
-      passing : (i q : ℕ) → q ≢ 0 → spot_of i (s.events ++ hands ∷ []) ≡ Passing q → spot_of i s.events ≡ Passing q
-      passing i q theirs e = ⊎_elim
-          (λ (same : u ≡ i).
-          let both : Passing 0 ≡ Passing q = sym now_passing ∙ (ap (λ n. spot_of n (s.events ++ hands ∷ [])) same ∙ e) in
-          absurd (theirs (cc)))
-          (λ (ne : u ≢ i). sym (elsewhere i ne) ∙ e)
-          (cases_eq u i)
-
-      was_sent : place_at s.book.places u ≡ places.Sent
-      was_sent =
-          sent_there (place_at s.book.places u) Waiting
-          (subst (IsIn (place_at s.book.places u)) was_waiting (h.parts.placed.keeps.places u)) waiting_away
-
-      sent : (i : ℕ) → spot_of i (s.events ++ hands ∷ []) ≡ Passing 0 → place_at s.book.places i ≡ places.Sent
-      sent i e = ⊎_elim
-          (λ (same : u ≡ i). subst (λ n. place_at s.book.places n ≡ places.Sent) same was_sent)
-          (λ (ne : u ≢ i). known.sent i (sym (elsewhere i ne) ∙ e))
-          (cases_eq u i)
 
       -- the reclaim pops the queue as it hands the index out
       tells_out : Tells queue true s.submission.waiting rest s.completion.waiting s.completion.waiting (hands ∷ [])
@@ -288,8 +256,9 @@ module _ {T : Type 0} (code : Coding T) (slots queue : ℕ) (s : Channel T) (lat
             moves = ((below, was_waiting), tt);
             begins = (tt, tt);
             answers = (tt, tt);
-            passing = passing;
-            sent = sent;
+            passing =
+                passing_before slots queue s wrote under known h.parts.placed.keeps hands u Waiting refl was_waiting waiting_away;
+            sent = passing_sent slots queue s wrote under known h.parts.placed.keeps hands u Waiting refl was_waiting waiting_away;
             receiver = fold-append receiver_after 1 s.events (hands ∷ []);
             reclaiming = refl;
             claims = refl;

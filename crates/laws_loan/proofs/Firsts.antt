@@ -1,6 +1,6 @@
 -- What the first stage of each call of a loan channel knows, where no row refuses its begin.
-use Rattle.std.proofs.Common.{◌≡◌, ◌≢◌, ℕ, ◌+◌, ◌<◌, ◌≤◌, ◌⊎◌, ◌==◌, inl, inr, ⊎_elim, nat_le, Bool, true, false, not}
-use Rattle.std.proofs.Common.{Some, None, List, [], ◌∷◌, ◌++◌, get_or, refl, sym, ap, subst, ◌∙◌, arith}
+use Rattle.std.proofs.Common.{◌≡◌, ◌≢◌, ℕ, ◌+◌, ◌<◌, ◌≤◌, ◌⊎◌, ◌==◌, inl, inr, ⊎_elim, nat_le, true, false, not}
+use Rattle.std.proofs.Common.{Option, Some, None, List, [], ◌∷◌, ◌++◌, get_or, refl, sym, ap, subst, ◌∙◌, arith}
 use Rattle.std.proofs.lemmas.Bool.{cases_eq}
 use Rattle.std.proofs.lemmas.Bool.Decides.{nat_tests}
 use Rattle.std.proofs.lemmas.List.Sums.{fold-append}
@@ -12,6 +12,7 @@ use Rattle.steps.specs.Loan.Layout.{submission_word}
 use Rattle.model.specs.declared.event.Event.{Event}
 use Rattle.model.specs.declared.event.Event.TheVariants.{Begun}
 use Rattle.model.specs.declared.event.Start.TheVariants as starts
+use Rattle.model.specs.declared.families.Flight as flights
 use Rattle.model.specs.declared.families.loan.LoanStart.{LoanStart}
 use Rattle.model.specs.declared.families.loan.LoanStart.TheVariants as calls
 use Rattle.model.specs.declared.families.loan.calls.LoanFlight.{LoanFlight}
@@ -20,7 +21,9 @@ use Rattle.model.specs.declared.party.Party.{Party}
 use Rattle.model.specs.Coding.{Coding}
 use Rattle.model.specs.Families.Indices.Robust.Dead.{has_died}
 use Rattle.model.specs.Families.Loan.Calls.{loan_of, give_up_of, take_back_of, give_back_of}
-use Rattle.model.specs.Families.Loan.Reading.{Passing, With, Move, move_of, spot_of, receiver_after, receiver_of, died_after}
+use Rattle.model.specs.Families.Loan.Opening.{asks_for, taken_from}
+use Rattle.model.specs.Families.Loan.Promises.{ComesFrom, BeginsRight}
+use Rattle.model.specs.Families.Loan.Reading.{Passing, With, Move, move_of, spot_of, receiver_after, receiver_of, died_after, reclaims_after}
 use Rattle.model.specs.Families.Queues.Calls.{fresh}
 use Rattle.model.specs.Families.Queues.Opening.{holds}
 use Rattle.model.specs.Reading.{Open, span_of}
@@ -28,7 +31,8 @@ use Rattle.model.proofs.Readings.{span_of-own, span_of-other}
 use Rattle.model.specs.Shape.{IsShut}
 use Rattle.laws_loan.proofs.Begins.{IsFirst, shut_none}
 use Rattle.laws_loan.proofs.Channel.{Channel}
-use Rattle.laws_loan.proofs.Invariant.{reclaims_in, HoldsNow}
+use Rattle.laws_loan.proofs.Invariant.{hung, reclaims_in, HoldsNow}
+use Rattle.laws_loan.proofs.Knows.{counts, At, FlightKnows}
 use Rattle.laws_loan.proofs.Lists.{lists_stay}
 use Rattle.laws_loan.proofs.Placed.{Placed, placed_on}
 use Rattle.laws_loan.proofs.Rooms.{waits_few}
@@ -64,6 +68,10 @@ module _ {T : Type 0} (code : Coding T) (slots queue : ℕ) (s : Channel T) (lat
     abbrev begun : Event T
     begun = Begun p (starts.Loan start)
 
+    -- the channel then, where it asks for this index
+    abbrev began : Option ℕ → Channel T
+    began o = record s { book = taken_from s.book o; events = s.events ++ begun ∷ [] }
+
     same_receiver : receiver_of (s.events ++ begun ∷ []) ≡ receiver_of s.events
     same_receiver = fold-append receiver_after 1 s.events (begun ∷ [])
 
@@ -85,6 +93,32 @@ module _ {T : Type 0} (code : Coding T) (slots queue : ℕ) (s : Channel T) (lat
           })
           (lists_stay is_waiting s.submission.waiting s.events begun placed.waits none)
           (lists_stay is_returning s.completion.waiting s.events begun placed.returns none)
+
+      -- so much of its begin is the same for each of them
+      asks_none : (flight : LoanFlight) → asks_for start ≡ None → counts flight ≡ 0
+          → hung {T = T} s.submission.read (Some (flights.TheVariants.Loan flight)) ≡ None → BeginsRight s.events begun
+          → reclaims_after (is_reclaiming s.events) begun ≡ reclaims_in (span_of 0 (s.events ++ begun ∷ []))
+          → At slots queue (began None) p [] start flight → FlightKnows slots queue (began None) changes changes 0 flight
+          → First p start flight
+      asks_none flight asks light calm begins reclaiming at knows =
+          record {
+            placed =
+                subst (λ o. Placed slots s.claims s.submission.waiting s.completion.waiting (taken_from s.book o) (s.events ++ begun ∷ []))
+                (sym asks) placed_still;
+            queue_stays = ap (λ o. (taken_from s.book o).queue) asks;
+            places_stay = ap (λ o. (taken_from s.book o).places) asks;
+            receiver_stays = ap (λ o. (taken_from s.book o).receiver) asks;
+            dead_stay = ap (λ o. (taken_from s.book o).dead) asks;
+            light = light;
+            calm = calm;
+            moves = subst (λ m. ComesFrom slots m s.events) (sym none) tt;
+            begins = begins;
+            reclaiming = reclaiming;
+            stays = λ index q e. stays_put index ∙ e;
+            passing = λ index q e. inl (sym (stays_put index) ∙ e);
+            at = subst (λ o. At slots queue (began o) p [] start flight) (sym asks) at;
+            knows = subst (λ o. FlightKnows slots queue (began o) changes changes 0 flight) (sym asks) knows;
+          }
 
     -- one that asks for an index moves it from its party
     module _ (index : ℕ) (is : move_of {T = T} begun ≡ Some (record { index = index; from = With p; to = Passing p }))
@@ -120,42 +154,12 @@ module _ {T : Type 0} (code : Coding T) (slots queue : ℕ) (s : Channel T) (lat
     not_reclaiming start other = quiet ∙ (sym other ∙ sym (ap reclaims_in (span_of-own 0 s.events (Begun 0 (starts.Loan start) ∷ []) (refl, tt))))
 
     pub loan_first : First 0 calls.Loan (loan_of slots)
-    loan_first =
-        record {
-          placed = placed_still 0 calls.Loan refl;
-          queue_stays = refl;
-          places_stay = refl;
-          receiver_stays = refl;
-          dead_stay = refl;
-          light = refl;
-          calm = refl;
-          moves = tt;
-          begins = refl;
-          reclaiming = not_reclaiming calls.Loan refl;
-          stays = λ index q e. stays_put 0 calls.Loan refl index ∙ e;
-          passing = λ index q e. inl (sym (stays_put 0 calls.Loan refl index) ∙ e);
-          at = (refl, refl, refl, tt);
-          knows = refl;
-        }
+    loan_first = asks_none 0 calls.Loan refl (loan_of slots) refl refl refl refl (not_reclaiming calls.Loan refl) (refl, refl, refl, tt) refl
 
     pub take_back_first : First 0 calls.TakeBack (take_back_of slots queue)
     take_back_first =
-        record {
-          placed = placed_still 0 calls.TakeBack refl;
-          queue_stays = refl;
-          places_stay = refl;
-          receiver_stays = refl;
-          dead_stay = refl;
-          light = refl;
-          calm = refl;
-          moves = tt;
-          begins = refl;
-          reclaiming = not_reclaiming calls.TakeBack refl;
-          stays = λ index q e. stays_put 0 calls.TakeBack refl index ∙ e;
-          passing = λ index q e. inl (sym (stays_put 0 calls.TakeBack refl index) ∙ e);
-          at = (refl, refl, refl, refl, omega arith);
-          knows = refl;
-        }
+        asks_none 0 calls.TakeBack refl (take_back_of slots queue) refl refl refl refl (not_reclaiming calls.TakeBack refl)
+        (refl, refl, refl, refl, omega arith) refl
 
     module _ (index : ℕ) (below : index < slots) (has : spot_of index s.events ≡ With 0) where
       pub give_up_first : First 0 (calls.GiveUp index) (give_up_of slots index)
@@ -230,37 +234,24 @@ module _ {T : Type 0} (code : Coding T) (slots queue : ℕ) (s : Channel T) (lat
     pub reclaim_first : IsShut (span_of 0 s.events) → has_died s.book.receiver s.book.dead ≡ true → First 0 calls.Reclaim reclaim_at
     reclaim_first shut dead =
         let few = waits_few slots s.claims s.submission.waiting s.completion.waiting s.book s.events h.parts.placed in
-        record {
-          placed = placed_still 0 calls.Reclaim refl;
-          queue_stays = refl;
-          places_stay = refl;
-          receiver_stays = refl;
-          dead_stay = refl;
-          light = refl;
-          calm = refl;
-          moves = tt;
-          begins = refl;
-          reclaiming = sym (ap reclaims_in (span_of-own 0 s.events (Begun 0 (starts.Loan calls.Reclaim) ∷ []) (refl, tt)));
-          stays = λ index q e. stays_put 0 calls.Reclaim refl index ∙ e;
-          passing = λ index q e. inl (sym (stays_put 0 calls.Reclaim refl index) ∙ e);
-          at = (
-            refl,
-            refl,
-            refl,
-            record {
-              dead = dead;
-              sent =
-                  λ index e. absurd
-                  (shut_none index (span_of 0 s.events) shut (h.passing index 0 (sym (stays_put 0 calls.Reclaim refl index) ∙ e)));
-              claims = refl;
-              publishes = refl;
-              gives = refl;
-              acts = refl;
-              stage_at = (tt, (omega arith), refl, refl);
-            },
-          );
-          knows = refl;
-        }
+        asks_none 0 calls.Reclaim refl reclaim_at refl refl refl refl
+        (sym (ap reclaims_in (span_of-own 0 s.events (Begun 0 (starts.Loan calls.Reclaim) ∷ []) (refl, tt)))) (
+          refl,
+          refl,
+          refl,
+          record {
+            dead = dead;
+            sent =
+                λ index e. absurd
+                (shut_none index (span_of 0 s.events) shut (h.passing index 0 (sym (stays_put 0 calls.Reclaim refl index) ∙ e)));
+            claims = refl;
+            publishes = refl;
+            gives = refl;
+            acts = refl;
+            stage_at = (tt, (omega arith), refl, refl);
+          },
+        )
+        refl
 
   -- ---- the receiver's calls
 
@@ -282,22 +273,8 @@ module _ {T : Type 0} (code : Coding T) (slots queue : ℕ) (s : Channel T) (lat
 
     pub receive_first : 1 ≤ queue → First p calls.Receive receive_at
     receive_first some =
-        record {
-          placed = placed_still p calls.Receive refl;
-          queue_stays = refl;
-          places_stay = refl;
-          receiver_stays = refl;
-          dead_stay = refl;
-          light = refl;
-          calm = refl;
-          moves = tt;
-          begins = (receiver_is p is).1;
-          reclaiming = as_before calls.Receive;
-          stays = λ index q e. stays_put p calls.Receive refl index ∙ e;
-          passing = λ index q e. inl (sym (stays_put p calls.Receive refl index) ∙ e);
-          at = (other, refl, refl, refl, refl, λ alive. (is, some));
-          knows = omega arith;
-        }
+        asks_none p calls.Receive refl receive_at refl refl refl (receiver_is p is).1 (as_before calls.Receive)
+        (other, refl, refl, refl, refl, λ alive. (is, some)) (omega arith)
 
     pub give_back_first : (index : ℕ) → index < slots → spot_of index s.events ≡ With p → First p (calls.GiveBack index) (give_back_of slots queue p index)
     give_back_first index below has =

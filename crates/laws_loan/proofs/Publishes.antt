@@ -1,8 +1,7 @@
 -- The store of the next write position by a send: its index is published, and the send acts where there is room.
-use Rattle.std.proofs.Common.{◌≡◌, ◌≢◌, ℕ, ◌+◌, ◌-◌, ◌^◌, ◌<◌, ◌≤◌, ◌==◌, ⊎_elim, Bool, true, false, Option, Some}
+use Rattle.std.proofs.Common.{◌≡◌, ◌≢◌, ℕ, ◌+◌, ◌-◌, ◌^◌, ◌<◌, ◌≤◌, ◌==◌, Bool, true, false, Option, Some}
 use Rattle.std.proofs.Common.{List, [], ◌∷◌, ◌++◌, length, fold, refl, sym, ap, subst, ◌∙◌, append-nil, append_assoc}
 use Rattle.std.proofs.Common.{length-append, arith}
-use Rattle.std.proofs.lemmas.Bool.{cases_eq}
 use Rattle.std.proofs.lemmas.Bool.Decides.{nat_tests}
 use Rattle.std.proofs.lemmas.List.{map-append}
 use Rattle.std.proofs.lemmas.List.Sums.{fold-append}
@@ -38,12 +37,13 @@ use Rattle.model.specs.Promises.Spans.{Stands}
 use Rattle.model.specs.Reading.{Open, own_after, span_of}
 use Rattle.model.specs.Turns.{change_of}
 use Rattle.model.proofs.Frame as frame
-use Rattle.model.proofs.Readings.{AreOwn, AllFollow, AreRight, span_of-own, span_of-other}
+use Rattle.model.proofs.Readings.{AreOwn, AllFollow, AreRight, span_of-own}
 use Rattle.laws_queues.proofs.Overflow.Core.{push_room, push_waits}
 use Rattle.laws_queues.proofs.Overflow.Keeping.{publish_keeps_pop}
 use Rattle.laws_queues.proofs.Queues.Core.{Core, Holds, published}
+use Rattle.laws_loan.proofs.Carried.{moved_on}
 use Rattle.laws_loan.proofs.Channel.{Channel, words_in}
-use Rattle.laws_loan.proofs.Invariant.{Hangs, sends_at, counted_for, hung, reclaims_in, Carries, HoldsNow, family}
+use Rattle.laws_loan.proofs.Invariant.{Hangs, sends_at, counted_for, hung, reclaims_in, HoldsNow, family}
 use Rattle.laws_loan.proofs.Knows.{Passes, push_wrote}
 use Rattle.laws_loan.proofs.OnQueues.{OnQueues, queues_show}
 use Rattle.laws_loan.proofs.Placed.{Placed}
@@ -169,21 +169,6 @@ module _ {T : Type 0} (code : Coding T) (slots queue : ℕ) (s : Channel T) (lat
         ∙ (receiver_still (s.events ++ publishes ∷ []) tail is.still
         ∙ fold-append receiver_after 1 s.events (publishes ∷ []))
 
-    passing_then : (i q : ℕ) → spot_of i (s.events ++ es) ≡ Passing q → Carries i (span_of q (s.events ++ es))
-    passing_then i q e = ⊎_elim mine others (cases_eq index i)
-      where
-        mine : index ≡ i → Carries i (span_of q (s.events ++ es))
-        mine same = absurd (waiting_passes q (sym now_waiting ∙ (ap (λ n. spot_of n (s.events ++ es)) same ∙ e)))
-
-        others : index ≢ i → Carries i (span_of q (s.events ++ es))
-        others ne =
-            let carried = h.passing i q (sym (elsewhere i ne) ∙ e) in
-            ⊎_elim
-            (λ (sender : q ≡ 0). none_carried code slots queue s latest turns changes since x h small index straight
-            i ne (subst (Carries i) from (subst (λ n. Carries i (span_of n s.events)) sender carried)))
-            (λ (theirs : q ≢ 0). subst (Carries i) (sym (span_of-other 0 q s.events es theirs (refl, is.own))) carried)
-            (cases_eq q 0)
-
     module _ (whole_cell : Holds 1 words_of_index (queue + 1) s.submission.cells s.submission.write index 1)
         (after : After LoanFlight (Answer T)) (busy : counted_for (flight_of (Some (party after).doing)) ≡ 0)
         (hangs : Hangs queue k (hung k.read (flight_of (Some (party after).doing))))
@@ -209,7 +194,10 @@ module _ {T : Type 0} (code : Coding T) (slots queue : ℕ) (s : Channel T) (lat
             moves = ((passes.0, passes.1), is.moves);
             begins = (tt, is.begins);
             answers = (tt, is.answers);
-            passing = passing_then;
+            passing =
+                moved_on 0 s.events es (refl, is.own) (Open call []) from index elsewhere h.passing
+                (λ i ne. none_carried code slots queue s latest turns changes since x h small index straight i ne)
+                Waiting now_waiting (λ q e. absurd (waiting_passes q e));
           }
 
       publishing : frame.Fits channel (s_then tail) 0 (Some (party after)) (fold own_after (Open call (publishes ∷ [])) tail)

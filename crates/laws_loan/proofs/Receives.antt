@@ -3,7 +3,7 @@
 use Rattle.std.proofs.Common.{◌≡◌, ◌≢◌, ℕ, ◌+◌, ◌-◌, ◌*◌, ◌%◌, ◌^◌, ◌<◌, ◌≤◌, ◌==◌, ⊎_elim, Bool, true, false, Option}
 use Rattle.std.proofs.Common.{List, [], ◌∷◌, ◌++◌, length, get_or, take, fold, refl, sym, ap, subst, ◌∙◌, append-nil}
 use Rattle.std.proofs.Common.{arith}
-use Rattle.std.proofs.lemmas.Bool.{cases_eq, cases_lt}
+use Rattle.std.proofs.lemmas.Bool.{cases_lt}
 use Rattle.std.proofs.lemmas.Bool.Decides.{nat_tests}
 use Rattle.std.proofs.lemmas.List.{nil_from_length, set-get_or}
 use Rattle.std.proofs.Math.Seq.{take-nil}
@@ -33,7 +33,7 @@ use Rattle.model.specs.declared.party.Party.{Party}
 use Rattle.model.specs.Coding.{Coding}
 use Rattle.model.specs.Families.{ask_of}
 use Rattle.model.specs.Families.Indices.Robust.Dead.{has_died}
-use Rattle.model.specs.Families.Loan.Reading.{Passing, spot_of, receiver_of}
+use Rattle.model.specs.Families.Loan.Reading.{Passing, spot_of}
 use Rattle.model.specs.Families.Loan.Steps.{ended_book, book_after, receive_effect, effects_of}
 use Rattle.model.specs.Families.Queues.Calls.{popped}
 use Rattle.model.specs.Reading.{Span, Open, span_of}
@@ -43,14 +43,12 @@ use Rattle.model.proofs.Readings.{span_of-other}
 use Rattle.laws_queues.proofs.Overflow.Core.{oldest}
 use Rattle.laws_queues.proofs.Overflow.Knows.{KnowsOverflowPop, KnowsBacks, overflow_pop_number}
 use Rattle.laws_queues.proofs.Queues.Knows.{layout}
+use Rattle.laws_loan.proofs.Carried.{carried_on}
 use Rattle.laws_loan.proofs.Channel.{Channel, no_roles, words_in}
 use Rattle.laws_loan.proofs.Cuts.{IsOn}
-use Rattle.laws_loan.proofs.Giving.{OnCompletion, GivingStep, given_to, given_shows}
+use Rattle.laws_loan.proofs.Giving.{OnCompletion, GivingStep, given_shows, gives_on}
 use Rattle.laws_loan.proofs.Invariant.{sends_at, counted_for, reclaims_in, Carries, HoldsNow}
-use Rattle.laws_loan.proofs.Knows.{wrote_in, At}
-use Rattle.laws_loan.proofs.OnQueues.{silent_tells}
 use Rattle.laws_loan.proofs.Parts.{submission_long, submission_old, submission_words}
-use Rattle.laws_loan.proofs.Placed.{Placed}
 use Rattle.laws_loan.proofs.Sender.{party_then}
 use Rattle.laws_loan.proofs.Still.{AreStill, spots_still, receiver_still, placed_still}
 use Rattle.laws_loan.proofs.Submission as submission
@@ -145,64 +143,14 @@ module _ {T : Type 0} (code : Coding T) (slots queue : ℕ) (s : Channel T) (lat
       (known : KnowsOverflowPop queue s.submission room after_it) (one : step_count (asked now) ≡ 1)
       (steps : x.steps + 1 ≤ 2 * (x.backs + one_if back) + overflow_pop_number after_it)
       (paid : (n : ℕ) → KnowsBacks s.submission (since + n) (changes + n) (x.backs + one_if back) after_it) where
-    abbrev y_on : Party T
-    y_on = party_then s x since changes calls.Receive (asked now) back (GoOn (receive_at slots queue p after_it room))
-
-    abbrev s_on : Channel T
-    s_on = given_to slots queue s latest turns p y_on s.completion []
-
-    as_was : span_of p (s.events ++ []) ≡ spanned
-    as_was = ap (span_of p) (append-nil s.events) ∙ from
-
-    on_completion_goes : OnCompletion slots queue s latest turns p y_on s.completion []
-    on_completion_goes =
-        let given = h.given in
-        let same : receiver_of (s.events ++ []) ≡ receiver_of s.events = ap receiver_of (append-nil s.events) in
-        record {
-          other = other;
-          good = h.parts.completion;
-          placed = subst (Placed slots s.claims s.submission.waiting s.completion.waiting s.book) (sym (append-nil s.events)) h.parts.placed;
-          tells =
-              silent_tells queue (is_reclaiming s.events) s.submission.waiting s.completion.waiting s.completion.waiting
-              [] refl refl refl (append-nil s.completion.waiting);
-          reclaiming = h.reclaiming ∙ ap (λ es. reclaims_in (span_of 0 es)) (sym (append-nil s.events));
-          write = omega arith;
-          receivers = (omega arith, omega arith);
-          moves = tt;
-          begins = tt;
-          answers = tt;
-          passing =
-              λ i q e. subst (λ es. Carries i (span_of q es)) (sym (append-nil s.events))
-              (h.passing i q (ap (spot_of i) (sym (append-nil s.events)) ∙ e));
-        }
-
     goes_on : Looks now back (GoOn (receive_at slots queue p after_it room)) effects.Quiet
-    goes_on =
-        let wrote_is : [] ≡ wrote_in (span_of p (s.events ++ [])) = sym (ap wrote_in as_was) in (
-          record {
-            words = words_are now on words;
-            shows = given_shows slots queue s latest turns p y_on s.completion [] h on_completion_goes;
-            own = tt;
-            stands = tt;
-            here =
-                record {
-                  span = ap (λ wrote. Open call wrote) wrote_is;
-                  steps = omega arith;
-                  at =
-                      subst (λ wrote. At slots queue s_on p wrote calls.Receive (receive_at slots queue p after_it room))
-                      wrote_is (other, refl, refl, refl, refl, λ lives. (receives, known));
-                };
-            knows = paid (change_of (words_in s) (asked now));
-            gives =
-                record {
-                  receiver = receives;
-                  alive = alive;
-                  pop = λ room stage known. known;
-                  passes = λ q i ne e. ap (spot_of i) (append-nil s.events) ∙ e;
-                };
-          },
-          refl,
-        )
+    goes_on = (
+      gives_on code slots queue s latest turns changes since x p h other alive receives calls.Receive [] from (asked now) back
+          s.completion refl refl h.parts.completion (λ room stage known. known) (receive_at slots queue p after_it room)
+          (words_are now on words) (omega arith) (other, refl, refl, refl, refl, λ lives. (receives, known))
+          (paid (change_of (words_in s) (asked now))),
+      refl,
+    )
 
   -- ---- nothing waits
 
@@ -234,11 +182,8 @@ module _ {T : Type 0} (code : Coding T) (slots queue : ℕ) (s : Channel T) (lat
 
     passing_none : (i q : ℕ) → spot_of i (s.events ++ told) ≡ Passing q → Carries i (span_of q (s.events ++ told))
     passing_none i q e =
-        let carried = h.passing i q (sym (spots_still i s.events told told_still) ∙ e) in
-        ⊎_elim
-        (λ (mine : q ≡ p). absurd (subst (Carries i) from (subst (λ n. Carries i (span_of n s.events)) mine carried)))
-        (λ (theirs : q ≢ p). subst (Carries i) (sym (span_of-other p q s.events told theirs (refl, (refl, tt)))) carried)
-        (cases_eq q p)
+        carried_on p s.events told (refl, (refl, tt)) spanned from i q (h.passing i q (sym (spots_still i s.events told told_still) ∙ e))
+        (λ carried. absurd carried)
 
     on_completion_none : OnCompletion slots queue s latest turns p y_none s.completion told
     on_completion_none =

@@ -18,8 +18,7 @@ use Rattle.laws_loan.proofs.Channel.{Channel}
 use Rattle.laws_loan.proofs.Invariant.{HoldsNow}
 use Rattle.laws_loan.proofs.Knows.{PushAt, push_wrote}
 use Rattle.laws_loan.proofs.Publishes.{stores_write}
-use Rattle.laws_loan.proofs.SendMoves.{moves, moves_read}
-use Rattle.laws_loan.proofs.SendLate.{late, acted, moves_late, loads_cell}
+use Rattle.laws_loan.proofs.SendMoves.{moves, moves_read, late, acted, moves_late, loads_cell}
 use Rattle.laws_loan.proofs.Sends.{Does, Here, loads_write, loads_read, stores_cell}
 
 module _ {T : Type 0} (code : Coding T) (slots queue : ℕ) (s : Channel T) (latest : List (ℕ × Party T))

@@ -39,7 +39,6 @@ use Rattle.laws_loan.proofs.Sender.{Steps}
 use Rattle.laws_loan.proofs.Knows.{push_wrote}
 use Rattle.laws_loan.proofs.StepLaw.{channel, holds_now, ComesWith, sender_comes, receiver_comes}
 use Rattle.laws_loan.proofs.TakeBacks as take_backs
-use Rattle.laws_loan.proofs.TakeBackMoves as take_back_moves
 use Rattle.laws_loan.proofs.TakeBacks.{pops_at}
 
 module _ {T : Type 0} (code : Coding T) (slots queue : ℕ) (t : Trace T)
@@ -101,7 +100,7 @@ module _ {T : Type 0} (code : Coding T) (slots queue : ℕ) (t : Trace T)
       let at = there.at in
       let from = ap (span_of 0) sound.holds.same ∙ (there.span ∙ ap (λ es. Open (starts.TheVariants.Loan calls.TakeBack) es) at.3) in
       let done =
-      take_back_moves.does code slots queue sound.state t.world.latest t.world.turns t.world.changes since x
+      take_backs.does code slots queue sound.state t.world.latest t.world.turns t.world.changes since x
       (holds_now code slots queue t sound x since) small stage found there.found from there.knows stage found at.4
       there.steps in
       from_step calls.TakeBack (take_backs.asked code slots queue sound.state t.world.latest t.world.turns t.world.changes since x
