@@ -31,7 +31,7 @@ use Rattle.model.proofs.Readings.{span_of-own, span_of-other}
 use Rattle.model.specs.Shape.{IsShut}
 use Rattle.laws_loan.proofs.Begins.{IsFirst, shut_none}
 use Rattle.laws_loan.proofs.Channel.{Channel}
-use Rattle.laws_loan.proofs.Invariant.{hung, reclaims_in, HoldsNow}
+use Rattle.laws_loan.proofs.Invariant.{hung, reclaims_in, Carries, HoldsNow}
 use Rattle.laws_loan.proofs.Knows.{counts, At, FlightKnows}
 use Rattle.laws_loan.proofs.Lists.{lists_stay}
 use Rattle.laws_loan.proofs.Placed.{Placed, placed_on}
@@ -143,6 +143,38 @@ module _ {T : Type 0} (code : Coding T) (slots queue : ℕ) (s : Channel T) (lat
           (λ (ne : index ≢ i). inl (sym (spot_other s.events begun move is i ne) ∙ e))
           (cases_eq index i)
 
+      now_passes : spot_of index (s.events ++ begun ∷ []) ≡ Passing p
+      now_passes = spot_moved s.events begun move is
+
+      asks_one : (flight : LoanFlight) → asks_for start ≡ Some index → counts flight ≡ 0
+          → hung {T = T} s.submission.read (Some (flights.TheVariants.Loan flight)) ≡ None → BeginsRight s.events begun
+          → reclaims_after (is_reclaiming s.events) begun ≡ reclaims_in (span_of 0 (s.events ++ begun ∷ []))
+          → index < slots → Carries {T = T} index (Open (starts.Loan start) [])
+          → Placed slots s.claims s.submission.waiting s.completion.waiting (taken_from s.book (Some index)) (s.events ++ begun ∷ [])
+          → At slots queue (began (Some index)) p [] start flight → FlightKnows slots queue (began (Some index)) changes changes 0 flight
+          → First p start flight
+      asks_one flight asks light calm begins reclaiming below carries placed at knows =
+          record {
+            placed =
+                subst (λ o. Placed slots s.claims s.submission.waiting s.completion.waiting (taken_from s.book o) (s.events ++ begun ∷ []))
+                (sym asks) placed;
+            queue_stays = ap (λ o. (taken_from s.book o).queue) asks;
+            places_stay = ap (λ o. (taken_from s.book o).places) asks;
+            receiver_stays = ap (λ o. (taken_from s.book o).receiver) asks;
+            dead_stay = ap (λ o. (taken_from s.book o).dead) asks;
+            light = light;
+            calm = calm;
+            moves = subst (λ m. ComesFrom slots m s.events) (sym is) (below, has);
+            begins = begins;
+            reclaiming = reclaiming;
+            stays = moves_it;
+            passing = λ i q e. ⊎_elim (λ old. inl old)
+                (λ new. inr (new.0, subst (λ n. Carries {T = T} n (Open (starts.Loan start) [])) (sym new.1) carries))
+                (moved_or_not i q e);
+            at = subst (λ o. At slots queue (began o) p [] start flight) (sym asks) at;
+            knows = subst (λ o. FlightKnows slots queue (began o) changes changes 0 flight) (sym asks) knows;
+          }
+
   -- ---- the sender's calls, beside which no reclaim is under way
 
   module _ (idle : reclaims_in (span_of 0 s.events) ≡ false) where
@@ -162,32 +194,17 @@ module _ {T : Type 0} (code : Coding T) (slots queue : ℕ) (s : Channel T) (lat
         (refl, refl, refl, refl, omega arith) refl
 
     module _ (index : ℕ) (below : index < slots) (has : spot_of index s.events ≡ With 0) where
+      placed_then : (start : LoanStart) → move_of {T = T} (Begun 0 (starts.Loan start)) ≡ Some (record { index = index; from = With 0; to = Passing 0 })
+          → Placed slots s.claims s.submission.waiting s.completion.waiting (taken_from s.book (Some index))
+          (s.events ++ Begun 0 (starts.Loan start) ∷ [])
+      placed_then start is =
+          sender_begins slots s.claims s.submission.waiting s.completion.waiting s.book s.events h.parts.placed index below start is has
+
       pub give_up_first : First 0 (calls.GiveUp index) (give_up_of slots index)
       give_up_first =
-          record {
-            placed =
-                sender_begins slots s.claims s.submission.waiting s.completion.waiting s.book s.events h.parts.placed
-                index below (calls.GiveUp index) refl has;
-            queue_stays = refl;
-            places_stay = refl;
-            receiver_stays = refl;
-            dead_stay = refl;
-            light = refl;
-            calm = refl;
-            moves = (below, has);
-            begins = refl;
-            reclaiming = not_reclaiming (calls.GiveUp index) refl;
-            stays = moves_it 0 (calls.GiveUp index) index refl has;
-            passing = λ i q e. ⊎_elim (λ old. inl old) (λ new. inr (new.0, (new.1, refl))) (moved_or_not 0 (calls.GiveUp index) index refl has i q e);
-            at = (
-              refl,
-              refl,
-              refl,
-              refl,
-              (below, spot_moved s.events (Begun 0 (starts.Loan (calls.GiveUp index))) (move 0 (calls.GiveUp index) index refl has) refl),
-            );
-            knows = refl;
-          }
+          asks_one 0 (calls.GiveUp index) index refl has (give_up_of slots index) refl refl refl refl
+          (not_reclaiming (calls.GiveUp index) refl) below (refl, refl) (placed_then (calls.GiveUp index) refl)
+          (refl, refl, refl, refl, (below, now_passes 0 (calls.GiveUp index) index refl has)) refl
 
       abbrev pub send_at : LoanFlight
       send_at =
@@ -199,34 +216,9 @@ module _ {T : Type 0} (code : Coding T) (slots queue : ℕ) (s : Channel T) (lat
 
       pub send_first : 1 ≤ queue → First 0 (calls.Send index) send_at
       send_first some =
-          record {
-            placed =
-                sender_begins slots s.claims s.submission.waiting s.completion.waiting s.book s.events h.parts.placed
-                index below (calls.Send index) refl has;
-            queue_stays = refl;
-            places_stay = refl;
-            receiver_stays = refl;
-            dead_stay = refl;
-            light = refl;
-            calm = refl;
-            moves = (below, has);
-            begins = refl;
-            reclaiming = not_reclaiming (calls.Send index) refl;
-            stays = moves_it 0 (calls.Send index) index refl has;
-            passing = λ i q e. ⊎_elim (λ old. inl old) (λ new. inr (new.0, inl (new.1, refl))) (moved_or_not 0 (calls.Send index) index refl has i q e);
-            at = (
-              refl,
-              refl,
-              refl,
-              refl,
-              refl,
-              (
-                some,
-                (below, spot_moved s.events (Begun 0 (starts.Loan (calls.Send index))) (move 0 (calls.Send index) index refl has) refl),
-              ),
-            );
-            knows = refl;
-          }
+          asks_one 0 (calls.Send index) index refl has send_at refl refl refl refl
+          (not_reclaiming (calls.Send index) refl) below (inl (refl, refl)) (placed_then (calls.Send index) refl)
+          (refl, refl, refl, refl, refl, (some, (below, now_passes 0 (calls.Send index) index refl has))) refl
 
     abbrev pub reclaim_at : LoanFlight
     reclaim_at = Reclaim (record { slots = slots; queue = queue; stage = reclaims.TheVariants.Drains overflow_pops.TheVariants.LoadsRead })
@@ -278,37 +270,16 @@ module _ {T : Type 0} (code : Coding T) (slots queue : ℕ) (s : Channel T) (lat
 
     pub give_back_first : (index : ℕ) → index < slots → spot_of index s.events ≡ With p → First p (calls.GiveBack index) (give_back_of slots queue p index)
     give_back_first index below has =
-        record {
-          placed =
-              receiver_begins slots s.claims s.submission.waiting s.completion.waiting s.book s.events h.parts.placed
-              index below p other (receiver_is p is).1 has;
-          queue_stays = refl;
-          places_stay = refl;
-          receiver_stays = refl;
-          dead_stay = refl;
-          light = refl;
-          calm = refl;
-          moves = (below, has);
-          begins = (receiver_is p is).1;
-          reclaiming = as_before (calls.GiveBack index);
-          stays = moves_it p (calls.GiveBack index) index refl has;
-          passing = λ i q e. ⊎_elim (λ old. inl old) (λ new. inr (new.0, (new.1, refl))) (moved_or_not p (calls.GiveBack index) index refl has i q e);
-          at = (
-            other,
-            refl,
-            refl,
-            refl,
-            refl,
-            refl,
-            omega arith,
-            λ alive. (
-              is,
-              (
-                below,
-                spot_moved s.events (Begun p (starts.Loan (calls.GiveBack index))) (move p (calls.GiveBack index) index refl has) refl,
-              ),
-              tt,
-            ),
-          );
-          knows = refl;
-        }
+        asks_one p (calls.GiveBack index) index refl has (give_back_of slots queue p index) refl refl refl (receiver_is p is).1
+        (as_before (calls.GiveBack index)) below (refl, refl)
+        (receiver_begins slots s.claims s.submission.waiting s.completion.waiting s.book s.events h.parts.placed index below p
+        other (receiver_is p is).1 has) (
+          other,
+          refl,
+          refl,
+          refl,
+          refl,
+          refl,
+          omega arith,
+          λ alive. (is, (below, now_passes p (calls.GiveBack index) index refl has), tt),
+        ) refl
