@@ -28,7 +28,6 @@ use Rattle.model.proofs.Readings.{AreRight, Each-append}
 use Rattle.model.proofs.Rows.{may_begin, may_die, next_passes, decision_passes, MayBegin}
 use Rattle.model.proofs.Scenes.{stands_there}
 use Rattle.laws_loan.proofs.Channel.{Channel, Represents, kept_is}
-use Rattle.laws_loan.proofs.Lives.{lives}
 use Rattle.laws_loan.proofs.StepLaw.{channel}
 
 module _ {T : Type 0} where

@@ -33,7 +33,7 @@ use Rattle.model.specs.Families.Loan.Reading.{Passing, Waiting, spot_of, receive
 use Rattle.model.specs.Families.Loan.Steps.{sent_at}
 use Rattle.model.specs.Families.Queues.Calls.{words_of_index}
 use Rattle.model.specs.Families.Queues.Objects.{answer_of_item}
-use Rattle.model.specs.Families.Queues.Reading.{published, handed_out}
+use Rattle.model.specs.Families.Queues.Reading.{handed_out}
 use Rattle.model.specs.Reading.{Open, own_after, span_of}
 use Rattle.model.specs.Turns.{change_of}
 use Rattle.model.proofs.Readings.{span_of-own}

@@ -32,7 +32,7 @@ use Rattle.model.specs.declared.families.loan.effects.Effect.TheVariants as effe
 use Rattle.model.specs.declared.party.Party.{Party}
 use Rattle.model.specs.Coding.{Coding, one_word}
 use Rattle.model.specs.Families.{ask_of}
-use Rattle.model.specs.Families.Loan.Reading.{Passing, Returning, spot_of, receiver_after, receiver_of, given_back, taken_back}
+use Rattle.model.specs.Families.Loan.Reading.{Passing, Returning, spot_of, receiver_after, receiver_of, taken_back}
 use Rattle.model.specs.Families.Loan.Steps.{ended_book, book_after, take_back_effect, effects_of}
 use Rattle.model.specs.Families.Queues.Calls.{as_it_is, popped, words_of_index}
 use Rattle.model.specs.Reading.{Span, Open, own_after, span_of}
