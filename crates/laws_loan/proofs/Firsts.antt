@@ -36,7 +36,7 @@ use Rattle.laws_loan.proofs.Knows.{counts, At, FlightKnows}
 use Rattle.laws_loan.proofs.Lists.{lists_stay}
 use Rattle.laws_loan.proofs.Placed.{Placed, placed_on}
 use Rattle.laws_loan.proofs.Rooms.{waits_few}
-use Rattle.laws_loan.proofs.Spots.{is_waiting, is_returning, spot_stays, spot_other, spot_moved}
+use Rattle.laws_loan.proofs.Spots.{is_waiting, is_returning, spot_stays, spot_other, spot_moved, with_passes}
 use Rattle.laws_loan.proofs.Table.{sender_begins, receiver_begins}
 use Rattle.laws_loan.proofs.Told.{is_reclaiming}
 
@@ -47,10 +47,6 @@ is_that x0 x1 x2 = grind arith
 
 pub is_below : (slots index : ℕ) → nat_le slots index ≡ false → index < slots
 is_below slots index t = grind (arith, nat_tests)
-
--- a spot that is another's is not in passing
-other_spot : (p q : ℕ) → With p ≡ Passing q → ⊥
-other_spot p q e = absurd (cc)
 
 module _ {T : Type 0} (code : Coding T) (slots queue : ℕ) (s : Channel T) (latest : List (ℕ × Party T))
     (turns changes : ℕ) (h : HoldsNow slots queue s latest s.events turns) where
@@ -128,7 +124,7 @@ module _ {T : Type 0} (code : Coding T) (slots queue : ℕ) (s : Channel T) (lat
 
       moves_it : (i q : ℕ) → spot_of i s.events ≡ Passing q → spot_of i (s.events ++ begun ∷ []) ≡ Passing q
       moves_it i q e =
-          ⊎_elim (λ (same : index ≡ i). absurd (other_spot p q (sym has ∙ (ap (λ n. spot_of n s.events) same ∙ e))))
+          ⊎_elim (λ (same : index ≡ i). absurd (with_passes p q (sym has ∙ (ap (λ n. spot_of n s.events) same ∙ e))))
           (λ (ne : index ≢ i). spot_other s.events begun move is i ne ∙ e)
           (cases_eq index i)
 

@@ -52,7 +52,7 @@ use Rattle.laws_loan.proofs.Parts.{completion_long, completion_old, completion_w
 use Rattle.laws_loan.proofs.Placed.{Placed}
 use Rattle.laws_loan.proofs.Rooms.{returns_room}
 use Rattle.laws_loan.proofs.Sender.{party_then}
-use Rattle.laws_loan.proofs.Spots.{spot_stays, spot_other, spot_moved}
+use Rattle.laws_loan.proofs.Spots.{passing_same, returning_passes, passing_on, spot_stays, spot_other, spot_moved}
 use Rattle.laws_loan.proofs.Still.{placed_still}
 use Rattle.laws_loan.proofs.Table.{returns_it}
 use Rattle.laws_loan.proofs.Told.{is_reclaiming}
@@ -68,12 +68,6 @@ give_at slots queue p index stage =
 abbrev pub given_after : (T : Type 0) → ℕ → ℕ → ℕ → ℕ → After (Push ℕ) Bool → After LoanFlight (Answer T)
 given_after T slots queue p index push =
     as_call (λ r. GiveBack p r) answers.Truth (went_on as_it_is index tt (part_after (completion_word slots queue) push))
-
-returning_passes : (q : ℕ) → Returning ≡ Passing q → ⊥
-returning_passes q e = absurd (cc)
-
-passing_same : (p q : ℕ) → Passing p ≡ Passing q → p ≡ q
-passing_same p q e = cc
 
 module _ {T : Type 0} (code : Coding T) (slots queue : ℕ) (s : Channel T) (latest : List (ℕ × Party T))
     (turns changes since : ℕ) (x : Party T) (p index : ℕ) (h : HoldsNow slots queue s latest s.events turns)
@@ -209,9 +203,7 @@ module _ {T : Type 0} (code : Coding T) (slots queue : ℕ) (s : Channel T) (lat
 
   -- what is in passing in another party's call stays so
   passes_on : (q i : ℕ) → q ≢ p → spot_of i s.events ≡ Passing q → spot_of i (s.events ++ told) ≡ Passing q
-  passes_on q i ne e =
-      let apart : index ≢ i = λ same. ne (sym (passing_same p q (sym passes.1 ∙ (ap (λ n. spot_of n s.events) same ∙ e)))) in
-      elsewhere i apart ∙ e
+  passes_on q i ne e = passing_on s.events told index elsewhere (Passing p) passes.1 q (λ same. ne (sym (passing_same p q same))) i e
 
   same_receiver : receiver_of (s.events ++ told) ≡ receiver_of s.events
   same_receiver = fold-append receiver_after 1 s.events told

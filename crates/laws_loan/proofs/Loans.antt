@@ -39,8 +39,9 @@ use Rattle.laws_loan.proofs.Placed.{claim_of, Placed}
 use Rattle.laws_loan.proofs.Rests as rests
 use Rattle.laws_loan.proofs.Sender.{party_then, Steps}
 use Rattle.laws_loan.proofs.SetSteps.{TakesAt, AcquireStep, acquire_step}
-use Rattle.laws_loan.proofs.Spots.{spot_other, spot_moved}
+use Rattle.laws_loan.proofs.Spots.{free_passes, with_passes, passing_on, spot_other, spot_moved}
 use Rattle.laws_loan.proofs.Table.{claims_it, loan_ends}
+use Rattle.laws_loan.proofs.Theirs.{stays_beside}
 use Rattle.laws_loan.proofs.Told.{is_reclaiming}
 
 abbrev pub loan_at : ℕ → AcquireStage → LoanFlight
@@ -49,12 +50,6 @@ loan_at slots stage = Loan (record { call = record { capacity = slots; stage = s
 -- an index that nobody has claimed is free
 none_free : (spot : Spot) → claim_of spot ≡ None → spot ≡ Free
 none_free x0 x1 = grind arith
-
-free_not_passing : (q : ℕ) → Passing q ≡ Free → ⊥
-free_not_passing q e = absurd (cc)
-
-with_not_passing : (q : ℕ) → With 0 ≡ Passing q → ⊥
-with_not_passing q e = absurd (cc)
 
 -- each stage takes one operation
 one_step : (slots : ℕ) (stage : AcquireStage) → step_count (ask_of (acquire_asks slots stage)) ≡ 1
@@ -208,7 +203,7 @@ module _ {T : Type 0} (code : Coding T) (slots queue : ℕ) (s : Channel T) (lat
           answers = (tt, (tt, tt));
           passing =
               moved_on 0 s.events told (refl, (refl, tt)) (Open (starts.Loan calls.Loan) []) from i elsewhere h.passing
-              (λ j ne carried. absurd carried) (With 0) now_with (λ q e. absurd (with_not_passing q e));
+              (λ j ne carried. absurd carried) (With 0) now_with (λ q e. absurd (with_passes 0 q e));
         }
 
     pub claims_steps : Steps code slots queue s latest turns changes since x s_got (Open (starts.Loan calls.Loan) []) calls.Loan ask false (Done got) told
@@ -234,14 +229,7 @@ module _ {T : Type 0} (code : Coding T) (slots queue : ℕ) (s : Channel T) (lat
           here = record { answer = got; wrote = claims_i ∷ []; span = refl; steps = omega arith };
           knows = omega arith;
           theirs = λ q ne.
-              record {
-                alive = λ alive. alive;
-                receiver = λ alive e. e;
-                pop = λ alive e room stage known. known;
-                passes = λ alive e j passes.
-                    let apart : i ≢ j = λ same. free_not_passing q (sym passes.1 ∙ (ap (λ n. spot_of n s.events) (sym same) ∙ free_before)) in
-                    (passes.0, elsewhere j apart ∙ passes.1);
-                push = λ j stage known. known;
-              };
+              stays_beside slots queue s s_got q refl refl (λ room stage known. known) (λ i stage known. known)
+              (passing_on s.events told i elsewhere Free free_before q (free_passes q));
           up = record { write = omega arith; read = omega arith; paid = omega arith };
         }

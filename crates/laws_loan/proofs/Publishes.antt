@@ -49,18 +49,13 @@ use Rattle.laws_loan.proofs.OnQueues.{OnQueues, queues_show}
 use Rattle.laws_loan.proofs.Placed.{Placed}
 use Rattle.laws_loan.proofs.Sender.{party_then, Steps}
 use Rattle.laws_loan.proofs.Sends.{pushes_at, asked, old, queued, goes, effect_at, StepTo, Does, reached, long, words_are, change_is, read_is, none_carried}
-use Rattle.laws_loan.proofs.Spots.{spot_other, spot_moved}
+use Rattle.laws_loan.proofs.Spots.{spot_other, spot_moved, passing_same, waiting_passes, passing_on}
 use Rattle.laws_loan.proofs.Still.{AreStill, spots_still, receiver_still, placed_still}
 use Rattle.laws_loan.proofs.Submission as submission
 use Rattle.laws_loan.proofs.Submission.{Room, HasRoom, IsFull, HasMoved}
 use Rattle.laws_loan.proofs.Table.{publishes_it}
+use Rattle.laws_loan.proofs.Theirs.{stays_beside}
 use Rattle.laws_loan.proofs.Told.{items, is_reclaiming, Tells}
-
-waiting_passes : (q : ℕ) → Waiting ≡ Passing q → ⊥
-waiting_passes q e = absurd (cc)
-
-passing_same : (p q : ℕ) → Passing p ≡ Passing q → p ≡ q
-passing_same p q e = cc
 
 module _ {T : Type 0} (code : Coding T) (slots queue : ℕ) (s : Channel T) (latest : List (ℕ × Party T))
     (turns changes since : ℕ) (x : Party T) (h : HoldsNow slots queue s latest s.events turns)
@@ -215,15 +210,8 @@ module _ {T : Type 0} (code : Coding T) (slots queue : ℕ) (s : Channel T) (lat
             here = fits;
             knows = knows;
             theirs = λ q ne.
-                record {
-                  alive = λ alive. alive;
-                  receiver = λ alive e. e;
-                  pop = λ alive e room stage known. publish_keeps_pop queue s.submission index room stage known;
-                  passes = λ alive e i other.
-                      let apart : index ≢ i = λ same. ne (passing_same q 0 (sym other.1 ∙ (ap (λ n. spot_of n s.events) (sym same) ∙ passes.1))) in
-                      (other.0, elsewhere i apart ∙ other.1);
-                  push = λ i stage known. known;
-                };
+                stays_beside slots queue s (s_then tail) q refl refl (publish_keeps_pop queue s.submission index) (λ i stage known. known)
+                (passing_on s.events es index elsewhere (Passing 0) passes.1 q (λ e. ne (sym (passing_same 0 q e))));
             up = record { write = omega arith; read = omega arith; paid = omega arith };
           }
 

@@ -42,12 +42,9 @@ use Rattle.laws_loan.proofs.Parts.{set_words}
 use Rattle.laws_loan.proofs.Rests as rests
 use Rattle.laws_loan.proofs.Sender.{party_then, Steps}
 use Rattle.laws_loan.proofs.SetSteps.{ReleaseLeads, ReleaseStep, claims_then, release_step}
-use Rattle.laws_loan.proofs.Spots.{spot_other, spot_moved}
+use Rattle.laws_loan.proofs.Spots.{passing_same, free_passes, passing_on, spot_other, spot_moved}
 use Rattle.laws_loan.proofs.Table.{frees_it}
-use Rattle.laws_loan.proofs.Theirs.{Stays}
-
-free_passes : (q : ℕ) → Free ≡ Passing q → ⊥
-free_passes q e = absurd (cc)
+use Rattle.laws_loan.proofs.Theirs.{stays_beside}
 
 -- each stage takes one operation
 one_step : (slots index : ℕ) (stage : ReleaseStage) → step_count (ask_of (back_asks slots index stage)) ≡ 1
@@ -128,6 +125,9 @@ module _ {T : Type 0} (code : Coding T) (slots queue : ℕ) (s : Channel T) (lat
     abbrev book_freed : Book
     book_freed = book_after {T = T} s.book (Freed 0 index)
 
+    abbrev s_freed : Channel T
+    s_freed = set_then slots queue s latest turns y_freed (words_after s.set clears_ask) (set s.claims index None) book_freed freed_es
+
     is_from : span_of 0 s.events ≡ Open (starts.Loan r.start) r.before
     is_from = from ∙ ap (λ es. Open (starts.Loan r.start) es) (append-nil r.before)
 
@@ -139,6 +139,9 @@ module _ {T : Type 0} (code : Coding T) (slots queue : ℕ) (s : Channel T) (lat
 
     now_free : spot_of index (s.events ++ freed_es) ≡ Free
     now_free = spot_moved s.events (Freed 0 index) (record { index = index; from = Passing 0; to = Free }) refl
+
+    elsewhere : (i : ℕ) → index ≢ i → spot_of i (s.events ++ freed_es) ≡ spot_of i s.events
+    elsewhere i ne = spot_other s.events (Freed 0 index) (record { index = index; from = Passing 0; to = Free }) refl i ne
 
     on_set : OnSet slots queue s latest turns y_freed (words_after s.set clears_ask) (set s.claims index None) book_freed freed_es
     on_set =
@@ -160,33 +163,11 @@ module _ {T : Type 0} (code : Coding T) (slots queue : ℕ) (s : Channel T) (lat
           begins = (tt, tt);
           answers = (tt, tt);
           passing =
-              moved_on 0 s.events freed_es (refl, tt) (Open (starts.Loan r.start) r.before) is_from index
-              (λ i ne. spot_other s.events (Freed 0 index) (record { index = index; from = Passing 0; to = Free }) refl i ne)
+              moved_on 0 s.events freed_es (refl, tt) (Open (starts.Loan r.start) r.before) is_from index elsewhere
               h.passing (λ i ne carried. absurd (ne (sym (r.carries i carried)))) Free now_free (λ q e. absurd (free_passes q e));
         }
 
-    -- what a receiver knows stays: another index is its own
-    theirs_stay : (q : ℕ) → q ≢ 0
-        → Stays slots queue s
-        (set_then slots queue s latest turns y_freed (words_after s.set clears_ask) (set s.claims index None) book_freed freed_es)
-        q
-    theirs_stay q ne =
-        record {
-          alive = λ alive. alive;
-          receiver = λ alive e. e;
-          pop = λ alive e room stage known. known;
-          passes = λ alive e i passes.
-              let apart : index ≢ i = λ same.
-              let both : Passing 0 ≡ Passing q = sym gives.1 ∙ (ap (λ n. spot_of n s.events) same ∙ passes.1) in
-              let zero : q ≡ 0 = cc in
-              ne zero
-              in
-              (passes.0, spot_other s.events (Freed 0 index) (record { index = index; from = Passing 0; to = Free }) refl i apart ∙ passes.1);
-          push = λ i stage known. known;
-        }
-
-    pub clears_steps : Steps code slots queue s latest turns changes since x
-        (set_then slots queue s latest turns y_freed (words_after s.set clears_ask) (set s.claims index None) book_freed freed_es)
+    pub clears_steps : Steps code slots queue s latest turns changes since x s_freed
         (Open (starts.Loan r.start) r.before) r.start clears_ask false (GoOn (r.at releases.TheVariants.LoadsHead))
         freed_es
     clears_steps =
@@ -204,20 +185,20 @@ module _ {T : Type 0} (code : Coding T) (slots queue : ℕ) (s : Channel T) (lat
                     (sym (r.number (wrote_in (span_of 0 (s.events ++ freed_es))) releases.TheVariants.LoadsHead (x.backs + 0)))
                     (omega arith);
                 at =
-                    subst (λ wrote. At slots queue (set_then slots queue s latest turns y_freed (words_after s.set clears_ask)
-                    (set s.claims index None) book_freed freed_es)
+                    subst (λ wrote. At slots queue s_freed
                     0 wrote r.start (r.at releases.TheVariants.LoadsHead))
                     wrote_is
-                    (r.stands (set_then slots queue s latest turns y_freed (words_after s.set clears_ask)
-                    (set s.claims index None) book_freed freed_es)
+                    (r.stands s_freed
                     releases.TheVariants.LoadsHead below);
               };
           knows =
               r.knows
-              (set_then slots queue s latest turns y_freed (words_after s.set clears_ask) (set s.claims index None) book_freed freed_es)
+              s_freed
               (since + change_of (words_in s) clears_ask) (changes + change_of (words_in s) clears_ask) (x.backs + 0)
               releases.TheVariants.LoadsHead (omega arith);
-          theirs = theirs_stay;
+          theirs = λ q ne.
+              stays_beside slots queue s s_freed q refl refl (λ room stage known. known) (λ i stage known. known)
+              (passing_on s.events freed_es index elsewhere (Passing 0) gives.1 q (λ e. ne (sym (passing_same 0 q e))));
           up = record { write = omega arith; read = omega arith; paid = omega arith };
         }
 

@@ -33,6 +33,7 @@ use Rattle.laws_loan.proofs.Knows.{counts, number_of, wrote_in, At, FlightKnows}
 use Rattle.laws_loan.proofs.OnSet.{OnSet, Silent, set_shows}
 use Rattle.laws_loan.proofs.Sender.{party_then, Steps}
 use Rattle.laws_loan.proofs.Still.{Still, AreStill, spots_still, receiver_still, placed_still}
+use Rattle.laws_loan.proofs.Theirs.{stays_beside}
 
 module _ {T : Type 0} (slots queue : ℕ) (s : Channel T) (latest : List (ℕ × Party T)) (ask : Option Ask) where
   -- what is so of the words then, with so many calls of the set in an acquire or a release
@@ -111,13 +112,8 @@ module _ {T : Type 0} (code : Coding T) (slots queue : ℕ) (s : Channel T) (lat
             here = here;
             knows = knows;
             theirs = λ q ne.
-                record {
-                  alive = λ alive. alive;
-                  receiver = λ alive e. e;
-                  pop = λ alive e room stage known. known;
-                  passes = λ alive e i passes. (passes.0, spots_still i s.events es still ∙ passes.1);
-                  push = λ i stage known. known;
-                };
+                stays_beside slots queue s (then_on es) q refl refl (λ room stage known. known) (λ i stage known. known)
+                (λ i e. spots_still i s.events es still ∙ e);
             up = record { write = omega arith; read = omega arith; paid = omega arith };
           }
 

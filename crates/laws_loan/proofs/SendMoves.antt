@@ -54,17 +54,12 @@ use Rattle.laws_loan.proofs.Rests as rests
 use Rattle.laws_loan.proofs.Rooms.{sent_below, index_is}
 use Rattle.laws_loan.proofs.Sender.{party_then}
 use Rattle.laws_loan.proofs.Sends.{pushes_at, asked, old, queued, goes, effect_at, StepTo, Does, Here, reached, long, old_is, words_are, change_is}
-use Rattle.laws_loan.proofs.Spots.{is_waiting, waits_there, spot_other, spot_moved}
+use Rattle.laws_loan.proofs.Spots.{is_waiting, waits_there, passing_same, waiting_passes, passing_on, spot_other, spot_moved}
 use Rattle.laws_loan.proofs.Still.{AreStill, spots_still, placed_still}
 use Rattle.laws_loan.proofs.Submission as submission
 use Rattle.laws_loan.proofs.Table.{hands_it_out}
+use Rattle.laws_loan.proofs.Theirs.{stays_beside}
 use Rattle.laws_loan.proofs.Told.{items, is_reclaiming, Tells}
-
-passing_same : (p q : ℕ) → Passing p ≡ Passing q → p ≡ q
-passing_same p q e = cc
-
-waiting_passes : (q : ℕ) → Waiting ≡ Passing q → ⊥
-waiting_passes q e = absurd (cc)
 
 module _ {T : Type 0} (code : Coding T) (slots queue : ℕ) (s : Channel T) (latest : List (ℕ × Party T))
     (turns changes since : ℕ) (x : Party T) (h : HoldsNow slots queue s latest s.events turns)
@@ -264,15 +259,8 @@ module _ {T : Type 0} (code : Coding T) (slots queue : ℕ) (s : Channel T) (lat
                 };
             knows = omega arith;
             theirs = λ q ne.
-                record {
-                  alive = λ alive. alive;
-                  receiver = λ alive e. e;
-                  pop = λ alive e room stage known. take_keeps_pop queue s.submission rest far room stage known;
-                  passes = λ alive e i other.
-                      let apart : u ≢ i = λ same. waiting_passes q (sym was_waiting ∙ (ap (λ n. spot_of n s.events) same ∙ other.1)) in
-                      (other.0, elsewhere i apart ∙ other.1);
-                  push = λ i stage known. known;
-                };
+                stays_beside slots queue s s_out q refl refl (take_keeps_pop queue s.submission rest far) (λ i stage known. known)
+                (passing_on s.events told u elsewhere Waiting was_waiting q (waiting_passes q));
             up = record { write = omega arith; read = omega arith; paid = omega arith };
           },
           refl,

@@ -49,6 +49,7 @@ use Rattle.laws_loan.proofs.Parts.{submission_old, submission_words, submission_
 use Rattle.laws_loan.proofs.Placed.{Placed}
 use Rattle.laws_loan.proofs.Sender.{party_then, Steps}
 use Rattle.laws_loan.proofs.Submission as submission
+use Rattle.laws_loan.proofs.Theirs.{stays_beside}
 use Rattle.laws_loan.proofs.Told.{is_reclaiming, Tells}
 
 abbrev pub pushes_at : ℕ → ℕ → PushStage → ℕ → LoanFlight
@@ -222,13 +223,7 @@ module _ {T : Type 0} (code : Coding T) (slots queue : ℕ) (s : Channel T) (lat
                 };
             knows = omega arith;
             theirs = λ q ne.
-                record {
-                  alive = λ alive. alive;
-                  receiver = λ alive e. e;
-                  pop = λ alive e room stage known. pops room stage known;
-                  passes = λ alive e i passes. (passes.0, ap (spot_of i) (append-nil s.events) ∙ passes.1);
-                  push = λ i stage known. known;
-                };
+                stays_beside slots queue s s_on q refl refl pops (λ i stage known. known) (λ i e. ap (spot_of i) (append-nil s.events) ∙ e);
             up = record { write = omega arith; read = omega arith; paid = omega arith };
           },
           refl,

@@ -57,20 +57,15 @@ use Rattle.laws_loan.proofs.Rests.{KeepsSet, keeps_all}
 use Rattle.laws_loan.proofs.Rests as rests
 use Rattle.laws_loan.proofs.Rooms.{back_below, index_is}
 use Rattle.laws_loan.proofs.Sender.{party_then, Steps}
-use Rattle.laws_loan.proofs.Spots.{is_returning, returns_there, spot_other, spot_moved}
+use Rattle.laws_loan.proofs.Spots.{is_returning, returns_there, passing_same, returning_passes, passing_on, spot_other, spot_moved}
 use Rattle.laws_loan.proofs.Table.{takes_it_back}
 use Rattle.laws_loan.proofs.TakenOff.{take_keeps, first_of}
+use Rattle.laws_loan.proofs.Theirs.{stays_beside}
 use Rattle.laws_loan.proofs.Told.{is_reclaiming}
 
 abbrev pub pops_at : ℕ → ℕ → PopStage → OneWord → LoanFlight
 pops_at slots queue stage found =
     TakeBack (record { call = record { slots = slots; queue = queue; stage = take_backs.TheVariants.Pops stage found }; given = tt; room = tt })
-
-passing_same : (p q : ℕ) → Passing p ≡ Passing q → p ≡ q
-passing_same p q e = cc
-
-not_passing : (q : ℕ) → Passing q ≡ Returning → ⊥
-not_passing q e = absurd (cc)
 
 module _ {T : Type 0} (code : Coding T) (slots queue : ℕ) (s : Channel T) (latest : List (ℕ × Party T))
     (turns changes since : ℕ) (x : Party T) (h : HoldsNow slots queue s latest s.events turns)
@@ -282,15 +277,8 @@ module _ {T : Type 0} (code : Coding T) (slots queue : ℕ) (s : Channel T) (lat
                 };
             knows = omega arith;
             theirs = λ q ne.
-                record {
-                  alive = λ alive. alive;
-                  receiver = λ alive e. e;
-                  pop = λ alive e room stage known. known;
-                  passes = λ alive e i passes.
-                      let apart : index ≢ i = λ same. not_passing q (sym passes.1 ∙ (ap (λ n. spot_of n s.events) (sym same) ∙ was_returning)) in
-                      (passes.0, elsewhere i apart ∙ passes.1);
-                  push = λ i stage known. take_keeps slots s.completion index rest first i stage known;
-                };
+                stays_beside slots queue s s_taken q refl refl (λ room stage known. known) (take_keeps slots s.completion index rest first)
+                (passing_on s.events (takes ∷ []) index elsewhere Returning was_returning q (returning_passes q));
             up = record { write = omega arith; read = omega arith; paid = omega arith };
           },
           refl,
