@@ -117,10 +117,7 @@ module _ {T : Type 0} (code : Coding T) (slots queue : ℕ) (s : Channel T) (lat
         (record { words = whole_words; good = good; unlocked = step.unlocked; calm = calm_before })
         (record { moves = refl; receiver = λ r. refl; dead = λ q b. refl }) refl
         (λ i below free. all i below (h.parts.placed.claimed i below ∙ ap claim_of free)) (λ i carried. carried)
-        (record {
-          moments = refl;
-          done = record { claimed = refl; published = refl; handed_out = refl; given_back = refl; taken_back = refl; freed = refl };
-        })
+        (grind arith)
         (omega arith)
 
   -- ---- it claims an index
@@ -218,10 +215,7 @@ module _ {T : Type 0} (code : Coding T) (slots queue : ℕ) (s : Channel T) (lat
             (
               (
                 refl,
-                record {
-                  moments = refl;
-                  done = record { claimed = refl; published = refl; handed_out = refl; given_back = refl; taken_back = refl; freed = refl };
-                },
+                grind arith,
               ),
               tt,
             ),

@@ -216,10 +216,7 @@ module _ {T : Type 0} (code : Coding T) (slots queue : ℕ) (s : Channel T) (lat
           (
             (
               refl,
-              record {
-                moments = refl;
-                done = record { claimed = refl; published = refl; handed_out = refl; given_back = refl; taken_back = refl; freed = refl };
-              },
+              grind arith,
             ),
             tt,
           ),

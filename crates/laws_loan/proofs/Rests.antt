@@ -46,13 +46,7 @@ module _ {T : Type 0} (slots queue : ℕ) (s : Channel T) (latest : List (ℕ ×
   -- a step that changes no word
   pub keeps_all : (turns : ℕ) → HoldsNow slots queue s latest s.events turns → words_after (words_in s) ask ≡ words_in s
       → counted_for (sends_at latest) ≡ 0 → hung s.submission.read (sends_at latest) ≡ None → KeepsSet s.set 0
-  keeps_all turns h words idle calm =
-      record {
-        words = words;
-        good = subst (λ n. indices.Good slots s.set s.claims n) idle h.parts.set;
-        unlocked = h.parts.unlocked;
-        calm = calm;
-      }
+  keeps_all x0 x1 x2 x3 x4 = grind arith
 
 module _ {T : Type 0} (code : Coding T) (slots queue : ℕ) (s : Channel T) (latest : List (ℕ × Party T))
     (turns changes since : ℕ) (x : Party T) (h : HoldsNow slots queue s latest s.events turns) (straight : x.backs ≡ 0)

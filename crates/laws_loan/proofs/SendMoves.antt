@@ -317,10 +317,7 @@ module _ {T : Type 0} (code : Coding T) (slots queue : ℕ) (s : Channel T) (lat
           (ap counted_for here) calm)
           (record { moves = refl; receiver = λ r. refl; dead = λ q b. refl }) refl tt
           (λ i carried. none_carried i (acted ∷ []) refl carried)
-          (record {
-            moments = refl;
-            done = record { claimed = refl; published = refl; handed_out = refl; given_back = refl; taken_back = refl; freed = refl };
-          })
+          (grind arith)
           (omega arith),
       refl,
     )

@@ -186,10 +186,7 @@ module _ {T : Type 0} (code : Coding T) (slots queue : ℕ) (s : Channel T) (lat
         (record { moves = refl; receiver = λ r. refl; dead = λ q b. refl }) refl
         (h.told.given ∙ (ap (λ xs. taken_back s.events ++ xs) empty ∙ append-nil (taken_back s.events)))
         (λ i carried. none_carried i carried)
-        (record {
-          moments = refl;
-          done = record { claimed = refl; published = refl; handed_out = refl; given_back = refl; taken_back = refl; freed = refl };
-        })
+        (grind arith)
         (omega arith),
     refl,
   )

@@ -1,6 +1,6 @@
 -- What a receiver's call goes on to know where the sender takes a step.
 use native.Mathlib.Omega.{arith}
-use Rattle.std.proofs.Common.{◌≡◌, ◌≢◌, ℕ, false, List, sym, subst, ◌∙◌}
+use Rattle.std.proofs.Common.{◌≡◌, ◌≢◌, ℕ, false, List}
 use Rattle.steps.specs.declared.copied.OneWord.{OneWord}
 use Rattle.steps.specs.declared.queues.overflow.PopStage.{PopStage}
 use Rattle.steps.specs.declared.queues.ring.PushStage.{PushStage}
@@ -33,14 +33,7 @@ module _ {T : Type 0} (slots queue : ℕ) (s s' : Channel T) where
       → ((room : OneWord) (stage : PopStage) → KnowsOverflowPop queue s.submission room stage → KnowsOverflowPop queue s'.submission room stage)
       → ((i : ℕ) (stage : PushStage) → KnowsPush one_word slots s.completion i stage → KnowsPush one_word slots s'.completion i stage)
       → ((i : ℕ) → spot_of i s.events ≡ Passing q → spot_of i s'.events ≡ Passing q) → Stays q
-  stays_beside q dead receiver pops pushes passing =
-      record {
-        alive = λ alive. subst (λ d. has_died q d ≡ false) dead alive;
-        receiver = λ alive e. e ∙ sym receiver;
-        pop = λ alive e. pops;
-        passes = λ alive e i passes. (passes.0, passing i passes.1);
-        push = pushes;
-      }
+  stays_beside x0 x1 x2 x3 x4 x5 = grind arith
 
   pub theirs_stay : (q : ℕ) → q ≢ 0 → Stays q → (wrote : List (Event T)) (start : LoanStart) (flight : LoanFlight)
       → At slots queue s q wrote start flight → At slots queue s' q wrote start flight
