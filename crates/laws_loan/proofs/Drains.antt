@@ -15,6 +15,7 @@ use Rattle.steps.specs.declared.queues.overflow.PopStage.{PopStage}
 use Rattle.steps.specs.declared.queues.overflow.PopStage as pops
 use Rattle.steps.specs.declared.queues.ring.PopStage as ring_pops
 use Rattle.steps.specs.Loan.Layout.{submission_word}
+use Rattle.steps.specs.Loan.Reclaim.{reclaim_goes_back}
 use Rattle.steps.specs.Queues.Overflow.{cell_word, pop_asks}
 use Rattle.steps.specs.Queues.Ring.{load}
 use Rattle.model.specs.declared.event.Answer.{Answer}
@@ -87,9 +88,6 @@ module _ {T : Type 0} (code : Coding T) (slots queue : ℕ) (s : Channel T) (lat
   abbrev To : Channel T → PopStage → After LoanFlight (Answer T) → Effect → Type 0
   To s' stage after effect = steps.StepTo code slots queue s latest turns changes since x wrote s' (drains stage) after effect
 
-  abbrev s_still : Channel T
-  s_still = steps.s_still code slots queue s latest turns changes since x wrote h under here idle from known straight
-
   -- ---- what is so of the queue
 
   abbrev queued : List ℕ
@@ -113,15 +111,14 @@ module _ {T : Type 0} (code : Coding T) (slots queue : ℕ) (s : Channel T) (lat
 
   -- ---- the loads
 
-  still : (now : PopStage) (after_it : ReclaimStage) → IsOn queued (pop_asks queue now)
+  loads : (now : PopStage) (after_it : ReclaimStage) → IsOn queued (pop_asks queue now)
       → words_after queued (ask_of (pop_asks queue now)) ≡ queued → reclaim_counts after_it ≡ 0
       → StageAt slots s.submission s.completion s.book.places wrote after_it → x.steps + step_count (asks now) ≤ reclaim_number slots wrote after_it
-      → To s_still now (GoOn (reclaim_at slots queue after_it)) effects.Quiet
-  still now after_it on words counted stands few = (
-    steps.goes_still code slots queue s latest turns changes since x wrote h under here idle from known straight
-        (drains now) after_it (words_are now s.submission on words) counted stands few,
-    refl,
-  )
+      → reclaim_goes_back (drains now) (value now) ≡ false → then_of now (value now) ≡ GoOn (reclaim_at slots queue after_it)
+      → effect_of now (value now) ≡ effects.Quiet → Does_at now
+  loads now after_it on words counted stands few =
+      steps.loads code slots queue s latest turns changes since x wrote h under here idle from known straight (drains now)
+      after_it (words_are now s.submission on words) counted stands few
 
   abbrev load_of_write : PopStage
   load_of_write = pops.TheVariants.LoadsWrite s.submission.read
@@ -136,16 +133,8 @@ module _ {T : Type 0} (code : Coding T) (slots queue : ℕ) (s : Channel T) (lat
     loads_read : x.steps ≤ 4 * length (handed_out wrote) → Does_at pops.TheVariants.LoadsRead
     loads_read few =
         let on : 1 < length queued = (let all = wide in omega arith) in
-        let is : then_of pops.TheVariants.LoadsRead (value pops.TheVariants.LoadsRead) ≡ GoOn (reclaim_at slots queue (drains load_of_write)) =
-        ap (then_of pops.TheVariants.LoadsRead) (old_is pops.TheVariants.LoadsRead on)
-        in
-        record {
-          channel_then = s_still;
-          stays = refl;
-          step =
-              subst (λ a. To s_still pops.TheVariants.LoadsRead a effects.Quiet) (sym is)
-              (still pops.TheVariants.LoadsRead (drains load_of_write) on refl refl (refl, most, none_taken, none_freed) (omega arith));
-        }
+        loads pops.TheVariants.LoadsRead (drains load_of_write) on refl refl (refl, most, none_taken, none_freed) (omega arith) refl
+        (ap (then_of pops.TheVariants.LoadsRead) (old_is pops.TheVariants.LoadsRead on)) refl
 
     -- nothing waits, or something does
     loads_write : x.steps ≤ 4 * length (handed_out wrote) + 1 → Does_at load_of_write
@@ -156,47 +145,25 @@ module _ {T : Type 0} (code : Coding T) (slots queue : ℕ) (s : Channel T) (lat
 
         go : (same : Bool) → (s.submission.write == s.submission.read) ≡ same → Does_at load_of_write
         go true e =
-            let is : then_of load_of_write (value load_of_write)
-            ≡ GoOn (reclaim_at slots queue (reclaims.TheVariants.Empties ring_pops.TheVariants.LoadsRead)) =
-            ap (then_of load_of_write) (old_is load_of_write on) ∙ (rw e refl)
-            in
             let same : s.submission.write ≡ s.submission.read = grind (arith, nat_tests) in
             let write = h.parts.submission.write in
             let empty : s.submission.waiting ≡ [] = none_long s.submission.waiting (omega arith) in
             let none : length (taken_back wrote) ≡ 0 = ap length none_taken in
             let within = h.parts.completion.few in
-            record {
-              channel_then = s_still;
-              stays = refl;
-              step =
-                  subst (λ a. To s_still load_of_write a effects.Quiet) (sym is)
-                  (still load_of_write (reclaims.TheVariants.Empties ring_pops.TheVariants.LoadsRead) on refl refl
-                  (tt, (omega arith), none_freed, empty) (omega arith));
-            }
+            loads load_of_write (reclaims.TheVariants.Empties ring_pops.TheVariants.LoadsRead) on refl refl
+            (tt, (omega arith), none_freed, empty) (omega arith) refl
+            (ap (then_of load_of_write) (old_is load_of_write on) ∙ (rw e refl)) refl
         go false e =
-            let is : then_of load_of_write (value load_of_write) ≡ GoOn (reclaim_at slots queue (drains load_of_cell)) =
-            ap (then_of load_of_write) (old_is load_of_write on) ∙ (rw e refl)
-            in
             let other : s.submission.write ≢ s.submission.read = grind (arith, nat_tests) in
             let write = h.parts.submission.write in
-            record {
-              channel_then = s_still;
-              stays = refl;
-              step =
-                  subst (λ a. To s_still load_of_write a effects.Quiet) (sym is)
-                  (still load_of_write (drains load_of_cell) on refl refl ((refl, omega arith), most, none_taken, none_freed) (omega arith));
-            }
+            loads load_of_write (drains load_of_cell) on refl refl ((refl, omega arith), most, none_taken, none_freed) (omega arith) refl
+            (ap (then_of load_of_write) (old_is load_of_write on) ∙ (rw e refl)) refl
 
     loads_cell : s.submission.read < s.submission.write → x.steps ≤ 4 * length (handed_out wrote) + 2 → Does_at load_of_cell
     loads_cell ahead few =
         let on = submission.cell_on queue h.parts.some h.parts.few s.submission h.parts.submission low_write s.submission.read in
-        record {
-          channel_then = s_still;
-          stays = refl;
-          step =
-              still load_of_cell (drains moves) on (set-get_or queued (cell_word queue s.submission.read) 0) refl
-              ((refl, ahead), most, none_taken, none_freed) (omega arith);
-        }
+        loads load_of_cell (drains moves) on (set-get_or queued (cell_word queue s.submission.read) 0) refl
+        ((refl, ahead), most, none_taken, none_freed) (omega arith) refl refl refl
 
     -- ---- the oldest one leaves the queue
 

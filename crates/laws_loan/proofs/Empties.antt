@@ -17,7 +17,7 @@ use Rattle.steps.specs.declared.queues.ring.PopStage.{PopStage}
 use Rattle.steps.specs.declared.queues.ring.PopStage as pops
 use Rattle.steps.specs.Loan.Layout.{completion_word}
 use Rattle.steps.specs.Loan.Places.{next_sent}
-use Rattle.steps.specs.Loan.Reclaim.{reclaim_releases}
+use Rattle.steps.specs.Loan.Reclaim.{reclaim_goes_back, reclaim_releases}
 use Rattle.steps.specs.Queues.Ring.{cell_word, word_at, load, pop_asks}
 use Rattle.model.specs.declared.event.Answer.{Answer}
 use Rattle.model.specs.declared.event.Answer.TheVariants.{Number}
@@ -122,15 +122,14 @@ module _ {T : Type 0} (code : Coding T) (slots queue : ℕ) (s : Channel T) (lat
 
   -- ---- the loads
 
-  still : (now : PopStage) (after_it : ReclaimStage) → IsOn queued (pop_asks now)
+  loads : (now : PopStage) (after_it : ReclaimStage) → IsOn queued (pop_asks now)
       → words_after queued (ask_of (pop_asks now)) ≡ queued → reclaim_counts after_it ≡ 0
       → StageAt slots s.submission s.completion s.book.places wrote after_it → x.steps + step_count (asks now) ≤ reclaim_number slots wrote after_it
-      → To s_still now (GoOn (reclaim_at slots queue after_it)) effects.Quiet
-  still now after_it on words counted stands less = (
-    steps.goes_still code slots queue s latest turns changes since x wrote h under here idle from known straight
-        (empties now) after_it (words_are now s.completion on words) counted stands less,
-    refl,
-  )
+      → reclaim_goes_back (empties now) (value now) ≡ false → then_of now (value now) ≡ GoOn (reclaim_at slots queue after_it)
+      → effect_of now ≡ effects.Quiet → Does_at now
+  loads now after_it on words counted stands less =
+      steps.loads code slots queue s latest turns changes since x wrote h under here idle from known straight (empties now)
+      after_it (words_are now s.completion on words) counted stands less
 
   abbrev load_of_write : PopStage
   load_of_write = pops.TheVariants.LoadsWrite s.completion.read
@@ -145,28 +144,14 @@ module _ {T : Type 0} (code : Coding T) (slots queue : ℕ) (s : Channel T) (lat
     loads_read : x.steps ≤ 4 * (slots + 1) + 4 * length (taken_back wrote) → Does_at pops.TheVariants.LoadsRead
     loads_read less =
         let on : 1 < length queued = (let all = long in omega arith) in
-        let is : then_of pops.TheVariants.LoadsRead (value pops.TheVariants.LoadsRead) ≡ GoOn (reclaim_at slots queue (empties load_of_write)) =
-        ap (then_of pops.TheVariants.LoadsRead) (old_is pops.TheVariants.LoadsRead on)
-        in
-        record {
-          channel_then = s_still;
-          stays = refl;
-          step =
-              subst (λ a. To s_still pops.TheVariants.LoadsRead a effects.Quiet) (sym is)
-              (still pops.TheVariants.LoadsRead (empties load_of_write) on refl refl (refl, most, none_freed, drained) (omega arith));
-        }
+        loads pops.TheVariants.LoadsRead (empties load_of_write) on refl refl (refl, most, none_freed, drained) (omega arith) refl
+        (ap (then_of pops.TheVariants.LoadsRead) (old_is pops.TheVariants.LoadsRead on)) refl
 
     loads_cell : s.completion.read < s.completion.write → x.steps ≤ 4 * (slots + 1) + 4 * length (taken_back wrote) + 2 → Does_at load_of_cell
     loads_cell ahead less =
         let on = completion.cell_on slots some few s.completion h.parts.completion reached s.completion.read in
-        record {
-          channel_then = s_still;
-          stays = refl;
-          step =
-              still load_of_cell (empties store_of_read) on
-              (set-get_or queued (word_at (cell_word slots 1 s.completion.read) 0) 0) refl
-              ((refl, ahead), most, none_freed, drained) (omega arith);
-        }
+        loads load_of_cell (empties store_of_read) on (set-get_or queued (word_at (cell_word slots 1 s.completion.read) 0) 0) refl
+        ((refl, ahead), most, none_freed, drained) (omega arith) refl refl refl
 
     -- ---- both queues are empty
 
@@ -247,18 +232,22 @@ module _ {T : Type 0} (code : Coding T) (slots queue : ℕ) (s : Channel T) (lat
       comes (Some index) first =
           record {
             channel_then = s_still;
-            step =
-                still load_of_write (reclaims.TheVariants.Releases 0 index releases.TheVariants.ClearsFlag) on_write refl refl (
-                  first.2,
-                  first.1,
+            step = (
+              steps.goes_still code slots queue s latest turns changes since x wrote h under here idle from known straight
+                  (empties load_of_write) (reclaims.TheVariants.Releases 0 index releases.TheVariants.ClearsFlag)
+                  (words_are load_of_write s.completion on_write refl) refl (
+                    first.2,
+                    first.1,
+                    (omega arith),
+                    ap length none_freed,
+                    subst (AllByRecursion (λ i. i < index + 0)) (sym none_freed) tt,
+                    (λ j below. first.3 j (omega arith) (omega arith)),
+                    drained,
+                    emptied,
+                  )
                   (omega arith),
-                  ap length none_freed,
-                  subst (AllByRecursion (λ i. i < index + 0)) (sym none_freed) tt,
-                  (λ j below. first.3 j (omega arith) (omega arith)),
-                  drained,
-                  emptied,
-                )
-                (omega arith);
+              refl,
+            );
           }
 
     -- nothing is to be taken back, or something is
@@ -285,17 +274,9 @@ module _ {T : Type 0} (code : Coding T) (slots queue : ℕ) (s : Channel T) (lat
         go false e =
             let zero = none_zero in
             let both : (slots == 0 || s.completion.write == s.completion.read) ≡ false = rw (zero, e) refl in
-            let is : then_of load_of_write (value load_of_write) ≡ GoOn (reclaim_at slots queue (empties load_of_cell)) =
-            ap (then_of load_of_write) (old_is load_of_write on_write) ∙ (rw both refl)
-            in
             let ahead = completion.finds_some slots some few s.completion h.parts.completion reached e in
-            record {
-              channel_then = s_still;
-              stays = refl;
-              step =
-                  subst (λ a. To s_still load_of_write a effects.Quiet) (sym is)
-                  (still load_of_write (empties load_of_cell) on_write refl refl ((refl, ahead, refl, refl), most, none_freed, drained) (omega arith));
-            }
+            loads load_of_write (empties load_of_cell) on_write refl refl ((refl, ahead, refl, refl), most, none_freed, drained)
+            (omega arith) refl (ap (then_of load_of_write) (old_is load_of_write on_write) ∙ (rw both refl)) refl
 
     -- ---- the first one leaves the queue
 

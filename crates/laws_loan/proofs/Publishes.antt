@@ -48,7 +48,7 @@ use Rattle.laws_loan.proofs.Knows.{Passes, push_wrote}
 use Rattle.laws_loan.proofs.OnQueues.{OnQueues, queues_show}
 use Rattle.laws_loan.proofs.Placed.{Placed}
 use Rattle.laws_loan.proofs.Sender.{party_then, Steps}
-use Rattle.laws_loan.proofs.Sends.{pushes_at, asked, old, queued, goes, effect_at, StepTo, Does, reached, long, words_are, change_is, read_is, none_carried}
+use Rattle.laws_loan.proofs.Sends.{pushes_at, asked, queued, goes, StepTo, Does, does_by, reached, long, words_are, change_is, read_is, none_carried}
 use Rattle.laws_loan.proofs.Spots.{spot_other, spot_moved, passing_same, waiting_passes, passing_on}
 use Rattle.laws_loan.proofs.Still.{AreStill, spots_still, receiver_still, placed_still}
 use Rattle.laws_loan.proofs.Submission as submission
@@ -323,50 +323,22 @@ module _ {T : Type 0} (code : Coding T) (slots queue : ℕ) (s : Channel T) (lat
         → Does code slots queue s latest turns changes since x h small index straight stage
     stores_write low far = go (submission.finds queue h.parts.some h.parts.few s.submission h.parts.submission low_write read low far)
       where
-        value : ℕ
-        value = old code slots queue s latest turns changes since x h small index straight stage
-
         go : Room queue h.parts.some h.parts.few s.submission h.parts.submission low_write read
             → Does code slots queue s latest turns changes since x h small index straight stage
         go (HasRoom t less) =
-            let is : goes code slots queue s latest turns changes since x h small index straight stage value ≡ Done answers.PoppedNone = rw t refl in
-            let does : effect_at code slots queue s latest turns changes since x h small index straight stage value
-            ≡ effects.PublishesAndActs index =
-            rw t refl in
-            record {
-              channel_then = s_then (acts ∷ ends ∷ []);
-              step =
-                  subst (λ a. To (s_then (acts ∷ ends ∷ [])) a
-                  (effect_at code slots queue s latest turns changes since x h small index straight stage value))
-                  (sym is)
-                  (subst (λ e. To (s_then (acts ∷ ends ∷ [])) (Done answers.PoppedNone) e) (sym does) (publishes_done less));
-            }
+            does_by code slots queue s latest turns changes since x h small index straight (s_then (acts ∷ ends ∷ [])) stage []
+            (Done answers.PoppedNone) (effects.PublishesAndActs index) refl (rw t refl) (rw t refl) (publishes_done less)
         go (IsFull t e full) =
             let write = h.parts.submission.write in
             let same : s.submission.read ≡ read = grind (arith, nat_tests) in
             let z = read_now true e in
-            let is : goes code slots queue s latest turns changes since x h small index straight stage value ≡ GoOn waits_at = rw t refl in
-            let does : effect_at code slots queue s latest turns changes since x h small index straight stage value
-            ≡ effects.Publishes index =
-            rw (t, z) refl in
-            record {
-              channel_then = s_then [];
-              step =
-                  subst (λ a. To (s_then []) a (effect_at code slots queue s latest turns changes since x h small index straight stage value)) (sym is)
-                  (subst (λ e. To (s_then []) (GoOn waits_at) e) (sym does) (publishes_over full (sym same) (omega arith)));
-            }
+            does_by code slots queue s latest turns changes since x h small index straight (s_then []) stage [] (GoOn waits_at)
+            (effects.Publishes index) refl (rw t refl) (rw (t, z) refl) (publishes_over full (sym same) (omega arith))
         go (HasMoved t e moved less) =
             let write = h.parts.submission.write in
             let z = read_now false e in
             let apart : distance s.submission.write read ≡ queue = grind (arith, nat_tests) in
             let reach = low_write in
-            let is : goes code slots queue s latest turns changes since x h small index straight stage value ≡ GoOn waits_at = rw t refl in
-            let does : effect_at code slots queue s latest turns changes since x h small index straight stage value
-            ≡ effects.PublishesAndActs index =
-            rw (t, z) refl in
-            record {
-              channel_then = s_then (acts ∷ []);
-              step =
-                  subst (λ a. To (s_then (acts ∷ [])) a (effect_at code slots queue s latest turns changes since x h small index straight stage value)) (sym is)
-                  (subst (λ e. To (s_then (acts ∷ [])) (GoOn waits_at) e) (sym does) (publishes_late less moved (omega arith)));
-            }
+            does_by code slots queue s latest turns changes since x h small index straight (s_then (acts ∷ [])) stage []
+            (GoOn waits_at) (effects.PublishesAndActs index) refl (rw t refl) (rw (t, z) refl)
+            (publishes_late less moved (omega arith))

@@ -118,6 +118,14 @@ module _ {T : Type 0} (code : Coding T) (slots queue : ℕ) (s : Channel T) (lat
   abbrev pub LooksOf : PopStage → OneWord → Type 0
   LooksOf stage room = Looks stage (goes_back stage (old stage)) (goes stage room (old stage)) (effect_at stage (old stage))
 
+  -- so it comes, as the call computes it
+  looks_by : (stage : PopStage) (room : OneWord) (back : Bool) (after : After LoanFlight (Answer T)) (effect : Effect)
+      → goes_back stage (old stage) ≡ back → goes stage room (old stage) ≡ after → effect_at stage (old stage) ≡ effect
+      → Looks stage back after effect → LooksOf stage room
+  looks_by stage room back after effect turns_back is does look =
+      subst (λ b. Looks stage b (goes stage room (old stage)) (effect_at stage (old stage))) (sym turns_back)
+      (subst (λ a. Looks stage back a (effect_at stage (old stage))) (sym is) (subst (λ e. Looks stage back after e) (sym does) look))
+
   -- ---- what is so of the queue
 
   pub reached : s.submission.write < 2 ^ 64 - 2
@@ -255,15 +263,10 @@ module _ {T : Type 0} (code : Coding T) (slots queue : ℕ) (s : Channel T) (lat
           let low = known.1 in
           let same : s.submission.write ≡ read = grind (arith, nat_tests) in
           let none : length s.submission.waiting ≡ 0 = omega arith in
-          let is : goes (pops.TheVariants.LoadsWrite read) room (old (pops.TheVariants.LoadsWrite read)) ≡ Done answers.PoppedNone =
-          ap (goes (pops.TheVariants.LoadsWrite read) room) (old_is (pops.TheVariants.LoadsWrite read) on) ∙ (rw t refl) in
-          let does : effect_at (pops.TheVariants.LoadsWrite read) (old (pops.TheVariants.LoadsWrite read)) ≡ effects.FindsNone =
-          ap (effect_at (pops.TheVariants.LoadsWrite read)) (old_is (pops.TheVariants.LoadsWrite read) on) ∙ (rw t refl) in
-          subst (λ a. Looks (pops.TheVariants.LoadsWrite read) false a
-          (effect_at (pops.TheVariants.LoadsWrite read) (old (pops.TheVariants.LoadsWrite read))))
-          (sym is)
-          (subst (λ e. Looks (pops.TheVariants.LoadsWrite read) false (Done answers.PoppedNone) e) (sym does)
-          (finds_none read (nil_from_length s.submission.waiting none) on steps (omega arith)))
+          looks_by (pops.TheVariants.LoadsWrite read) room false (Done answers.PoppedNone) effects.FindsNone refl
+          (ap (goes (pops.TheVariants.LoadsWrite read) room) (old_is (pops.TheVariants.LoadsWrite read) on) ∙ (rw t refl))
+          (ap (effect_at (pops.TheVariants.LoadsWrite read)) (old_is (pops.TheVariants.LoadsWrite read) on) ∙ (rw t refl))
+          (finds_none read (nil_from_length s.submission.waiting none) on steps (omega arith))
       go false t =
           let write = h.parts.submission.write in
           let some = h.parts.some in
@@ -271,17 +274,12 @@ module _ {T : Type 0} (code : Coding T) (slots queue : ℕ) (s : Channel T) (lat
           let apart : s.submission.write ≢ read = grind (arith, nat_tests) in
           let ahead : s.submission.read < s.submission.write =
           ⊎_elim known.2 (λ (still : s.submission.read ≤ read). omega arith) (cases_lt read s.submission.read) in
-          let is : goes (pops.TheVariants.LoadsWrite read) room (old (pops.TheVariants.LoadsWrite read))
-          ≡ GoOn (receive_at slots queue p (pops.TheVariants.LoadsCell read) room) =
-          ap (goes (pops.TheVariants.LoadsWrite read) room) (old_is (pops.TheVariants.LoadsWrite read) on) ∙ (rw t refl) in
-          let does : effect_at (pops.TheVariants.LoadsWrite read) (old (pops.TheVariants.LoadsWrite read)) ≡ effects.Quiet =
-          ap (effect_at (pops.TheVariants.LoadsWrite read)) (old_is (pops.TheVariants.LoadsWrite read) on) ∙ (rw t refl) in
-          subst (λ a. Looks (pops.TheVariants.LoadsWrite read) false a
-          (effect_at (pops.TheVariants.LoadsWrite read) (old (pops.TheVariants.LoadsWrite read))))
-          (sym is)
-          (subst (λ e. Looks (pops.TheVariants.LoadsWrite read) false (GoOn (receive_at slots queue p (pops.TheVariants.LoadsCell read) room)) e) (sym does)
+          looks_by (pops.TheVariants.LoadsWrite read) room false (GoOn (receive_at slots queue p (pops.TheVariants.LoadsCell read) room))
+          effects.Quiet refl
+          (ap (goes (pops.TheVariants.LoadsWrite read) room) (old_is (pops.TheVariants.LoadsWrite read) on) ∙ (rw t refl))
+          (ap (effect_at (pops.TheVariants.LoadsWrite read)) (old_is (pops.TheVariants.LoadsWrite read) on) ∙ (rw t refl))
           (goes_on (pops.TheVariants.LoadsWrite read) (pops.TheVariants.LoadsCell read) room false on refl
-          (omega arith, low, ahead) refl (omega arith) (λ n. (low, omega arith))))
+          (omega arith, low, ahead) refl (omega arith) (λ n. (low, omega arith)))
 
   loads_cell : (read : ℕ) (room : OneWord)
       → KnowsOverflowPop queue s.submission room (pops.TheVariants.LoadsCell read) → x.steps ≤ 2 * x.backs + 2
@@ -321,26 +319,14 @@ module _ {T : Type 0} (code : Coding T) (slots queue : ℕ) (s : Channel T) (lat
       let apart : s.submission.read ≢ read = grind (arith, nat_tests) in
       let on : 1 < length queued = (let wide = long in omega arith) in
       let found : old (pops.TheVariants.MovesRead read) ≡ s.submission.read = old_is (pops.TheVariants.MovesRead read) on in
-      let back : goes_back (pops.TheVariants.MovesRead read) (old (pops.TheVariants.MovesRead read)) ≡ true =
-      ap (goes_back (pops.TheVariants.MovesRead read)) found ∙ (rw moved refl) in
-      let is : goes (pops.TheVariants.MovesRead read) room (old (pops.TheVariants.MovesRead read))
-      ≡ GoOn (receive_at slots queue p (pops.TheVariants.LoadsCell s.submission.read) room) =
-      ap (goes (pops.TheVariants.MovesRead read) room) found ∙ (rw moved refl) in
-      let does : effect_at (pops.TheVariants.MovesRead read) (old (pops.TheVariants.MovesRead read)) ≡ effects.Quiet =
-      ap (effect_at (pops.TheVariants.MovesRead read)) found ∙ (rw moved refl) in
-      subst (λ b. Looks (pops.TheVariants.MovesRead read) b
-      (goes (pops.TheVariants.MovesRead read) room (old (pops.TheVariants.MovesRead read)))
-      (effect_at (pops.TheVariants.MovesRead read) (old (pops.TheVariants.MovesRead read))))
-      (sym back)
-      (subst (λ a. Looks (pops.TheVariants.MovesRead read) true a
-      (effect_at (pops.TheVariants.MovesRead read) (old (pops.TheVariants.MovesRead read))))
-      (sym is)
-      (subst (λ e. Looks (pops.TheVariants.MovesRead read) true
-      (GoOn (receive_at slots queue p (pops.TheVariants.LoadsCell s.submission.read) room)) e)
-      (sym does)
+      looks_by (pops.TheVariants.MovesRead read) room true
+      (GoOn (receive_at slots queue p (pops.TheVariants.LoadsCell s.submission.read) room)) effects.Quiet
+      (ap (goes_back (pops.TheVariants.MovesRead read)) found ∙ (rw moved refl))
+      (ap (goes (pops.TheVariants.MovesRead read) room) found ∙ (rw moved refl))
+      (ap (effect_at (pops.TheVariants.MovesRead read)) found ∙ (rw moved refl))
       (goes_on (pops.TheVariants.MovesRead read) (pops.TheVariants.LoadsCell s.submission.read) room true on
       (submission.stays_words queue h.parts.some h.parts.few s.submission h.parts.submission reached read moved)
-      (omega arith, omega arith, ahead) refl (omega arith) (λ n. (omega arith, omega arith)))))
+      (omega arith, omega arith, ahead) refl (omega arith) (λ n. (omega arith, omega arith)))
 
   pub looks : (stage : PopStage) (room : OneWord) → IsLook s stage → KnowsOverflowPop queue s.submission room stage
       → x.steps ≤ 2 * x.backs + overflow_pop_number stage → KnowsBacks s.submission since changes x.backs stage

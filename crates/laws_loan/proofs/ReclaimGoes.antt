@@ -18,6 +18,7 @@ use Rattle.model.specs.declared.families.Flight as flights
 use Rattle.model.specs.declared.families.loan.LoanStart.TheVariants as calls
 use Rattle.model.specs.declared.families.loan.calls.LoanFlight.{LoanFlight}
 use Rattle.model.specs.declared.families.loan.effects.Effect.{Effect}
+use Rattle.model.specs.declared.families.loan.effects.Effect.TheVariants as effects
 use Rattle.model.specs.declared.party.Party.{Party}
 use Rattle.model.specs.Coding.{Coding, one_word}
 use Rattle.model.specs.Families.{ask_of}
@@ -227,3 +228,15 @@ module _ {T : Type 0} (code : Coding T) (slots queue : ℕ) (s : Channel T) (lat
           (subst (KeepsSet slots queue s latest (asked now) s.set) (sym counted)
           (keeps_all slots queue s latest (asked now) turns h words busy_none (ap (hung s.submission.read) here)))
           refl steps (refl, refl, refl, goes_known slots queue s s.set wrote under after_it known stands) (omega arith)
+
+      -- a load, as the call computes it
+      pub loads : reclaim_goes_back now (old now) ≡ false → goes now (old now) ≡ GoOn (reclaim_at slots queue after_it)
+          → effect_at now (old now) ≡ effects.Quiet → Does now
+      loads stays is quiet =
+          record {
+            channel_then = s_still;
+            stays = stays;
+            step =
+                subst (λ a. StepTo s_still now a (effect_at now (old now))) (sym is)
+                (subst (λ e. StepTo s_still now (GoOn (reclaim_at slots queue after_it)) e) (sym quiet) (goes_still, refl));
+          }

@@ -43,7 +43,7 @@ use Rattle.laws_queues.proofs.Queues.Core.{Core, taken}
 use Rattle.laws_loan.proofs.Carried.{moved_on}
 use Rattle.laws_loan.proofs.Channel.{Channel, words_in}
 use Rattle.laws_loan.proofs.Invariant.{sends_at, counted_for, hung, reclaims_in, Carries, HoldsNow}
-use Rattle.laws_loan.proofs.Knows.{Passes, push_wrote, wrote_in, At}
+use Rattle.laws_loan.proofs.Knows.{Passes, wrote_in, At}
 use Rattle.laws_loan.proofs.Lists.{first_there}
 use Rattle.laws_loan.proofs.OnQueues.{OnQueues, queues_show}
 use Rattle.laws_loan.proofs.Parts.{submission_old}
@@ -53,7 +53,7 @@ use Rattle.laws_loan.proofs.Rests.{keeps_all}
 use Rattle.laws_loan.proofs.Rests as rests
 use Rattle.laws_loan.proofs.Rooms.{sent_below, index_is}
 use Rattle.laws_loan.proofs.Sender.{party_then}
-use Rattle.laws_loan.proofs.Sends.{pushes_at, asked, old, queued, goes, effect_at, StepTo, Does, Here, reached, long, old_is, words_are, change_is}
+use Rattle.laws_loan.proofs.Sends.{pushes_at, asked, old, queued, goes, effect_at, StepTo, Does, does_by, Here, reached, long, old_is, words_are, change_is}
 use Rattle.laws_loan.proofs.Spots.{is_waiting, waits_there, passing_same, waiting_passes, passing_on, spot_other, spot_moved}
 use Rattle.laws_loan.proofs.Still.{AreStill, spots_still, placed_still}
 use Rattle.laws_loan.proofs.Submission as submission
@@ -271,17 +271,10 @@ module _ {T : Type 0} (code : Coding T) (slots queue : ℕ) (s : Channel T) (lat
     moves_read =
         let t : (s.submission.read == s.submission.read) ≡ true = grind (arith, nat_tests) in
         let found : value moves ≡ s.submission.read = old_is code slots queue s latest turns changes since x h small index straight moves on in
-        let wrote : push_wrote {T = T} queue s.submission index moves ≡ publishes ∷ [] = rw t refl in
-        let is_after : then_of moves (value moves) ≡ GoOn (pushes_at slots queue loads index) = ap (then_of moves) found ∙ (rw t refl) in
-        let is_effect : effect_of moves (value moves) ≡ effects.TakesOut index u =
-        ap (effect_of moves) found ∙ (let place = sent_is s.submission.read in rw (t, place) refl) in
-        record {
-          channel_then = s_out;
-          step =
-              subst (λ es. To s_out es moves (then_of moves (value moves)) (effect_of moves (value moves))) (sym wrote)
-              (subst (λ a. To s_out (publishes ∷ []) moves a (effect_of moves (value moves))) (sym is_after)
-              (subst (λ e. To s_out (publishes ∷ []) moves (GoOn (pushes_at slots queue loads index)) e) (sym is_effect) takes_out));
-        }
+        let place = sent_is s.submission.read in
+        does_by code slots queue s latest turns changes since x h small index straight s_out moves (publishes ∷ [])
+        (GoOn (pushes_at slots queue loads index)) (effects.TakesOut index u) (rw t refl)
+        (ap (then_of moves) found ∙ (rw t refl)) (ap (effect_of moves) found ∙ (rw (t, place) refl)) takes_out
 
   -- ---- a receive has moved it before: the send has acted, and ends
 
@@ -325,16 +318,9 @@ module _ {T : Type 0} (code : Coding T) (slots queue : ℕ) (s : Channel T) (lat
     pub moves_late : Does_at (late read)
     moves_late =
         let found : value (late read) ≡ s.submission.read = old_is code slots queue s latest turns changes since x h small index straight (late read) on_late in
-        let wrote : push_wrote {T = T} queue s.submission index (late read) ≡ publishes ∷ acted ∷ [] = rw apart refl in
-        let is_after : then_of (late read) (value (late read)) ≡ Done answers.PoppedNone = ap (then_of (late read)) found ∙ (rw moved refl) in
-        let is_effect : effect_of (late read) (value (late read)) ≡ effects.Quiet = ap (effect_of (late read)) found ∙ (rw moved refl) in
-        record {
-          channel_then = s_end;
-          step =
-              subst (λ es. To s_end es (late read) (then_of (late read) (value (late read))) (effect_of (late read) (value (late read)))) (sym wrote)
-              (subst (λ a. To s_end (publishes ∷ acted ∷ []) (late read) a (effect_of (late read) (value (late read)))) (sym is_after)
-              (subst (λ e. To s_end (publishes ∷ acted ∷ []) (late read) (Done answers.PoppedNone) e) (sym is_effect) finds_room));
-        }
+        does_by code slots queue s latest turns changes since x h small index straight s_end (late read) (publishes ∷ acted ∷ [])
+        (Done answers.PoppedNone) effects.Quiet (rw apart refl) (ap (then_of (late read)) found ∙ (rw moved refl))
+        (ap (effect_of (late read)) found ∙ (rw moved refl)) finds_room
 
   -- ---- it loads the index that it has taken out
 
@@ -379,11 +365,8 @@ module _ {T : Type 0} (code : Coding T) (slots queue : ℕ) (s : Channel T) (lat
         let found : value stage ≡ oldest_at read =
         old_is code slots queue s latest turns changes since x h small index straight stage on_cell
         ∙ submission.cell_is queue h.parts.some h.parts.few s.submission h.parts.submission low_write read in
-        let is_after : then_of stage (value stage) ≡ GoOn frees =
-        ap (then_of stage) found ∙ ap (λ i. GoOn (send_frees_at slots queue index i releases.TheVariants.ClearsFlag))
-        (index_is (oldest_at read) slots passes.0 low)
-        in
-        record {
-          channel_then = s_free;
-          step = subst (λ a. To s_free (wrote_out read) stage a effects.Quiet) (sym is_after) has_it;
-        }
+        does_by code slots queue s latest turns changes since x h small index straight s_free stage (wrote_out read) (GoOn frees) effects.Quiet
+        refl
+        (ap (then_of stage) found
+        ∙ ap (λ i. GoOn (send_frees_at slots queue index i releases.TheVariants.ClearsFlag)) (index_is (oldest_at read) slots passes.0 low))
+        refl has_it

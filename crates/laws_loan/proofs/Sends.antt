@@ -108,6 +108,19 @@ module _ {T : Type 0} (code : Coding T) (slots queue : ℕ) (s : Channel T) (lat
     pub channel_then : Channel T
     pub step : StepTo channel_then (push_wrote queue s.submission index stage) stage (goes stage (old stage)) (effect_at stage (old stage))
 
+  -- so it comes, as the call computes it
+  pub does_by : (s' : Channel T) (stage : PushStage) (wrote : List (Event T)) (after : After LoanFlight (Answer T)) (effect : Effect)
+      → push_wrote queue s.submission index stage ≡ wrote → goes stage (old stage) ≡ after → effect_at stage (old stage) ≡ effect
+      → StepTo s' wrote stage after effect → Does stage
+  does_by s' stage wrote after effect told is does step =
+      record {
+        channel_then = s';
+        step =
+            subst (λ es. StepTo s' es stage (goes stage (old stage)) (effect_at stage (old stage))) (sym told)
+            (subst (λ a. StepTo s' wrote stage a (effect_at stage (old stage))) (sym is)
+            (subst (λ e. StepTo s' wrote stage after e) (sym does) step));
+      }
+
   abbrev pub Here : PushStage → Type 0
   Here stage = sends_at latest ≡ Some (flights.TheVariants.Loan (pushes_at slots queue stage index))
 
@@ -232,6 +245,9 @@ module _ {T : Type 0} (code : Coding T) (slots queue : ℕ) (s : Channel T) (lat
   -- ---- the loads, and the store into the cell
 
   module _ (passes : Passes slots queue s 0 index) (from : span_of 0 s.events ≡ Open start []) where
+    abbrev still : Channel T
+    still = record s { submission = s.submission; completion = s.completion; book = s.book; events = s.events ++ [] }
+
     passes_on : Passes slots queue (record s { events = s.events ++ [] }) 0 index
     passes_on = (passes.0, ap (spot_of index) (append-nil s.events) ∙ passes.1)
 
@@ -239,47 +255,29 @@ module _ {T : Type 0} (code : Coding T) (slots queue : ℕ) (s : Channel T) (lat
     loads_write here steps =
         let some = h.parts.some in
         let on : 0 < length queued = (let wide = long in omega arith) in
-        let is : goes pushes.TheVariants.LoadsWrite (old pushes.TheVariants.LoadsWrite)
-        ≡ GoOn (pushes_at slots queue (pushes.TheVariants.LoadsRead s.submission.write) index) =
-        ap (goes pushes.TheVariants.LoadsWrite) (old_is pushes.TheVariants.LoadsWrite on)
-        ∙ (let t : (s.submission.write == 2 ^ 64 - 1) ≡ false = (let low = reached in grind (arith, nat_tests)) in rw t refl)
-        in
-        record {
-          channel_then = record s { submission = s.submission; completion = s.completion; book = s.book; events = s.events ++ [] };
-          step =
-              subst
-              (λ a. StepTo (record s { submission = s.submission; completion = s.completion; book = s.book; events = s.events ++ [] })
-              [] pushes.TheVariants.LoadsWrite a effects.Quiet)
-              (sym is)
-              (goes_on pushes.TheVariants.LoadsWrite (pushes.TheVariants.LoadsRead s.submission.write) s.submission
-              here tt from refl refl refl h.parts.submission on refl refl refl refl refl
-              (omega arith, refl, (let low = reached in omega arith)) passes_on (omega arith)
-              (λ room stage known. known));
-        }
+        does_by still pushes.TheVariants.LoadsWrite [] (GoOn (pushes_at slots queue (pushes.TheVariants.LoadsRead s.submission.write) index))
+        effects.Quiet refl
+        (ap (goes pushes.TheVariants.LoadsWrite) (old_is pushes.TheVariants.LoadsWrite on)
+        ∙ (let t : (s.submission.write == 2 ^ 64 - 1) ≡ false = (let low = reached in grind (arith, nat_tests)) in rw t refl))
+        refl
+        (goes_on pushes.TheVariants.LoadsWrite (pushes.TheVariants.LoadsRead s.submission.write) s.submission here tt from
+        refl refl refl h.parts.submission on refl refl refl refl refl
+        (omega arith, refl, (let low = reached in omega arith)) passes_on (omega arith) (λ room stage known. known))
 
     pub loads_read : Here (pushes.TheVariants.LoadsRead s.submission.write) → x.steps ≤ 1 → Does (pushes.TheVariants.LoadsRead s.submission.write)
     loads_read here steps =
         let some = h.parts.some in
         let on : 1 < length queued = (let wide = long in omega arith) in
-        let is : goes (pushes.TheVariants.LoadsRead s.submission.write) (old (pushes.TheVariants.LoadsRead s.submission.write))
-        ≡ GoOn (pushes_at slots queue (pushes.TheVariants.StoresCell s.submission.write s.submission.read) index) =
-        ap (goes (pushes.TheVariants.LoadsRead s.submission.write)) (old_is (pushes.TheVariants.LoadsRead s.submission.write) on)
-        in
         let few : length s.submission.waiting ≤ queue = subst (Hangs queue s.submission) (ap (hung s.submission.read) here) h.hangs in
         let write = h.parts.submission.write in
-        record {
-          channel_then = record s { submission = s.submission; completion = s.completion; book = s.book; events = s.events ++ [] };
-          step =
-              subst
-              (λ a. StepTo (record s { submission = s.submission; completion = s.completion; book = s.book; events = s.events ++ [] })
-              [] (pushes.TheVariants.LoadsRead s.submission.write) a effects.Quiet)
-              (sym is)
-              (goes_on (pushes.TheVariants.LoadsRead s.submission.write)
-              (pushes.TheVariants.StoresCell s.submission.write s.submission.read) s.submission here tt from refl
-              refl refl h.parts.submission on refl refl refl refl refl
-              (omega arith, refl, omega arith, omega arith, (let low = reached in omega arith)) passes_on
-              (omega arith) (λ room stage known. known));
-        }
+        does_by still (pushes.TheVariants.LoadsRead s.submission.write) []
+        (GoOn (pushes_at slots queue (pushes.TheVariants.StoresCell s.submission.write s.submission.read) index)) effects.Quiet
+        refl (ap (goes (pushes.TheVariants.LoadsRead s.submission.write)) (old_is (pushes.TheVariants.LoadsRead s.submission.write) on)) refl
+        (goes_on (pushes.TheVariants.LoadsRead s.submission.write)
+        (pushes.TheVariants.StoresCell s.submission.write s.submission.read) s.submission here tt from refl refl refl
+        h.parts.submission on refl refl refl refl refl
+        (omega arith, refl, omega arith, omega arith, (let low = reached in omega arith)) passes_on (omega arith)
+        (λ room stage known. known))
 
     pub stores_cell : (read : ℕ) → read ≤ s.submission.read → s.submission.write ≤ read + queue
         → Here (pushes.TheVariants.StoresCell s.submission.write read) → x.steps ≤ 2

@@ -112,6 +112,12 @@ module _ {T : Type 0} (code : Coding T) (slots queue : ℕ) (s : Channel T) (lat
     pub channel_then : Channel T
     pub step : StepTo channel_then stage (goes stage found (old stage)) (take_back_effect (take_backs.TheVariants.Pops stage found))
 
+  -- so it comes, as the call computes it
+  does_by : (s' : Channel T) (stage : PopStage) (found : OneWord) (after : After LoanFlight (Answer T)) → goes stage found (old stage) ≡ after
+      → StepTo s' stage after (take_back_effect (take_backs.TheVariants.Pops stage found)) → Does stage found
+  does_by s' stage found after is step =
+      record { channel_then = s'; step = subst (λ a. StepTo s' stage a (take_back_effect (take_backs.TheVariants.Pops stage found))) (sym is) step }
+
   -- ---- what is so of the queue
 
   some : 1 ≤ slots
@@ -286,14 +292,9 @@ module _ {T : Type 0} (code : Coding T) (slots queue : ℕ) (s : Channel T) (lat
   loads_read : (room : OneWord) → x.steps ≤ 0 → Does pops.TheVariants.LoadsRead room
   loads_read room steps =
       let on : 1 < length queued = (let wide = long in omega arith) in
-      let is : goes pops.TheVariants.LoadsRead room (old pops.TheVariants.LoadsRead) ≡ GoOn (pops_at slots queue load_of_write room) =
-      ap (goes pops.TheVariants.LoadsRead room) (old_is pops.TheVariants.LoadsRead on) in
-      record {
-        channel_then = still;
-        step =
-            subst (λ a. StepTo still pops.TheVariants.LoadsRead a effects.Quiet) (sym is)
-            (goes_on pops.TheVariants.LoadsRead load_of_write room on refl (omega arith, refl) (omega arith));
-      }
+      does_by still pops.TheVariants.LoadsRead room (GoOn (pops_at slots queue load_of_write room))
+      (ap (goes pops.TheVariants.LoadsRead room) (old_is pops.TheVariants.LoadsRead on))
+      (goes_on pops.TheVariants.LoadsRead load_of_write room on refl (omega arith, refl) (omega arith))
 
   abbrev load_of_cell : PopStage
   load_of_cell = pops.TheVariants.LoadsCell s.completion.read (cell_word slots 1 s.completion.read) 0
@@ -311,30 +312,20 @@ module _ {T : Type 0} (code : Coding T) (slots queue : ℕ) (s : Channel T) (lat
       go true e =
           let zero = none in
           let both : (slots == 0 || s.completion.write == s.completion.read) ≡ true = rw (zero, e) refl in
-          let is : goes load_of_write room (old load_of_write) ≡ Done answers.PoppedNone =
-          ap (goes load_of_write room) (old_is load_of_write on) ∙ (rw both refl) in
-          record {
-            channel_then = s_none;
-            step =
-                subst (λ a. StepTo s_none load_of_write a effects.Quiet) (sym is)
-                (finds_none (completion.finds_none slots some few s.completion h.parts.completion reached e) on steps);
-          }
+          does_by s_none load_of_write room (Done answers.PoppedNone)
+          (ap (goes load_of_write room) (old_is load_of_write on) ∙ (rw both refl))
+          (finds_none (completion.finds_none slots some few s.completion h.parts.completion reached e) on steps)
       go false e =
           let zero = none in
           let both : (slots == 0 || s.completion.write == s.completion.read) ≡ false = rw (zero, e) refl in
-          let is : goes load_of_write room (old load_of_write) ≡ GoOn (pops_at slots queue load_of_cell room) =
-          ap (goes load_of_write room) (old_is load_of_write on) ∙ (rw both refl) in
           let ahead = completion.finds_some slots some few s.completion h.parts.completion reached e in
           let write = h.parts.completion.write in
           let front = first_of s.completion.waiting (omega arith) in
           let known : KnowsPop one_word slots s.completion (in_one room) load_of_cell =
           (omega arith, front.0, front.1, refl, front.2, refl, omega arith, λ i below. absurd (omega arith)) in
-          record {
-            channel_then = still;
-            step =
-                subst (λ a. StepTo still load_of_write a effects.Quiet) (sym is)
-                (goes_on load_of_write load_of_cell room on refl known (omega arith));
-          }
+          does_by still load_of_write room (GoOn (pops_at slots queue load_of_cell room))
+          (ap (goes load_of_write room) (old_is load_of_write on) ∙ (rw both refl))
+          (goes_on load_of_write load_of_cell room on refl known (omega arith))
 
   -- the cell has the first value
   loads_cell : (room : OneWord) (v : ℕ) (rest : List ℕ) → s.completion.waiting ≡ v ∷ rest → x.steps ≤ 2 → Does load_of_cell room
@@ -343,32 +334,20 @@ module _ {T : Type 0} (code : Coding T) (slots queue : ℕ) (s : Channel T) (lat
       let value : old load_of_cell ≡ v =
       old_is load_of_cell on
       ∙ completion.first_is slots some few s.completion h.parts.completion reached v rest first in
-      let is : goes load_of_cell room (old load_of_cell)
-      ≡ GoOn (pops_at slots queue (pops.TheVariants.StoresRead s.completion.read) (word_of v)) =
-      ap (goes load_of_cell room) value in
-      record {
-        channel_then = still;
-        step =
-            subst (λ a. StepTo still load_of_cell a effects.Quiet) (sym is)
-            (goes_on load_of_cell (pops.TheVariants.StoresRead s.completion.read) (word_of v) on
-            (set-get_or queued (word_at (cell_word slots 1 s.completion.read) 0) 0) (rest, refl, first) (omega arith));
-      }
+      does_by still load_of_cell room (GoOn (pops_at slots queue (pops.TheVariants.StoresRead s.completion.read) (word_of v)))
+      (ap (goes load_of_cell room) value)
+      (goes_on load_of_cell (pops.TheVariants.StoresRead s.completion.read) (word_of v) on
+      (set-get_or queued (word_at (cell_word slots 1 s.completion.read) 0) 0) (rest, refl, first) (omega arith))
 
   stores_read : (room : OneWord) (rest : List ℕ) → s.completion.waiting ≡ room.0 ∷ rest → x.steps ≤ 3
       → Does (pops.TheVariants.StoresRead s.completion.read) room
   stores_read room rest first steps =
       let on : 1 < length queued = (let wide = long in omega arith) in
       let low : slots < 2 ^ 32 = (let less = few in omega arith) in
-      let is : goes (pops.TheVariants.StoresRead s.completion.read) room (old (pops.TheVariants.StoresRead s.completion.read))
-      ≡ GoOn (take_back_frees_at slots queue room.0 releases.TheVariants.ClearsFlag) =
-      ap (λ i. GoOn (take_back_frees_at slots queue i releases.TheVariants.ClearsFlag)) (index_is room.0 slots (below room.0 rest first) low)
-      in
-      record {
-        channel_then = s_taken room.0 rest first;
-        step =
-            subst (λ a. StepTo (s_taken room.0 rest first) (pops.TheVariants.StoresRead s.completion.read) a (effects.TakesBack room.0)) (sym is)
-            (takes_it room.0 rest first on steps);
-      }
+      does_by (s_taken room.0 rest first) (pops.TheVariants.StoresRead s.completion.read) room
+      (GoOn (take_back_frees_at slots queue room.0 releases.TheVariants.ClearsFlag))
+      (ap (λ i. GoOn (take_back_frees_at slots queue i releases.TheVariants.ClearsFlag)) (index_is room.0 slots (below room.0 rest first) low))
+      (takes_it room.0 rest first on steps)
 
   -- what a take-back knows leads on
   pub does : (now : PopStage) (room : OneWord) → KnowsPop one_word slots s.completion (in_one room) now → x.steps ≤ pop_number 1 now → Does now room
