@@ -3,7 +3,7 @@ use Rattle.std.proofs.Common.{◌≡◌, ◌≢◌, ℕ, suc, ◌+◌, ◌%◌, 
 use Rattle.std.proofs.Common.{false, not, Option, Some, List, [], ◌∷◌, ◌++◌, length, get_or, refl, sym, ap, subst, ◌∙◌}
 use Rattle.std.proofs.Common.{append-nil, length-append, arith}
 use Rattle.std.proofs.lemmas.Bool.Decides.{nat_tests}
-use Rattle.std.proofs.lemmas.List.{set-get_or}
+use Rattle.std.proofs.lemmas.List.{nil_from_length, set-get_or}
 use Rattle.std.proofs.lemmas.List.Concat.{flat_map-append}
 use Rattle.std.proofs.lemmas.List.Sums.{fold-append}
 use Rattle.steps.specs.declared.ask.Ask.{Ask}
@@ -57,11 +57,6 @@ use Rattle.laws_loan.proofs.Told.{items, Tells}
 
 abbrev drains : PopStage → ReclaimStage
 drains stage = reclaims.TheVariants.Drains stage
-
--- a list of which nothing is left
-none_long : (xs : List ℕ) → length xs ≡ 0 → xs ≡ []
-none_long [] e = refl
-none_long (x ∷ xs) e = absurd (omega arith)
 
 module _ {T : Type 0} (code : Coding T) (slots queue : ℕ) (s : Channel T) (latest : List (ℕ × Party T))
     (turns changes since : ℕ) (x : Party T) (wrote : List (Event T)) (h : HoldsNow slots queue s latest s.events turns)
@@ -147,7 +142,7 @@ module _ {T : Type 0} (code : Coding T) (slots queue : ℕ) (s : Channel T) (lat
         go true e =
             let same : s.submission.write ≡ s.submission.read = grind (arith, nat_tests) in
             let write = h.parts.submission.write in
-            let empty : s.submission.waiting ≡ [] = none_long s.submission.waiting (omega arith) in
+            let empty : s.submission.waiting ≡ [] = nil_from_length s.submission.waiting (omega arith) in
             let none : length (taken_back wrote) ≡ 0 = ap length none_taken in
             let within = h.parts.completion.few in
             loads load_of_write (reclaims.TheVariants.Empties ring_pops.TheVariants.LoadsRead) on refl refl

@@ -52,13 +52,12 @@ use Rattle.laws_loan.proofs.Parts.{completion_long, completion_old, completion_w
 use Rattle.laws_loan.proofs.ReclaimGoes as steps
 use Rattle.laws_loan.proofs.ReclaimGoes.{start, asked, old, Does}
 use Rattle.laws_loan.proofs.Reclaiming.{reclaim_at, none_more, passing_before, passing_sent, reclaimed, end_of, receiver_then, none_passing, placed_ended}
-use Rattle.laws_loan.proofs.Reclaims.{dead_stays}
 use Rattle.laws_loan.proofs.Rooms.{back_below}
 use Rattle.laws_loan.proofs.Sender.{party_then, Steps}
 use Rattle.laws_loan.proofs.Sents.{ComesTo, IsHome, comes_to, all_home}
 use Rattle.laws_loan.proofs.Spots.{is_returning, returns_there}
 use Rattle.laws_loan.proofs.Table.{returning_away, takes_it_back}
-use Rattle.laws_loan.proofs.TakenOff.{take_keeps, first_of}
+use Rattle.laws_loan.proofs.Theirs.{dead_stays}
 use Rattle.laws_loan.proofs.Told.{is_reclaiming}
 use Rattle.laws_loan.proofs.Waits.{cell_place}
 
@@ -331,7 +330,7 @@ module _ {T : Type 0} (code : Coding T) (slots queue : ℕ) (s : Channel T) (lat
             acts = refl;
             stage_at = (tt, (omega arith), none_more frees wrote (takes ∷ []) none_freed refl, drained);
             steps = omega arith;
-            push = take_keeps slots s.completion v rest first;
+            push = completion.take_keeps slots s.completion v rest first;
             up = record { write = omega arith; read = omega arith; paid = omega arith };
           }
 
@@ -350,7 +349,7 @@ module _ {T : Type 0} (code : Coding T) (slots queue : ℕ) (s : Channel T) (lat
     stores_read : s.completion.read < s.completion.write → x.steps ≤ 4 * (slots + 1) + 4 * length (taken_back wrote) + 3 → Does_at store_of_read
     stores_read ahead less =
         let write = h.parts.completion.write in
-        let front = first_of s.completion.waiting (omega arith) in
+        let front = completion.first_of s.completion.waiting (omega arith) in
         let v = front.0 in
         let rest = front.1 in
         let is_effect : effect_of store_of_read ≡ effects.TakesBack v = ap (λ n. effects.TakesBack n) (first_is v rest front.2) in

@@ -45,7 +45,6 @@ pub mod ReclaimFrees
 pub mod ReclaimGoes
 pub mod ReclaimStep
 pub mod Reclaiming
-pub mod Reclaims
 pub mod ReleaseSteps
 pub mod Releases
 pub mod Releasing
@@ -67,7 +66,6 @@ pub mod Table
 pub mod Tabled
 pub mod TakeBackStep
 pub mod TakeBacks
-pub mod TakenOff
 pub mod Theirs
 pub mod Told
 pub mod Turns

@@ -25,14 +25,13 @@ use Rattle.model.specs.Families.Loan.Reading.{Spot, Free, Passing, With, spot_of
 use Rattle.model.specs.Families.Loan.Steps.{book_after}
 use Rattle.model.specs.Reading.{Open, Ended, own_after, span_of}
 use Rattle.model.specs.Turns.{words_after, step_count}
-use Rattle.model.proofs.Frame as frame
 use Rattle.model.proofs.Readings.{span_of-own}
 use Rattle.laws_indices.proofs.Core as indices
 use Rattle.laws_indices.proofs.Core.{holder}
 use Rattle.laws_indices.proofs.Knows.{acquire_counts, acquire_number}
 use Rattle.laws_loan.proofs.Carried.{moved_on}
 use Rattle.laws_loan.proofs.Channel.{Channel, words_in}
-use Rattle.laws_loan.proofs.Invariant.{sends_at, counted_for, hung, reclaims_in, HoldsNow, family}
+use Rattle.laws_loan.proofs.Invariant.{sends_at, counted_for, hung, reclaims_in, HoldsNow}
 use Rattle.laws_loan.proofs.OnSet.{OnSet, set_then, set_shows}
 use Rattle.laws_loan.proofs.Parts.{set_words}
 use Rattle.laws_loan.proofs.Placed.{claim_of, Placed}
@@ -59,9 +58,6 @@ module _ {T : Type 0} (code : Coding T) (slots queue : ℕ) (s : Channel T) (lat
     (turns changes since : ℕ) (x : Party T) (h : HoldsNow slots queue s latest s.events turns) (stage : AcquireStage)
     (here : sends_at latest ≡ Some (flights.TheVariants.Loan (loan_at slots stage))) (takes : TakesAt slots s.set stage)
     (from : span_of 0 s.events ≡ Open (starts.Loan calls.Loan) []) (few : x.steps ≤ acquire_number slots stage 0) (straight : x.backs ≡ 0) where
-  abbrev channel : frame.Family T
-  channel = family code slots queue
-
   abbrev ask : Option Ask
   ask = ask_of (acquire_asks slots stage)
 

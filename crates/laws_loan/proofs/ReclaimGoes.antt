@@ -42,10 +42,10 @@ use Rattle.laws_loan.proofs.Knows.{reclaim_counts, reclaim_number, wrote_in, Sta
 use Rattle.laws_loan.proofs.OnQueues.{OnQueues, queues_then, queues_show}
 use Rattle.laws_loan.proofs.Placed.{Placed}
 use Rattle.laws_loan.proofs.Reclaiming.{reclaim_at, goes_known, none_more}
-use Rattle.laws_loan.proofs.Reclaims.{dead_stays}
 use Rattle.laws_loan.proofs.Rests.{KeepsSet, keeps_all}
 use Rattle.laws_loan.proofs.Rests as rests
 use Rattle.laws_loan.proofs.Sender.{party_then, Steps}
+use Rattle.laws_loan.proofs.Theirs.{dead_stays}
 use Rattle.laws_loan.proofs.Told.{is_reclaiming, Tells}
 
 module _ {T : Type 0} (code : Coding T) (slots queue : ℕ) (s : Channel T) (latest : List (ℕ × Party T))

@@ -29,13 +29,12 @@ use Rattle.model.specs.Families.Loan.Spans.{Wrote, may_stand}
 use Rattle.model.specs.Families.Loan.Steps.{ended_book, book_after}
 use Rattle.model.specs.Reading.{Span, Open, own_after, span_of}
 use Rattle.model.specs.Turns.{old_of, words_after, change_of, step_count}
-use Rattle.model.proofs.Frame as frame
 use Rattle.model.proofs.Readings.{span_of-own}
 use Rattle.laws_indices.proofs.Core as indices
 use Rattle.laws_indices.proofs.Knows.{release_counts, release_number, release_wrote, ReleaseAt}
 use Rattle.laws_loan.proofs.Carried.{moved_on}
 use Rattle.laws_loan.proofs.Channel.{Channel, words_in}
-use Rattle.laws_loan.proofs.Invariant.{sends_at, counted_for, hung, reclaims_in, Carries, HoldsNow, family}
+use Rattle.laws_loan.proofs.Invariant.{sends_at, counted_for, hung, reclaims_in, Carries, HoldsNow}
 use Rattle.laws_loan.proofs.Knows.{counts, number_of, wrote_in, GivesAt, At, FlightKnows}
 use Rattle.laws_loan.proofs.OnSet.{OnSet, set_then, set_shows}
 use Rattle.laws_loan.proofs.Parts.{set_words}
@@ -83,9 +82,6 @@ pub record Releasing (T : Type 0) (slots queue index : ℕ) : Type 0 where
 module _ {T : Type 0} (code : Coding T) (slots queue : ℕ) (s : Channel T) (latest : List (ℕ × Party T))
     (turns changes since : ℕ) (x : Party T) (index : ℕ) (below : index < slots) (r : Releasing T slots queue index)
     (h : HoldsNow slots queue s latest s.events turns) where
-  abbrev channel : frame.Family T
-  channel = family code slots queue
-
   abbrev Here : ReleaseStage → Type 0
   Here stage = sends_at latest ≡ Some (flights.TheVariants.Loan (r.at stage))
 

@@ -59,7 +59,6 @@ use Rattle.laws_loan.proofs.Rooms.{back_below, index_is}
 use Rattle.laws_loan.proofs.Sender.{party_then, Steps}
 use Rattle.laws_loan.proofs.Spots.{is_returning, returns_there, passing_same, returning_passes, passing_on, spot_other, spot_moved}
 use Rattle.laws_loan.proofs.Table.{takes_it_back}
-use Rattle.laws_loan.proofs.TakenOff.{take_keeps, first_of}
 use Rattle.laws_loan.proofs.Theirs.{stays_beside}
 use Rattle.laws_loan.proofs.Told.{is_reclaiming}
 
@@ -280,7 +279,7 @@ module _ {T : Type 0} (code : Coding T) (slots queue : ℕ) (s : Channel T) (lat
                 };
             knows = omega arith;
             theirs = λ q ne.
-                stays_beside slots queue s s_taken q refl refl (λ room stage known. known) (take_keeps slots s.completion index rest first)
+                stays_beside slots queue s s_taken q refl refl (λ room stage known. known) (completion.take_keeps slots s.completion index rest first)
                 (passing_on s.events (takes ∷ []) index elsewhere Returning was_returning q (returning_passes q));
             up = record { write = omega arith; read = omega arith; paid = omega arith };
           },
@@ -320,7 +319,7 @@ module _ {T : Type 0} (code : Coding T) (slots queue : ℕ) (s : Channel T) (lat
           let both : (slots == 0 || s.completion.write == s.completion.read) ≡ false = rw (zero, e) refl in
           let ahead = completion.finds_some slots some few s.completion h.parts.completion reached e in
           let write = h.parts.completion.write in
-          let front = first_of s.completion.waiting (omega arith) in
+          let front = completion.first_of s.completion.waiting (omega arith) in
           let known : KnowsPop one_word slots s.completion (in_one room) load_of_cell =
           (omega arith, front.0, front.1, refl, front.2, refl, omega arith, λ i below. absurd (omega arith)) in
           does_by still load_of_write room (GoOn (pops_at slots queue load_of_cell room))

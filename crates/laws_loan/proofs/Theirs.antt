@@ -1,6 +1,6 @@
 -- What a receiver's call goes on to know where the sender takes a step.
 use native.Mathlib.Omega.{arith}
-use Rattle.std.proofs.Common.{◌≡◌, ◌≢◌, ℕ, false, List}
+use Rattle.std.proofs.Common.{◌≡◌, ◌≢◌, ℕ, true, false, List}
 use Rattle.steps.specs.declared.copied.OneWord.{OneWord}
 use Rattle.steps.specs.declared.queues.overflow.PopStage.{PopStage}
 use Rattle.steps.specs.declared.queues.ring.PushStage.{PushStage}
@@ -34,6 +34,13 @@ module _ {T : Type 0} (slots queue : ℕ) (s s' : Channel T) where
       → ((i : ℕ) (stage : PushStage) → KnowsPush one_word slots s.completion i stage → KnowsPush one_word slots s'.completion i stage)
       → ((i : ℕ) → spot_of i s.events ≡ Passing q → spot_of i s'.events ≡ Passing q) → Stays q
   stays_beside x0 x1 x2 x3 x4 x5 = grind arith
+
+  -- while a reclaim is under way the receiver is dead: its calls know nothing of the queue that a send pushes to, and have no index
+  pub dead_stays : has_died s.book.receiver s.book.dead ≡ true → s'.book.dead ≡ s.book.dead
+      → ((index : ℕ) (stage : PushStage) → KnowsPush one_word slots s.completion index stage
+      → KnowsPush one_word slots s'.completion index stage)
+      → (q : ℕ) → Stays q
+  dead_stays x0 x1 x2 x3 = grind arith
 
   pub theirs_stay : (q : ℕ) → q ≢ 0 → Stays q → (wrote : List (Event T)) (start : LoanStart) (flight : LoanFlight)
       → At slots queue s q wrote start flight → At slots queue s' q wrote start flight
