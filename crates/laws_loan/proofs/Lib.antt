@@ -41,7 +41,6 @@ pub mod ReceiveSteps
 pub mod ReceiveTakes
 pub mod Received
 pub mod Receives
-pub mod ReclaimFrees
 pub mod ReclaimGoes
 pub mod ReclaimStep
 pub mod Reclaiming
@@ -52,7 +51,6 @@ pub mod Rests
 pub mod Rooms
 pub mod SendMoves
 pub mod SendStep
-pub mod SendSteps
 pub mod Sender
 pub mod Senders
 pub mod Sends

@@ -48,7 +48,7 @@ use Rattle.laws_loan.proofs.Knows.{Passes, push_wrote}
 use Rattle.laws_loan.proofs.OnQueues.{OnQueues, queues_show}
 use Rattle.laws_loan.proofs.Placed.{Placed}
 use Rattle.laws_loan.proofs.Sender.{party_then, Steps}
-use Rattle.laws_loan.proofs.Sends.{pushes_at, asked, queued, goes, StepTo, Does, does_by, reached, long, words_are, change_is, read_is, none_carried}
+use Rattle.laws_loan.proofs.Sends.{pushes_at, asked, queued, StepTo, Does, does_by, reached, long, words_are, change_is, read_is, none_carried}
 use Rattle.laws_loan.proofs.Spots.{spot_other, spot_moved, passing_same, waiting_passes, passing_on}
 use Rattle.laws_loan.proofs.Still.{AreStill, spots_still, receiver_still, placed_still}
 use Rattle.laws_loan.proofs.Submission as submission

@@ -1,6 +1,6 @@
--- The last steps of a send's push over a full queue: it moves the read position, and loads the index that so leaves; or a receive
--- has moved it before, and the send ends.
-use Rattle.std.proofs.Common.{◌≡◌, ◌≢◌, ℕ, suc, ◌+◌, ◌-◌, ◌%◌, ◌^◌, ◌<◌, ◌≤◌, ◌==◌, inl, inr, true, false}
+-- Every step of a send's push; here those over a full queue: it moves the read position, and loads the index that so leaves; or a
+-- receive has moved it before, and the send ends.
+use Rattle.std.proofs.Common.{◌≡◌, ◌≢◌, ℕ, suc, ◌+◌, ◌-◌, ◌%◌, ◌^◌, ◌<◌, ◌≤◌, ◌==◌, inl, inr, true, false, Bool}
 use Rattle.std.proofs.Common.{Option, List, [], ◌∷◌, ◌++◌, length, get_or, fold, refl, sym, ap, subst, ◌∙◌}
 use Rattle.std.proofs.Common.{None, append-nil, append_assoc, length-append, arith}
 use Rattle.std.proofs.lemmas.Bool.Decides.{nat_tests}
@@ -37,23 +37,26 @@ use Rattle.model.specs.Families.Queues.Reading.{handed_out}
 use Rattle.model.specs.Reading.{Open, own_after, span_of}
 use Rattle.model.specs.Turns.{change_of}
 use Rattle.model.proofs.Readings.{span_of-own}
-use Rattle.laws_queues.proofs.Overflow.Core.{push_over}
+use Rattle.laws_queues.proofs.Overflow.Core.{oldest, push_over}
 use Rattle.laws_queues.proofs.Overflow.Keeping.{take_keeps_pop}
+use Rattle.laws_queues.proofs.Overflow.Knows.{KnowsOverflowPush, overflow_push_number}
 use Rattle.laws_queues.proofs.Queues.Core.{Core, taken}
 use Rattle.laws_loan.proofs.Carried.{moved_on}
 use Rattle.laws_loan.proofs.Channel.{Channel, words_in}
 use Rattle.laws_loan.proofs.Invariant.{sends_at, counted_for, hung, reclaims_in, Carries, HoldsNow}
-use Rattle.laws_loan.proofs.Knows.{Passes, wrote_in, At}
+use Rattle.laws_loan.proofs.Knows.{Passes, wrote_in, At, PushAt, push_wrote}
 use Rattle.laws_loan.proofs.Lists.{first_there}
 use Rattle.laws_loan.proofs.OnQueues.{OnQueues, queues_show}
 use Rattle.laws_loan.proofs.Parts.{submission_old}
 use Rattle.laws_loan.proofs.Placed.{Placed}
+use Rattle.laws_loan.proofs.Publishes.{stores_write}
 use Rattle.laws_loan.proofs.Releases.{send_frees_at}
 use Rattle.laws_loan.proofs.Rests.{keeps_all}
 use Rattle.laws_loan.proofs.Rests as rests
 use Rattle.laws_loan.proofs.Rooms.{sent_below, index_is}
 use Rattle.laws_loan.proofs.Sender.{party_then}
 use Rattle.laws_loan.proofs.Sends.{pushes_at, asked, old, queued, goes, effect_at, StepTo, Does, does_by, Here, reached, long, old_is, words_are, change_is}
+use Rattle.laws_loan.proofs.Sends.{loads_write, loads_read, stores_cell}
 use Rattle.laws_loan.proofs.Spots.{is_waiting, waits_there, passing_same, waiting_passes, passing_on, spot_other, spot_moved}
 use Rattle.laws_loan.proofs.Still.{AreStill, spots_still, placed_still}
 use Rattle.laws_loan.proofs.Submission as submission
@@ -114,7 +117,7 @@ module _ {T : Type 0} (code : Coding T) (slots queue : ℕ) (s : Channel T) (lat
 
   -- ---- it takes the oldest index out
 
-  abbrev pub moves : PushStage
+  abbrev moves : PushStage
   moves = pushes.TheVariants.MovesRead s.submission.read
 
   abbrev loads : PushStage
@@ -267,7 +270,7 @@ module _ {T : Type 0} (code : Coding T) (slots queue : ℕ) (s : Channel T) (lat
         )
 
     -- as the call computes it
-    pub moves_read : Does_at moves
+    moves_read : Does_at moves
     moves_read =
         let t : (s.submission.read == s.submission.read) ≡ true = grind (arith, nat_tests) in
         let found : value moves ≡ s.submission.read = old_is code slots queue s latest turns changes since x h small index straight moves on in
@@ -278,13 +281,13 @@ module _ {T : Type 0} (code : Coding T) (slots queue : ℕ) (s : Channel T) (lat
 
   -- ---- a receive has moved it before: the send has acted, and ends
 
-  abbrev pub acted : Event T
+  abbrev acted : Event T
   acted = Acted 0 call answers.PoppedNone
 
   abbrev ends : Event T
   ends = Finished 0 call answers.PoppedNone
 
-  abbrev pub late : ℕ → PushStage
+  abbrev late : ℕ → PushStage
   late read = pushes.TheVariants.MovesRead read
 
   module _ (read : ℕ) (here : Here code slots queue s latest turns changes since x h small index straight (late read))
@@ -315,7 +318,7 @@ module _ {T : Type 0} (code : Coding T) (slots queue : ℕ) (s : Channel T) (lat
       refl,
     )
 
-    pub moves_late : Does_at (late read)
+    moves_late : Does_at (late read)
     moves_late =
         let found : value (late read) ≡ s.submission.read = old_is code slots queue s latest turns changes since x h small index straight (late read) on_late in
         does_by code slots queue s latest turns changes since x h small index straight s_end (late read) (publishes ∷ acted ∷ [])
@@ -358,7 +361,7 @@ module _ {T : Type 0} (code : Coding T) (slots queue : ℕ) (s : Channel T) (lat
       refl,
     )
 
-    pub loads_cell : Does_at stage
+    loads_cell : Does_at stage
     loads_cell =
         let few = h.parts.set.few in
         let low : slots < 2 ^ 32 = omega arith in
@@ -370,3 +373,58 @@ module _ {T : Type 0} (code : Coding T) (slots queue : ℕ) (s : Channel T) (lat
         (ap (then_of stage) found
         ∙ ap (λ i. GoOn (send_frees_at slots queue index i releases.TheVariants.ClearsFlag)) (index_is (oldest_at read) slots passes.0 low))
         refl has_it
+
+  -- ---- every step of the push
+
+  -- what a send knows leads on
+  pub does : (now : PushStage) → Here code slots queue s latest turns changes since x h small index straight now
+      → span_of 0 s.events ≡ Open call (push_wrote queue s.submission index now)
+      → KnowsOverflowPush queue s.submission index now → PushAt slots queue s index now
+      → x.steps ≤ overflow_push_number now → Does_at now
+  does pushes.TheVariants.HandsBack here from known stands steps = absurd stands
+  does pushes.TheVariants.LoadsWrite here from known stands steps =
+      loads_write code slots queue s latest turns changes since x h small index straight stands from here steps
+  does (pushes.TheVariants.LoadsRead write) here from known stands steps =
+      subst Does_at (ap (λ n. pushes.TheVariants.LoadsRead n) (sym known.1))
+      (loads_read code slots queue s latest turns changes since x h small index straight stands from
+      (subst (λ n. Here code slots queue s latest turns changes since x h small index straight (pushes.TheVariants.LoadsRead n))
+      known.1 here)
+      steps)
+  does (pushes.TheVariants.StoresCell write read) here from known stands steps =
+      subst Does_at (ap (λ n. pushes.TheVariants.StoresCell n read) (sym known.1))
+      (stores_cell code slots queue s latest turns changes since x h small index straight stands from read known.2
+      known.3
+      (subst (λ n. Here code slots queue s latest turns changes since x h small index straight (pushes.TheVariants.StoresCell n read))
+      known.1 here)
+      steps)
+  does (pushes.TheVariants.StoresWrite write read) here from known stands steps =
+      subst Does_at (ap (λ n. pushes.TheVariants.StoresWrite n read) (sym known.1))
+      (stores_write code slots queue s latest turns changes since x h small index straight read
+      (subst (λ n. Here code slots queue s latest turns changes since x h small index straight (pushes.TheVariants.StoresWrite n read))
+      known.1 here)
+      stands from known.4 steps known.2 known.3)
+  does (pushes.TheVariants.MovesRead read) here from known stands steps = go (s.submission.read == read) refl
+    where
+      go : (b : Bool) → (s.submission.read == read) ≡ b → Does_at (pushes.TheVariants.MovesRead read)
+      go true e =
+          let same : read ≡ s.submission.read = grind (arith, nat_tests) in
+          let t : (s.submission.read == s.submission.read) ≡ true = grind (arith, nat_tests) in
+          let last = known.3 same in
+          let far = known.2 in
+          let write = h.parts.submission.write in
+          let front = oldest queue s.submission h.parts.submission (omega arith) in
+          let wrote : push_wrote {T = T} queue s.submission index moves ≡ publishes ∷ [] = rw t refl in
+          subst Does_at (ap (λ n. pushes.TheVariants.MovesRead n) (sym same))
+          (moves_read
+          (subst (λ n. Here code slots queue s latest turns changes since x h small index straight (pushes.TheVariants.MovesRead n))
+          same here)
+          (subst (λ n. span_of 0 s.events ≡ Open call (push_wrote queue s.submission index (pushes.TheVariants.MovesRead n))) same from
+          ∙ ap (λ es. Open call es) wrote)
+          last.0 front.0 last.1 front.1 (omega arith) steps)
+      go false e =
+          let ne : s.submission.read ≢ read = grind (arith, nat_tests) in
+          let apart : (read == s.submission.read) ≡ false = (let other : read ≢ s.submission.read = λ same. ne (sym same) in grind (arith, nat_tests)) in
+          let wrote : push_wrote {T = T} queue s.submission index (late read) ≡ publishes ∷ acted ∷ [] = rw apart refl in
+          moves_late read here (from ∙ ap (λ es. Open call es) wrote) e apart steps
+  does (pushes.TheVariants.LoadsCell read) here from known stands steps =
+      loads_cell read here from stands steps

@@ -36,7 +36,7 @@ use Rattle.laws_loan.proofs.Giving.{GivingStep}
 use Rattle.laws_loan.proofs.Invariant.{HoldsNow}
 use Rattle.laws_loan.proofs.Receives as receives
 use Rattle.laws_loan.proofs.Receives.{receive_at, IsLook}
-use Rattle.laws_loan.proofs.SendSteps as sends
+use Rattle.laws_loan.proofs.SendMoves as sends
 use Rattle.laws_loan.proofs.Sends.{pushes_at, asked, old, goes, effect_at}
 use Rattle.laws_loan.proofs.Sender.{Steps}
 use Rattle.laws_loan.proofs.Knows.{push_wrote}
