@@ -8,10 +8,7 @@ use Rattle.steps.specs.declared.ask.After.TheVariants.{GoOn}
 use Rattle.steps.specs.declared.queues.ring.PopStage.{PopStage}
 use Rattle.model.specs.declared.event.Answer.{Answer}
 use Rattle.model.specs.declared.event.Event.{Event}
-use Rattle.model.specs.declared.event.Start.{Start}
 use Rattle.model.specs.declared.event.Start.TheVariants as starts
-use Rattle.model.specs.declared.families.Flight.{Flight}
-use Rattle.model.specs.declared.families.Flight as flights
 use Rattle.model.specs.declared.families.loan.LoanStart.{LoanStart}
 use Rattle.model.specs.declared.families.loan.calls.LoanFlight.{LoanFlight}
 use Rattle.model.specs.declared.party.Party.{Party}
@@ -26,7 +23,7 @@ use Rattle.model.specs.Reading.{Span, Open, own_after, span_of}
 use Rattle.model.specs.Turns.{words_after, change_of, step_count, one_if}
 use Rattle.model.proofs.Frame as frame
 use Rattle.model.proofs.Parties.{party_put_other}
-use Rattle.model.proofs.Readings.{AreOwn, AllFollow, AreRight, span_of-other}
+use Rattle.model.proofs.Readings.{AreOwn, AllFollow, AreRight}
 use Rattle.laws_indices.proofs.Core as indices
 use Rattle.laws_queues.proofs.Queues.Core.{Core, Good}
 use Rattle.laws_queues.proofs.Ring.Knows.{KnowsPop}
@@ -36,7 +33,7 @@ use Rattle.laws_loan.proofs.Knows.{number_of, wrote_in, At, FlightKnows}
 use Rattle.laws_loan.proofs.Mine.{Gives, given_then, at_given}
 use Rattle.laws_loan.proofs.OnQueues.{silent_tells}
 use Rattle.laws_loan.proofs.Placed.{Placed}
-use Rattle.laws_loan.proofs.Sender.{party_then}
+use Rattle.laws_loan.proofs.Sender.{party_then, owes_by}
 use Rattle.laws_loan.proofs.Told.{is_reclaiming, Tells}
 use Rattle.laws_loan.proofs.Turns.{Shows}
 
@@ -116,36 +113,12 @@ module _ {T : Type 0} (code : Coding T) (slots queue : ℕ) (s : Channel T) (lat
     pub knows : frame.KnowsDoing channel s_given p (s.events ++ es) (changes + change_of (words_in s) ask) y_given.backs y_given.doing
     pub gives : Gives slots queue s completion' (s.events ++ es) p
 
-  module _ (step : GivingStep) where
-    same_span : (q : ℕ) → q ≢ p → span_of q (s.events ++ es) ≡ span_of q s.events
-    same_span q ne = span_of-other p q s.events es ne step.own
-
-    others : (q : ℕ) → q ≢ p → (other : Start T) (call : Flight T) → channel.At s q other call
-        → channel.At s_given q other call × (channel.written s_given q call ≡ channel.written s q call)
-    others q ne (starts.Loan other) (flights.TheVariants.Loan call) known = (
-      subst (λ wrote. At slots queue s_given q wrote other call) (ap wrote_in (sym (same_span q ne)))
-          (at_given slots queue s completion' (s.events ++ es) p step.gives q ne (wrote_in (span_of q s.events)) other call known),
-      ap wrote_in (same_span q ne),
-    )
-    others q ne other call known = absurd known
-
-    others_know : (q : ℕ) → q ≢ p → (sooner backs : ℕ) (call : Flight T)
-        → channel.Knows s q s.events sooner changes backs call
-        → channel.Knows s_given q (s.events ++ es) sooner (changes + change_of (words_in s) ask) backs call
-    others_know x0 x1 x2 x3 x4 x5 = grind arith
-
-    pub giving_owes : span_of p s.events ≡ from → frame.Inv channel s latest s.events changes
-        → frame.Owes channel s_given p y_given latest s.events es (changes + change_of (words_in s) ask)
-    giving_owes is inv =
-        frame.owes channel s s_given from p y_given latest s.events es changes (changes + change_of (words_in s) ask) is inv
-        (record {
-          own = step.own;
-          stands = step.stands;
-          here = step.here;
-          knows = step.knows;
-          others = others;
-          others_know = others_know;
-        })
+  pub giving_owes : GivingStep → span_of p s.events ≡ from → frame.Inv channel s latest s.events changes
+      → frame.Owes channel s_given p y_given latest s.events es (changes + change_of (words_in s) ask)
+  giving_owes step =
+      owes_by code slots queue s s_given p y_given latest from es changes (changes + change_of (words_in s) ask) refl step.own
+      (at_given slots queue s completion' (s.events ++ es) p step.gives)
+      (record { write = omega arith; read = omega arith; paid = omega arith }) step.stands step.here step.knows
 
 -- ---- a step that writes nothing, and leaves what waits in the completion queue: its call goes on
 
