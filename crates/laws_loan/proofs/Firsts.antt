@@ -3,7 +3,6 @@ use Rattle.std.proofs.Common.{◌≡◌, ◌≢◌, ℕ, ◌<◌, ◌≤◌, ◌
 use Rattle.std.proofs.Common.{Option, Some, None, List, [], ◌∷◌, ◌++◌, get_or, refl, sym, ap, subst, ◌∙◌, arith}
 use Rattle.std.proofs.lemmas.Bool.{cases_eq}
 use Rattle.std.proofs.lemmas.Bool.Decides.{nat_tests}
-use Rattle.std.proofs.lemmas.List.Sums.{fold-append}
 use Rattle.steps.specs.declared.loan.reclaim.ReclaimStage as reclaims
 use Rattle.steps.specs.declared.loan.send.SendStage as sends
 use Rattle.steps.specs.declared.queues.overflow.PopStage as overflow_pops
@@ -23,7 +22,7 @@ use Rattle.model.specs.Families.Indices.Robust.Dead.{has_died}
 use Rattle.model.specs.Families.Loan.Calls.{loan_of, give_up_of, take_back_of, give_back_of}
 use Rattle.model.specs.Families.Loan.Opening.{asks_for, taken_from}
 use Rattle.model.specs.Families.Loan.Promises.{ComesFrom, BeginsRight}
-use Rattle.model.specs.Families.Loan.Reading.{Passing, With, Move, move_of, spot_of, receiver_after, receiver_of, died_after, reclaims_after}
+use Rattle.model.specs.Families.Loan.Reading.{Passing, With, Move, move_of, spot_of, receiver_of, reclaims_after}
 use Rattle.model.specs.Families.Queues.Calls.{fresh}
 use Rattle.model.specs.Families.Queues.Opening.{holds}
 use Rattle.model.specs.Reading.{Open, span_of}
@@ -33,10 +32,10 @@ use Rattle.laws_loan.proofs.Begins.{IsFirst, shut_none}
 use Rattle.laws_loan.proofs.Channel.{Channel}
 use Rattle.laws_loan.proofs.Invariant.{hung, reclaims_in, Carries, HoldsNow}
 use Rattle.laws_loan.proofs.Knows.{counts, At, FlightKnows}
-use Rattle.laws_loan.proofs.Lists.{lists_stay}
-use Rattle.laws_loan.proofs.Placed.{Placed, placed_on}
+use Rattle.laws_loan.proofs.Placed.{Placed}
 use Rattle.laws_loan.proofs.Rooms.{waits_few}
-use Rattle.laws_loan.proofs.Spots.{is_waiting, is_returning, spot_stays, spot_other, spot_moved, with_passes}
+use Rattle.laws_loan.proofs.Spots.{spot_stays, spot_other, spot_moved, with_passes}
+use Rattle.laws_loan.proofs.Still.{placed_still}
 use Rattle.laws_loan.proofs.Table.{sender_begins, receiver_begins}
 use Rattle.laws_loan.proofs.Told.{is_reclaiming}
 
@@ -68,27 +67,10 @@ module _ {T : Type 0} (code : Coding T) (slots queue : ℕ) (s : Channel T) (lat
     abbrev began : Option ℕ → Channel T
     began o = record s { book = taken_from s.book o; events = s.events ++ begun ∷ [] }
 
-    same_receiver : receiver_of (s.events ++ begun ∷ []) ≡ receiver_of s.events
-    same_receiver = fold-append receiver_after 1 s.events (begun ∷ [])
-
     -- a call that asks for no index moves none
     module _ (none : move_of {T = T} begun ≡ None) where
       stays_put : (index : ℕ) → spot_of index (s.events ++ begun ∷ []) ≡ spot_of index s.events
       stays_put index = spot_stays s.events begun index none
-
-      placed_still : Placed slots s.claims s.submission.waiting s.completion.waiting s.book (s.events ++ begun ∷ [])
-      placed_still =
-          let placed = h.parts.placed in
-          placed_on slots s.events begun none s.claims s.submission.waiting s.completion.waiting s.book s.book placed
-          (record {
-            places = refl;
-            holders = refl;
-            receiver = placed.keeps.receiver ∙ sym same_receiver;
-            dead = λ q. placed.keeps.dead q ∙ sym (fold-append (died_after q) false s.events (begun ∷ []));
-            parties = λ i q by. subst (λ r. (q ≡ 0) ⊎ (q ≡ r)) (sym same_receiver) (placed.parties i q by);
-          })
-          (lists_stay is_waiting s.submission.waiting s.events begun placed.waits none)
-          (lists_stay is_returning s.completion.waiting s.events begun placed.returns none)
 
       -- so much of its begin is the same for each of them
       asks_none : (flight : LoanFlight) → asks_for start ≡ None → counts flight ≡ 0
@@ -100,7 +82,9 @@ module _ {T : Type 0} (code : Coding T) (slots queue : ℕ) (s : Channel T) (lat
           record {
             placed =
                 subst (λ o. Placed slots s.claims s.submission.waiting s.completion.waiting (taken_from s.book o) (s.events ++ begun ∷ []))
-                (sym asks) placed_still;
+                (sym asks)
+                (placed_still slots s.claims s.submission.waiting s.completion.waiting s.book s.events (begun ∷ [])
+                (record { moves = none; receiver = λ r. refl; dead = λ q b. refl }, tt) h.parts.placed);
             queue_stays = ap (λ o. (taken_from s.book o).queue) asks;
             places_stay = ap (λ o. (taken_from s.book o).places) asks;
             receiver_stays = ap (λ o. (taken_from s.book o).receiver) asks;
