@@ -1,6 +1,6 @@
 -- The steps of a give-back: the receiver pushes its index into the completion queue, where there is room for each one.
 use Rattle.std.proofs.Common.{◌≡◌, ◌≢◌, ℕ, ◌+◌, ◌-◌, ◌^◌, ◌<◌, ◌≤◌, Bool, true, false, Option, List, []}
-use Rattle.std.proofs.Common.{◌∷◌, ◌++◌, length, fold, refl, sym, ap, subst, ◌∙◌, append-nil, append_assoc, arith}
+use Rattle.std.proofs.Common.{◌∷◌, ◌++◌, length, refl, sym, ap, subst, ◌∙◌, append-nil, append_assoc, arith}
 use Rattle.std.proofs.lemmas.List.Sums.{fold-append}
 use Rattle.steps.specs.declared.ask.Ask.{Ask}
 use Rattle.steps.specs.declared.ask.Want.{Want}
@@ -30,11 +30,11 @@ use Rattle.model.specs.Coding.{Coding, one_word}
 use Rattle.model.specs.Families.{ask_of}
 use Rattle.model.specs.Families.Indices.Robust.Dead.{has_died}
 use Rattle.model.specs.Families.Loan.Reading.{Passing, Returning, spot_of, receiver_after, receiver_of}
-use Rattle.model.specs.Families.Loan.Steps.{ended_book, book_after, give_back_effect, effects_of}
+use Rattle.model.specs.Families.Loan.Steps.{give_back_effect}
 use Rattle.model.specs.Families.Queues.Calls.{as_it_is, words_of_index}
 use Rattle.model.specs.Reading.{Span, Open, span_of}
-use Rattle.model.specs.Step.{as_call, answer_in}
-use Rattle.model.specs.Turns.{old_of, words_after, step_count, ending_of}
+use Rattle.model.specs.Step.{as_call}
+use Rattle.model.specs.Turns.{old_of, words_after, step_count}
 use Rattle.model.proofs.Readings.{span_of-other}
 use Rattle.laws_queues.proofs.Queues.Core.{Core, Good, filled, published}
 use Rattle.laws_queues.proofs.Queues.Knows.{layout}
@@ -43,7 +43,7 @@ use Rattle.laws_loan.proofs.Carried.{moved_on}
 use Rattle.laws_loan.proofs.Channel.{Channel, no_roles, words_in}
 use Rattle.laws_loan.proofs.Completion as completion
 use Rattle.laws_loan.proofs.Cuts.{IsOn}
-use Rattle.laws_loan.proofs.Giving.{OnCompletion, GivingStep, given_shows, gives_on}
+use Rattle.laws_loan.proofs.Giving.{OnCompletion, GivesBy, given_shows, gives_on}
 use Rattle.laws_loan.proofs.Invariant.{sends_at, counted_for, reclaims_in, HoldsNow}
 use Rattle.laws_loan.proofs.Knows.{Passes}
 use Rattle.laws_loan.proofs.Mine.{fill_keeps, publish_keeps}
@@ -95,21 +95,9 @@ module _ {T : Type 0} (code : Coding T) (slots queue : ℕ) (s : Channel T) (lat
   abbrev pub after_of : PushStage → After LoanFlight (Answer T)
   after_of stage = given_after T slots queue p index (push_takes 1 (push_on slots stage) stage (old stage))
 
-  abbrev events_by : Effect → After LoanFlight (Answer T) → List (Event T)
-  events_by effect after = effects_of p effect (answer_in after) ++ ending_of p start (answer_in after)
-
-  -- what is kept then
-  abbrev Keeps : Effect → After LoanFlight (Answer T) → Type 0
-  Keeps effect after =
-      ended_book {T = T} p (calls.GiveBack index) (answer_in after)
-      (fold (book_after {T = T}) s.book (effects_of p effect (answer_in after)))
-      ≡ s.book
-
   abbrev StepTo : Core ℕ → PushStage → After LoanFlight (Answer T) → Effect → Type 0
   StepTo k stage after effect =
-      GivingStep code slots queue s latest turns changes since x p k spanned (calls.GiveBack index) (asked stage)
-      false after (events_by effect after)
-      × Keeps effect after
+      GivesBy code slots queue s latest turns changes since x p k spanned (calls.GiveBack index) (asked stage) false after effect
 
   -- what a step of a give-back that stands here comes to
   pub record Does (stage : PushStage) : Type 0 where

@@ -11,16 +11,19 @@ use Rattle.model.specs.declared.event.Event.{Event}
 use Rattle.model.specs.declared.event.Start.TheVariants as starts
 use Rattle.model.specs.declared.families.loan.LoanStart.{LoanStart}
 use Rattle.model.specs.declared.families.loan.calls.LoanFlight.{LoanFlight}
+use Rattle.model.specs.declared.families.loan.effects.Effect.{Effect}
 use Rattle.model.specs.declared.party.Party.{Party}
 use Rattle.model.specs.Coding.{Coding, one_word}
 use Rattle.model.specs.Families.Indices.Robust.Dead.{has_died}
 use Rattle.model.specs.Families.Loan.Promises.{MovesRight, BeginsRight, AnswersRight, promise}
 use Rattle.model.specs.Families.Loan.Reading.{Passing, spot_of, receiver_of, reclaims_after}
+use Rattle.model.specs.Families.Loan.Steps.{ended_book, book_after, effects_of}
 use Rattle.model.specs.Families.Queues.Calls.{words_of_index}
 use Rattle.model.specs.Parties.{put, doing_of, flight_of}
 use Rattle.model.specs.Promises.Spans.{Stands}
 use Rattle.model.specs.Reading.{Span, Open, own_after, span_of}
-use Rattle.model.specs.Turns.{words_after, change_of, step_count, one_if}
+use Rattle.model.specs.Step.{answer_in}
+use Rattle.model.specs.Turns.{words_after, change_of, step_count, one_if, ending_of}
 use Rattle.model.proofs.Frame as frame
 use Rattle.model.proofs.Parties.{party_put_other}
 use Rattle.model.proofs.Readings.{AreOwn, AllFollow, AreRight}
@@ -119,6 +122,15 @@ module _ {T : Type 0} (code : Coding T) (slots queue : ℕ) (s : Channel T) (lat
       owes_by code slots queue s s_given p y_given latest from es changes (changes + change_of (words_in s) ask) refl step.own
       (at_given slots queue s completion' (s.events ++ es) p step.gives)
       (record { write = omega arith; read = omega arith; paid = omega arith }) step.stands step.here step.knows
+
+module _ {T : Type 0} (code : Coding T) (slots queue : ℕ) (s : Channel T) (latest : List (ℕ × Party T))
+    (turns changes since : ℕ) (x : Party T) (p : ℕ) where
+  -- such a step with this effect, which leaves the book
+  abbrev pub GivesBy : Core ℕ → Span T → LoanStart → Option Ask → Bool → After LoanFlight (Answer T) → Effect → Type 0
+  GivesBy k from start ask back after effect =
+      GivingStep code slots queue s latest turns changes since x p k from start ask back after
+      (effects_of p effect (answer_in after) ++ ending_of p (starts.Loan start) (answer_in after))
+      × (ended_book {T = T} p start (answer_in after) (fold (book_after {T = T}) s.book (effects_of p effect (answer_in after))) ≡ s.book)
 
 -- ---- a step that writes nothing, and leaves what waits in the completion queue: its call goes on
 

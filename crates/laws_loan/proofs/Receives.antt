@@ -1,7 +1,7 @@
 -- The steps of a receive that take nothing out: the loads, a turn back where a send has moved the read position, and the end
 -- where nothing waits.
 use Rattle.std.proofs.Common.{◌≡◌, ◌≢◌, ℕ, ◌+◌, ◌-◌, ◌*◌, ◌%◌, ◌^◌, ◌<◌, ◌≤◌, ◌==◌, ⊎_elim, Bool, true, false, Option}
-use Rattle.std.proofs.Common.{List, [], ◌∷◌, ◌++◌, length, get_or, take, fold, refl, sym, ap, subst, ◌∙◌, append-nil}
+use Rattle.std.proofs.Common.{List, [], ◌∷◌, ◌++◌, length, get_or, take, refl, sym, ap, subst, ◌∙◌, append-nil}
 use Rattle.std.proofs.Common.{arith}
 use Rattle.std.proofs.lemmas.Bool.{cases_lt}
 use Rattle.std.proofs.lemmas.Bool.Decides.{nat_tests}
@@ -34,11 +34,11 @@ use Rattle.model.specs.Coding.{Coding}
 use Rattle.model.specs.Families.{ask_of}
 use Rattle.model.specs.Families.Indices.Robust.Dead.{has_died}
 use Rattle.model.specs.Families.Loan.Reading.{Passing, spot_of}
-use Rattle.model.specs.Families.Loan.Steps.{ended_book, book_after, receive_effect, effects_of}
+use Rattle.model.specs.Families.Loan.Steps.{receive_effect}
 use Rattle.model.specs.Families.Queues.Calls.{popped}
 use Rattle.model.specs.Reading.{Span, Open, span_of}
-use Rattle.model.specs.Step.{as_call, answer_in}
-use Rattle.model.specs.Turns.{old_of, words_after, change_of, one_if, step_count, ending_of}
+use Rattle.model.specs.Step.{as_call}
+use Rattle.model.specs.Turns.{old_of, words_after, change_of, one_if, step_count}
 use Rattle.model.proofs.Readings.{span_of-other}
 use Rattle.laws_queues.proofs.Overflow.Core.{oldest}
 use Rattle.laws_queues.proofs.Overflow.Knows.{KnowsOverflowPop, KnowsBacks, overflow_pop_number}
@@ -46,7 +46,7 @@ use Rattle.laws_queues.proofs.Queues.Knows.{layout}
 use Rattle.laws_loan.proofs.Carried.{carried_on}
 use Rattle.laws_loan.proofs.Channel.{Channel, no_roles, words_in}
 use Rattle.laws_loan.proofs.Cuts.{IsOn}
-use Rattle.laws_loan.proofs.Giving.{OnCompletion, GivingStep, given_shows, gives_on}
+use Rattle.laws_loan.proofs.Giving.{OnCompletion, GivesBy, given_shows, gives_on}
 use Rattle.laws_loan.proofs.Invariant.{sends_at, counted_for, reclaims_in, Carries, HoldsNow}
 use Rattle.laws_loan.proofs.Parts.{submission_long, submission_old, submission_words}
 use Rattle.laws_loan.proofs.Sender.{party_then}
@@ -100,19 +100,10 @@ module _ {T : Type 0} (code : Coding T) (slots queue : ℕ) (s : Channel T) (lat
   abbrev pub effect_at : PopStage → ℕ → Effect
   effect_at stage value = receive_effect (submission_word slots) queue (words_in s) beside stage value
 
-  abbrev pub events_by : Effect → After LoanFlight (Answer T) → List (Event T)
-  events_by effect after = effects_of p effect (answer_in after) ++ ending_of p call (answer_in after)
-
-  -- what is kept then
-  abbrev pub Keeps : Effect → After LoanFlight (Answer T) → Type 0
-  Keeps effect after = ended_book {T = T} p calls.Receive (answer_in after) (fold (book_after {T = T}) s.book (effects_of p effect (answer_in after))) ≡ s.book
-
   -- a step that leaves every word
   abbrev pub Looks : PopStage → Bool → After LoanFlight (Answer T) → Effect → Type 0
   Looks stage back after effect =
-      GivingStep code slots queue s latest turns changes since x p s.completion spanned calls.Receive (asked stage)
-      back after (events_by effect after)
-      × Keeps effect after
+      GivesBy code slots queue s latest turns changes since x p s.completion spanned calls.Receive (asked stage) back after effect
 
   -- the step of a receive that stands here with this room
   abbrev pub LooksOf : PopStage → OneWord → Type 0

@@ -25,13 +25,12 @@ use Rattle.model.specs.Families.{ask_of}
 use Rattle.model.specs.Families.Loan.Calls.{reclaim_goes}
 use Rattle.model.specs.Families.Loan.Promises.{MovesRight, BeginsRight, AnswersRight, promise}
 use Rattle.model.specs.Families.Loan.Reading.{Passing, spot_of, receiver_of, given_back, claimed, reclaims_after, gives_back, claims}
-use Rattle.model.specs.Families.Loan.Steps.{ended_book, book_after, reclaim_effect, effects_of}
+use Rattle.model.specs.Families.Loan.Steps.{reclaim_effect}
 use Rattle.model.specs.Families.Queues.Calls.{words_of_index}
 use Rattle.model.specs.Families.Queues.Reading.{publishes, published}
 use Rattle.model.specs.Promises.Spans.{Stands}
 use Rattle.model.specs.Reading.{acts, moments, Open, own_after, span_of}
-use Rattle.model.specs.Step.{answer_in}
-use Rattle.model.specs.Turns.{old_of, words_after, change_of, step_count, ending_of}
+use Rattle.model.specs.Turns.{old_of, words_after, change_of, step_count}
 use Rattle.model.proofs.Readings.{AreRight, AreOwn, AllFollow, span_of-own, span_of-other}
 use Rattle.laws_queues.proofs.Queues.Core.{Core, Good, GoesUp}
 use Rattle.laws_queues.proofs.Queues.Knows.{layout}
@@ -44,7 +43,7 @@ use Rattle.laws_loan.proofs.Placed.{Placed}
 use Rattle.laws_loan.proofs.Reclaiming.{reclaim_at, goes_known, none_more}
 use Rattle.laws_loan.proofs.Rests.{KeepsSet, keeps_all}
 use Rattle.laws_loan.proofs.Rests as rests
-use Rattle.laws_loan.proofs.Sender.{party_then, Steps}
+use Rattle.laws_loan.proofs.Sender.{party_then, Steps, StepBy}
 use Rattle.laws_loan.proofs.Theirs.{dead_stays}
 use Rattle.laws_loan.proofs.Told.{is_reclaiming, Tells}
 
@@ -67,20 +66,8 @@ module _ {T : Type 0} (code : Coding T) (slots queue : ℕ) (s : Channel T) (lat
   abbrev pub effect_at : ReclaimStage → ℕ → Effect
   effect_at stage value = reclaim_effect slots queue (words_in s) stage value
 
-  abbrev pub events_by : Effect → After LoanFlight (Answer T) → List (Event T)
-  events_by effect after = effects_of 0 effect (answer_in after) ++ ending_of 0 start (answer_in after)
-
-  -- what is kept then
-  abbrev pub Keeps : Channel T → Effect → After LoanFlight (Answer T) → Type 0
-  Keeps s' effect after =
-      ended_book {T = T} 0 calls.Reclaim (answer_in after) (fold (book_after {T = T}) s.book (effects_of 0 effect (answer_in after)))
-      ≡ s'.book
-
   abbrev pub StepTo : Channel T → ReclaimStage → After LoanFlight (Answer T) → Effect → Type 0
-  StepTo s' stage after effect =
-      Steps code slots queue s latest turns changes since x s' (Open start wrote) calls.Reclaim (asked stage) false
-      after (events_by effect after)
-      × Keeps s' effect after
+  StepTo s' stage after effect = StepBy code slots queue s latest turns changes since x s' (Open start wrote) calls.Reclaim (asked stage) after effect
 
   -- what a step of a reclaim that stands here comes to
   pub record Does (stage : ReclaimStage) : Type 0 where

@@ -1,5 +1,5 @@
 -- A step of the sender's call, which writes events of its own alone: what it shows, and that it so comes to what the frame asks.
-use Rattle.std.proofs.Common.{◌≡◌, ◌≢◌, ℕ, ◌+◌, Bool, Option, Some, List, [], ◌++◌, fold, sym, ap, subst, ◌∙◌}
+use Rattle.std.proofs.Common.{◌≡◌, ◌≢◌, ℕ, ◌+◌, Bool, false, Option, Some, List, [], ◌++◌, fold, sym, ap, subst, ◌∙◌}
 use Rattle.steps.specs.declared.ask.Ask.{Ask}
 use Rattle.steps.specs.declared.ask.After.{After}
 use Rattle.model.specs.declared.event.Answer.{Answer}
@@ -11,13 +11,15 @@ use Rattle.model.specs.declared.families.Flight as flights
 use Rattle.model.specs.declared.families.Registry as registries
 use Rattle.model.specs.declared.families.loan.LoanStart.{LoanStart}
 use Rattle.model.specs.declared.families.loan.calls.LoanFlight.{LoanFlight}
+use Rattle.model.specs.declared.families.loan.effects.Effect.{Effect}
 use Rattle.model.specs.declared.party.Party.{Party}
 use Rattle.model.specs.Coding.{Coding}
 use Rattle.model.specs.Families.Loan.Promises.{promise}
+use Rattle.model.specs.Families.Loan.Steps.{ended_book, book_after, effects_of}
 use Rattle.model.specs.Promises.Spans.{Stands}
 use Rattle.model.specs.Reading.{Span, own_after, span_of}
-use Rattle.model.specs.Step.{as_call}
-use Rattle.model.specs.Turns.{words_after, change_of, step_count, party_after}
+use Rattle.model.specs.Step.{as_call, answer_in}
+use Rattle.model.specs.Turns.{words_after, change_of, step_count, party_after, ending_of}
 use Rattle.model.proofs.Frame as frame
 use Rattle.model.proofs.Readings.{AreOwn, AllFollow, span_of-other}
 use Rattle.laws_queues.proofs.Queues.Core.{GoesUp}
@@ -89,6 +91,12 @@ module _ {T : Type 0} (code : Coding T) (slots queue : ℕ) (s : Channel T) (lat
         (party_then s x since changes start ask back after).doing
     pub theirs : (q : ℕ) → q ≢ 0 → Stays slots queue s s' q
     pub up : GoesUp s.submission s'.submission changes (changes + change_of (words_in s) ask)
+
+  -- such a step with this effect, which leaves its book
+  abbrev pub StepBy : Channel T → Span T → LoanStart → Option Ask → After LoanFlight (Answer T) → Effect → Type 0
+  StepBy s' from start ask after effect =
+      Steps s' from start ask false after (effects_of 0 effect (answer_in after) ++ ending_of 0 (starts.Loan start) (answer_in after))
+      × (ended_book {T = T} 0 start (answer_in after) (fold (book_after {T = T}) s.book (effects_of 0 effect (answer_in after))) ≡ s'.book)
 
   module _ (s' : Channel T) (from : Span T) (start : LoanStart) (ask : Option Ask) (back : Bool)
       (after : After LoanFlight (Answer T)) (es : List (Event T)) (steps : Steps s' from start ask back after es) where

@@ -1,5 +1,5 @@
 -- The push of a send, the pop of a take-back, the push of a give-back and what a receive looks at, as steps of the machine.
-use Rattle.std.proofs.Common.{◌≡◌, ℕ, ◌-◌, ◌^◌, ◌<◌, false, Bool, Option, List, [], ◌++◌, fold, ap, ◌∙◌}
+use Rattle.std.proofs.Common.{◌≡◌, ℕ, ◌-◌, ◌^◌, ◌<◌, false, Bool, Option, List, [], fold, ap, ◌∙◌}
 use Rattle.steps.specs.declared.ask.Ask.{Ask}
 use Rattle.steps.specs.declared.ask.After.{After}
 use Rattle.steps.specs.declared.copied.OneWord.{OneWord}
@@ -24,7 +24,6 @@ use Rattle.model.specs.Families.Indices.Robust.Dead.{has_died}
 use Rattle.model.specs.Families.Loan.Steps.{beside, ended_book, book_after, effects_of, take_back_effect, give_back_effect}
 use Rattle.model.specs.Reading.{Open, span_of}
 use Rattle.model.specs.Step.{answer_in}
-use Rattle.model.specs.Turns.{ending_of}
 use Rattle.model.specs.World.{Trace}
 use Rattle.model.proofs.Frame as frame
 use Rattle.model.proofs.Scenes.{StandsThere, ComesFrom}
@@ -32,13 +31,13 @@ use Rattle.laws_queues.proofs.Queues.Core.{Core}
 use Rattle.laws_loan.proofs.Channel.{Channel, words_in}
 use Rattle.laws_loan.proofs.GiveBacks as give_backs
 use Rattle.laws_loan.proofs.GiveBacks.{give_at}
-use Rattle.laws_loan.proofs.Giving.{GivingStep}
+use Rattle.laws_loan.proofs.Giving.{GivesBy}
 use Rattle.laws_loan.proofs.Invariant.{HoldsNow}
 use Rattle.laws_loan.proofs.Receives as receives
 use Rattle.laws_loan.proofs.Receives.{receive_at, IsLook}
 use Rattle.laws_loan.proofs.SendMoves as sends
 use Rattle.laws_loan.proofs.Sends.{pushes_at, asked, old, goes, effect_at}
-use Rattle.laws_loan.proofs.Sender.{Steps}
+use Rattle.laws_loan.proofs.Sender.{StepBy}
 use Rattle.laws_loan.proofs.Knows.{push_wrote}
 use Rattle.laws_loan.proofs.StepLaw.{channel, holds_now, ComesWith, sender_comes, receiver_comes}
 use Rattle.laws_loan.proofs.TakeBacks as take_backs
@@ -60,10 +59,8 @@ module _ {T : Type 0} (code : Coding T) (slots queue : ℕ) (t : Trace T)
   pub from_step : (start : LoanStart) (ask : Option Ask) (after : After LoanFlight (Answer T)) (effect : Effect)
       (s' : Channel T) (wrote : List (Event T))
       → span_of 0 sound.state.events ≡ Open (starts.TheVariants.Loan start) wrote
-      → Steps code slots queue sound.state t.world.latest t.world.turns t.world.changes since x s'
-      (Open (starts.TheVariants.Loan start) wrote) start ask false after
-      (effects_of 0 effect (answer_in after) ++ ending_of 0 (starts.TheVariants.Loan start) (answer_in after))
-      × (ended_book {T = T} 0 start (answer_in after) (fold (book_after {T = T}) sound.state.book (effects_of 0 effect (answer_in after))) ≡ s'.book)
+      → StepBy code slots queue sound.state t.world.latest t.world.turns t.world.changes since x s'
+      (Open (starts.TheVariants.Loan start) wrote) start ask after effect
       → ComesWith code slots queue t sound x since 0 start ask false after (effects_of 0 effect (answer_in after))
       (ended_book {T = T} 0 start (answer_in after)
       (fold (book_after {T = T}) sound.state.book (effects_of 0 effect (answer_in after))))
@@ -76,11 +73,8 @@ module _ {T : Type 0} (code : Coding T) (slots queue : ℕ) (t : Trace T)
   -- of the receiver, whose call has written nothing before
   from_receiver : (p : ℕ) (start : LoanStart) (ask : Option Ask) (back : Bool) (after : After LoanFlight (Answer T))
       (effect : Effect) (k : Core ℕ) → span_of p sound.state.events ≡ Open (starts.TheVariants.Loan start) []
-      → GivingStep code slots queue sound.state t.world.latest t.world.turns t.world.changes since x p k
-      (Open (starts.TheVariants.Loan start) []) start ask back after
-      (effects_of p effect (answer_in after) ++ ending_of p (starts.TheVariants.Loan start) (answer_in after))
-      × (ended_book {T = T} p start (answer_in after) (fold (book_after {T = T}) sound.state.book (effects_of p effect (answer_in after)))
-      ≡ sound.state.book)
+      → GivesBy code slots queue sound.state t.world.latest t.world.turns t.world.changes since x p k
+      (Open (starts.TheVariants.Loan start) []) start ask back after effect
       → ComesWith code slots queue t sound x since p start ask back after (effects_of p effect (answer_in after))
       (ended_book {T = T} p start (answer_in after)
       (fold (book_after {T = T}) sound.state.book (effects_of p effect (answer_in after))))

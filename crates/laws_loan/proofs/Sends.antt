@@ -1,6 +1,6 @@
 -- The steps of a send until it releases an index: the sender pushes the submission queue.
 use Rattle.std.proofs.Common.{◌≡◌, ◌≢◌, ℕ, ◌+◌, ◌-◌, ◌^◌, ◌<◌, ◌≤◌, ◌==◌, false, Option, Some, None, List, [], ◌++◌}
-use Rattle.std.proofs.Common.{length, fold, refl, sym, ap, subst, ◌∙◌, append-nil, arith}
+use Rattle.std.proofs.Common.{length, refl, sym, ap, subst, ◌∙◌, append-nil, arith}
 use Rattle.std.proofs.lemmas.Bool.Decides.{nat_tests}
 use Rattle.steps.specs.declared.ask.Ask.{Ask}
 use Rattle.steps.specs.declared.ask.After.{After}
@@ -31,11 +31,11 @@ use Rattle.model.specs.declared.party.Party.{Party}
 use Rattle.model.specs.Coding.{Coding}
 use Rattle.model.specs.Families.{ask_of}
 use Rattle.model.specs.Families.Loan.Reading.{spot_of, receiver_of}
-use Rattle.model.specs.Families.Loan.Steps.{ended_book, book_after, read_in, push_effect, effects_of}
+use Rattle.model.specs.Families.Loan.Steps.{read_in, push_effect}
 use Rattle.model.specs.Families.Queues.Calls.{as_it_is, popped, words_of_index}
 use Rattle.model.specs.Reading.{Open, span_of}
-use Rattle.model.specs.Step.{as_call, answer_in}
-use Rattle.model.specs.Turns.{old_of, words_after, change_of, step_count, ending_of}
+use Rattle.model.specs.Step.{as_call}
+use Rattle.model.specs.Turns.{old_of, words_after, change_of, step_count}
 use Rattle.laws_queues.proofs.Overflow.Keeping.{fill_keeps_pop}
 use Rattle.laws_queues.proofs.Overflow.Knows.{KnowsOverflowPush, KnowsOverflowPop, overflow_push_number}
 use Rattle.laws_queues.proofs.Queues.Core.{Core, Good, filled}
@@ -47,7 +47,7 @@ use Rattle.laws_loan.proofs.Knows.{Passes, PushAt, push_wrote, wrote_in, At}
 use Rattle.laws_loan.proofs.OnQueues.{OnQueues, queues_show, silent_tells}
 use Rattle.laws_loan.proofs.Parts.{submission_old, submission_words, submission_change}
 use Rattle.laws_loan.proofs.Placed.{Placed}
-use Rattle.laws_loan.proofs.Sender.{party_then, Steps}
+use Rattle.laws_loan.proofs.Sender.{party_then, StepBy}
 use Rattle.laws_loan.proofs.Submission as submission
 use Rattle.laws_loan.proofs.Theirs.{stays_beside}
 use Rattle.laws_loan.proofs.Told.{is_reclaiming, Tells}
@@ -88,20 +88,9 @@ module _ {T : Type 0} (code : Coding T) (slots queue : ℕ) (s : Channel T) (lat
   abbrev pub effect_at : PushStage → ℕ → Effect
   effect_at stage value = push_effect (submission_word slots) queue (words_in s) index stage value
 
-  abbrev pub events_by : Effect → After LoanFlight (Answer T) → List (Event T)
-  events_by effect after = effects_of 0 effect (answer_in after) ++ ending_of 0 start (answer_in after)
-
-  -- what is kept then
-  abbrev pub Keeps : Channel T → Effect → After LoanFlight (Answer T) → Type 0
-  Keeps s' effect after =
-      ended_book {T = T} 0 (calls.Send index) (answer_in after) (fold (book_after {T = T}) s.book (effects_of 0 effect (answer_in after)))
-      ≡ s'.book
-
   abbrev pub StepTo : Channel T → List (Event T) → PushStage → After LoanFlight (Answer T) → Effect → Type 0
   StepTo s' wrote stage after effect =
-      Steps code slots queue s latest turns changes since x s' (Open start wrote) (calls.Send index) (asked stage) false
-      after (events_by effect after)
-      × Keeps s' effect after
+      StepBy code slots queue s latest turns changes since x s' (Open start wrote) (calls.Send index) (asked stage) after effect
 
   -- what a step of a send that stands here comes to
   pub record Does (stage : PushStage) : Type 0 where

@@ -33,11 +33,11 @@ use Rattle.model.specs.declared.party.Party.{Party}
 use Rattle.model.specs.Coding.{Coding, one_word}
 use Rattle.model.specs.Families.{ask_of}
 use Rattle.model.specs.Families.Loan.Reading.{Passing, Returning, spot_of, receiver_after, receiver_of, taken_back}
-use Rattle.model.specs.Families.Loan.Steps.{ended_book, book_after, take_back_effect, effects_of}
+use Rattle.model.specs.Families.Loan.Steps.{take_back_effect}
 use Rattle.model.specs.Families.Queues.Calls.{as_it_is, popped, words_of_index}
 use Rattle.model.specs.Reading.{Span, Open, own_after, span_of}
-use Rattle.model.specs.Step.{as_call, answer_in}
-use Rattle.model.specs.Turns.{old_of, words_after, step_count, ending_of}
+use Rattle.model.specs.Step.{as_call}
+use Rattle.model.specs.Turns.{old_of, words_after, step_count}
 use Rattle.model.proofs.Readings.{span_of-own}
 use Rattle.laws_queues.proofs.Queues.Core.{Core, taken}
 use Rattle.laws_queues.proofs.Queues.Knows.{layout, in_one}
@@ -56,7 +56,7 @@ use Rattle.laws_loan.proofs.Releases.{take_back_frees_at}
 use Rattle.laws_loan.proofs.Rests.{KeepsSet, keeps_all}
 use Rattle.laws_loan.proofs.Rests as rests
 use Rattle.laws_loan.proofs.Rooms.{back_below, index_is}
-use Rattle.laws_loan.proofs.Sender.{party_then, Steps}
+use Rattle.laws_loan.proofs.Sender.{party_then, StepBy}
 use Rattle.laws_loan.proofs.Spots.{is_returning, returns_there, passing_same, returning_passes, passing_on, spot_other, spot_moved}
 use Rattle.laws_loan.proofs.Table.{takes_it_back}
 use Rattle.laws_loan.proofs.Theirs.{stays_beside}
@@ -92,19 +92,8 @@ module _ {T : Type 0} (code : Coding T) (slots queue : ℕ) (s : Channel T) (lat
       (went_on as_it_is tt tt (take_back_takes (record { slots = slots; queue = queue; stage = take_backs.TheVariants.Pops stage found })
       (take_backs.TheVariants.Pops stage found) value))
 
-  abbrev events_by : Effect → After LoanFlight (Answer T) → List (Event T)
-  events_by effect after = effects_of 0 effect (answer_in after) ++ ending_of 0 start (answer_in after)
-
-  -- what is kept then
-  abbrev Keeps : Channel T → Effect → After LoanFlight (Answer T) → Type 0
-  Keeps s' effect after =
-      ended_book {T = T} 0 calls.TakeBack (answer_in after) (fold (book_after {T = T}) s.book (effects_of 0 effect (answer_in after)))
-      ≡ s'.book
-
   abbrev StepTo : Channel T → PopStage → After LoanFlight (Answer T) → Effect → Type 0
-  StepTo s' stage after effect =
-      Steps code slots queue s latest turns changes since x s' spanned calls.TakeBack (asked stage) false after (events_by effect after)
-      × Keeps s' effect after
+  StepTo s' stage after effect = StepBy code slots queue s latest turns changes since x s' spanned calls.TakeBack (asked stage) after effect
 
   -- what a step of a take-back that stands here comes to
   pub record Does (stage : PopStage) (found : OneWord) : Type 0 where
