@@ -1,6 +1,6 @@
 -- A reclaim, as steps of the machine: it pops the two queues, and releases one index after the other that was sent.
 use Rattle.std.proofs.Common.{◌≡◌, ◌≢◌, ℕ, ◌+◌, ◌*◌, ◌-◌, ◌%◌, ◌^◌, ◌<◌, ◌≤◌, false, Option, Some, None, List, [], ⊎_elim, refl, sym, ap, subst, ◌∙◌}
-use Rattle.std.proofs.Common.{arith, fold}
+use Rattle.std.proofs.Common.{arith}
 use Rattle.std.specs.List.{AllByRecursion}
 use Rattle.std.proofs.lemmas.Bool.{cases_lt}
 use Rattle.steps.specs.declared.ask.Ask.{Ask}
@@ -32,7 +32,7 @@ use Rattle.model.specs.declared.party.Party.{Party}
 use Rattle.model.specs.Coding.{Coding}
 use Rattle.model.specs.Families.{ask_of}
 use Rattle.model.specs.Families.Loan.Reading.{freed}
-use Rattle.model.specs.Families.Loan.Steps.{ended_book, book_after, effects_of}
+use Rattle.model.specs.Families.Loan.Steps.{ended_book}
 use Rattle.model.specs.Reading.{Open, span_of}
 use Rattle.model.specs.Step.{as_call, answer_in}
 use Rattle.model.specs.Turns.{old_of, words_after}
@@ -52,7 +52,7 @@ use Rattle.laws_loan.proofs.Reclaiming.{reclaim_at}
 use Rattle.laws_loan.proofs.Senders.{Stands, Comes, from_step}
 use Rattle.laws_loan.proofs.Sents.{ComesTo, comes_to}
 use Rattle.laws_loan.proofs.SetSteps.{ReleaseLeads}
-use Rattle.laws_loan.proofs.StepLaw.{channel, holds_now, ComesWith}
+use Rattle.laws_loan.proofs.StepLaw.{channel, holds_now, ComesWith, ComesBy}
 
 -- how a reclaim goes on whose release goes on so
 abbrev pub reclaimed_after : (T : Type 0) → reclaims.Reclaim → List Place → ℕ → ℕ → After (Release DefaultMode) ReleaseState → After LoanFlight (Answer T)
@@ -225,9 +225,7 @@ module _ {T : Type 0} (code : Coding T) (slots queue : ℕ) (t : Trace T)
       let after = goes code slots queue s t.world.latest t.world.turns t.world.changes since x wrote stage value in
       let effect = effect_at code slots queue s t.world.latest t.world.turns t.world.changes since x wrote stage value in
       let ask = asked code slots queue s t.world.latest t.world.turns t.world.changes since x wrote stage in
-      subst (λ back. ComesWith code slots queue t sound x since 0 calls.Reclaim ask back after
-      (effects_of 0 effect (answer_in after))
-      (ended_book {T = T} 0 calls.Reclaim (answer_in after) (fold (book_after {T = T}) s.book (effects_of 0 effect (answer_in after)))))
+      subst (λ back. ComesBy code slots queue t sound x since 0 calls.Reclaim ask back after effect)
       (sym does.stays)
       (from_step code slots queue t sound small x since calls.Reclaim ask after effect does.channel_then wrote (from stage there) does.step)
 

@@ -39,7 +39,7 @@ use Rattle.laws_loan.proofs.SendMoves as sends
 use Rattle.laws_loan.proofs.Sends.{pushes_at, asked, old, goes, effect_at}
 use Rattle.laws_loan.proofs.Sender.{StepBy}
 use Rattle.laws_loan.proofs.Knows.{push_wrote}
-use Rattle.laws_loan.proofs.StepLaw.{channel, holds_now, ComesWith, sender_comes, receiver_comes}
+use Rattle.laws_loan.proofs.StepLaw.{channel, holds_now, sender_comes, receiver_comes, ComesBy}
 use Rattle.laws_loan.proofs.TakeBacks as take_backs
 use Rattle.laws_loan.proofs.TakeBacks.{pops_at}
 
@@ -61,9 +61,7 @@ module _ {T : Type 0} (code : Coding T) (slots queue : ℕ) (t : Trace T)
       → span_of 0 sound.state.events ≡ Open (starts.TheVariants.Loan start) wrote
       → StepBy code slots queue sound.state t.world.latest t.world.turns t.world.changes since x s'
       (Open (starts.TheVariants.Loan start) wrote) start ask after effect
-      → ComesWith code slots queue t sound x since 0 start ask false after (effects_of 0 effect (answer_in after))
-      (ended_book {T = T} 0 start (answer_in after)
-      (fold (book_after {T = T}) sound.state.book (effects_of 0 effect (answer_in after))))
+      → ComesBy code slots queue t sound x since 0 start ask false after effect
   from_step start ask after effect s' wrote from step =
       sender_comes code slots queue t sound x since start ask false after (effects_of 0 effect (answer_in after))
       (ended_book {T = T} 0 start (answer_in after)
@@ -75,9 +73,7 @@ module _ {T : Type 0} (code : Coding T) (slots queue : ℕ) (t : Trace T)
       (effect : Effect) (k : Core ℕ) → span_of p sound.state.events ≡ Open (starts.TheVariants.Loan start) []
       → GivesBy code slots queue sound.state t.world.latest t.world.turns t.world.changes since x p k
       (Open (starts.TheVariants.Loan start) []) start ask back after effect
-      → ComesWith code slots queue t sound x since p start ask back after (effects_of p effect (answer_in after))
-      (ended_book {T = T} p start (answer_in after)
-      (fold (book_after {T = T}) sound.state.book (effects_of p effect (answer_in after))))
+      → ComesBy code slots queue t sound x since p start ask back after effect
   from_receiver p start ask back after effect k from step =
       receiver_comes code slots queue t sound x since p start ask back after (effects_of p effect (answer_in after))
       (ended_book {T = T} p start (answer_in after)
