@@ -4,7 +4,6 @@ use Rattle.std.proofs.lemmas.Bool.{cases_eq}
 use Rattle.std.proofs.lemmas.List.Sums.{fold-append}
 use Rattle.model.specs.declared.event.Event.{Event}
 use Rattle.model.specs.declared.event.Event.TheVariants.{Begun}
-use Rattle.model.specs.declared.event.Start.{Start}
 use Rattle.model.specs.declared.event.Start.TheVariants as starts
 use Rattle.model.specs.declared.families.Flight.{Flight}
 use Rattle.model.specs.declared.families.Flight as flights
@@ -30,6 +29,7 @@ use Rattle.laws_loan.proofs.Invariant.{Hangs, sends_at, counted_for, hung, recla
 use Rattle.laws_loan.proofs.Keeping.{at_stays}
 use Rattle.laws_loan.proofs.Knows.{counts, wrote_in, At, FlightKnows}
 use Rattle.laws_loan.proofs.Placed.{Placed}
+use Rattle.laws_loan.proofs.Sender.{owes_by}
 use Rattle.laws_loan.proofs.Told.{items, is_reclaiming}
 use Rattle.laws_loan.proofs.Turns.{Shows, now_more}
 
@@ -150,45 +150,26 @@ module _ {T : Type 0} (code : Coding T) (slots queue : ℕ) (s : Channel T) (lat
         }
 
     -- the calls of the other parties stand where they stood
-    others : (q : ℕ) → q ≢ p → (other : Start T) (call : Flight T) → channel.At s q other call
-        → channel.At after q other call × (channel.written after q call ≡ channel.written s q call)
-    others q ne (starts.Loan other) (flights.TheVariants.Loan call) known = (
-      subst (λ wrote. At slots queue after q wrote other call) (ap wrote_in (sym (theirs_stays q ne)))
-          (at_stays slots queue s book_then events_then q
-          (record {
-            passes = λ index e. first.stays index q e;
-            no_more = λ index e. ⊎_elim (λ (old : spot_of index s.events ≡ Passing q). old) (λ new. absurd (ne new.0)) (first.passing index q e);
-            places = first.places_stay;
-            receiver = first.receiver_stays;
-            alive = λ alive. subst (λ dead. has_died q dead ≡ false) first.dead_stay alive;
-            dead = λ dead. subst (λ all. has_died s.book.receiver all ≡ true) (sym first.dead_stay) dead;
-          })
-          (wrote_in (span_of q s.events)) other call known),
-      ap wrote_in (theirs_stays q ne),
-    )
-    others q ne other call known = absurd known
-
-    others_know : (q : ℕ) → q ≢ p → (since backs : ℕ) (call : Flight T)
-        → channel.Knows s q s.events since changes backs call
-        → channel.Knows after q (s.events ++ begun ∷ []) since changes backs call
-    others_know x0 x1 x2 x3 x4 x5 = grind arith
-
     pub owes : frame.Owes channel after p began latest s.events (begun ∷ []) changes
     owes =
-        frame.owes channel s after (span_of p s.events) p began latest s.events (begun ∷ []) changes changes refl inv
+        owes_by code slots queue s after p began latest (span_of p s.events) (begun ∷ []) changes changes refl (refl, tt)
+        (λ q ne.
+        at_stays slots queue s book_then events_then q
         (record {
-          own = (refl, tt);
-          stands = (shut, tt);
-          here =
-              record {
-                span = ap (λ wrote. Open (starts.Loan start) wrote) (sym (ap wrote_in mine_opens));
-                steps = omega arith;
-                at = subst (λ wrote. At slots queue after p wrote start flight) (sym (ap wrote_in mine_opens)) first.at;
-              };
-          knows = first.knows;
-          others = others;
-          others_know = others_know;
+          passes = λ index e. first.stays index q e;
+          no_more = λ index e. ⊎_elim (λ (old : spot_of index s.events ≡ Passing q). old) (λ new. absurd (ne new.0)) (first.passing index q e);
+          places = first.places_stay;
+          receiver = first.receiver_stays;
+          alive = λ alive. subst (λ dead. has_died q dead ≡ false) first.dead_stay alive;
+          dead = λ dead. subst (λ all. has_died s.book.receiver all ≡ true) (sym first.dead_stay) dead;
+        }))
+        (record { write = omega arith; read = omega arith; paid = omega arith }) (shut, tt)
+        (record {
+          span = ap (λ wrote. Open (starts.Loan start) wrote) (sym (ap wrote_in mine_opens));
+          steps = omega arith;
+          at = subst (λ wrote. At slots queue after p wrote start flight) (sym (ap wrote_in mine_opens)) first.at;
         })
+        first.knows refl inv
 
     pub holds_then : HoldsNow slots queue after (put p began latest) events_then (turns + 1)
     holds_then = now_more slots queue s after p began latest turns (begun ∷ []) h shows

@@ -1,22 +1,33 @@
 -- What each operation of a push and of a pop does to the completion queue, whose values have one word each.
-use Rattle.std.proofs.Common.{◌≡◌, ℕ, ◌+◌, ◌-◌, ◌*◌, ◌%◌, ◌^◌, ◌<◌, ◌≤◌, ◌==◌, true, false, Option, Some, List, [], ◌∷◌, length, get_or, refl, ap, ◌∙◌, arith}
+use Rattle.std.proofs.Common.{◌≡◌, ℕ, ◌+◌, ◌-◌, ◌*◌, ◌%◌, ◌^◌, ◌<◌, ◌≤◌, ◌==◌, true, false, Option, Some, List, [], ◌∷◌, length, get_or}
+use Rattle.std.proofs.Common.{refl, ap, ◌∙◌, arith}
 use Rattle.std.proofs.lemmas.Bool.Decides.{nat_tests}
+use Rattle.std.proofs.lemmas.List.{nil_from_length}
 use Rattle.steps.specs.declared.ask.Ask.{Ask}
 use Rattle.steps.specs.declared.ask.Op.TheVariants.{Store}
 use Rattle.steps.specs.declared.ask.After.TheVariants.{GoOn}
 use Rattle.steps.specs.declared.queues.ring.Push.{Push}
 use Rattle.steps.specs.declared.queues.ring.PushStage as pushes
 use Rattle.steps.specs.Queues.Ring.{after_position, cell_word, push_takes, word_at}
+use Rattle.model.specs.Coding.{one_word}
 use Rattle.model.specs.Families.Queues.Calls.{words_of_index}
 use Rattle.model.specs.Turns.{words_after, change_of}
 use Rattle.laws_queues.proofs.Queues.Core as core
 use Rattle.laws_queues.proofs.Queues.Core.{Core, Good, Holds, filled, published, taken, fills, one_filled, publishes, takes, front, set_at}
 use Rattle.laws_queues.proofs.Queues.Knows.{layout}
+use Rattle.laws_queues.proofs.Ring.Knows.{KnowsPush}
 use Rattle.laws_loan.proofs.Channel.{no_roles}
 
-none_long : (xs : List ℕ) → length xs ≡ 0 → xs ≡ []
-none_long [] e = refl
-none_long (x ∷ xs) e = absurd (omega arith)
+-- a queue that has something has a first one
+pub first_of : (xs : List ℕ) → 0 < length xs → (v : ℕ) × (rest : List ℕ) × (xs ≡ v ∷ rest)
+first_of [] some = absurd (omega arith)
+first_of (x ∷ xs) some = (x, xs, refl)
+
+-- a push goes on to know what it knew where the first value leaves
+pub take_keeps : (slots : ℕ) (k : Core ℕ) (v : ℕ) (rest : List ℕ) → k.waiting ≡ v ∷ rest
+    → (w : ℕ) (stage : pushes.PushStage) → KnowsPush one_word slots k w stage
+    → KnowsPush one_word slots (taken 1 words_of_index slots k rest) w stage
+take_keeps x0 x1 x2 x3 x4 x5 x6 x7 = grind arith
 
 module _ (slots : ℕ) (some : 1 ≤ slots) (few : slots < 2 ^ 24) (k : Core ℕ) (g : Good 1 words_of_index slots k) (reached : k.write < 2 ^ 64 - 2) where
   abbrev pub ws : List ℕ
@@ -94,7 +105,7 @@ module _ (slots : ℕ) (some : 1 ≤ slots) (few : slots < 2 ^ 24) (k : Core ℕ
   finds_none t =
       let write = g.write in
       let same : k.write ≡ k.read = grind (arith, nat_tests) in
-      none_long k.waiting (omega arith)
+      nil_from_length k.waiting (omega arith)
 
   pub finds_some : (k.write == k.read) ≡ false → k.read < k.write
   finds_some x0 = grind arith

@@ -1,23 +1,21 @@
 -- The steps of a reclaim that pops the submission queue, until that is empty.
-use Rattle.std.proofs.Common.{◌≡◌, ◌≢◌, ℕ, suc, ◌+◌, ◌%◌, ◌^◌, ◌*◌, ◌-◌, ◌<◌, ◌≤◌, ◌==◌, inl, ⊎_elim, Bool, true}
+use Rattle.std.proofs.Common.{◌≡◌, ◌≢◌, ℕ, suc, ◌+◌, ◌%◌, ◌^◌, ◌*◌, ◌-◌, ◌<◌, ◌≤◌, ◌==◌, inl, Bool, true}
 use Rattle.std.proofs.Common.{false, not, Option, Some, List, [], ◌∷◌, ◌++◌, length, get_or, refl, sym, ap, subst, ◌∙◌}
 use Rattle.std.proofs.Common.{append-nil, length-append, arith}
-use Rattle.std.proofs.lemmas.Bool.{cases_eq}
 use Rattle.std.proofs.lemmas.Bool.Decides.{nat_tests}
-use Rattle.std.proofs.lemmas.List.{set-get_or}
+use Rattle.std.proofs.lemmas.List.{nil_from_length, set-get_or}
 use Rattle.std.proofs.lemmas.List.Concat.{flat_map-append}
 use Rattle.std.proofs.lemmas.List.Sums.{fold-append}
 use Rattle.steps.specs.declared.ask.Ask.{Ask}
 use Rattle.steps.specs.declared.ask.After.{After}
 use Rattle.steps.specs.declared.ask.After.TheVariants.{GoOn}
-use Rattle.steps.specs.declared.loan.places.Place.TheVariants as places
 use Rattle.steps.specs.declared.loan.reclaim.ReclaimStage.{ReclaimStage}
 use Rattle.steps.specs.declared.loan.reclaim.ReclaimStage as reclaims
 use Rattle.steps.specs.declared.queues.overflow.PopStage.{PopStage}
 use Rattle.steps.specs.declared.queues.overflow.PopStage as pops
 use Rattle.steps.specs.declared.queues.ring.PopStage as ring_pops
 use Rattle.steps.specs.Loan.Layout.{submission_word}
-use Rattle.steps.specs.Loan.Places.{place_at}
+use Rattle.steps.specs.Loan.Reclaim.{reclaim_goes_back}
 use Rattle.steps.specs.Queues.Overflow.{cell_word, pop_asks}
 use Rattle.steps.specs.Queues.Ring.{load}
 use Rattle.model.specs.declared.event.Answer.{Answer}
@@ -32,8 +30,7 @@ use Rattle.model.specs.declared.families.loan.effects.Effect.TheVariants as effe
 use Rattle.model.specs.declared.party.Party.{Party}
 use Rattle.model.specs.Coding.{Coding}
 use Rattle.model.specs.Families.{ask_of}
-use Rattle.model.specs.Families.Loan.Promises.{IsIn}
-use Rattle.model.specs.Families.Loan.Reading.{Passing, Waiting, Move, spot_of, receiver_after, takes_back, taken_back, frees, freed}
+use Rattle.model.specs.Families.Loan.Reading.{Waiting, spot_of, receiver_after, takes_back, taken_back, frees, freed}
 use Rattle.model.specs.Families.Loan.Steps.{sent_at}
 use Rattle.model.specs.Families.Queues.Calls.{words_of_index}
 use Rattle.model.specs.Families.Queues.Objects.{answer_of_item}
@@ -51,20 +48,15 @@ use Rattle.laws_loan.proofs.Lists.{first_there}
 use Rattle.laws_loan.proofs.Parts.{submission_old, submission_words, submission_change}
 use Rattle.laws_loan.proofs.ReclaimGoes as steps
 use Rattle.laws_loan.proofs.ReclaimGoes.{start, asked, old, Does}
-use Rattle.laws_loan.proofs.Reclaiming.{reclaim_at, none_more}
+use Rattle.laws_loan.proofs.Reclaiming.{reclaim_at, none_more, passing_before, passing_sent}
 use Rattle.laws_loan.proofs.Rooms.{sent_below}
-use Rattle.laws_loan.proofs.Spots.{is_waiting, waits_there, spot_other, spot_moved}
+use Rattle.laws_loan.proofs.Spots.{is_waiting, waits_there}
 use Rattle.laws_loan.proofs.Submission as submission
-use Rattle.laws_loan.proofs.Table.{sent_there, waiting_away, hands_it_out}
+use Rattle.laws_loan.proofs.Table.{waiting_away, hands_it_out}
 use Rattle.laws_loan.proofs.Told.{items, Tells}
 
 abbrev drains : PopStage → ReclaimStage
 drains stage = reclaims.TheVariants.Drains stage
-
--- a list of which nothing is left
-none_long : (xs : List ℕ) → length xs ≡ 0 → xs ≡ []
-none_long [] e = refl
-none_long (x ∷ xs) e = absurd (omega arith)
 
 module _ {T : Type 0} (code : Coding T) (slots queue : ℕ) (s : Channel T) (latest : List (ℕ × Party T))
     (turns changes since : ℕ) (x : Party T) (wrote : List (Event T)) (h : HoldsNow slots queue s latest s.events turns)
@@ -91,9 +83,6 @@ module _ {T : Type 0} (code : Coding T) (slots queue : ℕ) (s : Channel T) (lat
   abbrev To : Channel T → PopStage → After LoanFlight (Answer T) → Effect → Type 0
   To s' stage after effect = steps.StepTo code slots queue s latest turns changes since x wrote s' (drains stage) after effect
 
-  abbrev s_still : Channel T
-  s_still = steps.s_still code slots queue s latest turns changes since x wrote h under here idle from known straight
-
   -- ---- what is so of the queue
 
   abbrev queued : List ℕ
@@ -117,15 +106,14 @@ module _ {T : Type 0} (code : Coding T) (slots queue : ℕ) (s : Channel T) (lat
 
   -- ---- the loads
 
-  still : (now : PopStage) (after_it : ReclaimStage) → IsOn queued (pop_asks queue now)
+  loads : (now : PopStage) (after_it : ReclaimStage) → IsOn queued (pop_asks queue now)
       → words_after queued (ask_of (pop_asks queue now)) ≡ queued → reclaim_counts after_it ≡ 0
       → StageAt slots s.submission s.completion s.book.places wrote after_it → x.steps + step_count (asks now) ≤ reclaim_number slots wrote after_it
-      → To s_still now (GoOn (reclaim_at slots queue after_it)) effects.Quiet
-  still now after_it on words counted stands few = (
-    steps.goes_still code slots queue s latest turns changes since x wrote h under here idle from known straight
-        (drains now) after_it (words_are now s.submission on words) counted stands few,
-    refl,
-  )
+      → reclaim_goes_back (drains now) (value now) ≡ false → then_of now (value now) ≡ GoOn (reclaim_at slots queue after_it)
+      → effect_of now (value now) ≡ effects.Quiet → Does_at now
+  loads now after_it on words counted stands few =
+      steps.loads code slots queue s latest turns changes since x wrote h under here idle from known straight (drains now)
+      after_it (words_are now s.submission on words) counted stands few
 
   abbrev load_of_write : PopStage
   load_of_write = pops.TheVariants.LoadsWrite s.submission.read
@@ -140,16 +128,8 @@ module _ {T : Type 0} (code : Coding T) (slots queue : ℕ) (s : Channel T) (lat
     loads_read : x.steps ≤ 4 * length (handed_out wrote) → Does_at pops.TheVariants.LoadsRead
     loads_read few =
         let on : 1 < length queued = (let all = wide in omega arith) in
-        let is : then_of pops.TheVariants.LoadsRead (value pops.TheVariants.LoadsRead) ≡ GoOn (reclaim_at slots queue (drains load_of_write)) =
-        ap (then_of pops.TheVariants.LoadsRead) (old_is pops.TheVariants.LoadsRead on)
-        in
-        record {
-          channel_then = s_still;
-          stays = refl;
-          step =
-              subst (λ a. To s_still pops.TheVariants.LoadsRead a effects.Quiet) (sym is)
-              (still pops.TheVariants.LoadsRead (drains load_of_write) on refl refl (refl, most, none_taken, none_freed) (omega arith));
-        }
+        loads pops.TheVariants.LoadsRead (drains load_of_write) on refl refl (refl, most, none_taken, none_freed) (omega arith) refl
+        (ap (then_of pops.TheVariants.LoadsRead) (old_is pops.TheVariants.LoadsRead on)) refl
 
     -- nothing waits, or something does
     loads_write : x.steps ≤ 4 * length (handed_out wrote) + 1 → Does_at load_of_write
@@ -160,47 +140,25 @@ module _ {T : Type 0} (code : Coding T) (slots queue : ℕ) (s : Channel T) (lat
 
         go : (same : Bool) → (s.submission.write == s.submission.read) ≡ same → Does_at load_of_write
         go true e =
-            let is : then_of load_of_write (value load_of_write)
-            ≡ GoOn (reclaim_at slots queue (reclaims.TheVariants.Empties ring_pops.TheVariants.LoadsRead)) =
-            ap (then_of load_of_write) (old_is load_of_write on) ∙ (rw e refl)
-            in
             let same : s.submission.write ≡ s.submission.read = grind (arith, nat_tests) in
             let write = h.parts.submission.write in
-            let empty : s.submission.waiting ≡ [] = none_long s.submission.waiting (omega arith) in
+            let empty : s.submission.waiting ≡ [] = nil_from_length s.submission.waiting (omega arith) in
             let none : length (taken_back wrote) ≡ 0 = ap length none_taken in
             let within = h.parts.completion.few in
-            record {
-              channel_then = s_still;
-              stays = refl;
-              step =
-                  subst (λ a. To s_still load_of_write a effects.Quiet) (sym is)
-                  (still load_of_write (reclaims.TheVariants.Empties ring_pops.TheVariants.LoadsRead) on refl refl
-                  (tt, (omega arith), none_freed, empty) (omega arith));
-            }
+            loads load_of_write (reclaims.TheVariants.Empties ring_pops.TheVariants.LoadsRead) on refl refl
+            (tt, (omega arith), none_freed, empty) (omega arith) refl
+            (ap (then_of load_of_write) (old_is load_of_write on) ∙ (rw e refl)) refl
         go false e =
-            let is : then_of load_of_write (value load_of_write) ≡ GoOn (reclaim_at slots queue (drains load_of_cell)) =
-            ap (then_of load_of_write) (old_is load_of_write on) ∙ (rw e refl)
-            in
             let other : s.submission.write ≢ s.submission.read = grind (arith, nat_tests) in
             let write = h.parts.submission.write in
-            record {
-              channel_then = s_still;
-              stays = refl;
-              step =
-                  subst (λ a. To s_still load_of_write a effects.Quiet) (sym is)
-                  (still load_of_write (drains load_of_cell) on refl refl ((refl, omega arith), most, none_taken, none_freed) (omega arith));
-            }
+            loads load_of_write (drains load_of_cell) on refl refl ((refl, omega arith), most, none_taken, none_freed) (omega arith) refl
+            (ap (then_of load_of_write) (old_is load_of_write on) ∙ (rw e refl)) refl
 
     loads_cell : s.submission.read < s.submission.write → x.steps ≤ 4 * length (handed_out wrote) + 2 → Does_at load_of_cell
     loads_cell ahead few =
         let on = submission.cell_on queue h.parts.some h.parts.few s.submission h.parts.submission low_write s.submission.read in
-        record {
-          channel_then = s_still;
-          stays = refl;
-          step =
-              still load_of_cell (drains moves) on (set-get_or queued (cell_word queue s.submission.read) 0) refl
-              ((refl, ahead), most, none_taken, none_freed) (omega arith);
-        }
+        loads load_of_cell (drains moves) on (set-get_or queued (cell_word queue s.submission.read) 0) refl
+        ((refl, ahead), most, none_taken, none_freed) (omega arith) refl refl refl
 
     -- ---- the oldest one leaves the queue
 
@@ -211,9 +169,6 @@ module _ {T : Type 0} (code : Coding T) (slots queue : ℕ) (s : Channel T) (lat
       abbrev k : Core ℕ
       k = taken 1 words_of_index (queue + 1) s.submission rest
 
-      abbrev handing : Move
-      handing = record { index = u; from = Waiting; to = Passing 0 }
-
       on_moves : 1 < length queued
       on_moves = let all = wide in omega arith
 
@@ -222,31 +177,6 @@ module _ {T : Type 0} (code : Coding T) (slots queue : ℕ) (s : Channel T) (lat
 
       was_waiting : spot_of u s.events ≡ Waiting
       was_waiting = waits_there (spot_of u s.events) (first_there is_waiting s.submission.waiting rest s.events u first h.parts.placed.waits)
-
-      now_passing : spot_of u (s.events ++ hands ∷ []) ≡ Passing 0
-      now_passing = spot_moved s.events hands handing refl
-
-      elsewhere : (i : ℕ) → u ≢ i → spot_of i (s.events ++ hands ∷ []) ≡ spot_of i s.events
-      elsewhere i ne = spot_other s.events hands handing refl i ne
-
-      passing : (i q : ℕ) → q ≢ 0 → spot_of i (s.events ++ hands ∷ []) ≡ Passing q → spot_of i s.events ≡ Passing q
-      passing i q theirs e = ⊎_elim
-          (λ (same : u ≡ i).
-          let both : Passing 0 ≡ Passing q = sym now_passing ∙ (ap (λ n. spot_of n (s.events ++ hands ∷ [])) same ∙ e) in
-          absurd (theirs (cc)))
-          (λ (ne : u ≢ i). sym (elsewhere i ne) ∙ e)
-          (cases_eq u i)
-
-      was_sent : place_at s.book.places u ≡ places.Sent
-      was_sent =
-          sent_there (place_at s.book.places u) Waiting
-          (subst (IsIn (place_at s.book.places u)) was_waiting (h.parts.placed.keeps.places u)) waiting_away
-
-      sent : (i : ℕ) → spot_of i (s.events ++ hands ∷ []) ≡ Passing 0 → place_at s.book.places i ≡ places.Sent
-      sent i e = ⊎_elim
-          (λ (same : u ≡ i). subst (λ n. place_at s.book.places n ≡ places.Sent) same was_sent)
-          (λ (ne : u ≢ i). known.sent i (sym (elsewhere i ne) ∙ e))
-          (cases_eq u i)
 
       -- the reclaim pops the queue as it hands the index out
       tells_out : Tells queue true s.submission.waiting rest s.completion.waiting s.completion.waiting (hands ∷ [])
@@ -288,8 +218,9 @@ module _ {T : Type 0} (code : Coding T) (slots queue : ℕ) (s : Channel T) (lat
             moves = ((below, was_waiting), tt);
             begins = (tt, tt);
             answers = (tt, tt);
-            passing = passing;
-            sent = sent;
+            passing =
+                passing_before slots queue s wrote under known h.parts.placed.keeps hands u Waiting refl was_waiting waiting_away;
+            sent = passing_sent slots queue s wrote under known h.parts.placed.keeps hands u Waiting refl was_waiting waiting_away;
             receiver = fold-append receiver_after 1 s.events (hands ∷ []);
             reclaiming = refl;
             claims = refl;

@@ -1,9 +1,8 @@
 -- The steps of a reclaim that pops the completion queue, until that is empty: then it comes to the first index that is sent, or ends.
-use Rattle.std.proofs.Common.{◌≡◌, ◌≢◌, ℕ, suc, ◌+◌, ◌*◌, ◌-◌, ◌%◌, ◌^◌, ◌<◌, ◌≤◌, ◌==◌, ◌||◌, ⊎_elim, Bool, true}
+use Rattle.std.proofs.Common.{◌≡◌, ℕ, suc, ◌+◌, ◌*◌, ◌-◌, ◌%◌, ◌^◌, ◌<◌, ◌≤◌, ◌==◌, ◌||◌, Bool, true}
 use Rattle.std.proofs.Common.{false, Option, Some, None, List, [], ◌∷◌, ◌++◌, length, get_or, fold, refl, sym, ap}
 use Rattle.std.proofs.Common.{subst, ◌∙◌, append-nil, length-append, arith}
 use Rattle.std.specs.List.{AllByRecursion}
-use Rattle.std.proofs.lemmas.Bool.{cases_eq}
 use Rattle.std.proofs.lemmas.Bool.Decides.{nat_tests}
 use Rattle.std.proofs.lemmas.List.{set-get_or}
 use Rattle.std.proofs.lemmas.List.Concat.{flat_map-append}
@@ -12,14 +11,13 @@ use Rattle.steps.specs.declared.ask.Ask.{Ask}
 use Rattle.steps.specs.declared.ask.After.{After}
 use Rattle.steps.specs.declared.ask.After.TheVariants.{GoOn, Done}
 use Rattle.steps.specs.declared.indices.unique.ReleaseStage as releases
-use Rattle.steps.specs.declared.loan.places.Place.TheVariants as places
 use Rattle.steps.specs.declared.loan.reclaim.ReclaimStage.{ReclaimStage}
 use Rattle.steps.specs.declared.loan.reclaim.ReclaimStage as reclaims
 use Rattle.steps.specs.declared.queues.ring.PopStage.{PopStage}
 use Rattle.steps.specs.declared.queues.ring.PopStage as pops
 use Rattle.steps.specs.Loan.Layout.{completion_word}
-use Rattle.steps.specs.Loan.Places.{place_at, next_sent}
-use Rattle.steps.specs.Loan.Reclaim.{reclaim_releases}
+use Rattle.steps.specs.Loan.Places.{next_sent}
+use Rattle.steps.specs.Loan.Reclaim.{reclaim_goes_back, reclaim_releases}
 use Rattle.steps.specs.Queues.Ring.{cell_word, word_at, load, pop_asks}
 use Rattle.model.specs.declared.event.Answer.{Answer}
 use Rattle.model.specs.declared.event.Answer.TheVariants.{Number}
@@ -34,8 +32,7 @@ use Rattle.model.specs.declared.families.loan.effects.Effect.TheVariants as effe
 use Rattle.model.specs.declared.party.Party.{Party}
 use Rattle.model.specs.Coding.{Coding}
 use Rattle.model.specs.Families.{ask_of}
-use Rattle.model.specs.Families.Loan.Promises.{IsIn}
-use Rattle.model.specs.Families.Loan.Reading.{Passing, Returning, Move, spot_of, receiver_after, takes_back, taken_back, frees, freed}
+use Rattle.model.specs.Families.Loan.Reading.{Returning, spot_of, receiver_after, takes_back, taken_back, frees, freed}
 use Rattle.model.specs.Families.Loan.Steps.{given_back_at}
 use Rattle.model.specs.Families.Queues.Calls.{words_of_index}
 use Rattle.model.specs.Reading.{Open, Ended, own_after, span_of}
@@ -54,14 +51,13 @@ use Rattle.laws_loan.proofs.OnQueues.{OnQueues, queues_then, queues_show, silent
 use Rattle.laws_loan.proofs.Parts.{completion_long, completion_old, completion_words}
 use Rattle.laws_loan.proofs.ReclaimGoes as steps
 use Rattle.laws_loan.proofs.ReclaimGoes.{start, asked, old, Does}
-use Rattle.laws_loan.proofs.Reclaiming.{reclaim_at, none_more, reclaimed, end_of, receiver_then, none_passing, placed_ended}
-use Rattle.laws_loan.proofs.Reclaims.{dead_stays}
+use Rattle.laws_loan.proofs.Reclaiming.{reclaim_at, none_more, passing_before, passing_sent, reclaimed, end_of, receiver_then, none_passing, placed_ended}
 use Rattle.laws_loan.proofs.Rooms.{back_below}
 use Rattle.laws_loan.proofs.Sender.{party_then, Steps}
 use Rattle.laws_loan.proofs.Sents.{ComesTo, IsHome, comes_to, all_home}
-use Rattle.laws_loan.proofs.Spots.{is_returning, returns_there, spot_other, spot_moved}
-use Rattle.laws_loan.proofs.Table.{sent_there, returning_away, takes_it_back}
-use Rattle.laws_loan.proofs.TakenOff.{take_keeps, first_of}
+use Rattle.laws_loan.proofs.Spots.{is_returning, returns_there}
+use Rattle.laws_loan.proofs.Table.{returning_away, takes_it_back}
+use Rattle.laws_loan.proofs.Theirs.{dead_stays}
 use Rattle.laws_loan.proofs.Told.{is_reclaiming}
 use Rattle.laws_loan.proofs.Waits.{cell_place}
 
@@ -125,15 +121,14 @@ module _ {T : Type 0} (code : Coding T) (slots queue : ℕ) (s : Channel T) (lat
 
   -- ---- the loads
 
-  still : (now : PopStage) (after_it : ReclaimStage) → IsOn queued (pop_asks now)
+  loads : (now : PopStage) (after_it : ReclaimStage) → IsOn queued (pop_asks now)
       → words_after queued (ask_of (pop_asks now)) ≡ queued → reclaim_counts after_it ≡ 0
       → StageAt slots s.submission s.completion s.book.places wrote after_it → x.steps + step_count (asks now) ≤ reclaim_number slots wrote after_it
-      → To s_still now (GoOn (reclaim_at slots queue after_it)) effects.Quiet
-  still now after_it on words counted stands less = (
-    steps.goes_still code slots queue s latest turns changes since x wrote h under here idle from known straight
-        (empties now) after_it (words_are now s.completion on words) counted stands less,
-    refl,
-  )
+      → reclaim_goes_back (empties now) (value now) ≡ false → then_of now (value now) ≡ GoOn (reclaim_at slots queue after_it)
+      → effect_of now ≡ effects.Quiet → Does_at now
+  loads now after_it on words counted stands less =
+      steps.loads code slots queue s latest turns changes since x wrote h under here idle from known straight (empties now)
+      after_it (words_are now s.completion on words) counted stands less
 
   abbrev load_of_write : PopStage
   load_of_write = pops.TheVariants.LoadsWrite s.completion.read
@@ -148,28 +143,14 @@ module _ {T : Type 0} (code : Coding T) (slots queue : ℕ) (s : Channel T) (lat
     loads_read : x.steps ≤ 4 * (slots + 1) + 4 * length (taken_back wrote) → Does_at pops.TheVariants.LoadsRead
     loads_read less =
         let on : 1 < length queued = (let all = long in omega arith) in
-        let is : then_of pops.TheVariants.LoadsRead (value pops.TheVariants.LoadsRead) ≡ GoOn (reclaim_at slots queue (empties load_of_write)) =
-        ap (then_of pops.TheVariants.LoadsRead) (old_is pops.TheVariants.LoadsRead on)
-        in
-        record {
-          channel_then = s_still;
-          stays = refl;
-          step =
-              subst (λ a. To s_still pops.TheVariants.LoadsRead a effects.Quiet) (sym is)
-              (still pops.TheVariants.LoadsRead (empties load_of_write) on refl refl (refl, most, none_freed, drained) (omega arith));
-        }
+        loads pops.TheVariants.LoadsRead (empties load_of_write) on refl refl (refl, most, none_freed, drained) (omega arith) refl
+        (ap (then_of pops.TheVariants.LoadsRead) (old_is pops.TheVariants.LoadsRead on)) refl
 
     loads_cell : s.completion.read < s.completion.write → x.steps ≤ 4 * (slots + 1) + 4 * length (taken_back wrote) + 2 → Does_at load_of_cell
     loads_cell ahead less =
         let on = completion.cell_on slots some few s.completion h.parts.completion reached s.completion.read in
-        record {
-          channel_then = s_still;
-          stays = refl;
-          step =
-              still load_of_cell (empties store_of_read) on
-              (set-get_or queued (word_at (cell_word slots 1 s.completion.read) 0) 0) refl
-              ((refl, ahead), most, none_freed, drained) (omega arith);
-        }
+        loads load_of_cell (empties store_of_read) on (set-get_or queued (word_at (cell_word slots 1 s.completion.read) 0) 0) refl
+        ((refl, ahead), most, none_freed, drained) (omega arith) refl refl refl
 
     -- ---- both queues are empty
 
@@ -250,18 +231,22 @@ module _ {T : Type 0} (code : Coding T) (slots queue : ℕ) (s : Channel T) (lat
       comes (Some index) first =
           record {
             channel_then = s_still;
-            step =
-                still load_of_write (reclaims.TheVariants.Releases 0 index releases.TheVariants.ClearsFlag) on_write refl refl (
-                  first.2,
-                  first.1,
+            step = (
+              steps.goes_still code slots queue s latest turns changes since x wrote h under here idle from known straight
+                  (empties load_of_write) (reclaims.TheVariants.Releases 0 index releases.TheVariants.ClearsFlag)
+                  (words_are load_of_write s.completion on_write refl) refl (
+                    first.2,
+                    first.1,
+                    (omega arith),
+                    ap length none_freed,
+                    subst (AllByRecursion (λ i. i < index + 0)) (sym none_freed) tt,
+                    (λ j below. first.3 j (omega arith) (omega arith)),
+                    drained,
+                    emptied,
+                  )
                   (omega arith),
-                  ap length none_freed,
-                  subst (AllByRecursion (λ i. i < index + 0)) (sym none_freed) tt,
-                  (λ j below. first.3 j (omega arith) (omega arith)),
-                  drained,
-                  emptied,
-                )
-                (omega arith);
+              refl,
+            );
           }
 
     -- nothing is to be taken back, or something is
@@ -288,17 +273,9 @@ module _ {T : Type 0} (code : Coding T) (slots queue : ℕ) (s : Channel T) (lat
         go false e =
             let zero = none_zero in
             let both : (slots == 0 || s.completion.write == s.completion.read) ≡ false = rw (zero, e) refl in
-            let is : then_of load_of_write (value load_of_write) ≡ GoOn (reclaim_at slots queue (empties load_of_cell)) =
-            ap (then_of load_of_write) (old_is load_of_write on_write) ∙ (rw both refl)
-            in
             let ahead = completion.finds_some slots some few s.completion h.parts.completion reached e in
-            record {
-              channel_then = s_still;
-              stays = refl;
-              step =
-                  subst (λ a. To s_still load_of_write a effects.Quiet) (sym is)
-                  (still load_of_write (empties load_of_cell) on_write refl refl ((refl, ahead, refl, refl), most, none_freed, drained) (omega arith));
-            }
+            loads load_of_write (empties load_of_cell) on_write refl refl ((refl, ahead, refl, refl), most, none_freed, drained)
+            (omega arith) refl (ap (then_of load_of_write) (old_is load_of_write on_write) ∙ (rw both refl)) refl
 
     -- ---- the first one leaves the queue
 
@@ -309,39 +286,11 @@ module _ {T : Type 0} (code : Coding T) (slots queue : ℕ) (s : Channel T) (lat
       abbrev m : Core ℕ
       m = taken 1 words_of_index slots s.completion rest
 
-      abbrev taking : Move
-      taking = record { index = v; from = Returning; to = Passing 0 }
-
       below : v < slots
       below = back_below slots s.claims s.submission.waiting s.completion.waiting s.book s.events h.parts.placed v rest first
 
       was_returning : spot_of v s.events ≡ Returning
       was_returning = returns_there (spot_of v s.events) (first_there is_returning s.completion.waiting rest s.events v first h.parts.placed.returns)
-
-      now_passing : spot_of v (s.events ++ takes ∷ []) ≡ Passing 0
-      now_passing = spot_moved s.events takes taking refl
-
-      elsewhere : (i : ℕ) → v ≢ i → spot_of i (s.events ++ takes ∷ []) ≡ spot_of i s.events
-      elsewhere i ne = spot_other s.events takes taking refl i ne
-
-      passing : (i q : ℕ) → q ≢ 0 → spot_of i (s.events ++ takes ∷ []) ≡ Passing q → spot_of i s.events ≡ Passing q
-      passing i q theirs e = ⊎_elim
-          (λ (same : v ≡ i).
-          let both : Passing 0 ≡ Passing q = sym now_passing ∙ (ap (λ n. spot_of n (s.events ++ takes ∷ [])) same ∙ e) in
-          absurd (theirs (cc)))
-          (λ (ne : v ≢ i). sym (elsewhere i ne) ∙ e)
-          (cases_eq v i)
-
-      was_sent : place_at s.book.places v ≡ places.Sent
-      was_sent =
-          sent_there (place_at s.book.places v) Returning
-          (subst (IsIn (place_at s.book.places v)) was_returning (h.parts.placed.keeps.places v)) returning_away
-
-      sent : (i : ℕ) → spot_of i (s.events ++ takes ∷ []) ≡ Passing 0 → place_at s.book.places i ≡ places.Sent
-      sent i e = ⊎_elim
-          (λ (same : v ≡ i). subst (λ n. place_at s.book.places n ≡ places.Sent) same was_sent)
-          (λ (ne : v ≢ i). known.sent i (sym (elsewhere i ne) ∙ e))
-          (cases_eq v i)
 
       leads : x.steps ≤ 4 * (slots + 1) + 4 * length (taken_back wrote) + 3
           → steps.Leads code slots queue s latest turns changes since x wrote h under here idle from known straight
@@ -370,8 +319,9 @@ module _ {T : Type 0} (code : Coding T) (slots queue : ℕ) (s : Channel T) (lat
             moves = ((below, was_returning), tt);
             begins = (tt, tt);
             answers = (tt, tt);
-            passing = passing;
-            sent = sent;
+            passing =
+                passing_before slots queue s wrote under known h.parts.placed.keeps takes v Returning refl was_returning returning_away;
+            sent = passing_sent slots queue s wrote under known h.parts.placed.keeps takes v Returning refl was_returning returning_away;
             receiver = fold-append receiver_after 1 s.events (takes ∷ []);
             reclaiming = refl;
             claims = refl;
@@ -380,7 +330,7 @@ module _ {T : Type 0} (code : Coding T) (slots queue : ℕ) (s : Channel T) (lat
             acts = refl;
             stage_at = (tt, (omega arith), none_more frees wrote (takes ∷ []) none_freed refl, drained);
             steps = omega arith;
-            push = take_keeps slots s.completion v rest first;
+            push = completion.take_keeps slots s.completion v rest first;
             up = record { write = omega arith; read = omega arith; paid = omega arith };
           }
 
@@ -399,7 +349,7 @@ module _ {T : Type 0} (code : Coding T) (slots queue : ℕ) (s : Channel T) (lat
     stores_read : s.completion.read < s.completion.write → x.steps ≤ 4 * (slots + 1) + 4 * length (taken_back wrote) + 3 → Does_at store_of_read
     stores_read ahead less =
         let write = h.parts.completion.write in
-        let front = first_of s.completion.waiting (omega arith) in
+        let front = completion.first_of s.completion.waiting (omega arith) in
         let v = front.0 in
         let rest = front.1 in
         let is_effect : effect_of store_of_read ≡ effects.TakesBack v = ap (λ n. effects.TakesBack n) (first_is v rest front.2) in

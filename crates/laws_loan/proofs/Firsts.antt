@@ -1,9 +1,8 @@
 -- What the first stage of each call of a loan channel knows, where no row refuses its begin.
-use Rattle.std.proofs.Common.{◌≡◌, ◌≢◌, ℕ, ◌+◌, ◌<◌, ◌≤◌, ◌⊎◌, ◌==◌, inl, inr, ⊎_elim, nat_le, Bool, true, false, not}
-use Rattle.std.proofs.Common.{Some, None, List, [], ◌∷◌, ◌++◌, get_or, refl, sym, ap, subst, ◌∙◌, arith}
+use Rattle.std.proofs.Common.{◌≡◌, ◌≢◌, ℕ, ◌<◌, ◌≤◌, ◌⊎◌, ◌==◌, inl, inr, ⊎_elim, nat_le, true, false, not}
+use Rattle.std.proofs.Common.{Option, Some, None, List, [], ◌∷◌, ◌++◌, get_or, refl, sym, ap, subst, ◌∙◌, arith}
 use Rattle.std.proofs.lemmas.Bool.{cases_eq}
 use Rattle.std.proofs.lemmas.Bool.Decides.{nat_tests}
-use Rattle.std.proofs.lemmas.List.Sums.{fold-append}
 use Rattle.steps.specs.declared.loan.reclaim.ReclaimStage as reclaims
 use Rattle.steps.specs.declared.loan.send.SendStage as sends
 use Rattle.steps.specs.declared.queues.overflow.PopStage as overflow_pops
@@ -12,6 +11,7 @@ use Rattle.steps.specs.Loan.Layout.{submission_word}
 use Rattle.model.specs.declared.event.Event.{Event}
 use Rattle.model.specs.declared.event.Event.TheVariants.{Begun}
 use Rattle.model.specs.declared.event.Start.TheVariants as starts
+use Rattle.model.specs.declared.families.Flight as flights
 use Rattle.model.specs.declared.families.loan.LoanStart.{LoanStart}
 use Rattle.model.specs.declared.families.loan.LoanStart.TheVariants as calls
 use Rattle.model.specs.declared.families.loan.calls.LoanFlight.{LoanFlight}
@@ -20,7 +20,9 @@ use Rattle.model.specs.declared.party.Party.{Party}
 use Rattle.model.specs.Coding.{Coding}
 use Rattle.model.specs.Families.Indices.Robust.Dead.{has_died}
 use Rattle.model.specs.Families.Loan.Calls.{loan_of, give_up_of, take_back_of, give_back_of}
-use Rattle.model.specs.Families.Loan.Reading.{Passing, With, Move, move_of, spot_of, receiver_after, receiver_of, died_after}
+use Rattle.model.specs.Families.Loan.Opening.{asks_for, taken_from}
+use Rattle.model.specs.Families.Loan.Promises.{ComesFrom, BeginsRight}
+use Rattle.model.specs.Families.Loan.Reading.{Passing, With, Move, move_of, spot_of, receiver_of, reclaims_after}
 use Rattle.model.specs.Families.Queues.Calls.{fresh}
 use Rattle.model.specs.Families.Queues.Opening.{holds}
 use Rattle.model.specs.Reading.{Open, span_of}
@@ -28,11 +30,12 @@ use Rattle.model.proofs.Readings.{span_of-own, span_of-other}
 use Rattle.model.specs.Shape.{IsShut}
 use Rattle.laws_loan.proofs.Begins.{IsFirst, shut_none}
 use Rattle.laws_loan.proofs.Channel.{Channel}
-use Rattle.laws_loan.proofs.Invariant.{reclaims_in, HoldsNow}
-use Rattle.laws_loan.proofs.Lists.{lists_stay}
-use Rattle.laws_loan.proofs.Placed.{Placed, placed_on}
+use Rattle.laws_loan.proofs.Invariant.{hung, reclaims_in, Carries, HoldsNow}
+use Rattle.laws_loan.proofs.Knows.{counts, At, FlightKnows}
+use Rattle.laws_loan.proofs.Placed.{Placed}
 use Rattle.laws_loan.proofs.Rooms.{waits_few}
-use Rattle.laws_loan.proofs.Spots.{is_waiting, is_returning, spot_stays, spot_other, spot_moved}
+use Rattle.laws_loan.proofs.Spots.{spot_stays, spot_other, spot_moved, with_passes}
+use Rattle.laws_loan.proofs.Still.{placed_still}
 use Rattle.laws_loan.proofs.Table.{sender_begins, receiver_begins}
 use Rattle.laws_loan.proofs.Told.{is_reclaiming}
 
@@ -43,10 +46,6 @@ is_that x0 x1 x2 = grind arith
 
 pub is_below : (slots index : ℕ) → nat_le slots index ≡ false → index < slots
 is_below slots index t = grind (arith, nat_tests)
-
--- a spot that is another's is not in passing
-other_spot : (p q : ℕ) → With p ≡ Passing q → ⊥
-other_spot p q e = absurd (cc)
 
 module _ {T : Type 0} (code : Coding T) (slots queue : ℕ) (s : Channel T) (latest : List (ℕ × Party T))
     (turns changes : ℕ) (h : HoldsNow slots queue s latest s.events turns) where
@@ -64,27 +63,42 @@ module _ {T : Type 0} (code : Coding T) (slots queue : ℕ) (s : Channel T) (lat
     abbrev begun : Event T
     begun = Begun p (starts.Loan start)
 
-    same_receiver : receiver_of (s.events ++ begun ∷ []) ≡ receiver_of s.events
-    same_receiver = fold-append receiver_after 1 s.events (begun ∷ [])
+    -- the channel then, where it asks for this index
+    abbrev began : Option ℕ → Channel T
+    began o = record s { book = taken_from s.book o; events = s.events ++ begun ∷ [] }
 
     -- a call that asks for no index moves none
     module _ (none : move_of {T = T} begun ≡ None) where
       stays_put : (index : ℕ) → spot_of index (s.events ++ begun ∷ []) ≡ spot_of index s.events
       stays_put index = spot_stays s.events begun index none
 
-      placed_still : Placed slots s.claims s.submission.waiting s.completion.waiting s.book (s.events ++ begun ∷ [])
-      placed_still =
-          let placed = h.parts.placed in
-          placed_on slots s.events begun none s.claims s.submission.waiting s.completion.waiting s.book s.book placed
-          (record {
-            places = refl;
-            holders = refl;
-            receiver = placed.keeps.receiver ∙ sym same_receiver;
-            dead = λ q. placed.keeps.dead q ∙ sym (fold-append (died_after q) false s.events (begun ∷ []));
-            parties = λ i q by. subst (λ r. (q ≡ 0) ⊎ (q ≡ r)) (sym same_receiver) (placed.parties i q by);
-          })
-          (lists_stay is_waiting s.submission.waiting s.events begun placed.waits none)
-          (lists_stay is_returning s.completion.waiting s.events begun placed.returns none)
+      -- so much of its begin is the same for each of them
+      asks_none : (flight : LoanFlight) → asks_for start ≡ None → counts flight ≡ 0
+          → hung {T = T} s.submission.read (Some (flights.TheVariants.Loan flight)) ≡ None → BeginsRight s.events begun
+          → reclaims_after (is_reclaiming s.events) begun ≡ reclaims_in (span_of 0 (s.events ++ begun ∷ []))
+          → At slots queue (began None) p [] start flight → FlightKnows slots queue (began None) changes changes 0 flight
+          → First p start flight
+      asks_none flight asks light calm begins reclaiming at knows =
+          record {
+            placed =
+                subst (λ o. Placed slots s.claims s.submission.waiting s.completion.waiting (taken_from s.book o) (s.events ++ begun ∷ []))
+                (sym asks)
+                (placed_still slots s.claims s.submission.waiting s.completion.waiting s.book s.events (begun ∷ [])
+                (record { moves = none; receiver = λ r. refl; dead = λ q b. refl }, tt) h.parts.placed);
+            queue_stays = ap (λ o. (taken_from s.book o).queue) asks;
+            places_stay = ap (λ o. (taken_from s.book o).places) asks;
+            receiver_stays = ap (λ o. (taken_from s.book o).receiver) asks;
+            dead_stay = ap (λ o. (taken_from s.book o).dead) asks;
+            light = light;
+            calm = calm;
+            moves = subst (λ m. ComesFrom slots m s.events) (sym none) tt;
+            begins = begins;
+            reclaiming = reclaiming;
+            stays = λ index q e. stays_put index ∙ e;
+            passing = λ index q e. inl (sym (stays_put index) ∙ e);
+            at = subst (λ o. At slots queue (began o) p [] start flight) (sym asks) at;
+            knows = subst (λ o. FlightKnows slots queue (began o) changes changes 0 flight) (sym asks) knows;
+          }
 
     -- one that asks for an index moves it from its party
     module _ (index : ℕ) (is : move_of {T = T} begun ≡ Some (record { index = index; from = With p; to = Passing p }))
@@ -94,7 +108,7 @@ module _ {T : Type 0} (code : Coding T) (slots queue : ℕ) (s : Channel T) (lat
 
       moves_it : (i q : ℕ) → spot_of i s.events ≡ Passing q → spot_of i (s.events ++ begun ∷ []) ≡ Passing q
       moves_it i q e =
-          ⊎_elim (λ (same : index ≡ i). absurd (other_spot p q (sym has ∙ (ap (λ n. spot_of n s.events) same ∙ e))))
+          ⊎_elim (λ (same : index ≡ i). absurd (with_passes p q (sym has ∙ (ap (λ n. spot_of n s.events) same ∙ e))))
           (λ (ne : index ≢ i). spot_other s.events begun move is i ne ∙ e)
           (cases_eq index i)
 
@@ -109,6 +123,38 @@ module _ {T : Type 0} (code : Coding T) (slots queue : ℕ) (s : Channel T) (lat
           (λ (ne : index ≢ i). inl (sym (spot_other s.events begun move is i ne) ∙ e))
           (cases_eq index i)
 
+      now_passes : spot_of index (s.events ++ begun ∷ []) ≡ Passing p
+      now_passes = spot_moved s.events begun move is
+
+      asks_one : (flight : LoanFlight) → asks_for start ≡ Some index → counts flight ≡ 0
+          → hung {T = T} s.submission.read (Some (flights.TheVariants.Loan flight)) ≡ None → BeginsRight s.events begun
+          → reclaims_after (is_reclaiming s.events) begun ≡ reclaims_in (span_of 0 (s.events ++ begun ∷ []))
+          → index < slots → Carries {T = T} index (Open (starts.Loan start) [])
+          → Placed slots s.claims s.submission.waiting s.completion.waiting (taken_from s.book (Some index)) (s.events ++ begun ∷ [])
+          → At slots queue (began (Some index)) p [] start flight → FlightKnows slots queue (began (Some index)) changes changes 0 flight
+          → First p start flight
+      asks_one flight asks light calm begins reclaiming below carries placed at knows =
+          record {
+            placed =
+                subst (λ o. Placed slots s.claims s.submission.waiting s.completion.waiting (taken_from s.book o) (s.events ++ begun ∷ []))
+                (sym asks) placed;
+            queue_stays = ap (λ o. (taken_from s.book o).queue) asks;
+            places_stay = ap (λ o. (taken_from s.book o).places) asks;
+            receiver_stays = ap (λ o. (taken_from s.book o).receiver) asks;
+            dead_stay = ap (λ o. (taken_from s.book o).dead) asks;
+            light = light;
+            calm = calm;
+            moves = subst (λ m. ComesFrom slots m s.events) (sym is) (below, has);
+            begins = begins;
+            reclaiming = reclaiming;
+            stays = moves_it;
+            passing = λ i q e. ⊎_elim (λ old. inl old)
+                (λ new. inr (new.0, subst (λ n. Carries {T = T} n (Open (starts.Loan start) [])) (sym new.1) carries))
+                (moved_or_not i q e);
+            at = subst (λ o. At slots queue (began o) p [] start flight) (sym asks) at;
+            knows = subst (λ o. FlightKnows slots queue (began o) changes changes 0 flight) (sym asks) knows;
+          }
+
   -- ---- the sender's calls, beside which no reclaim is under way
 
   module _ (idle : reclaims_in (span_of 0 s.events) ≡ false) where
@@ -120,70 +166,25 @@ module _ {T : Type 0} (code : Coding T) (slots queue : ℕ) (s : Channel T) (lat
     not_reclaiming start other = quiet ∙ (sym other ∙ sym (ap reclaims_in (span_of-own 0 s.events (Begun 0 (starts.Loan start) ∷ []) (refl, tt))))
 
     pub loan_first : First 0 calls.Loan (loan_of slots)
-    loan_first =
-        record {
-          placed = placed_still 0 calls.Loan refl;
-          queue_stays = refl;
-          places_stay = refl;
-          receiver_stays = refl;
-          dead_stay = refl;
-          light = refl;
-          calm = refl;
-          moves = tt;
-          begins = refl;
-          reclaiming = not_reclaiming calls.Loan refl;
-          stays = λ index q e. stays_put 0 calls.Loan refl index ∙ e;
-          passing = λ index q e. inl (sym (stays_put 0 calls.Loan refl index) ∙ e);
-          at = (refl, refl, refl, tt);
-          knows = refl;
-        }
+    loan_first = asks_none 0 calls.Loan refl (loan_of slots) refl refl refl refl (not_reclaiming calls.Loan refl) (refl, refl, refl, tt) refl
 
     pub take_back_first : First 0 calls.TakeBack (take_back_of slots queue)
     take_back_first =
-        record {
-          placed = placed_still 0 calls.TakeBack refl;
-          queue_stays = refl;
-          places_stay = refl;
-          receiver_stays = refl;
-          dead_stay = refl;
-          light = refl;
-          calm = refl;
-          moves = tt;
-          begins = refl;
-          reclaiming = not_reclaiming calls.TakeBack refl;
-          stays = λ index q e. stays_put 0 calls.TakeBack refl index ∙ e;
-          passing = λ index q e. inl (sym (stays_put 0 calls.TakeBack refl index) ∙ e);
-          at = (refl, refl, refl, refl, omega arith);
-          knows = refl;
-        }
+        asks_none 0 calls.TakeBack refl (take_back_of slots queue) refl refl refl refl (not_reclaiming calls.TakeBack refl)
+        (refl, refl, refl, refl, omega arith) refl
 
     module _ (index : ℕ) (below : index < slots) (has : spot_of index s.events ≡ With 0) where
+      placed_then : (start : LoanStart) → move_of {T = T} (Begun 0 (starts.Loan start)) ≡ Some (record { index = index; from = With 0; to = Passing 0 })
+          → Placed slots s.claims s.submission.waiting s.completion.waiting (taken_from s.book (Some index))
+          (s.events ++ Begun 0 (starts.Loan start) ∷ [])
+      placed_then start is =
+          sender_begins slots s.claims s.submission.waiting s.completion.waiting s.book s.events h.parts.placed index below start is has
+
       pub give_up_first : First 0 (calls.GiveUp index) (give_up_of slots index)
       give_up_first =
-          record {
-            placed =
-                sender_begins slots s.claims s.submission.waiting s.completion.waiting s.book s.events h.parts.placed
-                index below (calls.GiveUp index) refl has;
-            queue_stays = refl;
-            places_stay = refl;
-            receiver_stays = refl;
-            dead_stay = refl;
-            light = refl;
-            calm = refl;
-            moves = (below, has);
-            begins = refl;
-            reclaiming = not_reclaiming (calls.GiveUp index) refl;
-            stays = moves_it 0 (calls.GiveUp index) index refl has;
-            passing = λ i q e. ⊎_elim (λ old. inl old) (λ new. inr (new.0, (new.1, refl))) (moved_or_not 0 (calls.GiveUp index) index refl has i q e);
-            at = (
-              refl,
-              refl,
-              refl,
-              refl,
-              (below, spot_moved s.events (Begun 0 (starts.Loan (calls.GiveUp index))) (move 0 (calls.GiveUp index) index refl has) refl),
-            );
-            knows = refl;
-          }
+          asks_one 0 (calls.GiveUp index) index refl has (give_up_of slots index) refl refl refl refl
+          (not_reclaiming (calls.GiveUp index) refl) below (refl, refl) (placed_then (calls.GiveUp index) refl)
+          (refl, refl, refl, refl, (below, now_passes 0 (calls.GiveUp index) index refl has)) refl
 
       abbrev pub send_at : LoanFlight
       send_at =
@@ -195,34 +196,9 @@ module _ {T : Type 0} (code : Coding T) (slots queue : ℕ) (s : Channel T) (lat
 
       pub send_first : 1 ≤ queue → First 0 (calls.Send index) send_at
       send_first some =
-          record {
-            placed =
-                sender_begins slots s.claims s.submission.waiting s.completion.waiting s.book s.events h.parts.placed
-                index below (calls.Send index) refl has;
-            queue_stays = refl;
-            places_stay = refl;
-            receiver_stays = refl;
-            dead_stay = refl;
-            light = refl;
-            calm = refl;
-            moves = (below, has);
-            begins = refl;
-            reclaiming = not_reclaiming (calls.Send index) refl;
-            stays = moves_it 0 (calls.Send index) index refl has;
-            passing = λ i q e. ⊎_elim (λ old. inl old) (λ new. inr (new.0, inl (new.1, refl))) (moved_or_not 0 (calls.Send index) index refl has i q e);
-            at = (
-              refl,
-              refl,
-              refl,
-              refl,
-              refl,
-              (
-                some,
-                (below, spot_moved s.events (Begun 0 (starts.Loan (calls.Send index))) (move 0 (calls.Send index) index refl has) refl),
-              ),
-            );
-            knows = refl;
-          }
+          asks_one 0 (calls.Send index) index refl has send_at refl refl refl refl
+          (not_reclaiming (calls.Send index) refl) below (inl (refl, refl)) (placed_then (calls.Send index) refl)
+          (refl, refl, refl, refl, refl, (some, (below, now_passes 0 (calls.Send index) index refl has))) refl
 
     abbrev pub reclaim_at : LoanFlight
     reclaim_at = Reclaim (record { slots = slots; queue = queue; stage = reclaims.TheVariants.Drains overflow_pops.TheVariants.LoadsRead })
@@ -230,37 +206,24 @@ module _ {T : Type 0} (code : Coding T) (slots queue : ℕ) (s : Channel T) (lat
     pub reclaim_first : IsShut (span_of 0 s.events) → has_died s.book.receiver s.book.dead ≡ true → First 0 calls.Reclaim reclaim_at
     reclaim_first shut dead =
         let few = waits_few slots s.claims s.submission.waiting s.completion.waiting s.book s.events h.parts.placed in
-        record {
-          placed = placed_still 0 calls.Reclaim refl;
-          queue_stays = refl;
-          places_stay = refl;
-          receiver_stays = refl;
-          dead_stay = refl;
-          light = refl;
-          calm = refl;
-          moves = tt;
-          begins = refl;
-          reclaiming = sym (ap reclaims_in (span_of-own 0 s.events (Begun 0 (starts.Loan calls.Reclaim) ∷ []) (refl, tt)));
-          stays = λ index q e. stays_put 0 calls.Reclaim refl index ∙ e;
-          passing = λ index q e. inl (sym (stays_put 0 calls.Reclaim refl index) ∙ e);
-          at = (
-            refl,
-            refl,
-            refl,
-            record {
-              dead = dead;
-              sent =
-                  λ index e. absurd
-                  (shut_none index (span_of 0 s.events) shut (h.passing index 0 (sym (stays_put 0 calls.Reclaim refl index) ∙ e)));
-              claims = refl;
-              publishes = refl;
-              gives = refl;
-              acts = refl;
-              stage_at = (tt, (omega arith), refl, refl);
-            },
-          );
-          knows = refl;
-        }
+        asks_none 0 calls.Reclaim refl reclaim_at refl refl refl refl
+        (sym (ap reclaims_in (span_of-own 0 s.events (Begun 0 (starts.Loan calls.Reclaim) ∷ []) (refl, tt)))) (
+          refl,
+          refl,
+          refl,
+          record {
+            dead = dead;
+            sent =
+                λ index e. absurd
+                (shut_none index (span_of 0 s.events) shut (h.passing index 0 (sym (stays_put 0 calls.Reclaim refl index) ∙ e)));
+            claims = refl;
+            publishes = refl;
+            gives = refl;
+            acts = refl;
+            stage_at = (tt, (omega arith), refl, refl);
+          },
+        )
+        refl
 
   -- ---- the receiver's calls
 
@@ -282,56 +245,21 @@ module _ {T : Type 0} (code : Coding T) (slots queue : ℕ) (s : Channel T) (lat
 
     pub receive_first : 1 ≤ queue → First p calls.Receive receive_at
     receive_first some =
-        record {
-          placed = placed_still p calls.Receive refl;
-          queue_stays = refl;
-          places_stay = refl;
-          receiver_stays = refl;
-          dead_stay = refl;
-          light = refl;
-          calm = refl;
-          moves = tt;
-          begins = (receiver_is p is).1;
-          reclaiming = as_before calls.Receive;
-          stays = λ index q e. stays_put p calls.Receive refl index ∙ e;
-          passing = λ index q e. inl (sym (stays_put p calls.Receive refl index) ∙ e);
-          at = (other, refl, refl, refl, refl, λ alive. (is, some));
-          knows = omega arith;
-        }
+        asks_none p calls.Receive refl receive_at refl refl refl (receiver_is p is).1 (as_before calls.Receive)
+        (other, refl, refl, refl, refl, λ alive. (is, some)) (omega arith)
 
     pub give_back_first : (index : ℕ) → index < slots → spot_of index s.events ≡ With p → First p (calls.GiveBack index) (give_back_of slots queue p index)
     give_back_first index below has =
-        record {
-          placed =
-              receiver_begins slots s.claims s.submission.waiting s.completion.waiting s.book s.events h.parts.placed
-              index below p other (receiver_is p is).1 has;
-          queue_stays = refl;
-          places_stay = refl;
-          receiver_stays = refl;
-          dead_stay = refl;
-          light = refl;
-          calm = refl;
-          moves = (below, has);
-          begins = (receiver_is p is).1;
-          reclaiming = as_before (calls.GiveBack index);
-          stays = moves_it p (calls.GiveBack index) index refl has;
-          passing = λ i q e. ⊎_elim (λ old. inl old) (λ new. inr (new.0, (new.1, refl))) (moved_or_not p (calls.GiveBack index) index refl has i q e);
-          at = (
-            other,
-            refl,
-            refl,
-            refl,
-            refl,
-            refl,
-            omega arith,
-            λ alive. (
-              is,
-              (
-                below,
-                spot_moved s.events (Begun p (starts.Loan (calls.GiveBack index))) (move p (calls.GiveBack index) index refl has) refl,
-              ),
-              tt,
-            ),
-          );
-          knows = refl;
-        }
+        asks_one p (calls.GiveBack index) index refl has (give_back_of slots queue p index) refl refl refl (receiver_is p is).1
+        (as_before (calls.GiveBack index)) below (refl, refl)
+        (receiver_begins slots s.claims s.submission.waiting s.completion.waiting s.book s.events h.parts.placed index below p
+        other (receiver_is p is).1 has) (
+          other,
+          refl,
+          refl,
+          refl,
+          refl,
+          refl,
+          omega arith,
+          λ alive. (is, (below, now_passes p (calls.GiveBack index) index refl has), tt),
+        ) refl

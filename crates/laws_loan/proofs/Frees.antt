@@ -1,6 +1,6 @@
 -- The steps of a reclaim that releases an index that was sent, while the receiver is dead and nothing waits in either queue.
 use Rattle.std.proofs.Common.{◌≡◌, ◌≢◌, ℕ, ◌+◌, ◌*◌, ◌-◌, ◌^◌, ◌<◌, ◌≤◌, ⊎_elim, false, Option, Some, None, List, []}
-use Rattle.std.proofs.Common.{◌∷◌, ◌++◌, fold, length, set, refl, sym, ap, subst, ◌∙◌, append-nil, length-append}
+use Rattle.std.proofs.Common.{◌∷◌, ◌++◌, fold, length, set, refl, sym, ap, subst, ◌∙◌, length-append}
 use Rattle.std.proofs.Common.{arith, get_or-set_same, get_or-set_other}
 use Rattle.std.specs.List.{AllByRecursion}
 use Rattle.std.proofs.lemmas.Bool.{cases_eq}
@@ -33,24 +33,24 @@ use Rattle.model.specs.Families.Loan.Steps.{book_after}
 use Rattle.model.specs.Families.Queues.Reading.{publishes}
 use Rattle.model.specs.Reading.{acts, Open, Ended, own_after, span_of}
 use Rattle.model.specs.Turns.{old_of, words_after, step_count}
-use Rattle.model.proofs.Frame as frame
-use Rattle.model.proofs.Readings.{span_of-own, span_of-other}
+use Rattle.model.proofs.Readings.{span_of-own}
 use Rattle.laws_indices.proofs.Core as indices
 use Rattle.laws_indices.proofs.Knows.{release_counts, release_number, ReleaseAt}
+use Rattle.laws_loan.proofs.Carried.{moved_on}
 use Rattle.laws_loan.proofs.Channel.{Channel, words_in}
 use Rattle.laws_loan.proofs.Cuts.{IsOn}
-use Rattle.laws_loan.proofs.Invariant.{sends_at, counted_for, hung, reclaims_in, Carries, HoldsNow, family}
+use Rattle.laws_loan.proofs.Invariant.{sends_at, counted_for, hung, reclaims_in, HoldsNow}
 use Rattle.laws_loan.proofs.Knows.{wrote_in, FreesAt, StageAt, ReclaimAt, At}
 use Rattle.laws_loan.proofs.OnSet.{OnSet, set_then, set_shows}
 use Rattle.laws_loan.proofs.Parts.{set_words}
-use Rattle.laws_loan.proofs.Placed.{Placed}
-use Rattle.laws_loan.proofs.Reclaiming.{reclaim_at, none_more, reclaimed, receiver_then, none_passing, placed_ended}
-use Rattle.laws_loan.proofs.Reclaims.{dead_stays}
+use Rattle.laws_loan.proofs.Reclaiming.{reclaim_at, goes_known, none_more, reclaimed, receiver_then, none_passing, placed_ended}
+use Rattle.laws_loan.proofs.Rests as rests
 use Rattle.laws_loan.proofs.Sender.{party_then, Steps}
 use Rattle.laws_loan.proofs.Sents.{none_there, IsHome, may_free, all_home}
 use Rattle.laws_loan.proofs.SetSteps.{ReleaseLeads, ReleaseStep, claims_then, release_step}
-use Rattle.laws_loan.proofs.Spots.{is_waiting, is_returning, spot_other, spot_moved}
+use Rattle.laws_loan.proofs.Spots.{is_waiting, is_returning, spot_other, spot_moved, free_passes}
 use Rattle.laws_loan.proofs.Table.{frees_it}
+use Rattle.laws_loan.proofs.Theirs.{dead_stays}
 
 abbrev pub frees_at : ℕ → ℕ → ℕ → ℕ → ReleaseStage → LoanFlight
 frees_at slots queue number index stage = reclaim_at slots queue (Releases number index stage)
@@ -76,9 +76,6 @@ module _ {T : Type 0} (code : Coding T) (slots queue : ℕ) (s : Channel T) (lat
     (turns changes since : ℕ) (x : Party T) (h : HoldsNow slots queue s latest s.events turns) (number index : ℕ)
     (wrote : List (Event T))
     (from : span_of 0 s.events ≡ Open (starts.Loan calls.Reclaim) wrote) (straight : x.backs ≡ 0) where
-  abbrev channel : frame.Family T
-  channel = family code slots queue
-
   abbrev Here : ReleaseStage → Type 0
   Here stage = sends_at latest ≡ Some (flights.TheVariants.Loan (frees_at slots queue number index stage))
 
@@ -142,16 +139,7 @@ module _ {T : Type 0} (code : Coding T) (slots queue : ℕ) (s : Channel T) (lat
     elsewhere i ne = spot_other s.events (Freed 0 index) freeing refl i ne
 
     not_now : (i q : ℕ) → spot_of i (s.events ++ freed_es) ≡ Passing q → index ≢ i
-    not_now i q e same =
-        let clash : Free ≡ Passing q = sym now_free ∙ (ap (λ n. spot_of n (s.events ++ freed_es)) same ∙ e) in
-        absurd (cc)
-
-    passing_then : (i q : ℕ) → spot_of i (s.events ++ freed_es) ≡ Passing q → Carries i (span_of q (s.events ++ freed_es))
-    passing_then i q e = ⊎_elim
-        (λ (mine : q ≡ 0). subst (λ n. Carries i (span_of n (s.events ++ freed_es))) (sym mine) (subst (Carries i) (sym open_then) tt))
-        (λ (theirs : q ≢ 0). subst (Carries i) (sym (span_of-other 0 q s.events freed_es theirs (refl, tt)))
-        (h.passing i q (sym (elsewhere i (not_now i q e)) ∙ e)))
-        (cases_eq q 0)
+    not_now i q e same = free_passes q (sym now_free ∙ (ap (λ n. spot_of n (s.events ++ freed_es)) same ∙ e))
 
     -- the sender's table: the index is free, and the others are as they were
     long : index < length s.book.places
@@ -200,7 +188,9 @@ module _ {T : Type 0} (code : Coding T) (slots queue : ℕ) (s : Channel T) (lat
           );
           begins = (tt, tt);
           answers = (tt, tt);
-          passing = passing_then;
+          passing =
+              moved_on 0 s.events freed_es (refl, tt) (Open (starts.Loan calls.Reclaim) wrote) from index elsewhere h.passing
+              (λ i ne carried. tt) Free now_free (λ q e. absurd (free_passes q e));
         }
 
     known_then : ReclaimAt slots queue s_freed wrote_then (Releases number index releases.TheVariants.LoadsHead)
@@ -282,68 +272,19 @@ module _ {T : Type 0} (code : Coding T) (slots queue : ℕ) (s : Channel T) (lat
       abbrev flight_on : LoanFlight
       flight_on = frees_at slots queue number' index' stage'
 
-      abbrev y_on : Party T
-      y_on = party_then s x since changes calls.Reclaim ask false (GoOn flight_on)
-
       abbrev s_on : Channel T
-      s_on = set_then slots queue s latest turns y_on words_then s.claims s.book []
-
-      as_was : span_of 0 (s.events ++ []) ≡ Open (starts.Loan calls.Reclaim) wrote
-      as_was = ap (span_of 0) (append-nil s.events) ∙ from
-
-      on_set_goes : OnSet slots queue s latest turns y_on words_then s.claims s.book []
-      on_set_goes =
-          let same : receiver_of (s.events ++ []) ≡ receiver_of s.events = ap receiver_of (append-nil s.events) in
-          record {
-            good = good;
-            unlocked = step.unlocked;
-            queue_stays = refl;
-            placed = subst (Placed slots s.claims s.submission.waiting s.completion.waiting s.book) (sym (append-nil s.events)) h.parts.placed;
-            silent = record { publishes = refl; hands_out = refl; gives = refl; takes = refl; acts = refl };
-            calm_before = ap (hung s.submission.read) here;
-            calm_after = refl;
-            reclaiming = h.reclaiming ∙ ap (λ es. reclaims_in (span_of 0 es)) (sym (append-nil s.events));
-            receivers = (omega arith, omega arith);
-            moves = tt;
-            begins = tt;
-            answers = tt;
-            passing =
-                λ i q e. subst (λ es. Carries i (span_of q es)) (sym (append-nil s.events))
-                (h.passing i q (ap (spot_of i) (sym (append-nil s.events)) ∙ e));
-          }
-
-      known_on : ReclaimAt slots queue s_on wrote (Releases number' index' stage')
-      known_on =
-          record {
-            dead = at.dead;
-            sent = λ i e. at.sent i (ap (spot_of i) (sym (append-nil s.events)) ∙ e);
-            claims = at.claims;
-            publishes = at.publishes;
-            gives = at.gives;
-            acts = at.acts;
-            stage_at = known;
-          }
+      s_on = record s { set = words_then; claims = s.claims; book = s.book; events = s.events ++ [] }
 
       pub goes_steps : Steps code slots queue s latest turns changes since x s_on
           (Open (starts.Loan calls.Reclaim) wrote) calls.Reclaim ask false (GoOn flight_on) []
       goes_steps =
-          let wrote_is : wrote ≡ wrote_in (span_of 0 (s.events ++ [])) = sym (ap wrote_in as_was) in
           let one = one_step slots index stage in
-          record {
-            words = whole_words stage here at;
-            shows = set_shows slots queue s latest turns y_on words_then s.claims s.book [] h on_set_goes;
-            own = tt;
-            stands = tt;
-            here =
-                record {
-                  span = ap (λ wrote. Open (starts.Loan calls.Reclaim) wrote) wrote_is;
-                  steps = omega arith;
-                  at = subst (λ wrote. At slots queue s_on 0 wrote calls.Reclaim flight_on) wrote_is (refl, refl, refl, known_on);
-                };
-            knows = omega arith;
-            theirs = λ q ne. dead_stays slots queue s s_on at.dead refl (λ i stage known. known) q;
-            up = record { write = omega arith; read = omega arith; paid = omega arith };
-          }
+          rests.goes_on code slots queue s latest turns changes since x h straight calls.Reclaim wrote from ask words_then
+          flight_on
+          (record { words = whole_words stage here at; good = good; unlocked = step.unlocked; calm = ap (hung s.submission.read) here })
+          refl (omega arith)
+          (refl, refl, refl, goes_known slots queue s words_then wrote (Releases number index stage) (Releases number' index' stage') at known)
+          (omega arith)
 
     -- ---- it ends, where no index is sent
 

@@ -1,7 +1,6 @@
 -- The steps of a give-back: the receiver pushes its index into the completion queue, where there is room for each one.
-use Rattle.std.proofs.Common.{◌≡◌, ◌≢◌, ℕ, ◌+◌, ◌-◌, ◌^◌, ◌<◌, ◌≤◌, ◌⊎◌, ⊎_elim, Bool, true, false, Option, List, []}
-use Rattle.std.proofs.Common.{◌∷◌, ◌++◌, length, fold, refl, sym, ap, subst, ◌∙◌, append-nil, append_assoc, arith}
-use Rattle.std.proofs.lemmas.Bool.{cases_eq}
+use Rattle.std.proofs.Common.{◌≡◌, ◌≢◌, ℕ, ◌+◌, ◌-◌, ◌^◌, ◌<◌, ◌≤◌, Bool, true, false, Option, List, []}
+use Rattle.std.proofs.Common.{◌∷◌, ◌++◌, length, refl, sym, ap, subst, ◌∙◌, append-nil, append_assoc, arith}
 use Rattle.std.proofs.lemmas.List.Sums.{fold-append}
 use Rattle.steps.specs.declared.ask.Ask.{Ask}
 use Rattle.steps.specs.declared.ask.Want.{Want}
@@ -30,30 +29,31 @@ use Rattle.model.specs.declared.party.Party.{Party}
 use Rattle.model.specs.Coding.{Coding, one_word}
 use Rattle.model.specs.Families.{ask_of}
 use Rattle.model.specs.Families.Indices.Robust.Dead.{has_died}
-use Rattle.model.specs.Families.Loan.Reading.{Passing, Returning, spot_of, receiver_after, receiver_of, died_after}
-use Rattle.model.specs.Families.Loan.Steps.{ended_book, book_after, give_back_effect, effects_of}
+use Rattle.model.specs.Families.Loan.Reading.{Passing, Returning, spot_of, receiver_after, receiver_of}
+use Rattle.model.specs.Families.Loan.Steps.{give_back_effect}
 use Rattle.model.specs.Families.Queues.Calls.{as_it_is, words_of_index}
 use Rattle.model.specs.Reading.{Span, Open, span_of}
-use Rattle.model.specs.Step.{as_call, answer_in}
-use Rattle.model.specs.Turns.{old_of, words_after, step_count, ending_of}
+use Rattle.model.specs.Step.{as_call}
+use Rattle.model.specs.Turns.{old_of, words_after, step_count}
 use Rattle.model.proofs.Readings.{span_of-other}
 use Rattle.laws_queues.proofs.Queues.Core.{Core, Good, filled, published}
 use Rattle.laws_queues.proofs.Queues.Knows.{layout}
 use Rattle.laws_queues.proofs.Ring.Knows.{KnowsPush, KnowsPop, push_number}
+use Rattle.laws_loan.proofs.Carried.{moved_on}
 use Rattle.laws_loan.proofs.Channel.{Channel, no_roles, words_in}
 use Rattle.laws_loan.proofs.Completion as completion
 use Rattle.laws_loan.proofs.Cuts.{IsOn}
-use Rattle.laws_loan.proofs.Giving.{OnCompletion, GivingStep, given_to, given_shows}
-use Rattle.laws_loan.proofs.Invariant.{sends_at, counted_for, reclaims_in, Carries, HoldsNow}
-use Rattle.laws_loan.proofs.Knows.{Passes, wrote_in, At}
-use Rattle.laws_loan.proofs.Lists.{lists_stay}
+use Rattle.laws_loan.proofs.Giving.{OnCompletion, GivesBy, given_shows, gives_on}
+use Rattle.laws_loan.proofs.Invariant.{sends_at, counted_for, reclaims_in, HoldsNow}
+use Rattle.laws_loan.proofs.Knows.{Passes}
 use Rattle.laws_loan.proofs.Mine.{fill_keeps, publish_keeps}
 use Rattle.laws_loan.proofs.OnQueues.{silent_tells}
 use Rattle.laws_loan.proofs.Parts.{completion_long, completion_old, completion_words}
-use Rattle.laws_loan.proofs.Placed.{Placed, placed_on}
+use Rattle.laws_loan.proofs.Placed.{Placed}
 use Rattle.laws_loan.proofs.Rooms.{returns_room}
 use Rattle.laws_loan.proofs.Sender.{party_then}
-use Rattle.laws_loan.proofs.Spots.{is_waiting, is_returning, spot_stays, spot_other, spot_moved}
+use Rattle.laws_loan.proofs.Spots.{passing_same, returning_passes, passing_on, spot_stays, spot_other, spot_moved}
+use Rattle.laws_loan.proofs.Still.{placed_still}
 use Rattle.laws_loan.proofs.Table.{returns_it}
 use Rattle.laws_loan.proofs.Told.{is_reclaiming}
 
@@ -68,9 +68,6 @@ give_at slots queue p index stage =
 abbrev pub given_after : (T : Type 0) → ℕ → ℕ → ℕ → ℕ → After (Push ℕ) Bool → After LoanFlight (Answer T)
 given_after T slots queue p index push =
     as_call (λ r. GiveBack p r) answers.Truth (went_on as_it_is index tt (part_after (completion_word slots queue) push))
-
-passing_same : (p q : ℕ) → Passing p ≡ Passing q → p ≡ q
-passing_same p q e = cc
 
 module _ {T : Type 0} (code : Coding T) (slots queue : ℕ) (s : Channel T) (latest : List (ℕ × Party T))
     (turns changes since : ℕ) (x : Party T) (p index : ℕ) (h : HoldsNow slots queue s latest s.events turns)
@@ -98,21 +95,9 @@ module _ {T : Type 0} (code : Coding T) (slots queue : ℕ) (s : Channel T) (lat
   abbrev pub after_of : PushStage → After LoanFlight (Answer T)
   after_of stage = given_after T slots queue p index (push_takes 1 (push_on slots stage) stage (old stage))
 
-  abbrev events_by : Effect → After LoanFlight (Answer T) → List (Event T)
-  events_by effect after = effects_of p effect (answer_in after) ++ ending_of p start (answer_in after)
-
-  -- what is kept then
-  abbrev Keeps : Effect → After LoanFlight (Answer T) → Type 0
-  Keeps effect after =
-      ended_book {T = T} p (calls.GiveBack index) (answer_in after)
-      (fold (book_after {T = T}) s.book (effects_of p effect (answer_in after)))
-      ≡ s.book
-
   abbrev StepTo : Core ℕ → PushStage → After LoanFlight (Answer T) → Effect → Type 0
   StepTo k stage after effect =
-      GivingStep code slots queue s latest turns changes since x p k spanned (calls.GiveBack index) (asked stage)
-      false after (events_by effect after)
-      × Keeps effect after
+      GivesBy code slots queue s latest turns changes since x p k spanned (calls.GiveBack index) (asked stage) false after effect
 
   -- what a step of a give-back that stands here comes to
   pub record Does (stage : PushStage) : Type 0 where
@@ -158,59 +143,14 @@ module _ {T : Type 0} (code : Coding T) (slots queue : ℕ) (s : Channel T) (lat
       (low : push_number 1 stage' ≤ 3)
       (pops : (room : List ℕ) (stage : PopStage) → KnowsPop one_word slots s.completion room stage
       → KnowsPop one_word slots k room stage) where
-    abbrev y_on : Party T
-    y_on = party_then s x since changes (calls.GiveBack index) (asked stage) false (GoOn (give_at slots queue p index stage'))
-
-    abbrev s_on : Channel T
-    s_on = given_to slots queue s latest turns p y_on k []
-
-    as_was : span_of p (s.events ++ []) ≡ spanned
-    as_was = ap (span_of p) (append-nil s.events) ∙ from
-
-    on_completion_goes : OnCompletion slots queue s latest turns p y_on k []
-    on_completion_goes =
-        let given = h.given in
-        let same : receiver_of (s.events ++ []) ≡ receiver_of s.events = ap receiver_of (append-nil s.events) in
-        record {
-          other = other;
-          good = good;
-          placed =
-              subst (λ back. Placed slots s.claims s.submission.waiting back s.book (s.events ++ [])) (sym waits)
-              (subst (Placed slots s.claims s.submission.waiting s.completion.waiting s.book) (sym (append-nil s.events)) h.parts.placed);
-          tells =
-              silent_tells queue (is_reclaiming s.events) s.submission.waiting s.completion.waiting k.waiting [] refl
-              refl refl (append-nil s.completion.waiting ∙ sym waits);
-          reclaiming = h.reclaiming ∙ ap (λ es. reclaims_in (span_of 0 es)) (sym (append-nil s.events));
-          write = omega arith;
-          receivers = (omega arith, omega arith);
-          moves = tt;
-          begins = tt;
-          answers = tt;
-          passing =
-              λ i q e. subst (λ es. Carries i (span_of q es)) (sym (append-nil s.events))
-              (h.passing i q (ap (spot_of i) (sym (append-nil s.events)) ∙ e));
-        }
-
     goes_on : StepTo k stage (GoOn (give_at slots queue p index stage')) effects.Quiet
     goes_on =
-        let wrote_is : [] ≡ wrote_in (span_of p (s.events ++ [])) = sym (ap wrote_in as_was) in
         let one = one_step stage in (
-          record {
-            words = words_are stage k on words;
-            shows = given_shows slots queue s latest turns p y_on k [] h on_completion_goes;
-            own = tt;
-            stands = tt;
-            here =
-                record {
-                  span = ap (λ wrote. Open start wrote) wrote_is;
-                  steps = omega arith;
-                  at =
-                      subst (λ wrote. At slots queue s_on p wrote (calls.GiveBack index) (give_at slots queue p index stage')) wrote_is
-                      (other, refl, refl, refl, refl, refl, low, λ lives. (receives, (passes.0, ap (spot_of index) (append-nil s.events) ∙ passes.1), known));
-                };
-            knows = omega arith;
-            gives = record { receiver = receives; alive = alive; pop = pops; passes = λ q i ne e. ap (spot_of i) (append-nil s.events) ∙ e };
-          },
+          gives_on code slots queue s latest turns changes since x p h other alive receives (calls.GiveBack index) [] from
+              (asked stage) false k waits write good pops (give_at slots queue p index stage') (words_are stage k on words)
+              (omega arith)
+              (other, refl, refl, refl, refl, refl, low, λ lives. (receives, (passes.0, ap (spot_of index) (append-nil s.events) ∙ passes.1), known))
+              (omega arith),
           refl,
         )
 
@@ -251,25 +191,7 @@ module _ {T : Type 0} (code : Coding T) (slots queue : ℕ) (s : Channel T) (lat
 
   -- what is in passing in another party's call stays so
   passes_on : (q i : ℕ) → q ≢ p → spot_of i s.events ≡ Passing q → spot_of i (s.events ++ told) ≡ Passing q
-  passes_on q i ne e =
-      let apart : index ≢ i = λ same. ne (sym (passing_same p q (sym passes.1 ∙ (ap (λ n. spot_of n s.events) same ∙ e)))) in
-      elsewhere i apart ∙ e
-
-  passing_end : (i q : ℕ) → spot_of i (s.events ++ told) ≡ Passing q → Carries i (span_of q (s.events ++ told))
-  passing_end i q e = ⊎_elim mine others (cases_eq index i)
-    where
-      mine : index ≡ i → Carries i (span_of q (s.events ++ told))
-      mine same =
-          let clash : Returning ≡ Passing q = sym now_returning ∙ (ap (λ n. spot_of n (s.events ++ told)) same ∙ e) in
-          absurd (cc)
-
-      others : index ≢ i → Carries i (span_of q (s.events ++ told))
-      others ne =
-          let carried = h.passing i q (sym (elsewhere i ne) ∙ e) in
-          ⊎_elim
-          (λ (here : q ≡ p). absurd (ne (sym (subst (Carries i) from (subst (λ n. Carries i (span_of n s.events)) here carried)).0)))
-          (λ (theirs : q ≢ p). subst (Carries i) (sym (span_of-other p q s.events told theirs (refl, (refl, tt)))) carried)
-          (cases_eq q p)
+  passes_on q i ne e = passing_on s.events told index elsewhere (Passing p) passes.1 q (λ same. ne (sym (passing_same p q same))) i e
 
   same_receiver : receiver_of (s.events ++ told) ≡ receiver_of s.events
   same_receiver = fold-append receiver_after 1 s.events told
@@ -279,19 +201,9 @@ module _ {T : Type 0} (code : Coding T) (slots queue : ℕ) (s : Channel T) (lat
       let placed =
       returns_it slots s.claims s.submission.waiting s.completion.waiting s.book s.events h.parts.placed index
       passes.0 p other (receives ∙ h.parts.placed.keeps.receiver) passes.1 in
-      let still : receiver_of ((s.events ++ returned ∷ []) ++ ends ∷ []) ≡ receiver_of (s.events ++ returned ∷ []) =
-      fold-append receiver_after 1 (s.events ++ returned ∷ []) (ends ∷ []) in
       subst (Placed slots s.claims s.submission.waiting full.waiting s.book) whole
-      (placed_on slots (s.events ++ returned ∷ []) ends refl s.claims s.submission.waiting full.waiting s.book s.book placed
-      (record {
-        places = refl;
-        holders = refl;
-        receiver = placed.keeps.receiver ∙ sym still;
-        dead = λ q. placed.keeps.dead q ∙ sym (fold-append (died_after q) false (s.events ++ returned ∷ []) (ends ∷ []));
-        parties = λ i q by. subst (λ n. (q ≡ 0) ⊎ (q ≡ n)) (sym still) (placed.parties i q by);
-      })
-      (lists_stay is_waiting s.submission.waiting (s.events ++ returned ∷ []) ends placed.waits refl)
-      (lists_stay is_returning full.waiting (s.events ++ returned ∷ []) ends placed.returns refl))
+      (placed_still slots s.claims s.submission.waiting full.waiting s.book (s.events ++ returned ∷ []) (ends ∷ [])
+      (record { moves = refl; receiver = λ r. refl; dead = λ q b. refl }, tt) placed)
 
   module _ (good : Good 1 words_of_index slots full) where
     on_completion_end : OnCompletion slots queue s latest turns p y_end full told
@@ -309,7 +221,9 @@ module _ {T : Type 0} (code : Coding T) (slots queue : ℕ) (s : Channel T) (lat
           moves = ((passes.0, passes.1), (tt, tt));
           begins = (tt, (tt, tt));
           answers = (tt, (tt, tt));
-          passing = passing_end;
+          passing =
+              moved_on p s.events told (refl, (refl, tt)) spanned from index elsewhere h.passing
+              (λ i ne carried. absurd (ne (sym carried.0))) Returning now_returning (λ q e. absurd (returning_passes q e));
         }
 
     ends_with : x.steps ≤ 3 → StepTo full last (Done (answers.Truth true)) (effects.Returns index)
@@ -325,10 +239,7 @@ module _ {T : Type 0} (code : Coding T) (slots queue : ℕ) (s : Channel T) (lat
           (
             (
               refl,
-              record {
-                moments = refl;
-                done = record { claimed = refl; published = refl; handed_out = refl; given_back = refl; taken_back = refl; freed = refl };
-              },
+              grind arith,
             ),
             tt,
           ),

@@ -1,36 +1,42 @@
 -- A step of the receiver's call that changes the completion queue alone, or nothing: what it shows, and that it so comes to what
 -- the frame asks.
-use Rattle.std.proofs.Common.{◌≡◌, ◌≢◌, ℕ, ◌+◌, ◌≤◌, Bool, Option, Some, List, ◌++◌, fold, sym, ap, subst, refl, arith}
+use Rattle.std.proofs.Common.{◌≡◌, ◌≢◌, ℕ, ◌+◌, ◌≤◌, Bool, false, Option, Some, List, [], ◌++◌, fold, sym, ap, subst, refl}
+use Rattle.std.proofs.Common.{◌∙◌, append-nil, arith}
 use Rattle.steps.specs.declared.ask.Ask.{Ask}
 use Rattle.steps.specs.declared.ask.After.{After}
+use Rattle.steps.specs.declared.ask.After.TheVariants.{GoOn}
+use Rattle.steps.specs.declared.queues.ring.PopStage.{PopStage}
 use Rattle.model.specs.declared.event.Answer.{Answer}
 use Rattle.model.specs.declared.event.Event.{Event}
-use Rattle.model.specs.declared.event.Start.{Start}
 use Rattle.model.specs.declared.event.Start.TheVariants as starts
-use Rattle.model.specs.declared.families.Flight.{Flight}
-use Rattle.model.specs.declared.families.Flight as flights
 use Rattle.model.specs.declared.families.loan.LoanStart.{LoanStart}
 use Rattle.model.specs.declared.families.loan.calls.LoanFlight.{LoanFlight}
+use Rattle.model.specs.declared.families.loan.effects.Effect.{Effect}
 use Rattle.model.specs.declared.party.Party.{Party}
-use Rattle.model.specs.Coding.{Coding}
+use Rattle.model.specs.Coding.{Coding, one_word}
+use Rattle.model.specs.Families.Indices.Robust.Dead.{has_died}
 use Rattle.model.specs.Families.Loan.Promises.{MovesRight, BeginsRight, AnswersRight, promise}
 use Rattle.model.specs.Families.Loan.Reading.{Passing, spot_of, receiver_of, reclaims_after}
+use Rattle.model.specs.Families.Loan.Steps.{ended_book, book_after, effects_of}
 use Rattle.model.specs.Families.Queues.Calls.{words_of_index}
 use Rattle.model.specs.Parties.{put, doing_of, flight_of}
 use Rattle.model.specs.Promises.Spans.{Stands}
-use Rattle.model.specs.Reading.{Span, own_after, span_of}
-use Rattle.model.specs.Turns.{words_after, change_of}
+use Rattle.model.specs.Reading.{Span, Open, own_after, span_of}
+use Rattle.model.specs.Step.{answer_in}
+use Rattle.model.specs.Turns.{words_after, change_of, step_count, one_if, ending_of}
 use Rattle.model.proofs.Frame as frame
 use Rattle.model.proofs.Parties.{party_put_other}
-use Rattle.model.proofs.Readings.{AreOwn, AllFollow, AreRight, span_of-other}
+use Rattle.model.proofs.Readings.{AreOwn, AllFollow, AreRight}
 use Rattle.laws_indices.proofs.Core as indices
 use Rattle.laws_queues.proofs.Queues.Core.{Core, Good}
+use Rattle.laws_queues.proofs.Ring.Knows.{KnowsPop}
 use Rattle.laws_loan.proofs.Channel.{Channel, Holds, words_in}
 use Rattle.laws_loan.proofs.Invariant.{Hangs, sends_at, counted_for, hung, reclaims_in, Carries, HoldsNow, family}
-use Rattle.laws_loan.proofs.Knows.{wrote_in, At}
+use Rattle.laws_loan.proofs.Knows.{number_of, wrote_in, At, FlightKnows}
 use Rattle.laws_loan.proofs.Mine.{Gives, given_then, at_given}
+use Rattle.laws_loan.proofs.OnQueues.{silent_tells}
 use Rattle.laws_loan.proofs.Placed.{Placed}
-use Rattle.laws_loan.proofs.Sender.{party_then}
+use Rattle.laws_loan.proofs.Sender.{party_then, owes_by}
 use Rattle.laws_loan.proofs.Told.{is_reclaiming, Tells}
 use Rattle.laws_loan.proofs.Turns.{Shows}
 
@@ -110,33 +116,78 @@ module _ {T : Type 0} (code : Coding T) (slots queue : ℕ) (s : Channel T) (lat
     pub knows : frame.KnowsDoing channel s_given p (s.events ++ es) (changes + change_of (words_in s) ask) y_given.backs y_given.doing
     pub gives : Gives slots queue s completion' (s.events ++ es) p
 
-  module _ (step : GivingStep) where
-    same_span : (q : ℕ) → q ≢ p → span_of q (s.events ++ es) ≡ span_of q s.events
-    same_span q ne = span_of-other p q s.events es ne step.own
+  pub giving_owes : GivingStep → span_of p s.events ≡ from → frame.Inv channel s latest s.events changes
+      → frame.Owes channel s_given p y_given latest s.events es (changes + change_of (words_in s) ask)
+  giving_owes step =
+      owes_by code slots queue s s_given p y_given latest from es changes (changes + change_of (words_in s) ask) refl step.own
+      (at_given slots queue s completion' (s.events ++ es) p step.gives)
+      (record { write = omega arith; read = omega arith; paid = omega arith }) step.stands step.here step.knows
 
-    others : (q : ℕ) → q ≢ p → (other : Start T) (call : Flight T) → channel.At s q other call
-        → channel.At s_given q other call × (channel.written s_given q call ≡ channel.written s q call)
-    others q ne (starts.Loan other) (flights.TheVariants.Loan call) known = (
-      subst (λ wrote. At slots queue s_given q wrote other call) (ap wrote_in (sym (same_span q ne)))
-          (at_given slots queue s completion' (s.events ++ es) p step.gives q ne (wrote_in (span_of q s.events)) other call known),
-      ap wrote_in (same_span q ne),
-    )
-    others q ne other call known = absurd known
+module _ {T : Type 0} (code : Coding T) (slots queue : ℕ) (s : Channel T) (latest : List (ℕ × Party T))
+    (turns changes since : ℕ) (x : Party T) (p : ℕ) where
+  -- such a step with this effect, which leaves the book
+  abbrev pub GivesBy : Core ℕ → Span T → LoanStart → Option Ask → Bool → After LoanFlight (Answer T) → Effect → Type 0
+  GivesBy k from start ask back after effect =
+      GivingStep code slots queue s latest turns changes since x p k from start ask back after
+      (effects_of p effect (answer_in after) ++ ending_of p (starts.Loan start) (answer_in after))
+      × (ended_book {T = T} p start (answer_in after) (fold (book_after {T = T}) s.book (effects_of p effect (answer_in after))) ≡ s.book)
 
-    others_know : (q : ℕ) → q ≢ p → (sooner backs : ℕ) (call : Flight T)
-        → channel.Knows s q s.events sooner changes backs call
-        → channel.Knows s_given q (s.events ++ es) sooner (changes + change_of (words_in s) ask) backs call
-    others_know x0 x1 x2 x3 x4 x5 = grind arith
+-- ---- a step that writes nothing, and leaves what waits in the completion queue: its call goes on
 
-    pub giving_owes : span_of p s.events ≡ from → frame.Inv channel s latest s.events changes
-        → frame.Owes channel s_given p y_given latest s.events es (changes + change_of (words_in s) ask)
-    giving_owes is inv =
-        frame.owes channel s s_given from p y_given latest s.events es changes (changes + change_of (words_in s) ask) is inv
-        (record {
-          own = step.own;
-          stands = step.stands;
-          here = step.here;
-          knows = step.knows;
-          others = others;
-          others_know = others_know;
-        })
+module _ {T : Type 0} (code : Coding T) (slots queue : ℕ) (s : Channel T) (latest : List (ℕ × Party T))
+    (turns changes since : ℕ) (x : Party T) (p : ℕ) (h : HoldsNow slots queue s latest s.events turns) (other : p ≢ 0)
+    (alive : has_died p s.book.dead ≡ false) (receives : p ≡ s.book.receiver) (start : LoanStart) (wrote : List (Event T))
+    (from : span_of p s.events ≡ Open (starts.Loan start) wrote) (ask : Option Ask) (back : Bool) (k : Core ℕ)
+    (waits : k.waiting ≡ s.completion.waiting) (write : k.write ≡ s.completion.write) (good : Good 1 words_of_index slots k)
+    (pops : (room : List ℕ) (stage : PopStage) → KnowsPop one_word slots s.completion room stage → KnowsPop one_word slots k room stage)
+    (flight : LoanFlight) where
+  abbrev y_on : Party T
+  y_on = party_then s x since changes start ask back (GoOn flight)
+
+  abbrev s_on : Channel T
+  s_on = given_to slots queue s latest turns p y_on k []
+
+  on_completion : OnCompletion slots queue s latest turns p y_on k []
+  on_completion =
+      let given = h.given in
+      let same : receiver_of (s.events ++ []) ≡ receiver_of s.events = ap receiver_of (append-nil s.events) in
+      record {
+        other = other;
+        good = good;
+        placed =
+            subst (λ back. Placed slots s.claims s.submission.waiting back s.book (s.events ++ [])) (sym waits)
+            (subst (Placed slots s.claims s.submission.waiting s.completion.waiting s.book) (sym (append-nil s.events)) h.parts.placed);
+        tells =
+            silent_tells queue (is_reclaiming s.events) s.submission.waiting s.completion.waiting k.waiting [] refl refl
+            refl (append-nil s.completion.waiting ∙ sym waits);
+        reclaiming = h.reclaiming ∙ ap (λ es. reclaims_in (span_of 0 es)) (sym (append-nil s.events));
+        write = omega arith;
+        receivers = (omega arith, omega arith);
+        moves = tt;
+        begins = tt;
+        answers = tt;
+        passing =
+            λ i q e. subst (λ es. Carries i (span_of q es)) (sym (append-nil s.events))
+            (h.passing i q (ap (spot_of i) (sym (append-nil s.events)) ∙ e));
+      }
+
+  pub gives_on : words_after (words_in s) ask ≡ words_in s_on
+      → x.steps + step_count ask ≤ number_of slots wrote flight (x.backs + one_if back) → At slots queue s_on p wrote start flight
+      → FlightKnows slots queue s_on (since + change_of (words_in s) ask) (changes + change_of (words_in s) ask) (x.backs + one_if back) flight
+      → GivingStep code slots queue s latest turns changes since x p k (Open (starts.Loan start) wrote) start ask back (GoOn flight) []
+  gives_on words steps at knows =
+      let was : wrote ≡ wrote_in (span_of p (s.events ++ [])) = sym (ap wrote_in (ap (span_of p) (append-nil s.events) ∙ from)) in
+      record {
+        words = words;
+        shows = given_shows slots queue s latest turns p y_on k [] h on_completion;
+        own = tt;
+        stands = tt;
+        here =
+            record {
+              span = ap (λ es. Open (starts.Loan start) es) was;
+              steps = subst (λ es. x.steps + step_count ask ≤ number_of slots es flight (x.backs + one_if back)) was steps;
+              at = subst (λ es. At slots queue s_on p es start flight) was at;
+            };
+        knows = knows;
+        gives = record { receiver = receives; alive = alive; pop = pops; passes = λ q i ne e. ap (spot_of i) (append-nil s.events) ∙ e };
+      }

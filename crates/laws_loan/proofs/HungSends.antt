@@ -3,8 +3,6 @@ use Rattle.std.proofs.Common.{◌≡◌, ◌≢◌, ℕ, ◌+◌, false, Option,
 use Rattle.model.specs.declared.event.Event.{Event}
 use Rattle.model.specs.declared.families.Flight.{Flight}
 use Rattle.model.specs.declared.families.loan.Book.{Book}
-use Rattle.model.specs.declared.families.loan.calls.LoanFlight.{LoanFlight}
-use Rattle.model.specs.declared.families.loan.calls.LoanFlight.TheVariants.{Loan}
 use Rattle.model.specs.declared.party.Party.{Party}
 use Rattle.model.specs.Coding.{Coding}
 use Rattle.model.specs.Families.Indices.Robust.Dead.{has_died}
@@ -17,7 +15,6 @@ use Rattle.laws_queues.proofs.Queues.Core.{Core, taken}
 use Rattle.laws_loan.proofs.Channel.{Channel}
 use Rattle.laws_loan.proofs.Hanging.{made}
 use Rattle.laws_loan.proofs.Invariant.{hung, reclaims_in, family}
-use Rattle.laws_loan.proofs.Knows.{wrote_in}
 
 module _ {T : Type 0} (slots queue : ℕ) (s : Channel T) (rest : List ℕ) (book' : Book) (events' : List (Event T)) (p : ℕ) where
   abbrev pub taken_out : Core ℕ
@@ -38,9 +35,6 @@ module _ {T : Type 0} (slots queue : ℕ) (s : Channel T) (rest : List ℕ) (boo
     module _ (code : Coding T) where
       abbrev channel : frame.Family T
       channel = family code slots queue
-
-      abbrev before : List (Event T)
-      before = wrote_in (span_of 0 s.events)
 
       -- its span goes on with the act of the send that waits
       abbrev Goes : Option (Flight T) → Type 0

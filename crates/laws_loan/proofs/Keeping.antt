@@ -1,17 +1,14 @@
 -- What a call of a loan channel goes on to know where a turn of no call of its party changes no word.
 use native.Mathlib.Omega.{arith}
 use Rattle.std.proofs.Common.{◌≡◌, ℕ, true, false, List}
-use Rattle.steps.specs.declared.loan.reclaim.ReclaimStage.{ReclaimStage}
-use Rattle.steps.specs.declared.loan.places.Place.TheVariants as places
 use Rattle.model.specs.declared.event.Event.{Event}
 use Rattle.model.specs.declared.families.loan.Book.{Book}
 use Rattle.model.specs.declared.families.loan.LoanStart.{LoanStart}
 use Rattle.model.specs.declared.families.loan.calls.LoanFlight.{LoanFlight}
-use Rattle.model.specs.declared.families.loan.calls.LoanFlight.TheVariants.{Loan}
 use Rattle.model.specs.Families.Indices.Robust.Dead.{has_died}
 use Rattle.model.specs.Families.Loan.Reading.{Passing, spot_of}
 use Rattle.laws_loan.proofs.Channel.{Channel}
-use Rattle.laws_loan.proofs.Knows.{ReclaimAt, At}
+use Rattle.laws_loan.proofs.Knows.{At}
 
 module _ {T : Type 0} (slots queue : ℕ) (s : Channel T) (book' : Book) (events' : List (Event T)) where
   abbrev after : Channel T
@@ -28,9 +25,6 @@ module _ {T : Type 0} (slots queue : ℕ) (s : Channel T) (book' : Book) (events
       pub dead : has_died s.book.receiver s.book.dead ≡ true → has_died s.book.receiver book'.dead ≡ true
 
     module _ (spares : Spares) where
-      reclaim_on : p ≡ 0 → (wrote : List (Event T)) (stage : ReclaimStage) → ReclaimAt slots queue s wrote stage → ReclaimAt slots queue after wrote stage
-      reclaim_on x0 x1 x2 x3 = grind arith
-
       pub at_stays : (wrote : List (Event T)) (start : LoanStart) (flight : LoanFlight)
           → At slots queue s p wrote start flight → At slots queue after p wrote start flight
       at_stays x0 x1 x2 x3 = grind arith

@@ -3,6 +3,7 @@ pub mod Asks
 pub mod BeginLaw
 pub mod Begins
 pub mod Bounds
+pub mod Carried
 pub mod Channel
 pub mod Completion
 pub mod Cuts
@@ -40,19 +41,16 @@ pub mod ReceiveSteps
 pub mod ReceiveTakes
 pub mod Received
 pub mod Receives
-pub mod ReclaimFrees
 pub mod ReclaimGoes
 pub mod ReclaimStep
 pub mod Reclaiming
-pub mod Reclaims
 pub mod ReleaseSteps
 pub mod Releases
 pub mod Releasing
+pub mod Rests
 pub mod Rooms
 pub mod SendMoves
-pub mod SendLate
 pub mod SendStep
-pub mod SendSteps
 pub mod Sender
 pub mod Senders
 pub mod Sends
@@ -66,8 +64,6 @@ pub mod Table
 pub mod Tabled
 pub mod TakeBackStep
 pub mod TakeBacks
-pub mod TakeBackMoves
-pub mod TakenOff
 pub mod Theirs
 pub mod Told
 pub mod Turns

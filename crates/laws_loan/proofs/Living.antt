@@ -7,8 +7,6 @@ use Rattle.model.specs.declared.event.Event.TheVariants.{Begun}
 use Rattle.model.specs.declared.event.Start.{Start}
 use Rattle.model.specs.declared.families.Flight.{Flight}
 use Rattle.model.specs.declared.families.Registry.{Registry}
-use Rattle.model.specs.declared.families.loan.calls.LoanFlight.{LoanFlight}
-use Rattle.model.specs.declared.families.loan.calls.LoanFlight.TheVariants.{Loan}
 use Rattle.model.specs.declared.party.Doing.{Doing}
 use Rattle.model.specs.declared.party.Doing.TheVariants.{Going, Over}
 use Rattle.model.specs.declared.party.Party.{Party}
@@ -30,8 +28,6 @@ use Rattle.model.proofs.Readings.{AreRight, Each-append}
 use Rattle.model.proofs.Rows.{may_begin, may_die, next_passes, decision_passes, MayBegin}
 use Rattle.model.proofs.Scenes.{stands_there}
 use Rattle.laws_loan.proofs.Channel.{Channel, Represents, kept_is}
-use Rattle.laws_loan.proofs.Knows.{At}
-use Rattle.laws_loan.proofs.Lives.{lives}
 use Rattle.laws_loan.proofs.StepLaw.{channel}
 
 module _ {T : Type 0} where

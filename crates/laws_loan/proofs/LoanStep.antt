@@ -1,6 +1,6 @@
 -- A loan's acquire, as steps of the machine.
 use Rattle.std.specs.Prelude.{Ok, Err}
-use Rattle.std.proofs.Common.{◌≡◌, ℕ, ◌-◌, ◌^◌, ◌<◌, false, Bool, Option, Some, List, [], ◌∷◌, ◌++◌, fold, set, refl, sym, ap, subst, ◌∙◌}
+use Rattle.std.proofs.Common.{◌≡◌, ℕ, ◌-◌, ◌^◌, ◌<◌, false, Bool, Option, Some, List, [], ◌∷◌, ◌++◌, set, refl, sym, ap, subst, ◌∙◌}
 use Rattle.steps.specs.declared.ask.Ask.{Ask}
 use Rattle.steps.specs.declared.ask.After.{After}
 use Rattle.steps.specs.declared.ask.After.TheVariants.{GoOn, Done}
@@ -24,10 +24,10 @@ use Rattle.model.specs.declared.party.Party.{Party}
 use Rattle.model.specs.Coding.{Coding}
 use Rattle.model.specs.Families.{ask_of}
 use Rattle.model.specs.Families.Indices.Calls.{acquire_answer}
-use Rattle.model.specs.Families.Loan.Steps.{ended_book, book_after, effects_of}
+use Rattle.model.specs.Families.Loan.Steps.{book_after}
 use Rattle.model.specs.Families.Queues.Calls.{as_it_is}
 use Rattle.model.specs.Reading.{Open, span_of}
-use Rattle.model.specs.Step.{as_call, answer_in}
+use Rattle.model.specs.Step.{as_call}
 use Rattle.model.specs.Turns.{old_of, words_after}
 use Rattle.model.specs.World.{Trace}
 use Rattle.model.proofs.Frame as frame
@@ -37,7 +37,7 @@ use Rattle.laws_loan.proofs.Loans.{loan_at, step, goes_steps, fails_steps, claim
 use Rattle.laws_loan.proofs.Parts.{set_old}
 use Rattle.laws_loan.proofs.Senders.{Stands, Comes, from_step}
 use Rattle.laws_loan.proofs.SetSteps.{AcquireLeads}
-use Rattle.laws_loan.proofs.StepLaw.{channel, holds_now, ComesWith}
+use Rattle.laws_loan.proofs.StepLaw.{channel, holds_now, ComesBy}
 
 -- how a loan goes on whose acquire goes on so
 abbrev loaned_after : (T : Type 0) → After acquire_calls.Acquire Acquired → After LoanFlight (Answer T)
@@ -62,10 +62,7 @@ module _ {T : Type 0} (code : Coding T) (slots queue : ℕ) (t : Trace T)
 
   abbrev With : Bool → After LoanFlight (Answer T) → Type 0
   With back after =
-      ComesWith code slots queue t sound x since 0 calls.Loan ask back after
-      (effects_of 0 effects.Claims (answer_in after))
-      (ended_book {T = T} 0 calls.Loan (answer_in after)
-      (fold (book_after {T = T}) sound.state.book (effects_of 0 effects.Claims (answer_in after))))
+      ComesBy code slots queue t sound x since 0 calls.Loan ask back after effects.Claims
 
   abbrev told : ℕ → List (Event T)
   told i = Claimed 0 i ∷ Finished 0 (starts.TheVariants.Loan calls.Loan) (answers.Index i) ∷ []

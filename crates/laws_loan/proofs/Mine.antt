@@ -6,7 +6,6 @@ use Rattle.steps.specs.declared.queues.ring.PopStage as pops
 use Rattle.model.specs.declared.event.Event.{Event}
 use Rattle.model.specs.declared.families.loan.LoanStart.{LoanStart}
 use Rattle.model.specs.declared.families.loan.calls.LoanFlight.{LoanFlight}
-use Rattle.model.specs.declared.families.loan.calls.LoanFlight.TheVariants.{Loan}
 use Rattle.model.specs.Coding.{one_word}
 use Rattle.model.specs.Families.Indices.Robust.Dead.{has_died}
 use Rattle.model.specs.Families.Loan.Reading.{Passing, spot_of}

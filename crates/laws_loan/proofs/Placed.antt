@@ -1,13 +1,16 @@
 -- Where each index is by the events, beside what is kept: who has claimed it, which indices wait in the two queues, and the
 -- book; and what an event that moves one index leaves of them.
-use Rattle.std.proofs.Common.{◌≡◌, ◌≢◌, ℕ, ◌<◌, ◌≤◌, ◌⊎◌, ⊎_elim, Option, Some, None, List, [], ◌∷◌, ◌++◌, length, get_or, sym, ap, subst, ◌∙◌, arith}
+use Rattle.std.proofs.Common.{◌≡◌, ◌≢◌, ℕ, ◌<◌, ◌≤◌, ◌⊎◌, ⊎_elim, false, Option, Some, None, List, [], ◌∷◌, ◌++◌, length}
+use Rattle.std.proofs.Common.{get_or, set, refl, sym, ap, subst, ◌∙◌, arith, length-set, get_or-set_other}
 use Rattle.std.proofs.lemmas.Bool.{cases_eq}
+use Rattle.std.proofs.lemmas.List.Sums.{fold-append}
+use Rattle.steps.specs.declared.loan.places.Place.TheVariants as places
 use Rattle.steps.specs.Loan.Places.{place_at}
 use Rattle.model.specs.declared.event.Event.{Event}
 use Rattle.model.specs.declared.families.loan.Book.{Book}
 use Rattle.model.specs.Families.Indices.Robust.Dead.{has_died}
 use Rattle.model.specs.Families.Loan.Promises.{holder_in, IsIn, KeepsBook}
-use Rattle.model.specs.Families.Loan.Reading.{Spot, Free, Passing, With, Move, move_of, spot_of, receiver_of, has_died_by}
+use Rattle.model.specs.Families.Loan.Reading.{Spot, Free, Passing, With, Move, move_of, spot_of, receiver_after, receiver_of, died_after, has_died_by}
 use Rattle.laws_indices.proofs.Core.{holder}
 use Rattle.laws_loan.proofs.Lists.{Lists}
 use Rattle.laws_loan.proofs.Spots.{is_waiting, is_returning, spot_stays, spot_other, spot_moved}
@@ -35,6 +38,17 @@ pub record Placed {T : Type 0} (slots : ℕ) (claims : List (Option ℕ)) (sent 
 
 -- ---- an event that moves an index
 
+-- lists that differ in no entry but this one
+pub record DiffersAt {A : Type 0} (i : ℕ) (none : A) (xs xs' : List A) : Type 0 where
+  pub others : (j : ℕ) → i ≢ j → get_or xs' j none ≡ get_or xs j none
+  pub long : length xs' ≡ length xs
+
+pub same_all : {A : Type 0} (i : ℕ) (none : A) (xs : List A) → DiffersAt i none xs xs
+same_all i none xs = record { others = λ j ne. refl; long = refl }
+
+pub set_one : {A : Type 0} (i : ℕ) (none v : A) (xs : List A) → DiffersAt i none xs (set xs i v)
+set_one i none v xs = record { others = λ j ne. get_or-set_other xs i j v none (λ e. ne (sym e)); long = length-set xs i v }
+
 module _ {T : Type 0} (slots : ℕ) (events : List (Event T)) (e : Event T) (m : Move) (is : move_of e ≡ Some m) where
   abbrev pub later : List (Event T)
   later = events ++ e ∷ []
@@ -47,59 +61,59 @@ module _ {T : Type 0} (slots : ℕ) (events : List (Event T)) (e : Event T) (m :
   pub record Shown (claims claims' : List (Option ℕ)) (sent' back' : List ℕ) (book book' : Book) : Type 0 where
     pub below : m.index < slots
     pub claim : holder claims' m.index ≡ claim_of m.to
-    pub other_claims : (i : ℕ) → m.index ≢ i → holder claims' i ≡ holder claims i
+    pub other_claims : DiffersAt m.index None claims claims'
     pub waits : Lists is_waiting sent' later
     pub returns : Lists is_returning back' later
     pub party : (p : ℕ) → IsBy p m.to → (p ≡ 0) ⊎ (p ≡ receiver_of events)
-    pub claims_long : length claims' ≡ length claims
-    pub places_long : length book'.places ≡ length book.places
-    pub holders_long : length book'.holders ≡ length book.holders
     pub place : IsIn (place_at book'.places m.index) m.to
-    pub other_places : (i : ℕ) → m.index ≢ i → place_at book'.places i ≡ place_at book.places i
+    pub other_places : DiffersAt m.index places.Free book.places book'.places
     pub holds : get_or book'.holders m.index None ≡ holder_in m.to
-    pub other_holders : (i : ℕ) → m.index ≢ i → get_or book'.holders i None ≡ get_or book.holders i None
-    pub receiver : receiver_of later ≡ receiver_of events
-    pub receiver_stays : book'.receiver ≡ book.receiver
-    pub dead : (p : ℕ) → has_died_by p later ≡ has_died_by p events
-    pub dead_stay : book'.dead ≡ book.dead
+    pub other_holders : DiffersAt m.index None book.holders book'.holders
+    -- it ends no reclaim and is no death
+    pub calm : (receiver_after (receiver_of events) e ≡ receiver_of events)
+        × ((p : ℕ) → died_after p (has_died_by p events) e ≡ has_died_by p events)
+        × (book'.receiver ≡ book.receiver) × (book'.dead ≡ book.dead)
 
   module _ (claims claims' : List (Option ℕ)) (sent sent' back back' : List ℕ) (book book' : Book)
       (h : Placed slots claims sent back book events) (s : Shown claims claims' sent' back' book book') where
+    same_receiver : receiver_of later ≡ receiver_of events
+    same_receiver = fold-append receiver_after 1 events (e ∷ []) ∙ s.calm.0
+
     keeps_more : KeepsBook book' later
     keeps_more =
         record {
           places = here_and_there (λ i. IsIn (place_at book'.places i) (spot_of i later))
               (subst (IsIn (place_at book'.places m.index)) (sym (spot_moved events e m is)) s.place)
-              (λ i ne. subst (λ place. IsIn place (spot_of i later)) (sym (s.other_places i ne))
+              (λ i ne. subst (λ place. IsIn place (spot_of i later)) (sym (s.other_places.others i ne))
               (subst (IsIn (place_at book.places i)) (sym (spot_other events e m is i ne)) (h.keeps.places i)));
           holders = here_and_there (λ i. get_or book'.holders i None ≡ holder_in (spot_of i later))
               (s.holds ∙ sym (ap holder_in (spot_moved events e m is)))
-              (λ i ne. s.other_holders i ne ∙ (h.keeps.holders i ∙ sym (ap holder_in (spot_other events e m is i ne))));
-          receiver = s.receiver_stays ∙ (h.keeps.receiver ∙ sym s.receiver);
-          dead = λ p. ap (has_died p) s.dead_stay ∙ (h.keeps.dead p ∙ sym (s.dead p));
+              (λ i ne. s.other_holders.others i ne ∙ (h.keeps.holders i ∙ sym (ap holder_in (spot_other events e m is i ne))));
+          receiver = s.calm.2 ∙ (h.keeps.receiver ∙ sym same_receiver);
+          dead = λ p. ap (has_died p) s.calm.3 ∙ (h.keeps.dead p ∙ sym (fold-append (died_after p) false events (e ∷ []) ∙ s.calm.1 p));
         }
 
     parties_more : (i : ℕ) → (p : ℕ) → IsBy p (spot_of i later) → (p ≡ 0) ⊎ (p ≡ receiver_of later)
     parties_more =
         here_and_there (λ i. (p : ℕ) → IsBy p (spot_of i later) → (p ≡ 0) ⊎ (p ≡ receiver_of later))
-        (λ p by. subst (λ r. (p ≡ 0) ⊎ (p ≡ r)) (sym s.receiver) (s.party p (subst (IsBy p) (spot_moved events e m is) by)))
-        (λ i ne p by. subst (λ r. (p ≡ 0) ⊎ (p ≡ r)) (sym s.receiver) (h.parties i p (subst (IsBy p) (spot_other events e m is i ne) by)))
+        (λ p by. subst (λ r. (p ≡ 0) ⊎ (p ≡ r)) (sym same_receiver) (s.party p (subst (IsBy p) (spot_moved events e m is) by)))
+        (λ i ne p by. subst (λ r. (p ≡ 0) ⊎ (p ≡ r)) (sym same_receiver) (h.parties i p (subst (IsBy p) (spot_other events e m is i ne) by)))
 
     pub placed_more : Placed slots claims' sent' back' book' later
     placed_more =
         record {
           claimed = here_and_there (λ i. i < slots → holder claims' i ≡ claim_of (spot_of i later))
               (λ below. s.claim ∙ sym (ap claim_of (spot_moved events e m is)))
-              (λ i ne below. s.other_claims i ne ∙ (h.claimed i below ∙ sym (ap claim_of (spot_other events e m is i ne))));
+              (λ i ne below. s.other_claims.others i ne ∙ (h.claimed i below ∙ sym (ap claim_of (spot_other events e m is i ne))));
           past = here_and_there (λ i. slots ≤ i → spot_of i later ≡ Free)
               (λ beyond. let below = s.below in absurd (omega arith))
               (λ i ne beyond. spot_other events e m is i ne ∙ h.past i beyond);
           waits = s.waits;
           returns = s.returns;
           parties = parties_more;
-          claims_long = s.claims_long ∙ h.claims_long;
-          places_long = s.places_long ∙ h.places_long;
-          holders_long = s.holders_long ∙ h.holders_long;
+          claims_long = s.other_claims.long ∙ h.claims_long;
+          places_long = s.other_places.long ∙ h.places_long;
+          holders_long = s.other_holders.long ∙ h.holders_long;
           keeps = keeps_more;
         }
 

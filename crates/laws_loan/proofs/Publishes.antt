@@ -1,8 +1,7 @@
 -- The store of the next write position by a send: its index is published, and the send acts where there is room.
-use Rattle.std.proofs.Common.{◌≡◌, ◌≢◌, ℕ, ◌+◌, ◌-◌, ◌^◌, ◌<◌, ◌≤◌, ◌==◌, ⊎_elim, Bool, true, false, Option, Some}
+use Rattle.std.proofs.Common.{◌≡◌, ◌≢◌, ℕ, ◌+◌, ◌-◌, ◌^◌, ◌<◌, ◌≤◌, ◌==◌, Bool, true, false, Option, Some}
 use Rattle.std.proofs.Common.{List, [], ◌∷◌, ◌++◌, length, fold, refl, sym, ap, subst, ◌∙◌, append-nil, append_assoc}
 use Rattle.std.proofs.Common.{length-append, arith}
-use Rattle.std.proofs.lemmas.Bool.{cases_eq}
 use Rattle.std.proofs.lemmas.Bool.Decides.{nat_tests}
 use Rattle.std.proofs.lemmas.List.{map-append}
 use Rattle.std.proofs.lemmas.List.Sums.{fold-append}
@@ -38,29 +37,25 @@ use Rattle.model.specs.Promises.Spans.{Stands}
 use Rattle.model.specs.Reading.{Open, own_after, span_of}
 use Rattle.model.specs.Turns.{change_of}
 use Rattle.model.proofs.Frame as frame
-use Rattle.model.proofs.Readings.{AreOwn, AllFollow, AreRight, span_of-own, span_of-other}
+use Rattle.model.proofs.Readings.{AreOwn, AllFollow, AreRight, span_of-own}
 use Rattle.laws_queues.proofs.Overflow.Core.{push_room, push_waits}
 use Rattle.laws_queues.proofs.Overflow.Keeping.{publish_keeps_pop}
 use Rattle.laws_queues.proofs.Queues.Core.{Core, Holds, published}
+use Rattle.laws_loan.proofs.Carried.{moved_on}
 use Rattle.laws_loan.proofs.Channel.{Channel, words_in}
-use Rattle.laws_loan.proofs.Invariant.{Hangs, sends_at, counted_for, hung, reclaims_in, Carries, HoldsNow, family}
+use Rattle.laws_loan.proofs.Invariant.{Hangs, sends_at, counted_for, hung, reclaims_in, HoldsNow, family}
 use Rattle.laws_loan.proofs.Knows.{Passes, push_wrote}
 use Rattle.laws_loan.proofs.OnQueues.{OnQueues, queues_show}
 use Rattle.laws_loan.proofs.Placed.{Placed}
 use Rattle.laws_loan.proofs.Sender.{party_then, Steps}
-use Rattle.laws_loan.proofs.Sends.{pushes_at, asked, old, queued, goes, effect_at, StepTo, Does, reached, long, words_are, change_is, read_is, none_carried}
-use Rattle.laws_loan.proofs.Spots.{spot_other, spot_moved}
+use Rattle.laws_loan.proofs.Sends.{pushes_at, asked, queued, StepTo, Does, does_by, reached, long, words_are, change_is, read_is, none_carried}
+use Rattle.laws_loan.proofs.Spots.{spot_other, spot_moved, passing_same, waiting_passes, passing_on}
 use Rattle.laws_loan.proofs.Still.{AreStill, spots_still, receiver_still, placed_still}
 use Rattle.laws_loan.proofs.Submission as submission
 use Rattle.laws_loan.proofs.Submission.{Room, HasRoom, IsFull, HasMoved}
 use Rattle.laws_loan.proofs.Table.{publishes_it}
+use Rattle.laws_loan.proofs.Theirs.{stays_beside}
 use Rattle.laws_loan.proofs.Told.{items, is_reclaiming, Tells}
-
-waiting_passes : (q : ℕ) → Waiting ≡ Passing q → ⊥
-waiting_passes q e = absurd (cc)
-
-passing_same : (p q : ℕ) → Passing p ≡ Passing q → p ≡ q
-passing_same p q e = cc
 
 module _ {T : Type 0} (code : Coding T) (slots queue : ℕ) (s : Channel T) (latest : List (ℕ × Party T))
     (turns changes since : ℕ) (x : Party T) (h : HoldsNow slots queue s latest s.events turns)
@@ -169,21 +164,6 @@ module _ {T : Type 0} (code : Coding T) (slots queue : ℕ) (s : Channel T) (lat
         ∙ (receiver_still (s.events ++ publishes ∷ []) tail is.still
         ∙ fold-append receiver_after 1 s.events (publishes ∷ []))
 
-    passing_then : (i q : ℕ) → spot_of i (s.events ++ es) ≡ Passing q → Carries i (span_of q (s.events ++ es))
-    passing_then i q e = ⊎_elim mine others (cases_eq index i)
-      where
-        mine : index ≡ i → Carries i (span_of q (s.events ++ es))
-        mine same = absurd (waiting_passes q (sym now_waiting ∙ (ap (λ n. spot_of n (s.events ++ es)) same ∙ e)))
-
-        others : index ≢ i → Carries i (span_of q (s.events ++ es))
-        others ne =
-            let carried = h.passing i q (sym (elsewhere i ne) ∙ e) in
-            ⊎_elim
-            (λ (sender : q ≡ 0). none_carried code slots queue s latest turns changes since x h small index straight
-            i ne (subst (Carries i) from (subst (λ n. Carries i (span_of n s.events)) sender carried)))
-            (λ (theirs : q ≢ 0). subst (Carries i) (sym (span_of-other 0 q s.events es theirs (refl, is.own))) carried)
-            (cases_eq q 0)
-
     module _ (whole_cell : Holds 1 words_of_index (queue + 1) s.submission.cells s.submission.write index 1)
         (after : After LoanFlight (Answer T)) (busy : counted_for (flight_of (Some (party after).doing)) ≡ 0)
         (hangs : Hangs queue k (hung k.read (flight_of (Some (party after).doing))))
@@ -209,7 +189,10 @@ module _ {T : Type 0} (code : Coding T) (slots queue : ℕ) (s : Channel T) (lat
             moves = ((passes.0, passes.1), is.moves);
             begins = (tt, is.begins);
             answers = (tt, is.answers);
-            passing = passing_then;
+            passing =
+                moved_on 0 s.events es (refl, is.own) (Open call []) from index elsewhere h.passing
+                (λ i ne. none_carried code slots queue s latest turns changes since x h small index straight i ne)
+                Waiting now_waiting (λ q e. absurd (waiting_passes q e));
           }
 
       publishing : frame.Fits channel (s_then tail) 0 (Some (party after)) (fold own_after (Open call (publishes ∷ [])) tail)
@@ -227,15 +210,8 @@ module _ {T : Type 0} (code : Coding T) (slots queue : ℕ) (s : Channel T) (lat
             here = fits;
             knows = knows;
             theirs = λ q ne.
-                record {
-                  alive = λ alive. alive;
-                  receiver = λ alive e. e;
-                  pop = λ alive e room stage known. publish_keeps_pop queue s.submission index room stage known;
-                  passes = λ alive e i other.
-                      let apart : index ≢ i = λ same. ne (passing_same q 0 (sym other.1 ∙ (ap (λ n. spot_of n s.events) (sym same) ∙ passes.1))) in
-                      (other.0, elsewhere i apart ∙ other.1);
-                  push = λ i stage known. known;
-                };
+                stays_beside slots queue s (s_then tail) q refl refl (publish_keeps_pop queue s.submission index) (λ i stage known. known)
+                (passing_on s.events es index elsewhere (Passing 0) passes.1 q (λ e. ne (sym (passing_same 0 q e))));
             up = record { write = omega arith; read = omega arith; paid = omega arith };
           }
 
@@ -347,50 +323,22 @@ module _ {T : Type 0} (code : Coding T) (slots queue : ℕ) (s : Channel T) (lat
         → Does code slots queue s latest turns changes since x h small index straight stage
     stores_write low far = go (submission.finds queue h.parts.some h.parts.few s.submission h.parts.submission low_write read low far)
       where
-        value : ℕ
-        value = old code slots queue s latest turns changes since x h small index straight stage
-
         go : Room queue h.parts.some h.parts.few s.submission h.parts.submission low_write read
             → Does code slots queue s latest turns changes since x h small index straight stage
         go (HasRoom t less) =
-            let is : goes code slots queue s latest turns changes since x h small index straight stage value ≡ Done answers.PoppedNone = rw t refl in
-            let does : effect_at code slots queue s latest turns changes since x h small index straight stage value
-            ≡ effects.PublishesAndActs index =
-            rw t refl in
-            record {
-              channel_then = s_then (acts ∷ ends ∷ []);
-              step =
-                  subst (λ a. To (s_then (acts ∷ ends ∷ [])) a
-                  (effect_at code slots queue s latest turns changes since x h small index straight stage value))
-                  (sym is)
-                  (subst (λ e. To (s_then (acts ∷ ends ∷ [])) (Done answers.PoppedNone) e) (sym does) (publishes_done less));
-            }
+            does_by code slots queue s latest turns changes since x h small index straight (s_then (acts ∷ ends ∷ [])) stage []
+            (Done answers.PoppedNone) (effects.PublishesAndActs index) refl (rw t refl) (rw t refl) (publishes_done less)
         go (IsFull t e full) =
             let write = h.parts.submission.write in
             let same : s.submission.read ≡ read = grind (arith, nat_tests) in
             let z = read_now true e in
-            let is : goes code slots queue s latest turns changes since x h small index straight stage value ≡ GoOn waits_at = rw t refl in
-            let does : effect_at code slots queue s latest turns changes since x h small index straight stage value
-            ≡ effects.Publishes index =
-            rw (t, z) refl in
-            record {
-              channel_then = s_then [];
-              step =
-                  subst (λ a. To (s_then []) a (effect_at code slots queue s latest turns changes since x h small index straight stage value)) (sym is)
-                  (subst (λ e. To (s_then []) (GoOn waits_at) e) (sym does) (publishes_over full (sym same) (omega arith)));
-            }
+            does_by code slots queue s latest turns changes since x h small index straight (s_then []) stage [] (GoOn waits_at)
+            (effects.Publishes index) refl (rw t refl) (rw (t, z) refl) (publishes_over full (sym same) (omega arith))
         go (HasMoved t e moved less) =
             let write = h.parts.submission.write in
             let z = read_now false e in
             let apart : distance s.submission.write read ≡ queue = grind (arith, nat_tests) in
             let reach = low_write in
-            let is : goes code slots queue s latest turns changes since x h small index straight stage value ≡ GoOn waits_at = rw t refl in
-            let does : effect_at code slots queue s latest turns changes since x h small index straight stage value
-            ≡ effects.PublishesAndActs index =
-            rw (t, z) refl in
-            record {
-              channel_then = s_then (acts ∷ []);
-              step =
-                  subst (λ a. To (s_then (acts ∷ [])) a (effect_at code slots queue s latest turns changes since x h small index straight stage value)) (sym is)
-                  (subst (λ e. To (s_then (acts ∷ [])) (GoOn waits_at) e) (sym does) (publishes_late less moved (omega arith)));
-            }
+            does_by code slots queue s latest turns changes since x h small index straight (s_then (acts ∷ [])) stage []
+            (GoOn waits_at) (effects.PublishesAndActs index) refl (rw t refl) (rw (t, z) refl)
+            (publishes_late less moved (omega arith))

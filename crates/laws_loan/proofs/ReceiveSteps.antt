@@ -33,7 +33,6 @@ use Rattle.model.specs.Families.{ask_of}
 use Rattle.model.specs.Families.Indices.Robust.Dead.{has_died}
 use Rattle.model.specs.Families.Loan.Steps.{beside, ended_book, book_after, receive_effect, effects_of, sent_at}
 use Rattle.model.specs.Reading.{Open, span_of}
-use Rattle.model.specs.Step.{answer_in}
 use Rattle.model.specs.Turns.{old_of}
 use Rattle.model.specs.World.{Trace}
 use Rattle.model.proofs.Frame as frame
@@ -47,7 +46,7 @@ use Rattle.laws_loan.proofs.Receives.{receive_at, received_after, pop_on}
 use Rattle.laws_loan.proofs.ReceiveTakes.{es, s_then, take_words, take_shows, take_owes}
 use Rattle.laws_loan.proofs.Rooms.{sent_below, index_is}
 use Rattle.laws_loan.proofs.Senders.{Stands, Comes, receive_looks}
-use Rattle.laws_loan.proofs.StepLaw.{channel, holds_now, inv_now, comes, ComesWith}
+use Rattle.laws_loan.proofs.StepLaw.{channel, holds_now, inv_now, comes, ComesBy}
 use Rattle.laws_loan.proofs.Submission as submission
 
 module _ {T : Type 0} (code : Coding T) (slots queue : ℕ) (t : Trace T)
@@ -84,10 +83,7 @@ module _ {T : Type 0} (code : Coding T) (slots queue : ℕ) (t : Trace T)
 
     abbrev With : Bool → After LoanFlight (Answer T) → Effect → Type 0
     With back after effect =
-        ComesWith code slots queue t sound x since p calls.Receive asks back after
-        (effects_of p effect (answer_in after))
-        (ended_book {T = T} p calls.Receive (answer_in after)
-        (fold (book_after {T = T}) s.book (effects_of p effect (answer_in after))))
+        ComesBy code slots queue t sound x since p calls.Receive asks back after effect
 
     from : span_of p s.events ≡ Open (starts.TheVariants.Loan calls.Receive) []
     from = ap (span_of p) sound.holds.same ∙ (there.span ∙ ap (λ es. Open (starts.TheVariants.Loan calls.Receive) es) there.at.4)

@@ -19,7 +19,7 @@ use Rattle.model.specs.declared.party.Party.{Party}
 use Rattle.model.specs.Coding.{Coding}
 use Rattle.model.specs.Families.{ask_of}
 use Rattle.model.specs.Families.Indices.Robust.Dead.{has_died}
-use Rattle.model.specs.Families.Loan.Reading.{Passing, With, Waiting, spot_of}
+use Rattle.model.specs.Families.Loan.Reading.{Passing, Waiting, spot_of}
 use Rattle.model.specs.Parties.{party_of, put, doing_of, flight_of}
 use Rattle.model.specs.Reading.{Open, span_of}
 use Rattle.model.specs.Turns.{words_after, change_of}
@@ -41,19 +41,13 @@ use Rattle.laws_loan.proofs.Received.{passing_run, has_it, elsewhere, moves_told
 use Rattle.laws_loan.proofs.Received.{senders_then, others_then, stands_told, tells_told}
 use Rattle.laws_loan.proofs.Rooms.{sent_below}
 use Rattle.laws_loan.proofs.Sender.{party_then}
-use Rattle.laws_loan.proofs.Spots.{is_waiting, waits_there}
+use Rattle.laws_loan.proofs.Spots.{is_waiting, waits_there, with_passes, waiting_passes, passing_on}
 use Rattle.laws_loan.proofs.Still.{placed_still}
 use Rattle.laws_loan.proofs.Submission as submission
 use Rattle.laws_loan.proofs.Table.{hands_it_out, receive_ends}
 use Rattle.laws_loan.proofs.Theirs.{Stays, theirs_stay, knows_keeps}
 use Rattle.laws_loan.proofs.Told.{is_reclaiming, Tells}
 use Rattle.laws_loan.proofs.Turns.{Shows}
-
-with_passes : (p q : ℕ) → With p ≡ Passing q → ⊥
-with_passes p q e = absurd (cc)
-
-waiting_passes : (q : ℕ) → Waiting ≡ Passing q → ⊥
-waiting_passes q e = absurd (cc)
 
 module _ {T : Type 0} (code : Coding T) (slots queue : ℕ) (s : Channel T) (latest : List (ℕ × Party T))
     (turns changes since : ℕ) (x : Party T) (p : ℕ) (h : HoldsNow slots queue s latest s.events turns)
@@ -132,9 +126,7 @@ module _ {T : Type 0} (code : Coding T) (slots queue : ℕ) (s : Channel T) (lat
       record {
         receiver = receives;
         alive = alive;
-        passes = λ q i ne e.
-            let apart : value ≢ i = λ same. waiting_passes q (sym was_waiting ∙ (ap (λ n. spot_of n s.events) same ∙ e)) in
-            elsewhere p value s.events waits i apart ∙ e;
+        passes = λ q i ne. passing_on s.events es value (elsewhere p value s.events waits) Waiting was_waiting q (waiting_passes q) i;
       }
 
   passing_then : (i q : ℕ) → spot_of i (s.events ++ es) ≡ Passing q → Carries i (span_of q (s.events ++ es))

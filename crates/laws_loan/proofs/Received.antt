@@ -176,10 +176,7 @@ module _ {T : Type 0} (p value : ℕ) where
           last before is =
               subst (λ span. Stands promise slots ends span) (sym is) (
                 refl,
-                record {
-                  moments = refl;
-                  done = record { claimed = refl; published = refl; handed_out = refl; given_back = refl; taken_back = refl; freed = refl };
-                },
+                grind arith,
               )
 
           go : (o : Option ℕ) → waits ≡ o → AreRight (StandsRight promise slots) events (told o)

@@ -1,9 +1,9 @@
 -- The steps of a receive that take nothing out: the loads, a turn back where a send has moved the read position, and the end
 -- where nothing waits.
 use Rattle.std.proofs.Common.{◌≡◌, ◌≢◌, ℕ, ◌+◌, ◌-◌, ◌*◌, ◌%◌, ◌^◌, ◌<◌, ◌≤◌, ◌==◌, ⊎_elim, Bool, true, false, Option}
-use Rattle.std.proofs.Common.{List, [], ◌∷◌, ◌++◌, length, get_or, take, fold, refl, sym, ap, subst, ◌∙◌, append-nil}
+use Rattle.std.proofs.Common.{List, [], ◌∷◌, ◌++◌, length, get_or, take, refl, sym, ap, subst, ◌∙◌, append-nil}
 use Rattle.std.proofs.Common.{arith}
-use Rattle.std.proofs.lemmas.Bool.{cases_eq, cases_lt}
+use Rattle.std.proofs.lemmas.Bool.{cases_lt}
 use Rattle.std.proofs.lemmas.Bool.Decides.{nat_tests}
 use Rattle.std.proofs.lemmas.List.{nil_from_length, set-get_or}
 use Rattle.std.proofs.Math.Seq.{take-nil}
@@ -33,24 +33,22 @@ use Rattle.model.specs.declared.party.Party.{Party}
 use Rattle.model.specs.Coding.{Coding}
 use Rattle.model.specs.Families.{ask_of}
 use Rattle.model.specs.Families.Indices.Robust.Dead.{has_died}
-use Rattle.model.specs.Families.Loan.Reading.{Passing, spot_of, receiver_of}
-use Rattle.model.specs.Families.Loan.Steps.{ended_book, book_after, receive_effect, effects_of}
+use Rattle.model.specs.Families.Loan.Reading.{Passing, spot_of}
+use Rattle.model.specs.Families.Loan.Steps.{receive_effect}
 use Rattle.model.specs.Families.Queues.Calls.{popped}
 use Rattle.model.specs.Reading.{Span, Open, span_of}
-use Rattle.model.specs.Step.{as_call, answer_in}
-use Rattle.model.specs.Turns.{old_of, words_after, change_of, one_if, step_count, ending_of}
+use Rattle.model.specs.Step.{as_call}
+use Rattle.model.specs.Turns.{old_of, words_after, change_of, one_if, step_count}
 use Rattle.model.proofs.Readings.{span_of-other}
 use Rattle.laws_queues.proofs.Overflow.Core.{oldest}
 use Rattle.laws_queues.proofs.Overflow.Knows.{KnowsOverflowPop, KnowsBacks, overflow_pop_number}
 use Rattle.laws_queues.proofs.Queues.Knows.{layout}
+use Rattle.laws_loan.proofs.Carried.{carried_on}
 use Rattle.laws_loan.proofs.Channel.{Channel, no_roles, words_in}
 use Rattle.laws_loan.proofs.Cuts.{IsOn}
-use Rattle.laws_loan.proofs.Giving.{OnCompletion, GivingStep, given_to, given_shows}
+use Rattle.laws_loan.proofs.Giving.{OnCompletion, GivesBy, given_shows, gives_on}
 use Rattle.laws_loan.proofs.Invariant.{sends_at, counted_for, reclaims_in, Carries, HoldsNow}
-use Rattle.laws_loan.proofs.Knows.{wrote_in, At}
-use Rattle.laws_loan.proofs.OnQueues.{silent_tells}
 use Rattle.laws_loan.proofs.Parts.{submission_long, submission_old, submission_words}
-use Rattle.laws_loan.proofs.Placed.{Placed}
 use Rattle.laws_loan.proofs.Sender.{party_then}
 use Rattle.laws_loan.proofs.Still.{AreStill, spots_still, receiver_still, placed_still}
 use Rattle.laws_loan.proofs.Submission as submission
@@ -102,23 +100,22 @@ module _ {T : Type 0} (code : Coding T) (slots queue : ℕ) (s : Channel T) (lat
   abbrev pub effect_at : PopStage → ℕ → Effect
   effect_at stage value = receive_effect (submission_word slots) queue (words_in s) beside stage value
 
-  abbrev pub events_by : Effect → After LoanFlight (Answer T) → List (Event T)
-  events_by effect after = effects_of p effect (answer_in after) ++ ending_of p call (answer_in after)
-
-  -- what is kept then
-  abbrev pub Keeps : Effect → After LoanFlight (Answer T) → Type 0
-  Keeps effect after = ended_book {T = T} p calls.Receive (answer_in after) (fold (book_after {T = T}) s.book (effects_of p effect (answer_in after))) ≡ s.book
-
   -- a step that leaves every word
   abbrev pub Looks : PopStage → Bool → After LoanFlight (Answer T) → Effect → Type 0
   Looks stage back after effect =
-      GivingStep code slots queue s latest turns changes since x p s.completion spanned calls.Receive (asked stage)
-      back after (events_by effect after)
-      × Keeps effect after
+      GivesBy code slots queue s latest turns changes since x p s.completion spanned calls.Receive (asked stage) back after effect
 
   -- the step of a receive that stands here with this room
   abbrev pub LooksOf : PopStage → OneWord → Type 0
   LooksOf stage room = Looks stage (goes_back stage (old stage)) (goes stage room (old stage)) (effect_at stage (old stage))
+
+  -- so it comes, as the call computes it
+  looks_by : (stage : PopStage) (room : OneWord) (back : Bool) (after : After LoanFlight (Answer T)) (effect : Effect)
+      → goes_back stage (old stage) ≡ back → goes stage room (old stage) ≡ after → effect_at stage (old stage) ≡ effect
+      → Looks stage back after effect → LooksOf stage room
+  looks_by stage room back after effect turns_back is does look =
+      subst (λ b. Looks stage b (goes stage room (old stage)) (effect_at stage (old stage))) (sym turns_back)
+      (subst (λ a. Looks stage back a (effect_at stage (old stage))) (sym is) (subst (λ e. Looks stage back after e) (sym does) look))
 
   -- ---- what is so of the queue
 
@@ -145,64 +142,14 @@ module _ {T : Type 0} (code : Coding T) (slots queue : ℕ) (s : Channel T) (lat
       (known : KnowsOverflowPop queue s.submission room after_it) (one : step_count (asked now) ≡ 1)
       (steps : x.steps + 1 ≤ 2 * (x.backs + one_if back) + overflow_pop_number after_it)
       (paid : (n : ℕ) → KnowsBacks s.submission (since + n) (changes + n) (x.backs + one_if back) after_it) where
-    abbrev y_on : Party T
-    y_on = party_then s x since changes calls.Receive (asked now) back (GoOn (receive_at slots queue p after_it room))
-
-    abbrev s_on : Channel T
-    s_on = given_to slots queue s latest turns p y_on s.completion []
-
-    as_was : span_of p (s.events ++ []) ≡ spanned
-    as_was = ap (span_of p) (append-nil s.events) ∙ from
-
-    on_completion_goes : OnCompletion slots queue s latest turns p y_on s.completion []
-    on_completion_goes =
-        let given = h.given in
-        let same : receiver_of (s.events ++ []) ≡ receiver_of s.events = ap receiver_of (append-nil s.events) in
-        record {
-          other = other;
-          good = h.parts.completion;
-          placed = subst (Placed slots s.claims s.submission.waiting s.completion.waiting s.book) (sym (append-nil s.events)) h.parts.placed;
-          tells =
-              silent_tells queue (is_reclaiming s.events) s.submission.waiting s.completion.waiting s.completion.waiting
-              [] refl refl refl (append-nil s.completion.waiting);
-          reclaiming = h.reclaiming ∙ ap (λ es. reclaims_in (span_of 0 es)) (sym (append-nil s.events));
-          write = omega arith;
-          receivers = (omega arith, omega arith);
-          moves = tt;
-          begins = tt;
-          answers = tt;
-          passing =
-              λ i q e. subst (λ es. Carries i (span_of q es)) (sym (append-nil s.events))
-              (h.passing i q (ap (spot_of i) (sym (append-nil s.events)) ∙ e));
-        }
-
     goes_on : Looks now back (GoOn (receive_at slots queue p after_it room)) effects.Quiet
-    goes_on =
-        let wrote_is : [] ≡ wrote_in (span_of p (s.events ++ [])) = sym (ap wrote_in as_was) in (
-          record {
-            words = words_are now on words;
-            shows = given_shows slots queue s latest turns p y_on s.completion [] h on_completion_goes;
-            own = tt;
-            stands = tt;
-            here =
-                record {
-                  span = ap (λ wrote. Open call wrote) wrote_is;
-                  steps = omega arith;
-                  at =
-                      subst (λ wrote. At slots queue s_on p wrote calls.Receive (receive_at slots queue p after_it room))
-                      wrote_is (other, refl, refl, refl, refl, λ lives. (receives, known));
-                };
-            knows = paid (change_of (words_in s) (asked now));
-            gives =
-                record {
-                  receiver = receives;
-                  alive = alive;
-                  pop = λ room stage known. known;
-                  passes = λ q i ne e. ap (spot_of i) (append-nil s.events) ∙ e;
-                };
-          },
-          refl,
-        )
+    goes_on = (
+      gives_on code slots queue s latest turns changes since x p h other alive receives calls.Receive [] from (asked now) back
+          s.completion refl refl h.parts.completion (λ room stage known. known) (receive_at slots queue p after_it room)
+          (words_are now on words) (omega arith) (other, refl, refl, refl, refl, λ lives. (receives, known))
+          (paid (change_of (words_in s) (asked now))),
+      refl,
+    )
 
   -- ---- nothing waits
 
@@ -234,11 +181,8 @@ module _ {T : Type 0} (code : Coding T) (slots queue : ℕ) (s : Channel T) (lat
 
     passing_none : (i q : ℕ) → spot_of i (s.events ++ told) ≡ Passing q → Carries i (span_of q (s.events ++ told))
     passing_none i q e =
-        let carried = h.passing i q (sym (spots_still i s.events told told_still) ∙ e) in
-        ⊎_elim
-        (λ (mine : q ≡ p). absurd (subst (Carries i) from (subst (λ n. Carries i (span_of n s.events)) mine carried)))
-        (λ (theirs : q ≢ p). subst (Carries i) (sym (span_of-other p q s.events told theirs (refl, (refl, tt)))) carried)
-        (cases_eq q p)
+        carried_on p s.events told (refl, (refl, tt)) spanned from i q (h.passing i q (sym (spots_still i s.events told told_still) ∙ e))
+        (λ carried. absurd carried)
 
     on_completion_none : OnCompletion slots queue s latest turns p y_none s.completion told
     on_completion_none =
@@ -271,10 +215,7 @@ module _ {T : Type 0} (code : Coding T) (slots queue : ℕ) (s : Channel T) (lat
           (
             (
               refl,
-              record {
-                moments = refl;
-                done = record { claimed = refl; published = refl; handed_out = refl; given_back = refl; taken_back = refl; freed = refl };
-              },
+              grind arith,
             ),
             tt,
           ),
@@ -313,15 +254,10 @@ module _ {T : Type 0} (code : Coding T) (slots queue : ℕ) (s : Channel T) (lat
           let low = known.1 in
           let same : s.submission.write ≡ read = grind (arith, nat_tests) in
           let none : length s.submission.waiting ≡ 0 = omega arith in
-          let is : goes (pops.TheVariants.LoadsWrite read) room (old (pops.TheVariants.LoadsWrite read)) ≡ Done answers.PoppedNone =
-          ap (goes (pops.TheVariants.LoadsWrite read) room) (old_is (pops.TheVariants.LoadsWrite read) on) ∙ (rw t refl) in
-          let does : effect_at (pops.TheVariants.LoadsWrite read) (old (pops.TheVariants.LoadsWrite read)) ≡ effects.FindsNone =
-          ap (effect_at (pops.TheVariants.LoadsWrite read)) (old_is (pops.TheVariants.LoadsWrite read) on) ∙ (rw t refl) in
-          subst (λ a. Looks (pops.TheVariants.LoadsWrite read) false a
-          (effect_at (pops.TheVariants.LoadsWrite read) (old (pops.TheVariants.LoadsWrite read))))
-          (sym is)
-          (subst (λ e. Looks (pops.TheVariants.LoadsWrite read) false (Done answers.PoppedNone) e) (sym does)
-          (finds_none read (nil_from_length s.submission.waiting none) on steps (omega arith)))
+          looks_by (pops.TheVariants.LoadsWrite read) room false (Done answers.PoppedNone) effects.FindsNone refl
+          (ap (goes (pops.TheVariants.LoadsWrite read) room) (old_is (pops.TheVariants.LoadsWrite read) on) ∙ (rw t refl))
+          (ap (effect_at (pops.TheVariants.LoadsWrite read)) (old_is (pops.TheVariants.LoadsWrite read) on) ∙ (rw t refl))
+          (finds_none read (nil_from_length s.submission.waiting none) on steps (omega arith))
       go false t =
           let write = h.parts.submission.write in
           let some = h.parts.some in
@@ -329,17 +265,12 @@ module _ {T : Type 0} (code : Coding T) (slots queue : ℕ) (s : Channel T) (lat
           let apart : s.submission.write ≢ read = grind (arith, nat_tests) in
           let ahead : s.submission.read < s.submission.write =
           ⊎_elim known.2 (λ (still : s.submission.read ≤ read). omega arith) (cases_lt read s.submission.read) in
-          let is : goes (pops.TheVariants.LoadsWrite read) room (old (pops.TheVariants.LoadsWrite read))
-          ≡ GoOn (receive_at slots queue p (pops.TheVariants.LoadsCell read) room) =
-          ap (goes (pops.TheVariants.LoadsWrite read) room) (old_is (pops.TheVariants.LoadsWrite read) on) ∙ (rw t refl) in
-          let does : effect_at (pops.TheVariants.LoadsWrite read) (old (pops.TheVariants.LoadsWrite read)) ≡ effects.Quiet =
-          ap (effect_at (pops.TheVariants.LoadsWrite read)) (old_is (pops.TheVariants.LoadsWrite read) on) ∙ (rw t refl) in
-          subst (λ a. Looks (pops.TheVariants.LoadsWrite read) false a
-          (effect_at (pops.TheVariants.LoadsWrite read) (old (pops.TheVariants.LoadsWrite read))))
-          (sym is)
-          (subst (λ e. Looks (pops.TheVariants.LoadsWrite read) false (GoOn (receive_at slots queue p (pops.TheVariants.LoadsCell read) room)) e) (sym does)
+          looks_by (pops.TheVariants.LoadsWrite read) room false (GoOn (receive_at slots queue p (pops.TheVariants.LoadsCell read) room))
+          effects.Quiet refl
+          (ap (goes (pops.TheVariants.LoadsWrite read) room) (old_is (pops.TheVariants.LoadsWrite read) on) ∙ (rw t refl))
+          (ap (effect_at (pops.TheVariants.LoadsWrite read)) (old_is (pops.TheVariants.LoadsWrite read) on) ∙ (rw t refl))
           (goes_on (pops.TheVariants.LoadsWrite read) (pops.TheVariants.LoadsCell read) room false on refl
-          (omega arith, low, ahead) refl (omega arith) (λ n. (low, omega arith))))
+          (omega arith, low, ahead) refl (omega arith) (λ n. (low, omega arith)))
 
   loads_cell : (read : ℕ) (room : OneWord)
       → KnowsOverflowPop queue s.submission room (pops.TheVariants.LoadsCell read) → x.steps ≤ 2 * x.backs + 2
@@ -379,26 +310,14 @@ module _ {T : Type 0} (code : Coding T) (slots queue : ℕ) (s : Channel T) (lat
       let apart : s.submission.read ≢ read = grind (arith, nat_tests) in
       let on : 1 < length queued = (let wide = long in omega arith) in
       let found : old (pops.TheVariants.MovesRead read) ≡ s.submission.read = old_is (pops.TheVariants.MovesRead read) on in
-      let back : goes_back (pops.TheVariants.MovesRead read) (old (pops.TheVariants.MovesRead read)) ≡ true =
-      ap (goes_back (pops.TheVariants.MovesRead read)) found ∙ (rw moved refl) in
-      let is : goes (pops.TheVariants.MovesRead read) room (old (pops.TheVariants.MovesRead read))
-      ≡ GoOn (receive_at slots queue p (pops.TheVariants.LoadsCell s.submission.read) room) =
-      ap (goes (pops.TheVariants.MovesRead read) room) found ∙ (rw moved refl) in
-      let does : effect_at (pops.TheVariants.MovesRead read) (old (pops.TheVariants.MovesRead read)) ≡ effects.Quiet =
-      ap (effect_at (pops.TheVariants.MovesRead read)) found ∙ (rw moved refl) in
-      subst (λ b. Looks (pops.TheVariants.MovesRead read) b
-      (goes (pops.TheVariants.MovesRead read) room (old (pops.TheVariants.MovesRead read)))
-      (effect_at (pops.TheVariants.MovesRead read) (old (pops.TheVariants.MovesRead read))))
-      (sym back)
-      (subst (λ a. Looks (pops.TheVariants.MovesRead read) true a
-      (effect_at (pops.TheVariants.MovesRead read) (old (pops.TheVariants.MovesRead read))))
-      (sym is)
-      (subst (λ e. Looks (pops.TheVariants.MovesRead read) true
-      (GoOn (receive_at slots queue p (pops.TheVariants.LoadsCell s.submission.read) room)) e)
-      (sym does)
+      looks_by (pops.TheVariants.MovesRead read) room true
+      (GoOn (receive_at slots queue p (pops.TheVariants.LoadsCell s.submission.read) room)) effects.Quiet
+      (ap (goes_back (pops.TheVariants.MovesRead read)) found ∙ (rw moved refl))
+      (ap (goes (pops.TheVariants.MovesRead read) room) found ∙ (rw moved refl))
+      (ap (effect_at (pops.TheVariants.MovesRead read)) found ∙ (rw moved refl))
       (goes_on (pops.TheVariants.MovesRead read) (pops.TheVariants.LoadsCell s.submission.read) room true on
       (submission.stays_words queue h.parts.some h.parts.few s.submission h.parts.submission reached read moved)
-      (omega arith, omega arith, ahead) refl (omega arith) (λ n. (omega arith, omega arith)))))
+      (omega arith, omega arith, ahead) refl (omega arith) (λ n. (omega arith, omega arith)))
 
   pub looks : (stage : PopStage) (room : OneWord) → IsLook s stage → KnowsOverflowPop queue s.submission room stage
       → x.steps ≤ 2 * x.backs + overflow_pop_number stage → KnowsBacks s.submission since changes x.backs stage

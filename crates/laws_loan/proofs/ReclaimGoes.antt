@@ -1,6 +1,6 @@
 -- A step of a reclaim that changes no word of the indices, after which the reclaim goes on.
 use Rattle.std.proofs.Common.{◌≡◌, ◌≢◌, ℕ, ◌+◌, ◌≤◌, ⊎_elim, true, false, Option, Some, None, List, [], ◌++◌, length}
-use Rattle.std.proofs.Common.{fold, refl, sym, ap, subst, ◌∙◌, append-nil, arith}
+use Rattle.std.proofs.Common.{fold, refl, sym, ap, subst, ◌∙◌, arith}
 use Rattle.std.proofs.lemmas.Bool.{cases_eq}
 use Rattle.steps.specs.declared.ask.Ask.{Ask}
 use Rattle.steps.specs.declared.ask.After.{After}
@@ -18,19 +18,19 @@ use Rattle.model.specs.declared.families.Flight as flights
 use Rattle.model.specs.declared.families.loan.LoanStart.TheVariants as calls
 use Rattle.model.specs.declared.families.loan.calls.LoanFlight.{LoanFlight}
 use Rattle.model.specs.declared.families.loan.effects.Effect.{Effect}
+use Rattle.model.specs.declared.families.loan.effects.Effect.TheVariants as effects
 use Rattle.model.specs.declared.party.Party.{Party}
 use Rattle.model.specs.Coding.{Coding, one_word}
 use Rattle.model.specs.Families.{ask_of}
 use Rattle.model.specs.Families.Loan.Calls.{reclaim_goes}
 use Rattle.model.specs.Families.Loan.Promises.{MovesRight, BeginsRight, AnswersRight, promise}
 use Rattle.model.specs.Families.Loan.Reading.{Passing, spot_of, receiver_of, given_back, claimed, reclaims_after, gives_back, claims}
-use Rattle.model.specs.Families.Loan.Steps.{ended_book, book_after, reclaim_effect, effects_of}
+use Rattle.model.specs.Families.Loan.Steps.{reclaim_effect}
 use Rattle.model.specs.Families.Queues.Calls.{words_of_index}
 use Rattle.model.specs.Families.Queues.Reading.{publishes, published}
 use Rattle.model.specs.Promises.Spans.{Stands}
 use Rattle.model.specs.Reading.{acts, moments, Open, own_after, span_of}
-use Rattle.model.specs.Step.{answer_in}
-use Rattle.model.specs.Turns.{old_of, words_after, change_of, step_count, ending_of}
+use Rattle.model.specs.Turns.{old_of, words_after, change_of, step_count}
 use Rattle.model.proofs.Readings.{AreRight, AreOwn, AllFollow, span_of-own, span_of-other}
 use Rattle.laws_queues.proofs.Queues.Core.{Core, Good, GoesUp}
 use Rattle.laws_queues.proofs.Queues.Knows.{layout}
@@ -38,11 +38,13 @@ use Rattle.laws_queues.proofs.Ring.Knows.{KnowsPush}
 use Rattle.laws_loan.proofs.Channel.{Channel, no_roles, words_in}
 use Rattle.laws_loan.proofs.Invariant.{Hangs, sends_at, counted_for, hung, reclaims_in, Carries, HoldsNow}
 use Rattle.laws_loan.proofs.Knows.{reclaim_counts, reclaim_number, wrote_in, StageAt, ReclaimAt, At}
-use Rattle.laws_loan.proofs.OnQueues.{OnQueues, queues_then, queues_show, silent_tells}
+use Rattle.laws_loan.proofs.OnQueues.{OnQueues, queues_then, queues_show}
 use Rattle.laws_loan.proofs.Placed.{Placed}
-use Rattle.laws_loan.proofs.Reclaiming.{reclaim_at, none_more}
-use Rattle.laws_loan.proofs.Reclaims.{dead_stays}
-use Rattle.laws_loan.proofs.Sender.{party_then, Steps}
+use Rattle.laws_loan.proofs.Reclaiming.{reclaim_at, goes_known, none_more}
+use Rattle.laws_loan.proofs.Rests.{KeepsSet, keeps_all}
+use Rattle.laws_loan.proofs.Rests as rests
+use Rattle.laws_loan.proofs.Sender.{party_then, Steps, StepBy}
+use Rattle.laws_loan.proofs.Theirs.{dead_stays}
 use Rattle.laws_loan.proofs.Told.{is_reclaiming, Tells}
 
 module _ {T : Type 0} (code : Coding T) (slots queue : ℕ) (s : Channel T) (latest : List (ℕ × Party T))
@@ -64,20 +66,8 @@ module _ {T : Type 0} (code : Coding T) (slots queue : ℕ) (s : Channel T) (lat
   abbrev pub effect_at : ReclaimStage → ℕ → Effect
   effect_at stage value = reclaim_effect slots queue (words_in s) stage value
 
-  abbrev pub events_by : Effect → After LoanFlight (Answer T) → List (Event T)
-  events_by effect after = effects_of 0 effect (answer_in after) ++ ending_of 0 start (answer_in after)
-
-  -- what is kept then
-  abbrev pub Keeps : Channel T → Effect → After LoanFlight (Answer T) → Type 0
-  Keeps s' effect after =
-      ended_book {T = T} 0 calls.Reclaim (answer_in after) (fold (book_after {T = T}) s.book (effects_of 0 effect (answer_in after)))
-      ≡ s'.book
-
   abbrev pub StepTo : Channel T → ReclaimStage → After LoanFlight (Answer T) → Effect → Type 0
-  StepTo s' stage after effect =
-      Steps code slots queue s latest turns changes since x s' (Open start wrote) calls.Reclaim (asked stage) false
-      after (events_by effect after)
-      × Keeps s' effect after
+  StepTo s' stage after effect = StepBy code slots queue s latest turns changes since x s' (Open start wrote) calls.Reclaim (asked stage) after effect
 
   -- what a step of a reclaim that stands here comes to
   pub record Does (stage : ReclaimStage) : Type 0 where
@@ -217,40 +207,23 @@ module _ {T : Type 0} (code : Coding T) (slots queue : ℕ) (s : Channel T) (lat
         (counted : reclaim_counts after_it ≡ 0)
         (stands : StageAt slots s.submission s.completion s.book.places wrote after_it)
         (steps : x.steps + step_count (asked now) ≤ reclaim_number slots wrote after_it) where
-      still : Leads now s.submission s.completion [] after_it
-      still =
-          record {
-            words = words;
-            own = tt;
-            stands = tt;
-            span = ap (λ es. Open start es) (sym (append-nil wrote));
-            submission = h.parts.submission;
-            completion = h.parts.completion;
-            fewer = omega arith;
-            sent_write = refl;
-            given_write = refl;
-            placed = subst (Placed slots s.claims s.submission.waiting s.completion.waiting s.book) (sym (append-nil s.events)) h.parts.placed;
-            tells =
-                silent_tells {T = T} queue true s.submission.waiting s.completion.waiting s.completion.waiting [] refl
-                refl refl (append-nil s.completion.waiting);
-            counted = counted;
-            moves = tt;
-            begins = tt;
-            answers = tt;
-            passing = λ i q ne e. ap (spot_of i) (sym (append-nil s.events)) ∙ e;
-            sent = λ i e. known.sent i (ap (spot_of i) (sym (append-nil s.events)) ∙ e);
-            receiver = ap receiver_of (append-nil s.events);
-            reclaiming = refl;
-            claims = refl;
-            publishes = refl;
-            gives = refl;
-            acts = refl;
-            stage_at = subst (λ es. StageAt slots s.submission s.completion s.book.places es after_it) (sym (append-nil wrote)) stands;
-            steps = subst (λ es. x.steps + step_count (asked now) ≤ reclaim_number slots es after_it) (sym (append-nil wrote)) steps;
-            push = λ index stage known. known;
-            up = record { write = omega arith; read = omega arith; paid = omega arith };
-          }
-
       pub goes_still : Steps code slots queue s latest turns changes since x s_still (Open start wrote)
           calls.Reclaim (asked now) false (GoOn (reclaim_at slots queue after_it)) []
-      goes_still = leads_on now s.submission s.completion [] after_it still
+      goes_still =
+          rests.goes_on code slots queue s latest turns changes since x h straight calls.Reclaim wrote from (asked now) s.set
+          (reclaim_at slots queue after_it)
+          (subst (KeepsSet slots queue s latest (asked now) s.set) (sym counted)
+          (keeps_all slots queue s latest (asked now) turns h words busy_none (ap (hung s.submission.read) here)))
+          refl steps (refl, refl, refl, goes_known slots queue s s.set wrote under after_it known stands) (omega arith)
+
+      -- a load, as the call computes it
+      pub loads : reclaim_goes_back now (old now) ≡ false → goes now (old now) ≡ GoOn (reclaim_at slots queue after_it)
+          → effect_at now (old now) ≡ effects.Quiet → Does now
+      loads stays is quiet =
+          record {
+            channel_then = s_still;
+            stays = stays;
+            step =
+                subst (λ a. StepTo s_still now a (effect_at now (old now))) (sym is)
+                (subst (λ e. StepTo s_still now (GoOn (reclaim_at slots queue after_it)) e) (sym quiet) (goes_still, refl));
+          }

@@ -1,30 +1,62 @@
--- A reclaim, as steps of the machine.
-use Rattle.std.proofs.Common.{◌≡◌, ℕ, ◌-◌, ◌^◌, ◌<◌, List, fold, refl, sym, ap, subst, ◌∙◌}
+-- A reclaim, as steps of the machine: it pops the two queues, and releases one index after the other that was sent.
+use Rattle.std.proofs.Common.{◌≡◌, ◌≢◌, ℕ, ◌+◌, ◌*◌, ◌-◌, ◌%◌, ◌^◌, ◌<◌, ◌≤◌, false, Option, Some, None, List, [], ⊎_elim, refl, sym, ap, subst, ◌∙◌}
+use Rattle.std.proofs.Common.{arith}
+use Rattle.std.specs.List.{AllByRecursion}
+use Rattle.std.proofs.lemmas.Bool.{cases_lt}
+use Rattle.steps.specs.declared.ask.Ask.{Ask}
+use Rattle.steps.specs.declared.ask.After.{After}
+use Rattle.steps.specs.declared.ask.After.TheVariants.{GoOn, Done}
+use Rattle.steps.specs.declared.indices.enums.ReleaseState.{ReleaseState}
+use Rattle.steps.specs.declared.indices.unique.DefaultMode.{DefaultMode}
+use Rattle.steps.specs.declared.indices.unique.Release.{Release}
+use Rattle.steps.specs.declared.indices.unique.ReleaseStage.{ReleaseStage}
+use Rattle.steps.specs.declared.indices.unique.ReleaseStage as releases
+use Rattle.steps.specs.declared.loan.places.Place.{Place}
+use Rattle.steps.specs.declared.loan.places.Place.TheVariants as places
 use Rattle.steps.specs.declared.loan.reclaim.Reclaim as reclaims
 use Rattle.steps.specs.declared.loan.reclaim.ReclaimStage.{ReclaimStage}
-use Rattle.steps.specs.declared.loan.reclaim.ReclaimStage.TheVariants.{Drains, Empties, Releases}
+use Rattle.steps.specs.declared.loan.reclaim.ReclaimStage.TheVariants.{Releases, Drains, Empties}
+use Rattle.steps.specs.Loan.Back.{back_asks, back_takes}
+use Rattle.steps.specs.Loan.Places.{place_at, next_sent}
+use Rattle.steps.specs.Loan.Reclaim.{reclaim_releases, reclaim_comes_to, reclaim_released}
+use Rattle.model.specs.declared.event.Answer.{Answer}
+use Rattle.model.specs.declared.event.Answer.TheVariants.{Number}
 use Rattle.model.specs.declared.event.Event.{Event}
 use Rattle.model.specs.declared.event.Start as starts
 use Rattle.model.specs.declared.families.Flight as flights
 use Rattle.model.specs.declared.families.loan.LoanStart.TheVariants as calls
+use Rattle.model.specs.declared.families.loan.calls.LoanFlight.{LoanFlight}
 use Rattle.model.specs.declared.families.loan.calls.LoanFlight.TheVariants.{Reclaim}
+use Rattle.model.specs.declared.families.loan.effects.Effect.TheVariants as effects
 use Rattle.model.specs.declared.party.Party.{Party}
 use Rattle.model.specs.Coding.{Coding}
-use Rattle.model.specs.Families.Loan.Steps.{ended_book, book_after, effects_of}
+use Rattle.model.specs.Families.{ask_of}
+use Rattle.model.specs.Families.Loan.Reading.{freed}
+use Rattle.model.specs.Families.Loan.Steps.{ended_book}
 use Rattle.model.specs.Reading.{Open, span_of}
-use Rattle.model.specs.Step.{answer_in}
+use Rattle.model.specs.Step.{as_call, answer_in}
+use Rattle.model.specs.Turns.{old_of, words_after}
 use Rattle.model.specs.World.{Trace}
 use Rattle.model.proofs.Frame as frame
-use Rattle.laws_loan.proofs.Channel.{Channel}
+use Rattle.laws_indices.proofs.Core as indices
+use Rattle.laws_indices.proofs.Knows.{release_counts, release_number}
+use Rattle.laws_loan.proofs.Channel.{Channel, words_in}
 use Rattle.laws_loan.proofs.Drains.{drains_does}
 use Rattle.laws_loan.proofs.Empties.{empties_does}
-use Rattle.laws_loan.proofs.Invariant.{HoldsNow}
-use Rattle.laws_loan.proofs.Knows.{wrote_in}
-use Rattle.laws_loan.proofs.ReclaimFrees.{reclaim_frees}
+use Rattle.laws_loan.proofs.Frees.{frees_at, all_less, frees_for, leads, on_words, goes_steps, ends_steps, clears_steps}
+use Rattle.laws_loan.proofs.Invariant.{sends_at, counted_for, HoldsNow}
+use Rattle.laws_loan.proofs.Knows.{wrote_in, StageAt}
+use Rattle.laws_loan.proofs.Parts.{set_old}
 use Rattle.laws_loan.proofs.ReclaimGoes.{asked, old, goes, effect_at, Does}
 use Rattle.laws_loan.proofs.Reclaiming.{reclaim_at}
 use Rattle.laws_loan.proofs.Senders.{Stands, Comes, from_step}
-use Rattle.laws_loan.proofs.StepLaw.{channel, holds_now, ComesWith}
+use Rattle.laws_loan.proofs.Sents.{ComesTo, comes_to}
+use Rattle.laws_loan.proofs.SetSteps.{ReleaseLeads}
+use Rattle.laws_loan.proofs.StepLaw.{channel, holds_now, ComesWith, ComesBy}
+
+-- how a reclaim goes on whose release goes on so
+abbrev pub reclaimed_after : (T : Type 0) → reclaims.Reclaim → List Place → ℕ → ℕ → After (Release DefaultMode) ReleaseState → After LoanFlight (Answer T)
+reclaimed_after T call table number index release = as_call Reclaim Number (reclaim_released call table number index release)
 
 module _ {T : Type 0} (code : Coding T) (slots queue : ℕ) (t : Trace T)
     (sound : frame.Sound (channel code slots queue) t) (small : t.world.turns < 2 ^ 64 - 2) (x : Party T)
@@ -49,6 +81,143 @@ module _ {T : Type 0} (code : Coding T) (slots queue : ℕ) (t : Trace T)
   from : (stage : ReclaimStage) → There stage → span_of 0 s.events ≡ Open (starts.TheVariants.Loan calls.Reclaim) wrote
   from stage there = ap (span_of 0) sound.holds.same ∙ there.span
 
+  -- ---- it releases an index, and comes to the next one that is sent, or ends
+
+  module _ (number index : ℕ) where
+    abbrev call : ReleaseStage → reclaims.Reclaim
+    call stage = record { slots = slots; queue = queue; stage = Releases number index stage }
+
+    abbrev FreesThere : ReleaseStage → Type 0
+    FreesThere stage = There (Releases number index stage)
+
+    -- ---- the clear of the flag
+
+    clears : FreesThere releases.TheVariants.ClearsFlag → Goes (Releases number index releases.TheVariants.ClearsFlag)
+    clears there =
+        let few = there.steps in
+        let clear =
+        clears_steps code slots queue s t.world.latest t.world.turns t.world.changes since x now number index wrote
+        (from (Releases number index releases.TheVariants.ClearsFlag) there) there.knows there.found there.at.3 (omega arith) in
+        from_step code slots queue t sound small x since calls.Reclaim
+        (ask_of (back_asks slots index releases.TheVariants.ClearsFlag))
+        (GoOn (frees_at slots queue number index releases.TheVariants.LoadsHead)) (effects.Frees index) _ wrote
+        (from (Releases number index releases.TheVariants.ClearsFlag) there) (clear, refl)
+
+    -- ---- every later step
+
+    module _ (stage : ReleaseStage) (heavy : release_counts stage ≡ 1) (there : FreesThere stage) where
+      abbrev ask : Option Ask
+      ask = ask_of (back_asks slots index stage)
+
+      abbrev words_then : List ℕ
+      words_then = words_after s.set ask
+
+      was_open : span_of 0 s.events ≡ Open (starts.TheVariants.Loan calls.Reclaim) wrote
+      was_open = from (Releases number index stage) there
+
+      abbrev With : After LoanFlight (Answer T) → Type 0
+      With after =
+          ComesWith code slots queue t sound x since 0 calls.Reclaim ask false after [] (ended_book {T = T} 0 calls.Reclaim (answer_in after) s.book)
+
+      -- it goes on at this stage
+      goes_on : (number' index' : ℕ) (stage' : ReleaseStage)
+          → indices.Good slots words_then s.claims (release_counts stage')
+          → StageAt slots s.submission s.completion s.book.places wrote (Releases number' index' stage')
+          → x.steps + 1 ≤ 8 * (slots + 1) + 5 * number' + release_number stage' 0
+          → With (GoOn (frees_at slots queue number' index' stage'))
+      goes_on number' index' stage' good known more =
+          from_step code slots queue t sound small x since calls.Reclaim ask
+          (GoOn (frees_at slots queue number' index' stage')) effects.Quiet _ wrote was_open (
+            goes_steps code slots queue s t.world.latest t.world.turns t.world.changes since x now number index wrote
+                was_open there.knows stage heavy there.found there.at.3 there.steps number' index' stage' good
+                known more,
+            refl,
+          )
+
+      -- the release is done
+      next : indices.Good slots words_then s.claims 0 → release_number stage 0 + 1 ≤ 5 → (o : Option ℕ)
+          → ComesTo s.book.places slots (index + 1) o
+          → With (as_call Reclaim Number (reclaim_releases (call stage) (number + 1) o))
+      next good last None none =
+          let few = there.steps in
+          from_step code slots queue t sound small x since calls.Reclaim ask (Done (Number (number + 1))) effects.Quiet _ wrote was_open (
+            ends_steps code slots queue s t.world.latest t.world.turns t.world.changes since x now number index wrote
+                was_open there.knows stage heavy there.found there.at.3 there.steps good
+                (λ j below. ⊎_elim (λ (low : j < index + 1). before j low) (λ (high : index + 1 ≤ j). none j high below) (cases_lt j (index + 1)))
+                (omega arith) small,
+            refl,
+          )
+        where
+          before : (j : ℕ) → j < index + 1 → place_at s.book.places j ≢ places.Sent
+          before j low = there.at.3.stage_at.5 j (omega arith)
+      next good last (Some i) comes =
+          let few = there.steps in
+          let low = comes.0 in
+          let at = there.at.3.stage_at in
+          let less = at.2 in
+          goes_on (number + 1) i releases.TheVariants.ClearsFlag good (
+            comes.2,
+            comes.1,
+            (omega arith),
+            at.3 ∙ (omega arith),
+            all_less (freed wrote) (index + release_counts stage) (i + 0) (omega arith) at.4,
+            (λ j high. ⊎_elim (λ (low : j < index + 1). at.5 j (omega arith)) (λ (up : index + 1 ≤ j). comes.3 j up (omega arith)) (cases_lt j (index + 1))),
+            at.6,
+            at.7,
+          )
+          (omega arith)
+
+      leads_on : (release : After (Release DefaultMode) ReleaseState)
+          → ReleaseLeads slots stage words_then s.claims release
+          → With (reclaimed_after T (call stage) s.book.places number index release)
+      leads_on (GoOn release) l =
+          let few = there.steps in
+          let at = there.at.3.stage_at in
+          let more = l.2 in
+          goes_on number index release.stage (subst (indices.Good slots words_then s.claims) (sym l.1) l.0) (
+            frees_for release.stage l.1 s.book.places index,
+            at.1,
+            at.2,
+            at.3 ∙ ap (λ n. number + n) (heavy ∙ sym l.1),
+            subst (λ n. AllByRecursion (λ i. i < index + n) (freed wrote)) (heavy ∙ sym l.1) at.4,
+            (λ j low. at.5 j (omega arith)),
+            at.6,
+            at.7,
+          )
+          (omega arith)
+      leads_on (Done state) l =
+          let at = there.at.3.stage_at in
+          let below = at.1 in
+          let less = at.2 in
+          let low = now.parts.set.few in
+          let counted : (number + 1) % 2 ^ 64 ≡ number + 1 = omega arith in
+          let next_one : (index + 1) % 2 ^ 32 ≡ index + 1 = omega arith in
+          subst (λ n. With (as_call Reclaim Number (reclaim_comes_to (call stage) s.book.places n ((index + 1) % 2 ^ 32)))) (sym counted)
+          (subst (λ i. With (as_call Reclaim Number (reclaim_comes_to (call stage) s.book.places (number + 1) i))) (sym next_one)
+          (next l.0 l.1 (next_sent s.book.places slots (index + 1)) (comes_to s.book.places slots (index + 1))))
+
+      later : With (reclaimed_after T (call stage) s.book.places number index (back_takes slots stage (old_of (words_in s) ask)))
+      later =
+          let value : old_of (words_in s) ask ≡ old_of s.set ask =
+          set_old slots queue s (counted_for (sends_at t.world.latest)) now.parts (back_asks slots index stage)
+          (on_words code slots queue s t.world.latest t.world.turns t.world.changes since x now number index wrote
+          was_open there.knows stage there.found there.at.3) in
+          subst (λ v. With (reclaimed_after T (call stage) s.book.places number index (back_takes slots stage v))) (sym value)
+          (leads_on (back_takes slots stage (old_of s.set ask))
+          (leads code slots queue s t.world.latest t.world.turns t.world.changes since x now number index wrote
+          was_open there.knows stage heavy there.found there.at.3 there.steps))
+
+    -- ---- any step
+
+    reclaim_frees : (stage : ReleaseStage) → FreesThere stage → Goes (Releases number index stage)
+    reclaim_frees releases.TheVariants.ClearsFlag there = clears there
+    reclaim_frees releases.TheVariants.LoadsHead there = later releases.TheVariants.LoadsHead refl there
+    reclaim_frees (releases.TheVariants.StoresNext head) there = later (releases.TheVariants.StoresNext head) refl there
+    reclaim_frees (releases.TheVariants.ExchangesHead head) there = later (releases.TheVariants.ExchangesHead head) refl there
+    reclaim_frees releases.TheVariants.Subtracts there = later releases.TheVariants.Subtracts refl there
+
+  -- ---- any step
+
   -- no pop of it turns back
   pops : (stage : ReclaimStage) → There stage → Does code slots queue s t.world.latest t.world.turns t.world.changes since x wrote stage → Goes stage
   pops stage there does =
@@ -56,9 +225,7 @@ module _ {T : Type 0} (code : Coding T) (slots queue : ℕ) (t : Trace T)
       let after = goes code slots queue s t.world.latest t.world.turns t.world.changes since x wrote stage value in
       let effect = effect_at code slots queue s t.world.latest t.world.turns t.world.changes since x wrote stage value in
       let ask = asked code slots queue s t.world.latest t.world.turns t.world.changes since x wrote stage in
-      subst (λ back. ComesWith code slots queue t sound x since 0 calls.Reclaim ask back after
-      (effects_of 0 effect (answer_in after))
-      (ended_book {T = T} 0 calls.Reclaim (answer_in after) (fold (book_after {T = T}) s.book (effects_of 0 effect (answer_in after)))))
+      subst (λ back. ComesBy code slots queue t sound x since 0 calls.Reclaim ask back after effect)
       (sym does.stays)
       (from_step code slots queue t sound small x since calls.Reclaim ask after effect does.channel_then wrote (from stage there) does.step)
 
@@ -73,7 +240,7 @@ module _ {T : Type 0} (code : Coding T) (slots queue : ℕ) (t : Trace T)
       (empties_does code slots queue s t.world.latest t.world.turns t.world.changes since x wrote now small
       (Empties stage) there.found refl (from (Empties stage) there) there.at.3 there.knows stage there.at.3.stage_at
       there.steps)
-  reclaim_steps (Releases number index stage) there = reclaim_frees code slots queue t sound small x since number index stage there
+  reclaim_steps (Releases number index stage) there = reclaim_frees number index stage there
 
   -- as the machine has the call
   pub reclaim_steps_from : (held : reclaims.Reclaim)

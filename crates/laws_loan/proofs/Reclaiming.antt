@@ -1,9 +1,13 @@
 -- What the steps of a reclaim share, and how it ends: each index is free or with the sender.
-use Rattle.std.proofs.Common.{◌≡◌, ℕ, ◌+◌, ◌%◌, ◌^◌, ◌<◌, inl, false, Option, List, [], ◌∷◌, ◌++◌, refl, sym, ap, ◌∙◌, arith}
+use Rattle.std.proofs.Common.{◌≡◌, ℕ, ◌+◌, ◌%◌, ◌^◌, ◌<◌, ◌≢◌, inl, ⊎_elim, false, Option, Some, List, [], ◌∷◌, ◌++◌, refl, sym, ap, subst}
+use Rattle.std.proofs.Common.{◌∙◌, append-nil, arith}
+use Rattle.std.proofs.lemmas.Bool.{cases_eq}
 use Rattle.std.proofs.lemmas.List.Concat.{flat_map-append}
 use Rattle.std.proofs.lemmas.List.Sums.{fold-append}
 use Rattle.std.specs.List.{flat_map}
+use Rattle.steps.specs.declared.loan.places.Place.TheVariants as places
 use Rattle.steps.specs.declared.loan.reclaim.ReclaimStage.{ReclaimStage}
+use Rattle.steps.specs.Loan.Places.{place_at}
 use Rattle.model.specs.declared.event.Answer.{Answer}
 use Rattle.model.specs.declared.event.Event.{Event}
 use Rattle.model.specs.declared.event.Event.TheVariants.{Finished}
@@ -12,11 +16,15 @@ use Rattle.model.specs.declared.families.loan.Book.{Book}
 use Rattle.model.specs.declared.families.loan.LoanStart.TheVariants as calls
 use Rattle.model.specs.declared.families.loan.calls.LoanFlight.{LoanFlight}
 use Rattle.model.specs.declared.families.loan.calls.LoanFlight.TheVariants.{Reclaim}
-use Rattle.model.specs.Families.Loan.Reading.{Passing, spot_of, receiver_after, receiver_of, died_after}
+use Rattle.model.specs.Families.Loan.Promises.{KeepsBook, IsIn}
+use Rattle.model.specs.Families.Loan.Reading.{Passing, Spot, Move, move_of, spot_of, receiver_after, receiver_of, died_after}
+use Rattle.laws_loan.proofs.Channel.{Channel}
+use Rattle.laws_loan.proofs.Knows.{StageAt, ReclaimAt}
 use Rattle.laws_loan.proofs.Lists.{lists_stay}
 use Rattle.laws_loan.proofs.Placed.{Placed, placed_on}
 use Rattle.laws_loan.proofs.Sents.{IsHome, home_by, home_stays}
-use Rattle.laws_loan.proofs.Spots.{is_waiting, is_returning, spot_stays}
+use Rattle.laws_loan.proofs.Spots.{is_waiting, is_returning, spot_stays, spot_other, spot_moved}
+use Rattle.laws_loan.proofs.Table.{IsAway, sent_there}
 
 abbrev pub reclaim_at : ℕ → ℕ → ReclaimStage → LoanFlight
 reclaim_at slots queue stage = Reclaim (record { slots = slots; queue = queue; stage = stage })
@@ -26,6 +34,51 @@ reclaim_at slots queue stage = Reclaim (record { slots = slots; queue = queue; s
 -- events that have nothing of a kind add nothing to none
 pub none_more : {A X : Type 0} (f : A → List X) (wrote es : List A) → flat_map f wrote ≡ [] → flat_map f es ≡ [] → flat_map f (wrote ++ es) ≡ []
 none_more f wrote es before none = flat_map-append f wrote es ∙ (ap (λ xs. xs ++ flat_map f es) before ∙ none)
+
+-- a reclaim that comes to a stage by a step that writes nothing
+pub goes_known : {T : Type 0} (slots queue : ℕ) (s : Channel T) (set' : List ℕ) (wrote : List (Event T)) (stage stage' : ReclaimStage)
+    → ReclaimAt slots queue s wrote stage → StageAt slots s.submission s.completion s.book.places wrote stage'
+    → ReclaimAt slots queue (record s { set = set'; claims = s.claims; book = s.book; events = s.events ++ [] }) wrote stage'
+goes_known slots queue s set' wrote stage stage' at known =
+    record {
+      dead = at.dead;
+      sent = λ i e. at.sent i (ap (spot_of i) (sym (append-nil s.events)) ∙ e);
+      claims = at.claims;
+      publishes = at.publishes;
+      gives = at.gives;
+      acts = at.acts;
+      stage_at = known;
+    }
+
+-- ---- it takes an index out of a queue, from where only a call of its own has it
+
+module _ {T : Type 0} (slots queue : ℕ) (s : Channel T) (wrote : List (Event T)) (stage : ReclaimStage)
+    (at : ReclaimAt slots queue s wrote stage) (keeps : KeepsBook s.book s.events) (e : Event T) (index : ℕ) (spot : Spot)
+    (is : move_of e ≡ Some (record { index = index; from = spot; to = Passing 0 })) (was : spot_of index s.events ≡ spot)
+    (away : IsAway spot) where
+  abbrev taking : Move
+  taking = record { index = index; from = spot; to = Passing 0 }
+
+  elsewhere : (i : ℕ) → index ≢ i → spot_of i (s.events ++ e ∷ []) ≡ spot_of i s.events
+  elsewhere i ne = spot_other s.events e taking is i ne
+
+  -- what another party has in passing was so before
+  pub passing_before : (i q : ℕ) → q ≢ 0 → spot_of i (s.events ++ e ∷ []) ≡ Passing q → spot_of i s.events ≡ Passing q
+  passing_before i q theirs now = ⊎_elim
+      (λ (same : index ≡ i).
+      let both : Passing 0 ≡ Passing q = sym (spot_moved s.events e taking is) ∙ (ap (λ n. spot_of n (s.events ++ e ∷ [])) same ∙ now) in
+      absurd (theirs (cc)))
+      (λ (ne : index ≢ i). sym (elsewhere i ne) ∙ now)
+      (cases_eq index i)
+
+  -- and what it has in passing itself was sent
+  pub passing_sent : (i : ℕ) → spot_of i (s.events ++ e ∷ []) ≡ Passing 0 → place_at s.book.places i ≡ places.Sent
+  passing_sent i now = ⊎_elim
+      (λ (same : index ≡ i).
+      subst (λ n. place_at s.book.places n ≡ places.Sent) same
+      (sent_there (place_at s.book.places index) spot (subst (IsIn (place_at s.book.places index)) was (keeps.places index)) away))
+      (λ (ne : index ≢ i). at.sent i (sym (elsewhere i ne) ∙ now))
+      (cases_eq index i)
 
 -- ---- its end
 

@@ -1,5 +1,5 @@
 -- The release with which a give-up, a send and a take-back end, as steps of the machine.
-use Rattle.std.proofs.Common.{◌≡◌, ℕ, ◌+◌, ◌-◌, ◌^◌, ◌<◌, ◌≤◌, false, Option, Some, None, List, [], ◌∷◌, ◌++◌, fold}
+use Rattle.std.proofs.Common.{◌≡◌, ℕ, ◌+◌, ◌-◌, ◌^◌, ◌<◌, ◌≤◌, false, Option, Some, None, List, [], ◌∷◌, ◌++◌}
 use Rattle.std.proofs.Common.{set, refl, sym, ap, subst, ◌∙◌, append-nil, arith}
 use Rattle.steps.specs.declared.ask.Ask.{Ask}
 use Rattle.steps.specs.declared.ask.After.{After}
@@ -21,9 +21,8 @@ use Rattle.model.specs.declared.families.loan.effects.Effect.TheVariants as effe
 use Rattle.model.specs.declared.party.Party.{Party}
 use Rattle.model.specs.Coding.{Coding}
 use Rattle.model.specs.Families.{ask_of}
-use Rattle.model.specs.Families.Loan.Steps.{ended_book, book_after, release_effect, effects_of}
+use Rattle.model.specs.Families.Loan.Steps.{book_after, release_effect}
 use Rattle.model.specs.Reading.{Open, span_of}
-use Rattle.model.specs.Step.{answer_in}
 use Rattle.model.specs.Turns.{old_of, words_after}
 use Rattle.model.specs.World.{Trace}
 use Rattle.model.proofs.Frame as frame
@@ -35,7 +34,7 @@ use Rattle.laws_loan.proofs.Parts.{set_old}
 use Rattle.laws_loan.proofs.Releasing.{Releasing, embedded, steps_set, clears_steps, was_open, leads, goes_steps, ends_steps}
 use Rattle.laws_loan.proofs.Senders.{from_step}
 use Rattle.laws_loan.proofs.SetSteps.{ReleaseLeads}
-use Rattle.laws_loan.proofs.StepLaw.{channel, holds_now, ComesWith}
+use Rattle.laws_loan.proofs.StepLaw.{channel, holds_now, ComesBy}
 
 -- an index that is released is one of the channel
 pub gives_below : {T : Type 0} (slots queue : ℕ) (s : Channel T) (index : ℕ) (stage : ReleaseStage) → GivesAt slots queue s index stage → index < slots
@@ -53,9 +52,7 @@ module _ {T : Type 0} (code : Coding T) (slots queue : ℕ) (t : Trace T)
   -- so its step leads on, with this effect
   abbrev pub With : ReleaseStage → Effect → After LoanFlight (Answer T) → Type 0
   With stage effect after =
-      ComesWith code slots queue t sound x since 0 r.start (asked stage) false after
-      (effects_of 0 effect (answer_in after))
-      (ended_book {T = T} 0 r.start (answer_in after) (fold (book_after {T = T}) s.book (effects_of 0 effect (answer_in after))))
+      ComesBy code slots queue t sound x since 0 r.start (asked stage) false after effect
 
   abbrev Goes : ReleaseStage → ℕ → Type 0
   Goes stage value = With stage (release_effect index stage) (embedded r.at r.answer (back_takes slots stage value))

@@ -1,7 +1,6 @@
 -- The release with which a give-up, a send and a take-back end: of the index that is in passing in the call.
-use Rattle.std.proofs.Common.{◌≡◌, ◌≢◌, ℕ, ◌+◌, ◌<◌, ◌≤◌, ◌⊎◌, ⊎_elim, inl, Bool, false, Option, Some, None, List, []}
+use Rattle.std.proofs.Common.{◌≡◌, ◌≢◌, ℕ, ◌+◌, ◌<◌, ◌≤◌, inl, Bool, false, Option, Some, None, List, []}
 use Rattle.std.proofs.Common.{◌∷◌, ◌++◌, fold, set, refl, sym, ap, subst, ◌∙◌, append-nil, arith}
-use Rattle.std.proofs.lemmas.Bool.{cases_eq}
 use Rattle.std.proofs.lemmas.List.Sums.{fold-append}
 use Rattle.steps.specs.declared.ask.Ask.{Ask}
 use Rattle.steps.specs.declared.ask.After.{After}
@@ -24,29 +23,27 @@ use Rattle.model.specs.declared.party.Party.{Party}
 use Rattle.model.specs.Coding.{Coding}
 use Rattle.model.specs.Families.{ask_of}
 use Rattle.model.specs.Families.Loan.Bounds.{most_steps}
-use Rattle.model.specs.Families.Loan.Promises.{ComesFrom, AnswersRight}
-use Rattle.model.specs.Families.Loan.Reading.{Free, Passing, move_of, spot_of, receiver_after, receiver_of, died_after, reclaims_after}
+use Rattle.model.specs.Families.Loan.Promises.{AnswersRight}
+use Rattle.model.specs.Families.Loan.Reading.{Free, Passing, move_of, spot_of, receiver_after, receiver_of, reclaims_after}
 use Rattle.model.specs.Families.Loan.Spans.{Wrote, may_stand}
 use Rattle.model.specs.Families.Loan.Steps.{ended_book, book_after}
-use Rattle.model.specs.Reading.{Span, Open, Ended, own_after, span_of}
+use Rattle.model.specs.Reading.{Span, Open, own_after, span_of}
 use Rattle.model.specs.Turns.{old_of, words_after, change_of, step_count}
-use Rattle.model.proofs.Frame as frame
-use Rattle.model.proofs.Readings.{span_of-own, span_of-other}
+use Rattle.model.proofs.Readings.{span_of-own}
 use Rattle.laws_indices.proofs.Core as indices
 use Rattle.laws_indices.proofs.Knows.{release_counts, release_number, release_wrote, ReleaseAt}
+use Rattle.laws_loan.proofs.Carried.{moved_on}
 use Rattle.laws_loan.proofs.Channel.{Channel, words_in}
-use Rattle.laws_loan.proofs.Invariant.{sends_at, counted_for, hung, reclaims_in, Carries, HoldsNow, family}
+use Rattle.laws_loan.proofs.Invariant.{sends_at, counted_for, hung, reclaims_in, Carries, HoldsNow}
 use Rattle.laws_loan.proofs.Knows.{counts, number_of, wrote_in, GivesAt, At, FlightKnows}
-use Rattle.laws_loan.proofs.Lists.{lists_stay}
 use Rattle.laws_loan.proofs.OnSet.{OnSet, set_then, set_shows}
 use Rattle.laws_loan.proofs.Parts.{set_words}
-use Rattle.laws_loan.proofs.Placed.{Placed, placed_on}
+use Rattle.laws_loan.proofs.Rests as rests
 use Rattle.laws_loan.proofs.Sender.{party_then, Steps}
 use Rattle.laws_loan.proofs.SetSteps.{ReleaseLeads, ReleaseStep, claims_then, release_step}
-use Rattle.laws_loan.proofs.Spots.{is_waiting, is_returning, spot_stays, spot_other, spot_moved}
+use Rattle.laws_loan.proofs.Spots.{passing_same, free_passes, passing_on, spot_other, spot_moved}
 use Rattle.laws_loan.proofs.Table.{frees_it}
-use Rattle.laws_loan.proofs.Theirs.{Stays}
-use Rattle.laws_loan.proofs.Told.{is_reclaiming}
+use Rattle.laws_loan.proofs.Theirs.{stays_beside}
 
 -- each stage takes one operation
 one_step : (slots index : ℕ) (stage : ReleaseStage) → step_count (ask_of (back_asks slots index stage)) ≡ 1
@@ -85,9 +82,6 @@ pub record Releasing (T : Type 0) (slots queue index : ℕ) : Type 0 where
 module _ {T : Type 0} (code : Coding T) (slots queue : ℕ) (s : Channel T) (latest : List (ℕ × Party T))
     (turns changes since : ℕ) (x : Party T) (index : ℕ) (below : index < slots) (r : Releasing T slots queue index)
     (h : HoldsNow slots queue s latest s.events turns) where
-  abbrev channel : frame.Family T
-  channel = family code slots queue
-
   abbrev Here : ReleaseStage → Type 0
   Here stage = sends_at latest ≡ Some (flights.TheVariants.Loan (r.at stage))
 
@@ -127,6 +121,9 @@ module _ {T : Type 0} (code : Coding T) (slots queue : ℕ) (s : Channel T) (lat
     abbrev book_freed : Book
     book_freed = book_after {T = T} s.book (Freed 0 index)
 
+    abbrev s_freed : Channel T
+    s_freed = set_then slots queue s latest turns y_freed (words_after s.set clears_ask) (set s.claims index None) book_freed freed_es
+
     is_from : span_of 0 s.events ≡ Open (starts.Loan r.start) r.before
     is_from = from ∙ ap (λ es. Open (starts.Loan r.start) es) (append-nil r.before)
 
@@ -139,23 +136,8 @@ module _ {T : Type 0} (code : Coding T) (slots queue : ℕ) (s : Channel T) (lat
     now_free : spot_of index (s.events ++ freed_es) ≡ Free
     now_free = spot_moved s.events (Freed 0 index) (record { index = index; from = Passing 0; to = Free }) refl
 
-    passing_then : (i q : ℕ) → spot_of i (s.events ++ freed_es) ≡ Passing q → Carries i (span_of q (s.events ++ freed_es))
-    passing_then i q e = ⊎_elim moved others (cases_eq index i)
-      where
-        moved : index ≡ i → Carries i (span_of q (s.events ++ freed_es))
-        moved same =
-            let clash : Free ≡ Passing q = sym now_free ∙ (ap (λ n. spot_of n (s.events ++ freed_es)) same ∙ e) in
-            absurd (cc)
-
-        others : index ≢ i → Carries i (span_of q (s.events ++ freed_es))
-        others ne =
-            let before : spot_of i s.events ≡ Passing q =
-            sym (spot_other s.events (Freed 0 index) (record { index = index; from = Passing 0; to = Free }) refl i ne) ∙ e in
-            let carried = h.passing i q before in
-            ⊎_elim
-            (λ (mine : q ≡ 0). absurd (ne (sym (r.carries i (subst (Carries i) is_from (subst (λ n. Carries i (span_of n s.events)) mine carried))))))
-            (λ (theirs : q ≢ 0). subst (Carries i) (sym (span_of-other 0 q s.events freed_es theirs (refl, tt))) carried)
-            (cases_eq q 0)
+    elsewhere : (i : ℕ) → index ≢ i → spot_of i (s.events ++ freed_es) ≡ spot_of i s.events
+    elsewhere i ne = spot_other s.events (Freed 0 index) (record { index = index; from = Passing 0; to = Free }) refl i ne
 
     on_set : OnSet slots queue s latest turns y_freed (words_after s.set clears_ask) (set s.claims index None) book_freed freed_es
     on_set =
@@ -176,31 +158,12 @@ module _ {T : Type 0} (code : Coding T) (slots queue : ℕ) (s : Channel T) (lat
           moves = ((below, inl gives.1), tt);
           begins = (tt, tt);
           answers = (tt, tt);
-          passing = passing_then;
+          passing =
+              moved_on 0 s.events freed_es (refl, tt) (Open (starts.Loan r.start) r.before) is_from index elsewhere
+              h.passing (λ i ne carried. absurd (ne (sym (r.carries i carried)))) Free now_free (λ q e. absurd (free_passes q e));
         }
 
-    -- what a receiver knows stays: another index is its own
-    theirs_stay : (q : ℕ) → q ≢ 0
-        → Stays slots queue s
-        (set_then slots queue s latest turns y_freed (words_after s.set clears_ask) (set s.claims index None) book_freed freed_es)
-        q
-    theirs_stay q ne =
-        record {
-          alive = λ alive. alive;
-          receiver = λ alive e. e;
-          pop = λ alive e room stage known. known;
-          passes = λ alive e i passes.
-              let apart : index ≢ i = λ same.
-              let both : Passing 0 ≡ Passing q = sym gives.1 ∙ (ap (λ n. spot_of n s.events) same ∙ passes.1) in
-              let zero : q ≡ 0 = cc in
-              ne zero
-              in
-              (passes.0, spot_other s.events (Freed 0 index) (record { index = index; from = Passing 0; to = Free }) refl i apart ∙ passes.1);
-          push = λ i stage known. known;
-        }
-
-    pub clears_steps : Steps code slots queue s latest turns changes since x
-        (set_then slots queue s latest turns y_freed (words_after s.set clears_ask) (set s.claims index None) book_freed freed_es)
+    pub clears_steps : Steps code slots queue s latest turns changes since x s_freed
         (Open (starts.Loan r.start) r.before) r.start clears_ask false (GoOn (r.at releases.TheVariants.LoadsHead))
         freed_es
     clears_steps =
@@ -218,20 +181,20 @@ module _ {T : Type 0} (code : Coding T) (slots queue : ℕ) (s : Channel T) (lat
                     (sym (r.number (wrote_in (span_of 0 (s.events ++ freed_es))) releases.TheVariants.LoadsHead (x.backs + 0)))
                     (omega arith);
                 at =
-                    subst (λ wrote. At slots queue (set_then slots queue s latest turns y_freed (words_after s.set clears_ask)
-                    (set s.claims index None) book_freed freed_es)
+                    subst (λ wrote. At slots queue s_freed
                     0 wrote r.start (r.at releases.TheVariants.LoadsHead))
                     wrote_is
-                    (r.stands (set_then slots queue s latest turns y_freed (words_after s.set clears_ask)
-                    (set s.claims index None) book_freed freed_es)
+                    (r.stands s_freed
                     releases.TheVariants.LoadsHead below);
               };
           knows =
               r.knows
-              (set_then slots queue s latest turns y_freed (words_after s.set clears_ask) (set s.claims index None) book_freed freed_es)
+              s_freed
               (since + change_of (words_in s) clears_ask) (changes + change_of (words_in s) clears_ask) (x.backs + 0)
               releases.TheVariants.LoadsHead (omega arith);
-          theirs = theirs_stay;
+          theirs = λ q ne.
+              stays_beside slots queue s s_freed q refl refl (λ room stage known. known) (λ i stage known. known)
+              (passing_on s.events freed_es index elsewhere (Passing 0) gives.1 q (λ e. ne (sym (passing_same 0 q e))));
           up = record { write = omega arith; read = omega arith; paid = omega arith };
         }
 
@@ -267,147 +230,50 @@ module _ {T : Type 0} (code : Coding T) (slots queue : ℕ) (s : Channel T) (lat
     pub leads : ReleaseLeads slots stage words_then s.claims (back_takes slots stage (old_of s.set ask))
     leads = subst (λ hs. ReleaseLeads slots stage words_then hs (back_takes slots stage (old_of s.set ask))) (claims_for stage heavy) step.leads
 
-    -- what the other parties know stays, as no index moves
-    all_stay : (y : Party T) (es : List (Event T)) → ((i : ℕ) → spot_of i (s.events ++ es) ≡ spot_of i s.events)
-        → (q : ℕ) → q ≢ 0 → Stays slots queue s (set_then slots queue s latest turns y words_then s.claims s.book es) q
-    all_stay x0 x1 x2 x3 x4 = grind arith
+    calm_now : hung s.submission.read (sends_at latest) ≡ None
+    calm_now = ap (hung s.submission.read) here ∙ r.calm s.submission.read stage
 
     -- ---- it goes on
 
     module _ (stage' : ReleaseStage) (good : indices.Good slots words_then s.claims 1)
         (heavy' : release_counts stage' ≡ 1) (more : release_number stage 0 + 1 ≤ release_number stage' 0) where
-      abbrev y_on : Party T
-      y_on = party_then s x since changes r.start ask false (GoOn (r.at stage'))
-
       abbrev s_on : Channel T
-      s_on = set_then slots queue s latest turns y_on words_then s.claims s.book []
-
-      as_was : span_of 0 (s.events ++ []) ≡ Open (starts.Loan r.start) wrote_now
-      as_was = ap (span_of 0) (append-nil s.events) ∙ was_open
-
-      on_set_goes : OnSet slots queue s latest turns y_on words_then s.claims s.book []
-      on_set_goes =
-          let same : receiver_of (s.events ++ []) ≡ receiver_of s.events = ap receiver_of (append-nil s.events) in
-          record {
-            good = subst (λ n. indices.Good slots words_then s.claims n) (sym heavy' ∙ sym (r.counted stage')) good;
-            unlocked = step.unlocked;
-            queue_stays = refl;
-            placed = subst (Placed slots s.claims s.submission.waiting s.completion.waiting s.book) (sym (append-nil s.events)) h.parts.placed;
-            silent = record { publishes = refl; hands_out = refl; gives = refl; takes = refl; acts = refl };
-            calm_before = ap (hung s.submission.read) here ∙ r.calm s.submission.read stage;
-            calm_after = r.calm s.submission.read stage';
-            reclaiming = h.reclaiming ∙ ap (λ es. reclaims_in (span_of 0 es)) (sym (append-nil s.events));
-            receivers = (omega arith, omega arith);
-            moves = tt;
-            begins = tt;
-            answers = tt;
-            passing =
-                λ i q e. subst (λ es. Carries i (span_of q es)) (sym (append-nil s.events))
-                (h.passing i q (ap (spot_of i) (sym (append-nil s.events)) ∙ e));
-          }
+      s_on = record s { set = words_then; claims = s.claims; book = s.book; events = s.events ++ [] }
 
       pub goes_steps : Steps code slots queue s latest turns changes since x s_on
           (Open (starts.Loan r.start) wrote_now) r.start ask false (GoOn (r.at stage')) []
       goes_steps =
-          let wrote_is : wrote_now ≡ wrote_in (span_of 0 (s.events ++ [])) = sym (ap wrote_in as_was) in
           let at_then : At slots queue s_on 0 wrote_now r.start (r.at stage') =
           subst (λ es. At slots queue s_on 0 (r.before ++ es) r.start (r.at stage')) (wrote_for stage' heavy')
           (r.stands s_on stage' (gives_for s_on stage' heavy'))
           in
-          record {
+          rests.goes_on code slots queue s latest turns changes since x h straight r.start wrote_now was_open ask words_then
+          (r.at stage')
+          (record {
             words = whole_words stage here gives;
-            shows = set_shows slots queue s latest turns y_on words_then s.claims s.book [] h on_set_goes;
-            own = tt;
-            stands = tt;
-            here =
-                record {
-                  span = ap (λ wrote. Open (starts.Loan r.start) wrote) wrote_is;
-                  steps =
-                      subst (λ n. x.steps + step_count ask ≤ n)
-                      (sym (r.number (wrote_in (span_of 0 (s.events ++ []))) stage' (x.backs + 0)))
-                      (let one = one_step slots index stage in omega arith);
-                  at = subst (λ wrote. At slots queue s_on 0 wrote r.start (r.at stage')) wrote_is at_then;
-                };
-            knows = r.knows s_on (since + change_of (words_in s) ask) (changes + change_of (words_in s) ask) (x.backs + 0) stage' (omega arith);
-            theirs = all_stay y_on [] (λ i. ap (spot_of i) (append-nil s.events));
-            up = record { write = omega arith; read = omega arith; paid = omega arith };
-          }
+            good = subst (λ n. indices.Good slots words_then s.claims n) (sym heavy' ∙ sym (r.counted stage')) good;
+            unlocked = step.unlocked;
+            calm = calm_now;
+          })
+          (r.calm s.submission.read stage')
+          (subst (λ n. x.steps + step_count ask ≤ n) (sym (r.number wrote_now stage' (x.backs + 0)))
+          (let one = one_step slots index stage in omega arith))
+          at_then
+          (r.knows s_on (since + change_of (words_in s) ask) (changes + change_of (words_in s) ask) (x.backs + 0) stage' (omega arith))
 
     -- ---- it ends
 
     module _ (good : indices.Good slots words_then s.claims 0) (more : release_number stage 0 + 1 ≤ 5) where
-      abbrev end : Event T
-      end = Finished 0 (starts.Loan r.start) r.answer
-
-      abbrev y_end : Party T
-      y_end = party_then s x since changes r.start ask false (Done r.answer)
-
       abbrev s_end : Channel T
-      s_end = set_then slots queue s latest turns y_end words_then s.claims s.book (end ∷ [])
-
-      same_spots : (i : ℕ) → spot_of i (s.events ++ end ∷ []) ≡ spot_of i s.events
-      same_spots i = spot_stays s.events end i r.still
-
-      same_receiver_end : receiver_of (s.events ++ end ∷ []) ≡ receiver_of s.events
-      same_receiver_end = fold-append receiver_after 1 s.events (end ∷ []) ∙ r.receiver (receiver_of s.events)
-
-      ended_then : span_of 0 (s.events ++ end ∷ []) ≡ Ended (starts.Loan r.start) r.answer wrote_now
-      ended_then = span_of-own 0 s.events (end ∷ []) (refl, tt) ∙ ap (λ span. fold own_after span (end ∷ [])) was_open
-
-      placed_end : Placed slots s.claims s.submission.waiting s.completion.waiting s.book (s.events ++ end ∷ [])
-      placed_end =
-          let placed = h.parts.placed in
-          placed_on slots s.events end r.still s.claims s.submission.waiting s.completion.waiting s.book s.book placed
-          (record {
-            places = refl;
-            holders = refl;
-            receiver = placed.keeps.receiver ∙ sym same_receiver_end;
-            dead = λ q. placed.keeps.dead q ∙ sym (fold-append (died_after q) false s.events (end ∷ []));
-            parties = λ i q by. subst (λ n. (q ≡ 0) ⊎ (q ≡ n)) (sym same_receiver_end) (placed.parties i q by);
-          })
-          (lists_stay is_waiting s.submission.waiting s.events end placed.waits r.still)
-          (lists_stay is_returning s.completion.waiting s.events end placed.returns r.still)
-
-      passing_end : (i q : ℕ) → spot_of i (s.events ++ end ∷ []) ≡ Passing q → Carries i (span_of q (s.events ++ end ∷ []))
-      passing_end i q e =
-          let carried = h.passing i q (sym (same_spots i) ∙ e) in
-          ⊎_elim
-          (λ (mine : q ≡ 0). absurd (r.freed i (subst (Carries i) was_open (subst (λ n. Carries i (span_of n s.events)) mine carried))))
-          (λ (theirs : q ≢ 0). subst (Carries i) (sym (span_of-other 0 q s.events (end ∷ []) theirs (refl, tt))) carried)
-          (cases_eq q 0)
-
-      on_set_ends : OnSet slots queue s latest turns y_end words_then s.claims s.book (end ∷ [])
-      on_set_ends =
-          let same = same_receiver_end in
-          let quiet : is_reclaiming s.events ≡ false = h.reclaiming ∙ (ap reclaims_in was_open ∙ r.other wrote_now) in
-          record {
-            good = good;
-            unlocked = step.unlocked;
-            queue_stays = refl;
-            placed = placed_end;
-            silent = record { publishes = refl; hands_out = refl; gives = refl; takes = refl; acts = refl };
-            calm_before = ap (hung s.submission.read) here ∙ r.calm s.submission.read stage;
-            calm_after = refl;
-            reclaiming = r.reclaims (is_reclaiming s.events) ∙ (quiet ∙ sym (ap reclaims_in ended_then));
-            receivers = (omega arith, omega arith);
-            moves = (subst (λ m. ComesFrom slots m s.events) (sym r.still) tt, tt);
-            begins = (tt, tt);
-            answers = (r.told s.events, tt);
-            passing = passing_end;
-          }
+      s_end = record s { set = words_then; claims = s.claims; book = s.book; events = s.events ++ Finished 0 (starts.Loan r.start) r.answer ∷ [] }
 
       pub ends_steps : Steps code slots queue s latest turns changes since x s_end
-          (Open (starts.Loan r.start) wrote_now) r.start ask false (Done r.answer) (end ∷ [])
+          (Open (starts.Loan r.start) wrote_now) r.start ask false (Done r.answer) (Finished 0 (starts.Loan r.start) r.answer ∷ [])
       ends_steps =
           let most = r.most (x.backs + 0) in
           let one = one_step slots index stage in
-          record {
-            words = whole_words stage here gives;
-            shows = set_shows slots queue s latest turns y_end words_then s.claims s.book (end ∷ []) h on_set_ends;
-            own = (refl, tt);
-            stands = ((refl, r.done), tt);
-            here = record { answer = r.answer; wrote = wrote_now; span = refl; steps = omega arith };
-            knows = omega arith;
-            theirs = all_stay y_end (end ∷ []) same_spots;
-            up = record { write = omega arith; read = omega arith; paid = omega arith };
-          }
+          rests.ends code slots queue s latest turns changes since x h straight r.start wrote_now was_open ask words_then
+          r.answer (record { words = whole_words stage here gives; good = good; unlocked = step.unlocked; calm = calm_now })
+          (record { moves = r.still; receiver = r.receiver; dead = λ q b. refl })
+          (r.reclaims (reclaims_in (Open (starts.Loan r.start) wrote_now)) ∙ r.other wrote_now) (r.told s.events) r.freed
+          r.done (omega arith)

@@ -1,14 +1,15 @@
--- The last steps of a send's push over a full queue: it moves the read position, and loads the index that so leaves; or a receive
--- has made room before.
-use Rattle.std.proofs.Common.{◌≡◌, ◌≢◌, ℕ, suc, ◌+◌, ◌-◌, ◌%◌, ◌^◌, ◌<◌, ◌≤◌, ◌==◌, ⊎_elim, inl, inr, true, false}
+-- Every step of a send's push; here those over a full queue: it moves the read position, and loads the index that so leaves; or a
+-- receive has moved it before, and the send ends.
+use Rattle.std.proofs.Common.{◌≡◌, ◌≢◌, ℕ, suc, ◌+◌, ◌-◌, ◌%◌, ◌^◌, ◌<◌, ◌≤◌, ◌==◌, inl, inr, true, false, Bool}
 use Rattle.std.proofs.Common.{Option, List, [], ◌∷◌, ◌++◌, length, get_or, fold, refl, sym, ap, subst, ◌∙◌}
-use Rattle.std.proofs.Common.{append-nil, append_assoc, length-append, arith}
-use Rattle.std.proofs.lemmas.Bool.{cases_eq}
+use Rattle.std.proofs.Common.{None, append-nil, append_assoc, length-append, arith}
 use Rattle.std.proofs.lemmas.Bool.Decides.{nat_tests}
+use Rattle.std.proofs.lemmas.List.{set-get_or}
 use Rattle.std.proofs.lemmas.List.Sums.{fold-append}
 use Rattle.steps.specs.declared.ask.Ask.{Ask}
 use Rattle.steps.specs.declared.ask.After.{After}
-use Rattle.steps.specs.declared.ask.After.TheVariants.{GoOn}
+use Rattle.steps.specs.declared.ask.After.TheVariants.{GoOn, Done}
+use Rattle.steps.specs.declared.indices.unique.ReleaseStage as releases
 use Rattle.steps.specs.declared.queues.overflow.PushStage.{PushStage}
 use Rattle.steps.specs.declared.queues.overflow.PushStage as pushes
 use Rattle.steps.specs.Loan.Layout.{submission_word}
@@ -17,7 +18,7 @@ use Rattle.steps.specs.Queues.Ring.{load}
 use Rattle.model.specs.declared.event.Answer.{Answer}
 use Rattle.model.specs.declared.event.Answer.TheVariants as answers
 use Rattle.model.specs.declared.event.Event.{Event}
-use Rattle.model.specs.declared.event.Event.TheVariants.{Published, HandedOut, Acted}
+use Rattle.model.specs.declared.event.Event.TheVariants.{Published, HandedOut, Acted, Finished}
 use Rattle.model.specs.declared.event.Item.{Item}
 use Rattle.model.specs.declared.event.Item.TheVariants.{Index}
 use Rattle.model.specs.declared.event.Start.{Start}
@@ -32,31 +33,36 @@ use Rattle.model.specs.Families.Loan.Reading.{Passing, Waiting, spot_of, receive
 use Rattle.model.specs.Families.Loan.Steps.{sent_at}
 use Rattle.model.specs.Families.Queues.Calls.{words_of_index}
 use Rattle.model.specs.Families.Queues.Objects.{answer_of_item}
-use Rattle.model.specs.Families.Queues.Reading.{published, handed_out}
+use Rattle.model.specs.Families.Queues.Reading.{handed_out}
 use Rattle.model.specs.Reading.{Open, own_after, span_of}
 use Rattle.model.specs.Turns.{change_of}
-use Rattle.model.proofs.Readings.{span_of-own, span_of-other}
-use Rattle.laws_queues.proofs.Overflow.Core.{push_over}
+use Rattle.model.proofs.Readings.{span_of-own}
+use Rattle.laws_queues.proofs.Overflow.Core.{oldest, push_over}
 use Rattle.laws_queues.proofs.Overflow.Keeping.{take_keeps_pop}
+use Rattle.laws_queues.proofs.Overflow.Knows.{KnowsOverflowPush, overflow_push_number}
 use Rattle.laws_queues.proofs.Queues.Core.{Core, taken}
+use Rattle.laws_loan.proofs.Carried.{moved_on}
 use Rattle.laws_loan.proofs.Channel.{Channel, words_in}
-use Rattle.laws_loan.proofs.Invariant.{sends_at, counted_for, reclaims_in, Carries, HoldsNow}
-use Rattle.laws_loan.proofs.Knows.{push_wrote, wrote_in, At}
+use Rattle.laws_loan.proofs.Invariant.{sends_at, counted_for, hung, reclaims_in, Carries, HoldsNow}
+use Rattle.laws_loan.proofs.Knows.{Passes, wrote_in, At, PushAt, push_wrote}
 use Rattle.laws_loan.proofs.Lists.{first_there}
 use Rattle.laws_loan.proofs.OnQueues.{OnQueues, queues_show}
 use Rattle.laws_loan.proofs.Parts.{submission_old}
 use Rattle.laws_loan.proofs.Placed.{Placed}
-use Rattle.laws_loan.proofs.Rooms.{sent_below}
+use Rattle.laws_loan.proofs.Publishes.{stores_write}
+use Rattle.laws_loan.proofs.Releases.{send_frees_at}
+use Rattle.laws_loan.proofs.Rests.{keeps_all}
+use Rattle.laws_loan.proofs.Rests as rests
+use Rattle.laws_loan.proofs.Rooms.{sent_below, index_is}
 use Rattle.laws_loan.proofs.Sender.{party_then}
-use Rattle.laws_loan.proofs.Sends.{pushes_at, asked, old, queued, goes, effect_at, StepTo, Does, Here, reached, long, old_is, words_are, change_is}
-use Rattle.laws_loan.proofs.Spots.{is_waiting, waits_there, spot_other, spot_moved}
+use Rattle.laws_loan.proofs.Sends.{pushes_at, asked, old, queued, goes, effect_at, StepTo, Does, does_by, Here, reached, long, old_is, words_are, change_is}
+use Rattle.laws_loan.proofs.Sends.{loads_write, loads_read, stores_cell}
+use Rattle.laws_loan.proofs.Spots.{is_waiting, waits_there, passing_same, waiting_passes, passing_on, spot_other, spot_moved}
 use Rattle.laws_loan.proofs.Still.{AreStill, spots_still, placed_still}
 use Rattle.laws_loan.proofs.Submission as submission
 use Rattle.laws_loan.proofs.Table.{hands_it_out}
+use Rattle.laws_loan.proofs.Theirs.{stays_beside}
 use Rattle.laws_loan.proofs.Told.{items, is_reclaiming, Tells}
-
-waiting_passes : (q : ℕ) → Waiting ≡ Passing q → ⊥
-waiting_passes q e = absurd (cc)
 
 module _ {T : Type 0} (code : Coding T) (slots queue : ℕ) (s : Channel T) (latest : List (ℕ × Party T))
     (turns changes since : ℕ) (x : Party T) (h : HoldsNow slots queue s latest s.events turns)
@@ -88,10 +94,10 @@ module _ {T : Type 0} (code : Coding T) (slots queue : ℕ) (s : Channel T) (lat
   abbrev party : PushStage → After LoanFlight (Answer T) → Party T
   party stage after = party_then s x since changes (calls.Send index) (asks stage) false after
 
-  pub low_write : s.submission.write < 2 ^ 64 - 2
+  low_write : s.submission.write < 2 ^ 64 - 2
   low_write = reached code slots queue s latest turns changes since x h small index straight
 
-  pub wide : length (queued code slots queue s latest turns changes since x h small index straight) ≡ 5 + queue
+  wide : length (queued code slots queue s latest turns changes since x h small index straight) ≡ 5 + queue
   wide = long code slots queue s latest turns changes since x h small index straight
 
   -- the index in the cell of this position
@@ -106,12 +112,12 @@ module _ {T : Type 0} (code : Coding T) (slots queue : ℕ) (s : Channel T) (lat
       ∙ submission.cell_is queue h.parts.some h.parts.few s.submission h.parts.submission low_write read
 
   -- once it has published, a send carries none until it takes one out
-  pub none_carried : {A : Type 0} (i : ℕ) (wrote : List (Event T)) → handed_out wrote ≡ [] → Carries i (Open call (publishes ∷ wrote)) → A
+  none_carried : {A : Type 0} (i : ℕ) (wrote : List (Event T)) → handed_out wrote ≡ [] → Carries i (Open call (publishes ∷ wrote)) → A
   none_carried x0 x1 x2 x3 = grind arith
 
   -- ---- it takes the oldest index out
 
-  abbrev pub moves : PushStage
+  abbrev moves : PushStage
   moves = pushes.TheVariants.MovesRead s.submission.read
 
   abbrev loads : PushStage
@@ -189,24 +195,6 @@ module _ {T : Type 0} (code : Coding T) (slots queue : ℕ) (s : Channel T) (lat
         (placed_still slots s.claims rest s.completion.waiting s.book (s.events ++ hands ∷ []) (acts ∷ []) acts_still
         (hands_it_out slots s.claims s.submission.waiting s.completion.waiting s.book s.events h.parts.placed u below 0 rest first (inl refl)))
 
-    passing_out : (i q : ℕ) → spot_of i (s.events ++ told) ≡ Passing q → Carries i (span_of q (s.events ++ told))
-    passing_out i q e = ⊎_elim mine others_carry (cases_eq u i)
-      where
-        mine : u ≡ i → Carries i (span_of q (s.events ++ told))
-        mine same =
-            let both : Passing 0 ≡ Passing q = sym now_passing ∙ (ap (λ n. spot_of n (s.events ++ told)) same ∙ e) in
-            let zero : 0 ≡ q = cc in
-            let carried : Carries i (Open call (publishes ∷ told)) = inr (ap (λ n. Index n ∷ []) same, refl) in
-            subst (λ n. Carries i (span_of n (s.events ++ told))) zero (subst (Carries i) (sym open_then) carried)
-
-        others_carry : u ≢ i → Carries i (span_of q (s.events ++ told))
-        others_carry ne =
-            let carried = h.passing i q (sym (elsewhere i ne) ∙ e) in
-            ⊎_elim
-            (λ (sender : q ≡ 0). none_carried i [] refl (subst (Carries i) from (subst (λ n. Carries i (span_of n s.events)) sender carried)))
-            (λ (theirs : q ≢ 0). subst (Carries i) (sym (span_of-other 0 q s.events told theirs (refl, (refl, tt)))) carried)
-            (cases_eq q 0)
-
     -- no reclaim is under way
     quiet : is_reclaiming s.events ≡ false
     quiet = h.reclaiming ∙ ap reclaims_in from
@@ -245,7 +233,9 @@ module _ {T : Type 0} (code : Coding T) (slots queue : ℕ) (s : Channel T) (lat
           moves = ((below, was_waiting), (tt, tt));
           begins = (tt, (tt, tt));
           answers = (tt, (tt, tt));
-          passing = passing_out;
+          passing =
+              moved_on 0 s.events told (refl, (refl, tt)) (Open call (publishes ∷ [])) from u elsewhere h.passing
+              (λ i ne. none_carried i [] refl) (Passing 0) now_passing (λ q e. (sym (passing_same 0 q e), inr (refl, refl)));
         }
 
     takes_out : To s_out (publishes ∷ []) moves (GoOn (pushes_at slots queue loads index)) (effects.TakesOut index u)
@@ -272,33 +262,169 @@ module _ {T : Type 0} (code : Coding T) (slots queue : ℕ) (s : Channel T) (lat
                 };
             knows = omega arith;
             theirs = λ q ne.
-                record {
-                  alive = λ alive. alive;
-                  receiver = λ alive e. e;
-                  pop = λ alive e room stage known. take_keeps_pop queue s.submission rest far room stage known;
-                  passes = λ alive e i other.
-                      let apart : u ≢ i = λ same. waiting_passes q (sym was_waiting ∙ (ap (λ n. spot_of n s.events) same ∙ other.1)) in
-                      (other.0, elsewhere i apart ∙ other.1);
-                  push = λ i stage known. known;
-                };
+                stays_beside slots queue s s_out q refl refl (take_keeps_pop queue s.submission rest far) (λ i stage known. known)
+                (passing_on s.events told u elsewhere Waiting was_waiting q (waiting_passes q));
             up = record { write = omega arith; read = omega arith; paid = omega arith };
           },
           refl,
         )
 
     -- as the call computes it
-    pub moves_read : Does_at moves
+    moves_read : Does_at moves
     moves_read =
         let t : (s.submission.read == s.submission.read) ≡ true = grind (arith, nat_tests) in
         let found : value moves ≡ s.submission.read = old_is code slots queue s latest turns changes since x h small index straight moves on in
-        let wrote : push_wrote {T = T} queue s.submission index moves ≡ publishes ∷ [] = rw t refl in
-        let is_after : then_of moves (value moves) ≡ GoOn (pushes_at slots queue loads index) = ap (then_of moves) found ∙ (rw t refl) in
-        let is_effect : effect_of moves (value moves) ≡ effects.TakesOut index u =
-        ap (effect_of moves) found ∙ (let place = sent_is s.submission.read in rw (t, place) refl) in
-        record {
-          channel_then = s_out;
-          step =
-              subst (λ es. To s_out es moves (then_of moves (value moves)) (effect_of moves (value moves))) (sym wrote)
-              (subst (λ a. To s_out (publishes ∷ []) moves a (effect_of moves (value moves))) (sym is_after)
-              (subst (λ e. To s_out (publishes ∷ []) moves (GoOn (pushes_at slots queue loads index)) e) (sym is_effect) takes_out));
-        }
+        let place = sent_is s.submission.read in
+        does_by code slots queue s latest turns changes since x h small index straight s_out moves (publishes ∷ [])
+        (GoOn (pushes_at slots queue loads index)) (effects.TakesOut index u) (rw t refl)
+        (ap (then_of moves) found ∙ (rw t refl)) (ap (effect_of moves) found ∙ (rw (t, place) refl)) takes_out
+
+  -- ---- a receive has moved it before: the send has acted, and ends
+
+  abbrev acted : Event T
+  acted = Acted 0 call answers.PoppedNone
+
+  abbrev ends : Event T
+  ends = Finished 0 call answers.PoppedNone
+
+  abbrev late : ℕ → PushStage
+  late read = pushes.TheVariants.MovesRead read
+
+  module _ (read : ℕ) (here : Here code slots queue s latest turns changes since x h small index straight (late read))
+      (from : span_of 0 s.events ≡ Open call (publishes ∷ acted ∷ [])) (moved : (s.submission.read == read) ≡ false)
+      (apart : (read == s.submission.read) ≡ false) (steps : x.steps ≤ 4) where
+    abbrev s_end : Channel T
+    s_end = record s { submission = s.submission; completion = s.completion; book = s.book; events = s.events ++ ends ∷ [] }
+
+    on_late : 1 < length (queued code slots queue s latest turns changes since x h small index straight)
+    on_late = let all = wide in omega arith
+
+    -- the position is no more that before which it waited
+    calm : hung s.submission.read (sends_at latest) ≡ None
+    calm = ap (hung s.submission.read) here ∙ (rw apart refl)
+
+    finds_room : To s_end (publishes ∷ acted ∷ []) (late read) (Done answers.PoppedNone) effects.Quiet
+    finds_room = (
+      rests.ends code slots queue s latest turns changes since x h straight (calls.Send index)
+          (publishes ∷ acted ∷ []) from (asks (late read)) s.set answers.PoppedNone
+          (keeps_all slots queue s latest (asks (late read)) turns h
+          (words_are code slots queue s latest turns changes since x h small index straight (late read) s.submission on_late
+          (submission.stays_words queue h.parts.some h.parts.few s.submission h.parts.submission low_write read moved))
+          (ap counted_for here) calm)
+          (record { moves = refl; receiver = λ r. refl; dead = λ q b. refl }) refl tt
+          (λ i carried. none_carried i (acted ∷ []) refl carried)
+          (grind arith)
+          (omega arith),
+      refl,
+    )
+
+    moves_late : Does_at (late read)
+    moves_late =
+        let found : value (late read) ≡ s.submission.read = old_is code slots queue s latest turns changes since x h small index straight (late read) on_late in
+        does_by code slots queue s latest turns changes since x h small index straight s_end (late read) (publishes ∷ acted ∷ [])
+        (Done answers.PoppedNone) effects.Quiet (rw apart refl) (ap (then_of (late read)) found ∙ (rw moved refl))
+        (ap (effect_of (late read)) found ∙ (rw moved refl)) finds_room
+
+  -- ---- it loads the index that it has taken out
+
+  abbrev wrote_out : ℕ → List (Event T)
+  wrote_out read = publishes ∷ HandedOut 0 (Index (oldest_at read)) ∷ Acted 0 call (answers.PoppedIndex (oldest_at read)) ∷ []
+
+  module _ (read : ℕ)
+      (here : Here code slots queue s latest turns changes since x h small index straight (pushes.TheVariants.LoadsCell read))
+      (from : span_of 0 s.events ≡ Open call (wrote_out read)) (passes : Passes slots queue s 0 (oldest_at read))
+      (steps : x.steps ≤ 5) where
+    abbrev stage : PushStage
+    stage = pushes.TheVariants.LoadsCell read
+
+    abbrev s_free : Channel T
+    s_free = record s { submission = s.submission; completion = s.completion; book = s.book; events = s.events ++ [] }
+
+    abbrev frees : LoanFlight
+    frees = send_frees_at slots queue index (oldest_at read) releases.TheVariants.ClearsFlag
+
+    on_cell : cell_word queue read < length (queued code slots queue s latest turns changes since x h small index straight)
+    on_cell =
+        submission.cell_on queue h.parts.some h.parts.few s.submission h.parts.submission low_write read
+
+    has_it : To s_free (wrote_out read) stage (GoOn frees) effects.Quiet
+    has_it = (
+      rests.goes_on code slots queue s latest turns changes since x h straight (calls.Send index) (wrote_out read) from
+          (asks stage) s.set frees
+          (keeps_all slots queue s latest (asks stage) turns h
+          (words_are code slots queue s latest turns changes since x h small index straight stage s.submission on_cell
+          (set-get_or (queued code slots queue s latest turns changes since x h small index straight) (cell_word queue read) 0))
+          (ap counted_for here) (ap (hung s.submission.read) here))
+          refl (omega arith)
+          (refl, refl, refl, refl, refl, (passes.0, ap (spot_of (oldest_at read)) (append-nil s.events) ∙ passes.1))
+          (omega arith),
+      refl,
+    )
+
+    loads_cell : Does_at stage
+    loads_cell =
+        let few = h.parts.set.few in
+        let low : slots < 2 ^ 32 = omega arith in
+        let found : value stage ≡ oldest_at read =
+        old_is code slots queue s latest turns changes since x h small index straight stage on_cell
+        ∙ submission.cell_is queue h.parts.some h.parts.few s.submission h.parts.submission low_write read in
+        does_by code slots queue s latest turns changes since x h small index straight s_free stage (wrote_out read) (GoOn frees) effects.Quiet
+        refl
+        (ap (then_of stage) found
+        ∙ ap (λ i. GoOn (send_frees_at slots queue index i releases.TheVariants.ClearsFlag)) (index_is (oldest_at read) slots passes.0 low))
+        refl has_it
+
+  -- ---- every step of the push
+
+  -- what a send knows leads on
+  pub does : (now : PushStage) → Here code slots queue s latest turns changes since x h small index straight now
+      → span_of 0 s.events ≡ Open call (push_wrote queue s.submission index now)
+      → KnowsOverflowPush queue s.submission index now → PushAt slots queue s index now
+      → x.steps ≤ overflow_push_number now → Does_at now
+  does pushes.TheVariants.HandsBack here from known stands steps = absurd stands
+  does pushes.TheVariants.LoadsWrite here from known stands steps =
+      loads_write code slots queue s latest turns changes since x h small index straight stands from here steps
+  does (pushes.TheVariants.LoadsRead write) here from known stands steps =
+      subst Does_at (ap (λ n. pushes.TheVariants.LoadsRead n) (sym known.1))
+      (loads_read code slots queue s latest turns changes since x h small index straight stands from
+      (subst (λ n. Here code slots queue s latest turns changes since x h small index straight (pushes.TheVariants.LoadsRead n))
+      known.1 here)
+      steps)
+  does (pushes.TheVariants.StoresCell write read) here from known stands steps =
+      subst Does_at (ap (λ n. pushes.TheVariants.StoresCell n read) (sym known.1))
+      (stores_cell code slots queue s latest turns changes since x h small index straight stands from read known.2
+      known.3
+      (subst (λ n. Here code slots queue s latest turns changes since x h small index straight (pushes.TheVariants.StoresCell n read))
+      known.1 here)
+      steps)
+  does (pushes.TheVariants.StoresWrite write read) here from known stands steps =
+      subst Does_at (ap (λ n. pushes.TheVariants.StoresWrite n read) (sym known.1))
+      (stores_write code slots queue s latest turns changes since x h small index straight read
+      (subst (λ n. Here code slots queue s latest turns changes since x h small index straight (pushes.TheVariants.StoresWrite n read))
+      known.1 here)
+      stands from known.4 steps known.2 known.3)
+  does (pushes.TheVariants.MovesRead read) here from known stands steps = go (s.submission.read == read) refl
+    where
+      go : (b : Bool) → (s.submission.read == read) ≡ b → Does_at (pushes.TheVariants.MovesRead read)
+      go true e =
+          let same : read ≡ s.submission.read = grind (arith, nat_tests) in
+          let t : (s.submission.read == s.submission.read) ≡ true = grind (arith, nat_tests) in
+          let last = known.3 same in
+          let far = known.2 in
+          let write = h.parts.submission.write in
+          let front = oldest queue s.submission h.parts.submission (omega arith) in
+          let wrote : push_wrote {T = T} queue s.submission index moves ≡ publishes ∷ [] = rw t refl in
+          subst Does_at (ap (λ n. pushes.TheVariants.MovesRead n) (sym same))
+          (moves_read
+          (subst (λ n. Here code slots queue s latest turns changes since x h small index straight (pushes.TheVariants.MovesRead n))
+          same here)
+          (subst (λ n. span_of 0 s.events ≡ Open call (push_wrote queue s.submission index (pushes.TheVariants.MovesRead n))) same from
+          ∙ ap (λ es. Open call es) wrote)
+          last.0 front.0 last.1 front.1 (omega arith) steps)
+      go false e =
+          let ne : s.submission.read ≢ read = grind (arith, nat_tests) in
+          let apart : (read == s.submission.read) ≡ false = (let other : read ≢ s.submission.read = λ same. ne (sym same) in grind (arith, nat_tests)) in
+          let wrote : push_wrote {T = T} queue s.submission index (late read) ≡ publishes ∷ acted ∷ [] = rw apart refl in
+          moves_late read here (from ∙ ap (λ es. Open call es) wrote) e apart steps
+  does (pushes.TheVariants.LoadsCell read) here from known stands steps =
+      loads_cell read here from stands steps

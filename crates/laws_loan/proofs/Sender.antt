@@ -1,6 +1,5 @@
 -- A step of the sender's call, which writes events of its own alone: what it shows, and that it so comes to what the frame asks.
-use native.Mathlib.Omega.{arith}
-use Rattle.std.proofs.Common.{◌≡◌, ◌≢◌, ℕ, ◌+◌, Bool, Option, Some, List, [], ◌++◌, fold, sym, ap, subst, ◌∙◌}
+use Rattle.std.proofs.Common.{◌≡◌, ◌≢◌, ℕ, ◌+◌, Bool, false, Option, Some, List, [], ◌++◌, fold, sym, ap, subst, ◌∙◌}
 use Rattle.steps.specs.declared.ask.Ask.{Ask}
 use Rattle.steps.specs.declared.ask.After.{After}
 use Rattle.model.specs.declared.event.Answer.{Answer}
@@ -12,20 +11,22 @@ use Rattle.model.specs.declared.families.Flight as flights
 use Rattle.model.specs.declared.families.Registry as registries
 use Rattle.model.specs.declared.families.loan.LoanStart.{LoanStart}
 use Rattle.model.specs.declared.families.loan.calls.LoanFlight.{LoanFlight}
+use Rattle.model.specs.declared.families.loan.effects.Effect.{Effect}
 use Rattle.model.specs.declared.party.Party.{Party}
 use Rattle.model.specs.Coding.{Coding}
 use Rattle.model.specs.Families.Loan.Promises.{promise}
+use Rattle.model.specs.Families.Loan.Steps.{ended_book, book_after, effects_of}
 use Rattle.model.specs.Promises.Spans.{Stands}
 use Rattle.model.specs.Reading.{Span, own_after, span_of}
-use Rattle.model.specs.Step.{as_call}
-use Rattle.model.specs.Turns.{words_after, change_of, step_count, party_after}
+use Rattle.model.specs.Step.{as_call, answer_in}
+use Rattle.model.specs.Turns.{words_after, change_of, step_count, party_after, ending_of}
 use Rattle.model.proofs.Frame as frame
 use Rattle.model.proofs.Readings.{AreOwn, AllFollow, span_of-other}
 use Rattle.laws_queues.proofs.Queues.Core.{GoesUp}
 use Rattle.laws_loan.proofs.Channel.{Channel, words_in}
 use Rattle.laws_loan.proofs.Invariant.{family}
 use Rattle.laws_loan.proofs.Knows.{wrote_in, At}
-use Rattle.laws_loan.proofs.Theirs.{Stays, theirs_stay}
+use Rattle.laws_loan.proofs.Theirs.{Stays, theirs_stay, knows_keeps}
 use Rattle.laws_loan.proofs.Turns.{Shows}
 
 module _ {T : Type 0} where
@@ -38,6 +39,40 @@ module _ {T : Type 0} where
   party_then s x since changes start ask back after =
       party_after (record x { start = starts.Loan start }) since changes (step_count ask) (change_of (words_in s) ask)
       (record { after = any_call after; back = back; wrote = []; kept = registries.TheVariants.Loan s.book })
+
+-- a turn of a party that writes events of its own, where the calls of the others stand where they stood
+module _ {T : Type 0} (code : Coding T) (slots queue : ℕ) (s s' : Channel T) (p : ℕ) (y : Party T)
+    (latest : List (ℕ × Party T)) (from : Span T) (es : List (Event T)) (changes changes' : ℕ)
+    (events : s'.events ≡ s.events ++ es) (own : AreOwn p es)
+    (at_others : (q : ℕ) → q ≢ p → (wrote : List (Event T)) (start : LoanStart) (flight : LoanFlight)
+    → At slots queue s q wrote start flight → At slots queue s' q wrote start flight)
+    (up : GoesUp s.submission s'.submission changes changes') where
+  abbrev any : frame.Family T
+  any = family code slots queue
+
+  same_span : (q : ℕ) → q ≢ p → span_of q s'.events ≡ span_of q s.events
+  same_span q ne = ap (span_of q) events ∙ span_of-other p q s.events es ne own
+
+  others : (q : ℕ) → q ≢ p → (other : Start T) (call : Flight T) → any.At s q other call
+      → any.At s' q other call × (any.written s' q call ≡ any.written s q call)
+  others q ne (starts.Loan other) (flights.TheVariants.Loan call) known = (
+    subst (λ wrote. At slots queue s' q wrote other call) (ap wrote_in (sym (same_span q ne)))
+        (at_others q ne (wrote_in (span_of q s.events)) other call known),
+    ap wrote_in (same_span q ne),
+  )
+  others q ne other call known = absurd known
+
+  others_know : (q : ℕ) → q ≢ p → (sooner backs : ℕ) (call : Flight T) → any.Knows s q s.events sooner changes backs call
+      → any.Knows s' q (s.events ++ es) sooner changes' backs call
+  others_know q ne sooner backs (flights.TheVariants.Loan flight) known = knows_keeps slots queue s s' changes changes' up sooner backs flight known
+  others_know q ne sooner backs flight known = absurd known
+
+  pub owes_by : AllFollow (Stands promise slots) from es → frame.Fits any s' p (Some y) (fold own_after from es)
+      → frame.KnowsDoing any s' p (s.events ++ es) changes' y.backs y.doing
+      → span_of p s.events ≡ from → frame.Inv any s latest s.events changes → frame.Owes any s' p y latest s.events es changes'
+  owes_by stands here knows is inv =
+      frame.owes any s s' from p y latest s.events es changes changes' is inv
+      (record { own = own; stands = stands; here = here; knows = knows; others = others; others_know = others_know })
 
 module _ {T : Type 0} (code : Coding T) (slots queue : ℕ) (s : Channel T) (latest : List (ℕ × Party T)) (turns changes since : ℕ) (x : Party T) where
   abbrev channel : frame.Family T
@@ -57,37 +92,17 @@ module _ {T : Type 0} (code : Coding T) (slots queue : ℕ) (s : Channel T) (lat
     pub theirs : (q : ℕ) → q ≢ 0 → Stays slots queue s s' q
     pub up : GoesUp s.submission s'.submission changes (changes + change_of (words_in s) ask)
 
+  -- such a step with this effect, which leaves its book
+  abbrev pub StepBy : Channel T → Span T → LoanStart → Option Ask → After LoanFlight (Answer T) → Effect → Type 0
+  StepBy s' from start ask after effect =
+      Steps s' from start ask false after (effects_of 0 effect (answer_in after) ++ ending_of 0 (starts.Loan start) (answer_in after))
+      × (ended_book {T = T} 0 start (answer_in after) (fold (book_after {T = T}) s.book (effects_of 0 effect (answer_in after))) ≡ s'.book)
+
   module _ (s' : Channel T) (from : Span T) (start : LoanStart) (ask : Option Ask) (back : Bool)
       (after : After LoanFlight (Answer T)) (es : List (Event T)) (steps : Steps s' from start ask back after es) where
-    abbrev then_party : Party T
-    then_party = party_then s x since changes start ask back after
-
-    same_span : (q : ℕ) → q ≢ 0 → span_of q s'.events ≡ span_of q s.events
-    same_span q ne = ap (span_of q) steps.shows.events ∙ span_of-other 0 q s.events es ne steps.own
-
-    others : (q : ℕ) → q ≢ 0 → (other : Start T) (call : Flight T) → channel.At s q other call
-        → channel.At s' q other call × (channel.written s' q call ≡ channel.written s q call)
-    others q ne (starts.Loan other) (flights.TheVariants.Loan call) known = (
-      subst (λ wrote. At slots queue s' q wrote other call) (ap wrote_in (sym (same_span q ne)))
-          (theirs_stay slots queue s s' q ne (steps.theirs q ne) (wrote_in (span_of q s.events)) other call known),
-      ap wrote_in (same_span q ne),
-    )
-    others q ne other call known = absurd known
-
-    others_know : (q : ℕ) → q ≢ 0 → (sooner backs : ℕ) (call : Flight T)
-        → channel.Knows s q s.events sooner changes backs call
-        → channel.Knows s' q (s.events ++ es) sooner (changes + change_of (words_in s) ask) backs call
-    others_know x0 x1 x2 x3 x4 x5 = grind arith
-
     pub step_owes : span_of 0 s.events ≡ from → frame.Inv channel s latest s.events changes
-        → frame.Owes channel s' 0 then_party latest s.events es (changes + change_of (words_in s) ask)
-    step_owes is inv =
-        frame.owes channel s s' from 0 then_party latest s.events es changes (changes + change_of (words_in s) ask) is inv
-        (record {
-          own = steps.own;
-          stands = steps.stands;
-          here = steps.here;
-          knows = steps.knows;
-          others = others;
-          others_know = others_know;
-        })
+        → frame.Owes channel s' 0 (party_then s x since changes start ask back after) latest s.events es (changes + change_of (words_in s) ask)
+    step_owes =
+        owes_by code slots queue s s' 0 (party_then s x since changes start ask back after) latest from es changes
+        (changes + change_of (words_in s) ask) steps.shows.events steps.own
+        (λ q ne. theirs_stay slots queue s s' q ne (steps.theirs q ne)) steps.up steps.stands steps.here steps.knows

@@ -1,6 +1,6 @@
 -- The steps of a send until it releases an index: the sender pushes the submission queue.
 use Rattle.std.proofs.Common.{◌≡◌, ◌≢◌, ℕ, ◌+◌, ◌-◌, ◌^◌, ◌<◌, ◌≤◌, ◌==◌, false, Option, Some, None, List, [], ◌++◌}
-use Rattle.std.proofs.Common.{length, fold, refl, sym, ap, subst, ◌∙◌, append-nil, arith}
+use Rattle.std.proofs.Common.{length, refl, sym, ap, subst, ◌∙◌, append-nil, arith}
 use Rattle.std.proofs.lemmas.Bool.Decides.{nat_tests}
 use Rattle.steps.specs.declared.ask.Ask.{Ask}
 use Rattle.steps.specs.declared.ask.After.{After}
@@ -31,11 +31,11 @@ use Rattle.model.specs.declared.party.Party.{Party}
 use Rattle.model.specs.Coding.{Coding}
 use Rattle.model.specs.Families.{ask_of}
 use Rattle.model.specs.Families.Loan.Reading.{spot_of, receiver_of}
-use Rattle.model.specs.Families.Loan.Steps.{ended_book, book_after, read_in, push_effect, effects_of}
+use Rattle.model.specs.Families.Loan.Steps.{read_in, push_effect}
 use Rattle.model.specs.Families.Queues.Calls.{as_it_is, popped, words_of_index}
 use Rattle.model.specs.Reading.{Open, span_of}
-use Rattle.model.specs.Step.{as_call, answer_in}
-use Rattle.model.specs.Turns.{old_of, words_after, change_of, step_count, ending_of}
+use Rattle.model.specs.Step.{as_call}
+use Rattle.model.specs.Turns.{old_of, words_after, change_of, step_count}
 use Rattle.laws_queues.proofs.Overflow.Keeping.{fill_keeps_pop}
 use Rattle.laws_queues.proofs.Overflow.Knows.{KnowsOverflowPush, KnowsOverflowPop, overflow_push_number}
 use Rattle.laws_queues.proofs.Queues.Core.{Core, Good, filled}
@@ -47,8 +47,9 @@ use Rattle.laws_loan.proofs.Knows.{Passes, PushAt, push_wrote, wrote_in, At}
 use Rattle.laws_loan.proofs.OnQueues.{OnQueues, queues_show, silent_tells}
 use Rattle.laws_loan.proofs.Parts.{submission_old, submission_words, submission_change}
 use Rattle.laws_loan.proofs.Placed.{Placed}
-use Rattle.laws_loan.proofs.Sender.{party_then, Steps}
+use Rattle.laws_loan.proofs.Sender.{party_then, StepBy}
 use Rattle.laws_loan.proofs.Submission as submission
+use Rattle.laws_loan.proofs.Theirs.{stays_beside}
 use Rattle.laws_loan.proofs.Told.{is_reclaiming, Tells}
 
 abbrev pub pushes_at : ℕ → ℕ → PushStage → ℕ → LoanFlight
@@ -87,25 +88,27 @@ module _ {T : Type 0} (code : Coding T) (slots queue : ℕ) (s : Channel T) (lat
   abbrev pub effect_at : PushStage → ℕ → Effect
   effect_at stage value = push_effect (submission_word slots) queue (words_in s) index stage value
 
-  abbrev pub events_by : Effect → After LoanFlight (Answer T) → List (Event T)
-  events_by effect after = effects_of 0 effect (answer_in after) ++ ending_of 0 start (answer_in after)
-
-  -- what is kept then
-  abbrev pub Keeps : Channel T → Effect → After LoanFlight (Answer T) → Type 0
-  Keeps s' effect after =
-      ended_book {T = T} 0 (calls.Send index) (answer_in after) (fold (book_after {T = T}) s.book (effects_of 0 effect (answer_in after)))
-      ≡ s'.book
-
   abbrev pub StepTo : Channel T → List (Event T) → PushStage → After LoanFlight (Answer T) → Effect → Type 0
   StepTo s' wrote stage after effect =
-      Steps code slots queue s latest turns changes since x s' (Open start wrote) (calls.Send index) (asked stage) false
-      after (events_by effect after)
-      × Keeps s' effect after
+      StepBy code slots queue s latest turns changes since x s' (Open start wrote) (calls.Send index) (asked stage) after effect
 
   -- what a step of a send that stands here comes to
   pub record Does (stage : PushStage) : Type 0 where
     pub channel_then : Channel T
     pub step : StepTo channel_then (push_wrote queue s.submission index stage) stage (goes stage (old stage)) (effect_at stage (old stage))
+
+  -- so it comes, as the call computes it
+  pub does_by : (s' : Channel T) (stage : PushStage) (wrote : List (Event T)) (after : After LoanFlight (Answer T)) (effect : Effect)
+      → push_wrote queue s.submission index stage ≡ wrote → goes stage (old stage) ≡ after → effect_at stage (old stage) ≡ effect
+      → StepTo s' wrote stage after effect → Does stage
+  does_by s' stage wrote after effect told is does step =
+      record {
+        channel_then = s';
+        step =
+            subst (λ es. StepTo s' es stage (goes stage (old stage)) (effect_at stage (old stage))) (sym told)
+            (subst (λ a. StepTo s' wrote stage a (effect_at stage (old stage))) (sym is)
+            (subst (λ e. StepTo s' wrote stage after e) (sym does) step));
+      }
 
   abbrev pub Here : PushStage → Type 0
   Here stage = sends_at latest ≡ Some (flights.TheVariants.Loan (pushes_at slots queue stage index))
@@ -222,13 +225,7 @@ module _ {T : Type 0} (code : Coding T) (slots queue : ℕ) (s : Channel T) (lat
                 };
             knows = omega arith;
             theirs = λ q ne.
-                record {
-                  alive = λ alive. alive;
-                  receiver = λ alive e. e;
-                  pop = λ alive e room stage known. pops room stage known;
-                  passes = λ alive e i passes. (passes.0, ap (spot_of i) (append-nil s.events) ∙ passes.1);
-                  push = λ i stage known. known;
-                };
+                stays_beside slots queue s s_on q refl refl pops (λ i stage known. known) (λ i e. ap (spot_of i) (append-nil s.events) ∙ e);
             up = record { write = omega arith; read = omega arith; paid = omega arith };
           },
           refl,
@@ -237,6 +234,9 @@ module _ {T : Type 0} (code : Coding T) (slots queue : ℕ) (s : Channel T) (lat
   -- ---- the loads, and the store into the cell
 
   module _ (passes : Passes slots queue s 0 index) (from : span_of 0 s.events ≡ Open start []) where
+    abbrev still : Channel T
+    still = record s { submission = s.submission; completion = s.completion; book = s.book; events = s.events ++ [] }
+
     passes_on : Passes slots queue (record s { events = s.events ++ [] }) 0 index
     passes_on = (passes.0, ap (spot_of index) (append-nil s.events) ∙ passes.1)
 
@@ -244,47 +244,29 @@ module _ {T : Type 0} (code : Coding T) (slots queue : ℕ) (s : Channel T) (lat
     loads_write here steps =
         let some = h.parts.some in
         let on : 0 < length queued = (let wide = long in omega arith) in
-        let is : goes pushes.TheVariants.LoadsWrite (old pushes.TheVariants.LoadsWrite)
-        ≡ GoOn (pushes_at slots queue (pushes.TheVariants.LoadsRead s.submission.write) index) =
-        ap (goes pushes.TheVariants.LoadsWrite) (old_is pushes.TheVariants.LoadsWrite on)
-        ∙ (let t : (s.submission.write == 2 ^ 64 - 1) ≡ false = (let low = reached in grind (arith, nat_tests)) in rw t refl)
-        in
-        record {
-          channel_then = record s { submission = s.submission; completion = s.completion; book = s.book; events = s.events ++ [] };
-          step =
-              subst
-              (λ a. StepTo (record s { submission = s.submission; completion = s.completion; book = s.book; events = s.events ++ [] })
-              [] pushes.TheVariants.LoadsWrite a effects.Quiet)
-              (sym is)
-              (goes_on pushes.TheVariants.LoadsWrite (pushes.TheVariants.LoadsRead s.submission.write) s.submission
-              here tt from refl refl refl h.parts.submission on refl refl refl refl refl
-              (omega arith, refl, (let low = reached in omega arith)) passes_on (omega arith)
-              (λ room stage known. known));
-        }
+        does_by still pushes.TheVariants.LoadsWrite [] (GoOn (pushes_at slots queue (pushes.TheVariants.LoadsRead s.submission.write) index))
+        effects.Quiet refl
+        (ap (goes pushes.TheVariants.LoadsWrite) (old_is pushes.TheVariants.LoadsWrite on)
+        ∙ (let t : (s.submission.write == 2 ^ 64 - 1) ≡ false = (let low = reached in grind (arith, nat_tests)) in rw t refl))
+        refl
+        (goes_on pushes.TheVariants.LoadsWrite (pushes.TheVariants.LoadsRead s.submission.write) s.submission here tt from
+        refl refl refl h.parts.submission on refl refl refl refl refl
+        (omega arith, refl, (let low = reached in omega arith)) passes_on (omega arith) (λ room stage known. known))
 
     pub loads_read : Here (pushes.TheVariants.LoadsRead s.submission.write) → x.steps ≤ 1 → Does (pushes.TheVariants.LoadsRead s.submission.write)
     loads_read here steps =
         let some = h.parts.some in
         let on : 1 < length queued = (let wide = long in omega arith) in
-        let is : goes (pushes.TheVariants.LoadsRead s.submission.write) (old (pushes.TheVariants.LoadsRead s.submission.write))
-        ≡ GoOn (pushes_at slots queue (pushes.TheVariants.StoresCell s.submission.write s.submission.read) index) =
-        ap (goes (pushes.TheVariants.LoadsRead s.submission.write)) (old_is (pushes.TheVariants.LoadsRead s.submission.write) on)
-        in
         let few : length s.submission.waiting ≤ queue = subst (Hangs queue s.submission) (ap (hung s.submission.read) here) h.hangs in
         let write = h.parts.submission.write in
-        record {
-          channel_then = record s { submission = s.submission; completion = s.completion; book = s.book; events = s.events ++ [] };
-          step =
-              subst
-              (λ a. StepTo (record s { submission = s.submission; completion = s.completion; book = s.book; events = s.events ++ [] })
-              [] (pushes.TheVariants.LoadsRead s.submission.write) a effects.Quiet)
-              (sym is)
-              (goes_on (pushes.TheVariants.LoadsRead s.submission.write)
-              (pushes.TheVariants.StoresCell s.submission.write s.submission.read) s.submission here tt from refl
-              refl refl h.parts.submission on refl refl refl refl refl
-              (omega arith, refl, omega arith, omega arith, (let low = reached in omega arith)) passes_on
-              (omega arith) (λ room stage known. known));
-        }
+        does_by still (pushes.TheVariants.LoadsRead s.submission.write) []
+        (GoOn (pushes_at slots queue (pushes.TheVariants.StoresCell s.submission.write s.submission.read) index)) effects.Quiet
+        refl (ap (goes (pushes.TheVariants.LoadsRead s.submission.write)) (old_is (pushes.TheVariants.LoadsRead s.submission.write) on)) refl
+        (goes_on (pushes.TheVariants.LoadsRead s.submission.write)
+        (pushes.TheVariants.StoresCell s.submission.write s.submission.read) s.submission here tt from refl refl refl
+        h.parts.submission on refl refl refl refl refl
+        (omega arith, refl, omega arith, omega arith, (let low = reached in omega arith)) passes_on (omega arith)
+        (λ room stage known. known))
 
     pub stores_cell : (read : ℕ) → read ≤ s.submission.read → s.submission.write ≤ read + queue
         → Here (pushes.TheVariants.StoresCell s.submission.write read) → x.steps ≤ 2

@@ -1,9 +1,9 @@
 -- Where an index is after one event more.
 use native.Mathlib.Omega.{arith}
-use Rattle.std.proofs.Common.{◌≡◌, ◌≢◌, ℕ, ◌==◌, if◌then◌else◌, Bool, true, false, Some, None, List, [], ◌∷◌, ◌++◌, refl, ap, ◌∙◌, eq-eqb, ne_eqb}
+use Rattle.std.proofs.Common.{◌≡◌, ◌≢◌, ℕ, ◌==◌, if◌then◌else◌, Bool, true, false, Some, None, List, [], ◌∷◌, ◌++◌, refl, sym, ap, ◌∙◌, eq-eqb, ne_eqb}
 use Rattle.std.proofs.lemmas.List.Sums.{fold-append}
 use Rattle.model.specs.declared.event.Event.{Event}
-use Rattle.model.specs.Families.Loan.Reading.{Spot, Free, Waiting, Returning, Move, move_of, moved, spot_after, spot_of}
+use Rattle.model.specs.Families.Loan.Reading.{Spot, Free, Passing, With, Waiting, Returning, Move, move_of, moved, spot_after, spot_of}
 
 -- ---- the two spots that are queues
 
@@ -20,6 +20,32 @@ waits_there x0 x1 = grind arith
 
 pub returns_there : (spot : Spot) → is_returning spot ≡ true → spot ≡ Returning
 returns_there x0 x1 = grind arith
+
+-- ---- which of them are in passing
+
+pub passing_same : (p q : ℕ) → Passing p ≡ Passing q → p ≡ q
+passing_same p q e = cc
+
+pub free_passes : (q : ℕ) → Free ≡ Passing q → ⊥
+free_passes q e = absurd (cc)
+
+pub with_passes : (p q : ℕ) → With p ≡ Passing q → ⊥
+with_passes p q e = absurd (cc)
+
+pub waiting_passes : (q : ℕ) → Waiting ≡ Passing q → ⊥
+waiting_passes q e = absurd (cc)
+
+pub returning_passes : (q : ℕ) → Returning ≡ Passing q → ⊥
+returning_passes q e = absurd (cc)
+
+-- where events move one index alone, what is in passing in a call that does not have that one is so still
+pub passing_on : {T : Type 0} (events es : List (Event T)) (index : ℕ)
+    → ((i : ℕ) → index ≢ i → spot_of i (events ++ es) ≡ spot_of i events)
+    → (spot : Spot) → spot_of index events ≡ spot → (q : ℕ) → (spot ≡ Passing q → ⊥)
+    → (i : ℕ) → spot_of i events ≡ Passing q → spot_of i (events ++ es) ≡ Passing q
+passing_on events es index elsewhere spot was q not i e = elsewhere i (λ same. not (sym was ∙ (ap (λ n. spot_of n events) same ∙ e))) ∙ e
+
+-- ---- one event
 
 module _ {T : Type 0} (events : List (Event T)) (e : Event T) where
   spot_more : (i : ℕ) → spot_of i (events ++ e ∷ []) ≡ moved i (spot_of i events) (move_of e)

@@ -1,5 +1,5 @@
 -- From what a step shows to what it comes to for the frame.
-use Rattle.std.proofs.Common.{◌≡◌, ℕ, ◌+◌, Bool, Option, List, ◌++◌, sym, subst}
+use Rattle.std.proofs.Common.{◌≡◌, ℕ, ◌+◌, Bool, Option, List, ◌++◌, sym, subst, fold}
 use Rattle.steps.specs.declared.ask.Ask.{Ask}
 use Rattle.steps.specs.declared.ask.After.{After}
 use Rattle.steps.specs.declared.ask.After.TheVariants.{GoOn, Done}
@@ -10,8 +10,10 @@ use Rattle.model.specs.declared.families.Registry as registries
 use Rattle.model.specs.declared.families.loan.Book.{Book}
 use Rattle.model.specs.declared.families.loan.LoanStart.{LoanStart}
 use Rattle.model.specs.declared.families.loan.calls.LoanFlight.{LoanFlight}
+use Rattle.model.specs.declared.families.loan.effects.Effect.{Effect}
 use Rattle.model.specs.declared.party.Party.{Party}
 use Rattle.model.specs.Coding.{Coding}
+use Rattle.model.specs.Families.Loan.Steps.{ended_book, book_after, effects_of}
 use Rattle.model.specs.Parties.{put}
 use Rattle.model.specs.Reading.{Span, span_of}
 use Rattle.model.specs.Step.{answer_in}
@@ -49,6 +51,12 @@ module _ {T : Type 0} (code : Coding T) (slots queue : ℕ) where
         (record { after = any_call after; back = back; wrote = wrote; kept = registries.TheVariants.Loan book }))
         (wrote ++ ending_of p (starts.TheVariants.Loan start) (answer_in (any_call after)))
         (t.world.changes + change_of (words_in now) ask)
+
+    -- with this effect
+    abbrev pub ComesBy : ℕ → LoanStart → Option Ask → Bool → After LoanFlight (Answer T) → Effect → Type 0
+    ComesBy p start ask back after effect =
+        ComesWith p start ask back after (effects_of p effect (answer_in after))
+        (ended_book {T = T} p start (answer_in after) (fold (book_after {T = T}) now.book (effects_of p effect (answer_in after))))
 
     -- any step that shows this and owes this
     pub comes : (p : ℕ) (start : LoanStart) (ask : Option Ask) (back : Bool) (after : After LoanFlight (Answer T))

@@ -1,8 +1,6 @@
 -- Each event of a loan channel by the table of its places: from where it moves its index, and what is so then.
 use Rattle.std.proofs.Common.{◌≡◌, ◌≢◌, ℕ, ◌<◌, ◌⊎◌, inl, inr, ⊎_elim, false, Option, Some, None, List, [], ◌∷◌, ◌++◌}
-use Rattle.std.proofs.Common.{get_or, set, refl, sym, ap, subst, ◌∙◌, arith, length-set, get_or-set_same}
-use Rattle.std.proofs.Common.{get_or-set_other}
-use Rattle.std.proofs.lemmas.List.Sums.{fold-append}
+use Rattle.std.proofs.Common.{get_or, set, refl, sym, ap, subst, ◌∙◌, arith, get_or-set_same}
 use Rattle.steps.specs.declared.loan.places.Place.{Place}
 use Rattle.steps.specs.declared.loan.places.Place.TheVariants as places
 use Rattle.steps.specs.Loan.Places.{place_at}
@@ -16,10 +14,10 @@ use Rattle.model.specs.declared.families.loan.LoanStart.{LoanStart}
 use Rattle.model.specs.declared.families.loan.LoanStart.TheVariants as calls
 use Rattle.model.specs.Families.Loan.Opening.{taken_from}
 use Rattle.model.specs.Families.Loan.Promises.{holder_in, IsIn}
-use Rattle.model.specs.Families.Loan.Reading.{Spot, Free, Passing, With, Waiting, Returning, Move, move_of, spot_of, receiver_after, receiver_of, died_after}
+use Rattle.model.specs.Families.Loan.Reading.{Spot, Free, Passing, With, Waiting, Returning, Move, move_of, spot_of, receiver_of}
 use Rattle.model.specs.Families.Loan.Steps.{book_after}
 use Rattle.laws_loan.proofs.Lists.{first_there, lists_pass, lists_push, lists_pop}
-use Rattle.laws_loan.proofs.Placed.{claim_of, IsBy, Placed, placed_more}
+use Rattle.laws_loan.proofs.Placed.{claim_of, IsBy, Placed, same_all, set_one, placed_more}
 use Rattle.laws_loan.proofs.Spots.{is_waiting, is_returning, waits_there, returns_there}
 
 -- ---- where the sender's table may have an index
@@ -74,9 +72,6 @@ module _ {T : Type 0} (slots : ℕ) (claims : List (Option ℕ)) (sent back : Li
   held : (i : ℕ) (spot : Spot) → spot_of i events ≡ spot → get_or book.holders i None ≡ holder_in spot
   held i spot from = h.keeps.holders i ∙ ap holder_in from
 
-  same_receiver : (e : Event T) → receiver_after (receiver_of events) e ≡ receiver_of events → receiver_of (events ++ e ∷ []) ≡ receiver_of events
-  same_receiver e is = fold-append receiver_after 1 events (e ∷ []) ∙ is
-
   module _ (i : ℕ) (below : i < slots) where
     abbrev move : Spot → Spot → Move
     move from to = record { index = i; from = from; to = to }
@@ -92,21 +87,15 @@ module _ {T : Type 0} (slots : ℕ) (claims : List (Option ℕ)) (sent back : Li
         (record {
           below = below;
           claim = get_or-set_same claims i (Some 0) None (let long = h.claims_long in omega arith);
-          other_claims = λ j ne. get_or-set_other claims i j (Some 0) None (λ e. ne (sym e));
+          other_claims = set_one i None (Some 0) claims;
           waits = lists_pass is_waiting sent events (Claimed 0 i) h.waits (move Free (Passing 0)) refl (ap is_waiting from) refl;
           returns = lists_pass is_returning back events (Claimed 0 i) h.returns (move Free (Passing 0)) refl (ap is_returning from) refl;
           party = λ p by. inl (by_passing 0 p by);
-          claims_long = length-set claims i (Some 0);
-          places_long = length-set book.places i places.Loaned;
-          holders_long = refl;
           place = loaned_in _ (Passing 0) (get_or-set_same book.places i places.Loaned places.Free (let long = h.places_long in omega arith)) (inr refl);
-          other_places = λ j ne. get_or-set_other book.places i j places.Loaned places.Free (λ e. ne (sym e));
+          other_places = set_one i places.Free places.Loaned book.places;
           holds = held i Free from;
-          other_holders = λ j ne. refl;
-          receiver = same_receiver (Claimed 0 i) refl;
-          receiver_stays = refl;
-          dead = λ r. fold-append (died_after r) false events (Claimed 0 i ∷ []);
-          dead_stay = refl;
+          other_holders = same_all i None book.holders;
+          calm = (refl, (λ r. refl), refl, refl);
         })
 
     -- and ends
@@ -118,7 +107,7 @@ module _ {T : Type 0} (slots : ℕ) (claims : List (Option ℕ)) (sent back : Li
         (record {
           below = below;
           claim = h.claimed i below ∙ ap claim_of from;
-          other_claims = λ j ne. refl;
+          other_claims = same_all i None claims;
           waits =
               lists_pass is_waiting sent events (Finished 0 (Loan calls.Loan) (answers.Index i)) h.waits
               (move (Passing 0) (With 0)) refl (ap is_waiting from) refl;
@@ -126,17 +115,11 @@ module _ {T : Type 0} (slots : ℕ) (claims : List (Option ℕ)) (sent back : Li
               lists_pass is_returning back events (Finished 0 (Loan calls.Loan) (answers.Index i)) h.returns
               (move (Passing 0) (With 0)) refl (ap is_returning from) refl;
           party = λ p by. inl (by_with 0 p by);
-          claims_long = refl;
-          places_long = refl;
-          holders_long = length-set book.holders i (Some 0);
           place = loaned_in _ (With 0) loaned (inl refl);
-          other_places = λ j ne. refl;
+          other_places = same_all i places.Free book.places;
           holds = get_or-set_same book.holders i (Some 0) None (let long = h.holders_long in omega arith);
-          other_holders = λ j ne. get_or-set_other book.holders i j (Some 0) None (λ e. ne (sym e));
-          receiver = same_receiver (Finished 0 (Loan calls.Loan) (answers.Index i)) refl;
-          receiver_stays = refl;
-          dead = λ r. fold-append (died_after r) false events (Finished 0 (Loan calls.Loan) (answers.Index i) ∷ []);
-          dead_stay = refl;
+          other_holders = set_one i None (Some 0) book.holders;
+          calm = (refl, (λ r. refl), refl, refl);
         })
 
     -- a send or a give-up begins
@@ -149,21 +132,15 @@ module _ {T : Type 0} (slots : ℕ) (claims : List (Option ℕ)) (sent back : Li
         (record {
           below = below;
           claim = h.claimed i below ∙ ap claim_of from;
-          other_claims = λ j ne. refl;
+          other_claims = same_all i None claims;
           waits = lists_pass is_waiting sent events (Begun 0 (Loan start)) h.waits (move (With 0) (Passing 0)) is (ap is_waiting from) refl;
           returns = lists_pass is_returning back events (Begun 0 (Loan start)) h.returns (move (With 0) (Passing 0)) is (ap is_returning from) refl;
           party = λ p by. inl (by_passing 0 p by);
-          claims_long = refl;
-          places_long = refl;
-          holders_long = length-set book.holders i None;
           place = loaned_in _ (Passing 0) (loaned_there _ (stood i (With 0) from)) (inr refl);
-          other_places = λ j ne. refl;
+          other_places = same_all i places.Free book.places;
           holds = get_or-set_same book.holders i None None (let long = h.holders_long in omega arith);
-          other_holders = λ j ne. get_or-set_other book.holders i j None None (λ e. ne (sym e));
-          receiver = same_receiver (Begun 0 (Loan start)) refl;
-          receiver_stays = refl;
-          dead = λ r. fold-append (died_after r) false events (Begun 0 (Loan start) ∷ []);
-          dead_stay = refl;
+          other_holders = set_one i None None book.holders;
+          calm = (refl, (λ r. refl), refl, refl);
         })
 
     -- a send publishes it
@@ -175,23 +152,17 @@ module _ {T : Type 0} (slots : ℕ) (claims : List (Option ℕ)) (sent back : Li
         (record {
           below = below;
           claim = h.claimed i below ∙ ap claim_of from;
-          other_claims = λ j ne. refl;
+          other_claims = same_all i None claims;
           waits = lists_push is_waiting sent events (Published 0 (Index i)) h.waits (move (Passing 0) Waiting) refl (ap is_waiting from) refl;
           returns = lists_pass is_returning back events (Published 0 (Index i)) h.returns (move (Passing 0) Waiting) refl (ap is_returning from) refl;
           party = λ p by. absurd (by_none p Waiting (λ e. absurd (cc)) (λ e. absurd (cc)) by);
-          claims_long = refl;
-          places_long = length-set book.places i places.Sent;
-          holders_long = refl;
           place =
               sent_in _ Waiting (get_or-set_same book.places i places.Sent places.Free (let long = h.places_long in omega arith))
               (λ e. absurd (cc)) (λ e. absurd (cc));
-          other_places = λ j ne. get_or-set_other book.places i j places.Sent places.Free (λ e. ne (sym e));
+          other_places = set_one i places.Free places.Sent book.places;
           holds = held i (Passing 0) from;
-          other_holders = λ j ne. refl;
-          receiver = same_receiver (Published 0 (Index i)) refl;
-          receiver_stays = refl;
-          dead = λ r. fold-append (died_after r) false events (Published 0 (Index i) ∷ []);
-          dead_stay = refl;
+          other_holders = same_all i None book.holders;
+          calm = (refl, (λ r. refl), refl, refl);
         })
 
     -- it is freed, where it waits in neither queue
@@ -203,21 +174,15 @@ module _ {T : Type 0} (slots : ℕ) (claims : List (Option ℕ)) (sent back : Li
         (record {
           below = below;
           claim = get_or-set_same claims i None None (let long = h.claims_long in omega arith);
-          other_claims = λ j ne. get_or-set_other claims i j None None (λ e. ne (sym e));
+          other_claims = set_one i None None claims;
           waits = lists_pass is_waiting sent events (Freed 0 i) h.waits (move (Passing 0) Free) refl (ap is_waiting from ∙ neither) refl;
           returns = lists_pass is_returning back events (Freed 0 i) h.returns (move (Passing 0) Free) refl (ap is_returning from ∙ nor) refl;
           party = λ p by. absurd (by_none p Free (λ e. absurd (cc)) (λ e. absurd (cc)) by);
-          claims_long = length-set claims i None;
-          places_long = length-set book.places i places.Free;
-          holders_long = length-set book.holders i None;
           place = subst (λ place. IsIn place Free) (sym (get_or-set_same book.places i places.Free places.Free (let long = h.places_long in omega arith))) refl;
-          other_places = λ j ne. get_or-set_other book.places i j places.Free places.Free (λ e. ne (sym e));
+          other_places = set_one i places.Free places.Free book.places;
           holds = get_or-set_same book.holders i None None (let long = h.holders_long in omega arith);
-          other_holders = λ j ne. get_or-set_other book.holders i j None None (λ e. ne (sym e));
-          receiver = same_receiver (Freed 0 i) refl;
-          receiver_stays = refl;
-          dead = λ r. fold-append (died_after r) false events (Freed 0 i ∷ []);
-          dead_stay = refl;
+          other_holders = set_one i None None book.holders;
+          calm = (refl, (λ r. refl), refl, refl);
         })
 
     -- ---- the two queues
@@ -231,21 +196,15 @@ module _ {T : Type 0} (slots : ℕ) (claims : List (Option ℕ)) (sent back : Li
         (record {
           below = below;
           claim = h.claimed i below ∙ ap claim_of from;
-          other_claims = λ j ne. refl;
+          other_claims = same_all i None claims;
           waits = lists_pop is_waiting sent events (HandedOut p (Index i)) h.waits (move Waiting (Passing p)) refl rest front refl;
           returns = lists_pass is_returning back events (HandedOut p (Index i)) h.returns (move Waiting (Passing p)) refl (ap is_returning from) refl;
           party = λ q by. subst (λ n. (n ≡ 0) ⊎ (n ≡ receiver_of events)) (sym (by_passing p q by)) whose;
-          claims_long = refl;
-          places_long = refl;
-          holders_long = refl;
           place = sent_in _ (Passing p) (sent_there _ Waiting (stood i Waiting from) waiting_away) (λ e. absurd (cc)) (λ e. absurd (cc));
-          other_places = λ j ne. refl;
+          other_places = same_all i places.Free book.places;
           holds = held i Waiting from;
-          other_holders = λ j ne. refl;
-          receiver = same_receiver (HandedOut p (Index i)) refl;
-          receiver_stays = refl;
-          dead = λ r. fold-append (died_after r) false events (HandedOut p (Index i) ∷ []);
-          dead_stay = refl;
+          other_holders = same_all i None book.holders;
+          calm = (refl, (λ r. refl), refl, refl);
         })
 
     -- the first of those that were given back is taken back
@@ -257,21 +216,15 @@ module _ {T : Type 0} (slots : ℕ) (claims : List (Option ℕ)) (sent back : Li
         (record {
           below = below;
           claim = h.claimed i below ∙ ap claim_of from;
-          other_claims = λ j ne. refl;
+          other_claims = same_all i None claims;
           waits = lists_pass is_waiting sent events (TakenBack 0 i) h.waits (move Returning (Passing 0)) refl (ap is_waiting from) refl;
           returns = lists_pop is_returning back events (TakenBack 0 i) h.returns (move Returning (Passing 0)) refl rest front refl;
           party = λ p by. inl (by_passing 0 p by);
-          claims_long = refl;
-          places_long = refl;
-          holders_long = refl;
           place = sent_in _ (Passing 0) (sent_there _ Returning (stood i Returning from) returning_away) (λ e. absurd (cc)) (λ e. absurd (cc));
-          other_places = λ j ne. refl;
+          other_places = same_all i places.Free book.places;
           holds = held i Returning from;
-          other_holders = λ j ne. refl;
-          receiver = same_receiver (TakenBack 0 i) refl;
-          receiver_stays = refl;
-          dead = λ r. fold-append (died_after r) false events (TakenBack 0 i ∷ []);
-          dead_stay = refl;
+          other_holders = same_all i None book.holders;
+          calm = (refl, (λ r. refl), refl, refl);
         })
 
     -- ---- the receiver's index
@@ -291,7 +244,7 @@ module _ {T : Type 0} (slots : ℕ) (claims : List (Option ℕ)) (sent back : Li
           (record {
             below = below;
             claim = h.claimed i below ∙ ap claim_of from;
-            other_claims = λ j ne. refl;
+            other_claims = same_all i None claims;
             waits =
                 lists_pass is_waiting sent events (Finished p (Loan calls.Receive) (answers.PoppedIndex i)) h.waits
                 (move (Passing p) (With p)) refl (ap is_waiting from) refl;
@@ -299,17 +252,11 @@ module _ {T : Type 0} (slots : ℕ) (claims : List (Option ℕ)) (sent back : Li
                 lists_pass is_returning back events (Finished p (Loan calls.Receive) (answers.PoppedIndex i)) h.returns
                 (move (Passing p) (With p)) refl (ap is_returning from) refl;
             party = λ q by. theirs q (by_with p q by);
-            claims_long = refl;
-            places_long = refl;
-            holders_long = length-set book.holders i (Some p);
             place = sent_in _ (With p) (sent_there _ (Passing p) (stood i (Passing p) from) (passing_away p other)) (λ e. absurd (cc)) (λ e. other (cc));
-            other_places = λ j ne. refl;
+            other_places = same_all i places.Free book.places;
             holds = get_or-set_same book.holders i (Some p) None (let long = h.holders_long in omega arith);
-            other_holders = λ j ne. get_or-set_other book.holders i j (Some p) None (λ e. ne (sym e));
-            receiver = same_receiver (Finished p (Loan calls.Receive) (answers.PoppedIndex i)) refl;
-            receiver_stays = refl;
-            dead = λ r. fold-append (died_after r) false events (Finished p (Loan calls.Receive) (answers.PoppedIndex i) ∷ []);
-            dead_stay = refl;
+            other_holders = set_one i None (Some p) book.holders;
+            calm = (refl, (λ r. refl), refl, refl);
           })
 
       -- a give-back of it begins
@@ -321,23 +268,17 @@ module _ {T : Type 0} (slots : ℕ) (claims : List (Option ℕ)) (sent back : Li
           (record {
             below = below;
             claim = h.claimed i below ∙ ap claim_of from;
-            other_claims = λ j ne. refl;
+            other_claims = same_all i None claims;
             waits = lists_pass is_waiting sent events (Begun p (Loan (calls.GiveBack i))) h.waits (move (With p) (Passing p)) refl (ap is_waiting from) refl;
             returns =
                 lists_pass is_returning back events (Begun p (Loan (calls.GiveBack i))) h.returns
                 (move (With p) (Passing p)) refl (ap is_returning from) refl;
             party = λ q by. theirs q (by_passing p q by);
-            claims_long = refl;
-            places_long = refl;
-            holders_long = length-set book.holders i None;
             place = sent_in _ (Passing p) (sent_there _ (With p) (stood i (With p) from) (with_away p other)) (λ e. absurd (cc)) (λ e. absurd (cc));
-            other_places = λ j ne. refl;
+            other_places = same_all i places.Free book.places;
             holds = get_or-set_same book.holders i None None (let long = h.holders_long in omega arith);
-            other_holders = λ j ne. get_or-set_other book.holders i j None None (λ e. ne (sym e));
-            receiver = same_receiver (Begun p (Loan (calls.GiveBack i))) refl;
-            receiver_stays = refl;
-            dead = λ r. fold-append (died_after r) false events (Begun p (Loan (calls.GiveBack i)) ∷ []);
-            dead_stay = refl;
+            other_holders = set_one i None None book.holders;
+            calm = (refl, (λ r. refl), refl, refl);
           })
 
       -- and puts it into the completion queue
@@ -348,19 +289,13 @@ module _ {T : Type 0} (slots : ℕ) (claims : List (Option ℕ)) (sent back : Li
           (record {
             below = below;
             claim = h.claimed i below ∙ ap claim_of from;
-            other_claims = λ j ne. refl;
+            other_claims = same_all i None claims;
             waits = lists_pass is_waiting sent events (Returned p i) h.waits (move (Passing p) Returning) refl (ap is_waiting from) refl;
             returns = lists_push is_returning back events (Returned p i) h.returns (move (Passing p) Returning) refl (ap is_returning from) refl;
             party = λ q by. absurd (by_none q Returning (λ e. absurd (cc)) (λ e. absurd (cc)) by);
-            claims_long = refl;
-            places_long = refl;
-            holders_long = refl;
             place = sent_in _ Returning (sent_there _ (Passing p) (stood i (Passing p) from) (passing_away p other)) (λ e. absurd (cc)) (λ e. absurd (cc));
-            other_places = λ j ne. refl;
+            other_places = same_all i places.Free book.places;
             holds = held i (Passing p) from;
-            other_holders = λ j ne. refl;
-            receiver = same_receiver (Returned p i) refl;
-            receiver_stays = refl;
-            dead = λ r. fold-append (died_after r) false events (Returned p i ∷ []);
-            dead_stay = refl;
+            other_holders = same_all i None book.holders;
+            calm = (refl, (λ r. refl), refl, refl);
           })

@@ -1,25 +1,26 @@
 -- The steps of a take-back until it releases its index: the sender pops the completion queue.
-use Rattle.std.proofs.Common.{◌≡◌, ◌≢◌, ℕ, ◌+◌, ◌-◌, ◌^◌, ◌<◌, ◌≤◌, ◌⊎◌, ⊎_elim, Bool, false, Option}
-use Rattle.std.proofs.Common.{Some, None, List, [], ◌∷◌, ◌++◌, length, fold, refl, sym, ap, subst, ◌∙◌, append-nil}
-use Rattle.std.proofs.Common.{arith}
-use Rattle.std.proofs.lemmas.Bool.{cases_eq}
+use Rattle.std.proofs.Common.{◌≡◌, ◌≢◌, ℕ, ◌+◌, ◌-◌, ◌^◌, ◌<◌, ◌≤◌, Bool, false, Option, Some, None, List, [], ◌∷◌, ◌++◌}
+use Rattle.std.proofs.Common.{length, fold, refl, sym, ap, subst, ◌∙◌, append-nil, arith, ◌==◌, ◌||◌, true}
+use Rattle.std.proofs.lemmas.Bool.Decides.{nat_tests}
+use Rattle.std.proofs.lemmas.List.{set-get_or}
 use Rattle.std.proofs.lemmas.List.Sums.{fold-append}
 use Rattle.steps.specs.declared.ask.Ask.{Ask}
 use Rattle.steps.specs.declared.ask.After.{After}
 use Rattle.steps.specs.declared.ask.After.TheVariants.{GoOn, Done}
 use Rattle.steps.specs.declared.copied.OneWord.{OneWord}
+use Rattle.steps.specs.declared.indices.unique.ReleaseStage as releases
 use Rattle.steps.specs.declared.loan.take_back.TakeBackStage as take_backs
 use Rattle.steps.specs.declared.queues.ring.PopStage.{PopStage}
 use Rattle.steps.specs.declared.queues.ring.PopStage as pops
 use Rattle.steps.specs.Loan.Layout.{completion_word}
 use Rattle.steps.specs.Loan.Parts.{shifted}
 use Rattle.steps.specs.Loan.TakeBack.{take_back_takes}
-use Rattle.steps.specs.Queues.Ring.{pop_asks}
+use Rattle.steps.specs.Queues.Ring.{pop_asks, cell_word, word_at}
 use Rattle.steps.specs.Routine.{went_on}
 use Rattle.model.specs.declared.event.Answer.{Answer}
 use Rattle.model.specs.declared.event.Answer.TheVariants as answers
 use Rattle.model.specs.declared.event.Event.{Event}
-use Rattle.model.specs.declared.event.Event.TheVariants.{Finished}
+use Rattle.model.specs.declared.event.Event.TheVariants.{Finished, TakenBack}
 use Rattle.model.specs.declared.event.Start.{Start}
 use Rattle.model.specs.declared.event.Start.TheVariants as starts
 use Rattle.model.specs.declared.families.Flight as flights
@@ -31,35 +32,39 @@ use Rattle.model.specs.declared.families.loan.effects.Effect.TheVariants as effe
 use Rattle.model.specs.declared.party.Party.{Party}
 use Rattle.model.specs.Coding.{Coding, one_word}
 use Rattle.model.specs.Families.{ask_of}
-use Rattle.model.specs.Families.Loan.Reading.{Passing, Returning, spot_of, receiver_after, receiver_of, died_after, given_back, taken_back}
-use Rattle.model.specs.Families.Loan.Steps.{ended_book, book_after, take_back_effect, effects_of}
-use Rattle.model.specs.Families.Queues.Calls.{as_it_is, popped}
-use Rattle.model.specs.Reading.{Span, Open, Ended, own_after, span_of}
-use Rattle.model.specs.Step.{as_call, answer_in}
-use Rattle.model.specs.Turns.{old_of, words_after, step_count, ending_of}
-use Rattle.model.proofs.Readings.{span_of-own, span_of-other}
-use Rattle.laws_queues.proofs.Queues.Core.{Core}
+use Rattle.model.specs.Families.Loan.Reading.{Passing, Returning, spot_of, receiver_after, receiver_of, taken_back}
+use Rattle.model.specs.Families.Loan.Steps.{take_back_effect}
+use Rattle.model.specs.Families.Queues.Calls.{as_it_is, popped, words_of_index}
+use Rattle.model.specs.Reading.{Span, Open, own_after, span_of}
+use Rattle.model.specs.Step.{as_call}
+use Rattle.model.specs.Turns.{old_of, words_after, step_count}
+use Rattle.model.proofs.Readings.{span_of-own}
+use Rattle.laws_queues.proofs.Queues.Core.{Core, taken}
 use Rattle.laws_queues.proofs.Queues.Knows.{layout, in_one}
 use Rattle.laws_queues.proofs.Ring.Knows.{KnowsPop, pop_number}
+use Rattle.laws_loan.proofs.Carried.{moved_on}
 use Rattle.laws_loan.proofs.Channel.{Channel, no_roles, words_in}
 use Rattle.laws_loan.proofs.Completion as completion
 use Rattle.laws_loan.proofs.Cuts.{IsOn}
 use Rattle.laws_loan.proofs.Invariant.{Hangs, sends_at, counted_for, hung, reclaims_in, Carries, HoldsNow}
 use Rattle.laws_loan.proofs.Knows.{wrote_in, At}
-use Rattle.laws_loan.proofs.Lists.{lists_stay}
+use Rattle.laws_loan.proofs.Lists.{first_there}
 use Rattle.laws_loan.proofs.OnQueues.{OnQueues, queues_then, queues_show, silent_tells}
 use Rattle.laws_loan.proofs.Parts.{completion_long, completion_old, completion_words}
-use Rattle.laws_loan.proofs.Placed.{Placed, placed_on}
-use Rattle.laws_loan.proofs.Sender.{party_then, Steps}
-use Rattle.laws_loan.proofs.Spots.{is_waiting, is_returning, spot_stays}
+use Rattle.laws_loan.proofs.Receives.{word_of}
+use Rattle.laws_loan.proofs.Releases.{take_back_frees_at}
+use Rattle.laws_loan.proofs.Rests.{KeepsSet, keeps_all}
+use Rattle.laws_loan.proofs.Rests as rests
+use Rattle.laws_loan.proofs.Rooms.{back_below, index_is}
+use Rattle.laws_loan.proofs.Sender.{party_then, StepBy}
+use Rattle.laws_loan.proofs.Spots.{is_returning, returns_there, passing_same, returning_passes, passing_on, spot_other, spot_moved}
+use Rattle.laws_loan.proofs.Table.{takes_it_back}
+use Rattle.laws_loan.proofs.Theirs.{stays_beside}
 use Rattle.laws_loan.proofs.Told.{is_reclaiming}
 
 abbrev pub pops_at : ℕ → ℕ → PopStage → OneWord → LoanFlight
 pops_at slots queue stage found =
     TakeBack (record { call = record { slots = slots; queue = queue; stage = take_backs.TheVariants.Pops stage found }; given = tt; room = tt })
-
-pub not_passing : (q : ℕ) → Passing q ≡ Returning → ⊥
-not_passing q e = absurd (cc)
 
 module _ {T : Type 0} (code : Coding T) (slots queue : ℕ) (s : Channel T) (latest : List (ℕ × Party T))
     (turns changes since : ℕ) (x : Party T) (h : HoldsNow slots queue s latest s.events turns)
@@ -87,43 +92,38 @@ module _ {T : Type 0} (code : Coding T) (slots queue : ℕ) (s : Channel T) (lat
       (went_on as_it_is tt tt (take_back_takes (record { slots = slots; queue = queue; stage = take_backs.TheVariants.Pops stage found })
       (take_backs.TheVariants.Pops stage found) value))
 
-  abbrev events_by : Effect → After LoanFlight (Answer T) → List (Event T)
-  events_by effect after = effects_of 0 effect (answer_in after) ++ ending_of 0 start (answer_in after)
-
-  -- what is kept then
-  abbrev Keeps : Channel T → Effect → After LoanFlight (Answer T) → Type 0
-  Keeps s' effect after =
-      ended_book {T = T} 0 calls.TakeBack (answer_in after) (fold (book_after {T = T}) s.book (effects_of 0 effect (answer_in after)))
-      ≡ s'.book
-
   abbrev StepTo : Channel T → PopStage → After LoanFlight (Answer T) → Effect → Type 0
-  StepTo s' stage after effect =
-      Steps code slots queue s latest turns changes since x s' spanned calls.TakeBack (asked stage) false after (events_by effect after)
-      × Keeps s' effect after
+  StepTo s' stage after effect = StepBy code slots queue s latest turns changes since x s' spanned calls.TakeBack (asked stage) after effect
 
   -- what a step of a take-back that stands here comes to
   pub record Does (stage : PopStage) (found : OneWord) : Type 0 where
     pub channel_then : Channel T
     pub step : StepTo channel_then stage (goes stage found (old stage)) (take_back_effect (take_backs.TheVariants.Pops stage found))
 
+  -- so it comes, as the call computes it
+  does_by : (s' : Channel T) (stage : PopStage) (found : OneWord) (after : After LoanFlight (Answer T)) → goes stage found (old stage) ≡ after
+      → StepTo s' stage after (take_back_effect (take_backs.TheVariants.Pops stage found)) → Does stage found
+  does_by s' stage found after is step =
+      record { channel_then = s'; step = subst (λ a. StepTo s' stage a (take_back_effect (take_backs.TheVariants.Pops stage found))) (sym is) step }
+
   -- ---- what is so of the queue
 
-  pub some : 1 ≤ slots
+  some : 1 ≤ slots
   some = h.parts.set.some
 
-  pub few : slots < 2 ^ 24
+  few : slots < 2 ^ 24
   few = let low = h.parts.set.few in omega arith
 
-  pub reached : s.completion.write < 2 ^ 64 - 2
+  reached : s.completion.write < 2 ^ 64 - 2
   reached = let given = h.given in omega arith
 
-  pub long : length queued ≡ 4 + slots
+  long : length queued ≡ 4 + slots
   long = completion_long slots queue s (counted_for (sends_at latest)) h.parts
 
-  pub old_is : (stage : PopStage) → IsOn queued (pop_asks stage) → old stage ≡ old_of queued (ask_of (pop_asks stage))
+  old_is : (stage : PopStage) → IsOn queued (pop_asks stage) → old stage ≡ old_of queued (ask_of (pop_asks stage))
   old_is stage on = completion_old slots queue s (counted_for (sends_at latest)) h.parts (pop_asks stage) on
 
-  pub words_are : (stage : PopStage) (k : Core ℕ) → IsOn queued (pop_asks stage)
+  words_are : (stage : PopStage) (k : Core ℕ) → IsOn queued (pop_asks stage)
       → words_after queued (ask_of (pop_asks stage)) ≡ layout no_roles k
       → words_after (words_in s) (asked stage) ≡ s.set ++ (layout no_roles s.submission ++ layout no_roles k)
   words_are stage k on is =
@@ -133,10 +133,10 @@ module _ {T : Type 0} (code : Coding T) (slots queue : ℕ) (s : Channel T) (lat
   one_step : (stage : PopStage) → step_count (asked stage) ≡ 1
   one_step x0 = grind arith
 
-  pub calm : Hangs queue s.submission None
+  calm : Hangs queue s.submission None
   calm = subst (Hangs queue s.submission) (ap (hung s.submission.read) here) h.hangs
 
-  pub idle : counted_for (sends_at latest) ≡ 0
+  idle : counted_for (sends_at latest) ≡ 0
   idle = ap counted_for here
 
   -- ---- it goes on
@@ -144,178 +144,209 @@ module _ {T : Type 0} (code : Coding T) (slots queue : ℕ) (s : Channel T) (lat
   abbrev still : Channel T
   still = record s { submission = s.submission; completion = s.completion; book = s.book; events = s.events ++ [] }
 
-  module _ (now after_it : PopStage) (then_found : OneWord) (on : IsOn queued (pop_asks now))
-      (words : words_after queued (ask_of (pop_asks now)) ≡ queued)
-      (known : KnowsPop one_word slots s.completion (in_one then_found) after_it)
-      (steps : x.steps + 1 ≤ pop_number 1 after_it) where
-    abbrev y_on : Party T
-    y_on = party_then s x since changes calls.TakeBack (asked now) false (GoOn (pops_at slots queue after_it then_found))
+  keeps : (now : PopStage) → IsOn queued (pop_asks now) → words_after queued (ask_of (pop_asks now)) ≡ queued
+      → KeepsSet slots queue s latest (asked now) s.set 0
+  keeps now on words = keeps_all slots queue s latest (asked now) turns h (words_are now s.completion on words) idle (ap (hung s.submission.read) here)
 
-    as_was : span_of 0 (s.events ++ []) ≡ spanned
-    as_was = ap (span_of 0) (append-nil s.events) ∙ from
-
-    on_queues_goes : OnQueues slots queue s latest turns y_on s.submission s.completion s.book []
-    on_queues_goes =
-        let sent = h.sent in
-        let given = h.given in
-        let same : receiver_of (s.events ++ []) ≡ receiver_of s.events = ap receiver_of (append-nil s.events) in
-        record {
-          busy_before = idle;
-          busy_after = refl;
-          queue_stays = refl;
-          submission = h.parts.submission;
-          completion = h.parts.completion;
-          placed = subst (Placed slots s.claims s.submission.waiting s.completion.waiting s.book) (sym (append-nil s.events)) h.parts.placed;
-          tells =
-              silent_tells queue (is_reclaiming s.events) s.submission.waiting s.completion.waiting s.completion.waiting
-              [] refl refl refl (append-nil s.completion.waiting);
-          hangs = calm;
-          sent = omega arith;
-          given = omega arith;
-          reclaiming = h.reclaiming ∙ ap (λ es. reclaims_in (span_of 0 es)) (sym (append-nil s.events));
-          receivers = (omega arith, omega arith);
-          moves = tt;
-          begins = tt;
-          answers = tt;
-          passing =
-              λ i q e. subst (λ es. Carries i (span_of q es)) (sym (append-nil s.events))
-              (h.passing i q (ap (spot_of i) (sym (append-nil s.events)) ∙ e));
-        }
-
-    pub goes_on : StepTo still now (GoOn (pops_at slots queue after_it then_found)) effects.Quiet
-    goes_on =
-        let wrote_is : [] ≡ wrote_in (span_of 0 (s.events ++ [])) = sym (ap wrote_in as_was) in
-        let one = one_step now in (
-          record {
-            words = words_are now s.completion on words;
-            shows = queues_show slots queue s latest turns y_on s.submission s.completion s.book [] h on_queues_goes;
-            own = tt;
-            stands = tt;
-            here =
-                record {
-                  span = ap (λ wrote. Open start wrote) wrote_is;
-                  steps = omega arith;
-                  at =
-                      subst (λ wrote. At slots queue still 0 wrote calls.TakeBack (pops_at slots queue after_it then_found))
-                      wrote_is (refl, refl, refl, refl, known);
-                };
-            knows = omega arith;
-            theirs = λ q ne.
-                record {
-                  alive = λ alive. alive;
-                  receiver = λ alive e. e;
-                  pop = λ alive e room stage known. known;
-                  passes = λ alive e i passes. (passes.0, ap (spot_of i) (append-nil s.events) ∙ passes.1);
-                  push = λ i stage known. known;
-                };
-            up = record { write = omega arith; read = omega arith; paid = omega arith };
-          },
-          refl,
-        )
+  goes_on : (now after_it : PopStage) (then_found : OneWord) → IsOn queued (pop_asks now)
+      → words_after queued (ask_of (pop_asks now)) ≡ queued → KnowsPop one_word slots s.completion (in_one then_found) after_it
+      → x.steps + 1 ≤ pop_number 1 after_it
+      → StepTo still now (GoOn (pops_at slots queue after_it then_found)) effects.Quiet
+  goes_on now after_it then_found on words known steps =
+      let one = one_step now in (
+        rests.goes_on code slots queue s latest turns changes since x h straight calls.TakeBack [] from (asked now)
+            s.set (pops_at slots queue after_it then_found) (keeps now on words) refl (omega arith)
+            (refl, refl, refl, refl, known) (omega arith),
+        refl,
+      )
 
   -- ---- nothing waits
 
   abbrev load_of_write : PopStage
   load_of_write = pops.TheVariants.LoadsWrite s.completion.read
 
-  abbrev ends : Event T
-  ends = Finished 0 start answers.PoppedNone
-
-  abbrev y_none : Party T
-  y_none = party_then s x since changes calls.TakeBack (asked load_of_write) false (Done answers.PoppedNone)
-
   abbrev s_none : Channel T
-  s_none = queues_then slots queue s latest turns y_none s.submission s.completion s.book (ends ∷ [])
-
-  same_spots : (i : ℕ) → spot_of i (s.events ++ ends ∷ []) ≡ spot_of i s.events
-  same_spots i = spot_stays s.events ends i refl
-
-  same_receiver : receiver_of (s.events ++ ends ∷ []) ≡ receiver_of s.events
-  same_receiver = fold-append receiver_after 1 s.events (ends ∷ [])
-
-  ended : span_of 0 (s.events ++ ends ∷ []) ≡ Ended start answers.PoppedNone []
-  ended = span_of-own 0 s.events (ends ∷ []) (refl, tt) ∙ ap (λ span. fold own_after span (ends ∷ [])) from
-
-  placed_none : Placed slots s.claims s.submission.waiting s.completion.waiting s.book (s.events ++ ends ∷ [])
-  placed_none =
-      let placed = h.parts.placed in
-      placed_on slots s.events ends refl s.claims s.submission.waiting s.completion.waiting s.book s.book placed
-      (record {
-        places = refl;
-        holders = refl;
-        receiver = placed.keeps.receiver ∙ sym same_receiver;
-        dead = λ q. placed.keeps.dead q ∙ sym (fold-append (died_after q) false s.events (ends ∷ []));
-        parties = λ i q by. subst (λ n. (q ≡ 0) ⊎ (q ≡ n)) (sym same_receiver) (placed.parties i q by);
-      })
-      (lists_stay is_waiting s.submission.waiting s.events ends placed.waits refl)
-      (lists_stay is_returning s.completion.waiting s.events ends placed.returns refl)
+  s_none = record s { submission = s.submission; completion = s.completion; book = s.book; events = s.events ++ Finished 0 start answers.PoppedNone ∷ [] }
 
   -- nothing is in passing in a take-back that has taken nothing
-  pub none_carried : {A : Type 0} (i : ℕ) → Carries i spanned → A
+  none_carried : {A : Type 0} (i : ℕ) → Carries i spanned → A
   none_carried i carried = let clash : [] ≡ i ∷ [] = carried.0 in absurd (cc)
 
-  passing_none : (i q : ℕ) → spot_of i (s.events ++ ends ∷ []) ≡ Passing q → Carries i (span_of q (s.events ++ ends ∷ []))
-  passing_none i q e =
-      let carried = h.passing i q (sym (same_spots i) ∙ e) in
-      ⊎_elim
-      (λ (mine : q ≡ 0). none_carried i (subst (Carries i) from (subst (λ n. Carries i (span_of n s.events)) mine carried)))
-      (λ (theirs : q ≢ 0). subst (Carries i) (sym (span_of-other 0 q s.events (ends ∷ []) theirs (refl, tt))) carried)
-      (cases_eq q 0)
+  finds_none : s.completion.waiting ≡ [] → IsOn queued (pop_asks load_of_write) → x.steps ≤ 1
+      → StepTo s_none load_of_write (Done answers.PoppedNone) effects.Quiet
+  finds_none empty on steps = (
+    rests.ends code slots queue s latest turns changes since x h straight calls.TakeBack [] from (asked load_of_write)
+        s.set answers.PoppedNone (keeps load_of_write on refl)
+        (record { moves = refl; receiver = λ r. refl; dead = λ q b. refl }) refl
+        (h.told.given ∙ (ap (λ xs. taken_back s.events ++ xs) empty ∙ append-nil (taken_back s.events)))
+        (λ i carried. none_carried i carried)
+        (grind arith)
+        (omega arith),
+    refl,
+  )
 
-  module _ (empty : s.completion.waiting ≡ []) where
-    on_queues_none : OnQueues slots queue s latest turns y_none s.submission s.completion s.book (ends ∷ [])
-    on_queues_none =
+  -- ---- the first one leaves the queue
+
+  module _ (index : ℕ) (rest : List ℕ) (first : s.completion.waiting ≡ index ∷ rest) where
+    abbrev store_of_read : PopStage
+    store_of_read = pops.TheVariants.StoresRead s.completion.read
+
+    abbrev takes : Event T
+    takes = TakenBack 0 index
+
+    abbrev without : Core ℕ
+    without = taken 1 words_of_index slots s.completion rest
+
+    abbrev frees_at : LoanFlight
+    frees_at = take_back_frees_at slots queue index releases.TheVariants.ClearsFlag
+
+    abbrev y_taken : Party T
+    y_taken = party_then s x since changes calls.TakeBack (asked store_of_read) false (GoOn frees_at)
+
+    abbrev s_taken : Channel T
+    s_taken = queues_then slots queue s latest turns y_taken s.submission without s.book (takes ∷ [])
+
+    below : index < slots
+    below = back_below slots s.claims s.submission.waiting s.completion.waiting s.book s.events h.parts.placed index rest first
+
+    was_returning : spot_of index s.events ≡ Returning
+    was_returning = returns_there (spot_of index s.events) (first_there is_returning s.completion.waiting rest s.events index first h.parts.placed.returns)
+
+    now_passing : spot_of index (s.events ++ takes ∷ []) ≡ Passing 0
+    now_passing = spot_moved s.events takes (record { index = index; from = Returning; to = Passing 0 }) refl
+
+    elsewhere : (i : ℕ) → index ≢ i → spot_of i (s.events ++ takes ∷ []) ≡ spot_of i s.events
+    elsewhere i ne = spot_other s.events takes (record { index = index; from = Returning; to = Passing 0 }) refl i ne
+
+    open_then : span_of 0 (s.events ++ takes ∷ []) ≡ Open start (takes ∷ [])
+    open_then = span_of-own 0 s.events (takes ∷ []) (refl, tt) ∙ ap (λ span. fold own_after span (takes ∷ [])) from
+
+    receiver_stays : receiver_of (s.events ++ takes ∷ []) ≡ receiver_of s.events
+    receiver_stays = fold-append receiver_after 1 s.events (takes ∷ [])
+
+    on_queues_taken : OnQueues slots queue s latest turns y_taken s.submission without s.book (takes ∷ [])
+    on_queues_taken =
         let sent = h.sent in
         let given = h.given in
-        let same = same_receiver in
+        let same = receiver_stays in
         record {
           busy_before = idle;
           busy_after = refl;
           queue_stays = refl;
           submission = h.parts.submission;
-          completion = h.parts.completion;
-          placed = placed_none;
+          completion = completion.take_good slots some few s.completion h.parts.completion reached index rest first;
+          placed = takes_it_back slots s.claims s.submission.waiting s.completion.waiting s.book s.events h.parts.placed index below rest first;
           tells =
-              silent_tells queue (is_reclaiming s.events) s.submission.waiting s.completion.waiting s.completion.waiting
-              (ends ∷ []) refl refl refl (append-nil s.completion.waiting);
+              silent_tells queue (is_reclaiming s.events) s.submission.waiting s.completion.waiting rest (takes ∷ [])
+              refl refl refl (append-nil s.completion.waiting ∙ first);
           hangs = calm;
           sent = omega arith;
           given = omega arith;
-          reclaiming = h.reclaiming ∙ (ap reclaims_in from ∙ sym (ap reclaims_in ended));
+          reclaiming = h.reclaiming ∙ (ap reclaims_in from ∙ sym (ap reclaims_in open_then));
           receivers = (omega arith, omega arith);
-          moves = (tt, tt);
+          moves = ((below, was_returning), tt);
           begins = (tt, tt);
-          answers = (h.told.given ∙ (ap (λ xs. taken_back s.events ++ xs) empty ∙ append-nil (taken_back s.events)), tt);
-          passing = passing_none;
+          answers = (tt, tt);
+          passing =
+              moved_on 0 s.events (takes ∷ []) (refl, tt) spanned from index elsewhere h.passing (λ i ne. none_carried i)
+              (Passing 0) now_passing (λ q e. (sym (passing_same 0 q e), (refl, refl)));
         }
 
-    pub finds_none : IsOn queued (pop_asks load_of_write) → x.steps ≤ 1 → StepTo s_none load_of_write (Done answers.PoppedNone) effects.Quiet
-    finds_none on steps = (
-      record {
-        words = words_are load_of_write s.completion on refl;
-        shows = queues_show slots queue s latest turns y_none s.submission s.completion s.book (ends ∷ []) h on_queues_none;
-        own = (refl, tt);
-        stands = (
-          (
-            refl,
-            record {
-              moments = refl;
-              done = record { claimed = refl; published = refl; handed_out = refl; given_back = refl; taken_back = refl; freed = refl };
-            },
-          ),
-          tt,
-        );
-        here = record { answer = answers.PoppedNone; wrote = []; span = refl; steps = omega arith };
-        knows = omega arith;
-        theirs = λ q ne.
-            record {
-              alive = λ alive. alive;
-              receiver = λ alive e. e;
-              pop = λ alive e room stage known. known;
-              passes = λ alive e i passes. (passes.0, same_spots i ∙ passes.1);
-              push = λ i stage known. known;
-            };
-        up = record { write = omega arith; read = omega arith; paid = omega arith };
-      },
-      refl,
-    )
+    takes_it : IsOn queued (pop_asks store_of_read) → x.steps ≤ 3 → StepTo s_taken store_of_read (GoOn frees_at) (effects.TakesBack index)
+    takes_it on steps =
+        let wrote_is : takes ∷ [] ≡ wrote_in (span_of 0 (s.events ++ takes ∷ [])) = sym (ap wrote_in open_then) in (
+          record {
+            words = words_are store_of_read without on (completion.take_words slots some few s.completion h.parts.completion reached index rest first);
+            shows = queues_show slots queue s latest turns y_taken s.submission without s.book (takes ∷ []) h on_queues_taken;
+            own = (refl, tt);
+            stands = (record { claimed = refl; published = refl; handed_out = refl; given_back = refl; taken_back = refl; freed = refl }, tt);
+            here =
+                record {
+                  span = ap (λ wrote. Open start wrote) wrote_is;
+                  steps = omega arith;
+                  at = subst (λ wrote. At slots queue s_taken 0 wrote calls.TakeBack frees_at) wrote_is (refl, refl, refl, refl, (below, now_passing));
+                };
+            knows = omega arith;
+            theirs = λ q ne.
+                stays_beside slots queue s s_taken q refl refl (λ room stage known. known) (completion.take_keeps slots s.completion index rest first)
+                (passing_on s.events (takes ∷ []) index elsewhere Returning was_returning q (returning_passes q));
+            up = record { write = omega arith; read = omega arith; paid = omega arith };
+          },
+          refl,
+        )
+
+  -- ---- each of its stages
+
+  loads_read : (room : OneWord) → x.steps ≤ 0 → Does pops.TheVariants.LoadsRead room
+  loads_read room steps =
+      let on : 1 < length queued = (let wide = long in omega arith) in
+      does_by still pops.TheVariants.LoadsRead room (GoOn (pops_at slots queue load_of_write room))
+      (ap (goes pops.TheVariants.LoadsRead room) (old_is pops.TheVariants.LoadsRead on))
+      (goes_on pops.TheVariants.LoadsRead load_of_write room on refl (omega arith, refl) (omega arith))
+
+  abbrev load_of_cell : PopStage
+  load_of_cell = pops.TheVariants.LoadsCell s.completion.read (cell_word slots 1 s.completion.read) 0
+
+  loads_write : (room : OneWord) → x.steps ≤ 1 → Does load_of_write room
+  loads_write room steps = go (s.completion.write == s.completion.read) refl
+    where
+      on : 0 < length queued
+      on = let wide = long in omega arith
+
+      none : (slots == 0) ≡ false
+      none = let most = some in grind (arith, nat_tests)
+
+      go : (same : Bool) → (s.completion.write == s.completion.read) ≡ same → Does load_of_write room
+      go true e =
+          let zero = none in
+          let both : (slots == 0 || s.completion.write == s.completion.read) ≡ true = rw (zero, e) refl in
+          does_by s_none load_of_write room (Done answers.PoppedNone)
+          (ap (goes load_of_write room) (old_is load_of_write on) ∙ (rw both refl))
+          (finds_none (completion.finds_none slots some few s.completion h.parts.completion reached e) on steps)
+      go false e =
+          let zero = none in
+          let both : (slots == 0 || s.completion.write == s.completion.read) ≡ false = rw (zero, e) refl in
+          let ahead = completion.finds_some slots some few s.completion h.parts.completion reached e in
+          let write = h.parts.completion.write in
+          let front = completion.first_of s.completion.waiting (omega arith) in
+          let known : KnowsPop one_word slots s.completion (in_one room) load_of_cell =
+          (omega arith, front.0, front.1, refl, front.2, refl, omega arith, λ i below. absurd (omega arith)) in
+          does_by still load_of_write room (GoOn (pops_at slots queue load_of_cell room))
+          (ap (goes load_of_write room) (old_is load_of_write on) ∙ (rw both refl))
+          (goes_on load_of_write load_of_cell room on refl known (omega arith))
+
+  -- the cell has the first value
+  loads_cell : (room : OneWord) (v : ℕ) (rest : List ℕ) → s.completion.waiting ≡ v ∷ rest → x.steps ≤ 2 → Does load_of_cell room
+  loads_cell room v rest first steps =
+      let on = completion.cell_on slots some few s.completion h.parts.completion reached s.completion.read in
+      let value : old load_of_cell ≡ v =
+      old_is load_of_cell on
+      ∙ completion.first_is slots some few s.completion h.parts.completion reached v rest first in
+      does_by still load_of_cell room (GoOn (pops_at slots queue (pops.TheVariants.StoresRead s.completion.read) (word_of v)))
+      (ap (goes load_of_cell room) value)
+      (goes_on load_of_cell (pops.TheVariants.StoresRead s.completion.read) (word_of v) on
+      (set-get_or queued (word_at (cell_word slots 1 s.completion.read) 0) 0) (rest, refl, first) (omega arith))
+
+  stores_read : (room : OneWord) (rest : List ℕ) → s.completion.waiting ≡ room.0 ∷ rest → x.steps ≤ 3
+      → Does (pops.TheVariants.StoresRead s.completion.read) room
+  stores_read room rest first steps =
+      let on : 1 < length queued = (let wide = long in omega arith) in
+      let low : slots < 2 ^ 32 = (let less = few in omega arith) in
+      does_by (s_taken room.0 rest first) (pops.TheVariants.StoresRead s.completion.read) room
+      (GoOn (take_back_frees_at slots queue room.0 releases.TheVariants.ClearsFlag))
+      (ap (λ i. GoOn (take_back_frees_at slots queue i releases.TheVariants.ClearsFlag)) (index_is room.0 slots (below room.0 rest first) low))
+      (takes_it room.0 rest first on steps)
+
+  -- what a take-back knows leads on
+  pub does : (now : PopStage) (room : OneWord) → KnowsPop one_word slots s.completion (in_one room) now → x.steps ≤ pop_number 1 now → Does now room
+  does pops.TheVariants.LoadsRead room known steps = loads_read room steps
+  does (pops.TheVariants.LoadsWrite read) room known steps =
+      subst (λ n. Does (pops.TheVariants.LoadsWrite n) room) (sym known.1) (loads_write room steps)
+  does (pops.TheVariants.LoadsCell read cell at) room known steps =
+      let first : at ≡ 0 = (let low = known.6 in omega arith) in
+      subst (λ n. Does (pops.TheVariants.LoadsCell read cell n) room) (sym first)
+      (subst (λ n. Does (pops.TheVariants.LoadsCell read n 0) room) (sym known.5)
+      (subst (λ n. Does (pops.TheVariants.LoadsCell n (cell_word slots 1 s.completion.read) 0) room) (sym known.3)
+      (loads_cell room known.1 known.2 known.4 (omega arith))))
+  does (pops.TheVariants.StoresRead read) room known steps =
+      subst (λ n. Does (pops.TheVariants.StoresRead n) room) (sym known.1) (stores_read room known.0 known.2 steps)

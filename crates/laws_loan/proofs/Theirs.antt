@@ -1,6 +1,6 @@
 -- What a receiver's call goes on to know where the sender takes a step.
 use native.Mathlib.Omega.{arith}
-use Rattle.std.proofs.Common.{◌≡◌, ◌≢◌, ℕ, false, List}
+use Rattle.std.proofs.Common.{◌≡◌, ◌≢◌, ℕ, true, false, List}
 use Rattle.steps.specs.declared.copied.OneWord.{OneWord}
 use Rattle.steps.specs.declared.queues.overflow.PopStage.{PopStage}
 use Rattle.steps.specs.declared.queues.ring.PushStage.{PushStage}
@@ -11,6 +11,7 @@ use Rattle.model.specs.declared.families.loan.calls.LoanFlight.{LoanFlight}
 use Rattle.model.specs.declared.families.loan.calls.LoanFlight.TheVariants.{Loan, Send, GiveUp, TakeBack, Receive, GiveBack, Reclaim}
 use Rattle.model.specs.Coding.{one_word}
 use Rattle.model.specs.Families.Indices.Robust.Dead.{has_died}
+use Rattle.model.specs.Families.Loan.Reading.{Passing, spot_of}
 use Rattle.laws_queues.proofs.Overflow.Knows.{KnowsOverflowPop}
 use Rattle.laws_queues.proofs.Queues.Core.{GoesUp}
 use Rattle.laws_queues.proofs.Ring.Knows.{KnowsPush}
@@ -26,6 +27,20 @@ module _ {T : Type 0} (slots queue : ℕ) (s s' : Channel T) where
         → KnowsOverflowPop queue s.submission room stage → KnowsOverflowPop queue s'.submission room stage
     pub passes : has_died q s'.book.dead ≡ false → q ≡ s.book.receiver → (index : ℕ) → Passes slots queue s q index → Passes slots queue s' q index
     pub push : (index : ℕ) (stage : PushStage) → KnowsPush one_word slots s.completion index stage → KnowsPush one_word slots s'.completion index stage
+
+  -- where nothing of the book that it reads changes, and what it has in passing stays so
+  pub stays_beside : (q : ℕ) → s'.book.dead ≡ s.book.dead → s'.book.receiver ≡ s.book.receiver
+      → ((room : OneWord) (stage : PopStage) → KnowsOverflowPop queue s.submission room stage → KnowsOverflowPop queue s'.submission room stage)
+      → ((i : ℕ) (stage : PushStage) → KnowsPush one_word slots s.completion i stage → KnowsPush one_word slots s'.completion i stage)
+      → ((i : ℕ) → spot_of i s.events ≡ Passing q → spot_of i s'.events ≡ Passing q) → Stays q
+  stays_beside x0 x1 x2 x3 x4 x5 = grind arith
+
+  -- while a reclaim is under way the receiver is dead: its calls know nothing of the queue that a send pushes to, and have no index
+  pub dead_stays : has_died s.book.receiver s.book.dead ≡ true → s'.book.dead ≡ s.book.dead
+      → ((index : ℕ) (stage : PushStage) → KnowsPush one_word slots s.completion index stage
+      → KnowsPush one_word slots s'.completion index stage)
+      → (q : ℕ) → Stays q
+  dead_stays x0 x1 x2 x3 = grind arith
 
   pub theirs_stay : (q : ℕ) → q ≢ 0 → Stays q → (wrote : List (Event T)) (start : LoanStart) (flight : LoanFlight)
       → At slots queue s q wrote start flight → At slots queue s' q wrote start flight
