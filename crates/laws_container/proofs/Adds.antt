@@ -31,9 +31,9 @@ use Rattle.model.specs.Families.Indices.Robust.Reading.{Fills, Grants}
 use Rattle.model.specs.Families.Queues.Calls.{as_it_is}
 use Rattle.model.specs.Step.{as_call}
 use Rattle.model.specs.Turns.{words_after}
-use Rattle.laws_robust.proofs.Alone.{grants_alone, owns_then}
 use Rattle.laws_robust.proofs.Core as set_core
 use Rattle.laws_robust.proofs.Effects as set_effects
+use Rattle.laws_robust.proofs.Grants.{grants_alone, owns_then}
 use Rattle.laws_robust.proofs.Held.{Caller, WhyNot, FewEnd, held_step}
 use Rattle.laws_robust.proofs.Invariant as set_invariant
 use Rattle.laws_robust.proofs.Knows as set_knows

@@ -21,26 +21,25 @@ use Rattle.model.specs.Families.Container.Promises.{StandsWellFormed, WasShown}
 use Rattle.model.specs.Families.Container.Reading.{Sees, contents_after, contents_of, announced_after, announced_of, acts, acts_of}
 use Rattle.model.specs.Families.Container.States.{state_of, with_state, fresh}
 use Rattle.model.specs.Families.Indices.Robust.Promises.{IsFilledWith}
-use Rattle.model.specs.Families.Indices.Robust.Reading.{Yes, deeds, deeds_of, dead_after, filled_after, settled_of, wrote_in, IsOneOf}
+use Rattle.model.specs.Families.Indices.Robust.Reading.{Yes, deeds, deeds_of, dead_after, settled_of, wrote_in, IsOneOf}
 use Rattle.model.specs.Parties.{party_of, put, doing_of, flight_of}
 use Rattle.model.specs.Reading.{Open, span_of}
 use Rattle.model.specs.Shape.{IsShut}
 use Rattle.model.proofs.Parties.{party_put_other, found_put_same, found_put_other}
 use Rattle.model.proofs.Readings.{no_more, span_of-own}
+use Rattle.laws_robust.proofs.Begins.{begins, taken}
 use Rattle.laws_robust.proofs.Counting.{count_none}
 use Rattle.laws_robust.specs.Gone.{GoneBy, Death, Word, is_gone}
 use Rattle.laws_robust.proofs.Effects.{both_ways}
 use Rattle.laws_robust.proofs.Gone.{calm_less, gone_begun}
 use Rattle.laws_robust.proofs.Invariant as set
 use Rattle.laws_robust.proofs.Past.{since_begun}
-use Rattle.laws_robust.proofs.Rights.{IsBy, AreOwned}
 use Rattle.laws_container.proofs.Invariant.{Scene, Elements, Changes, Does, before, after, of_set, view}
 use Rattle.laws_container.proofs.KeptCopies.{name_of}
 use Rattle.laws_container.proofs.Knows.{View, Knows, IsPaid, RemoveKnows, ReplacesKnow, LookRests}
 use Rattle.laws_container.proofs.Left.{left_after, left_of}
 use Rattle.laws_container.proofs.WellFormed.{well_formed_before}
 use Rattle.laws_container.proofs.Replaces.{replace_begun}
-use Rattle.laws_container.proofs.SetBegins.{begins, takes_right}
 use Rattle.laws_container.proofs.Opening.{shows_same}
 use Rattle.laws_container.proofs.Sights.{Rests, rests_later}
 use Rattle.laws_container.proofs.Sound.{MayRecover, first_party, Begins}
@@ -174,7 +173,7 @@ module _ {T : Type 0} (scene : Scene T)
   does : (start : ContainerStart T) → Does scene scene.words (states' start) (y start) (begun start)
   does start =
       record {
-        set = begins (of_set scene) g start;
+        set = begins (of_set scene) g (Container start);
         changes = changes_none start;
         right = record { asks = (tt, tt); recovers = (tt, tt); answers = (tt, tt); contains = λ well_formed. (tt, tt); places = λ well_formed. (tt, tt) };
         others = other_states start;
@@ -198,16 +197,6 @@ module _ {T : Type 0} (scene : Scene T)
   no_acts : (start : ContainerStart T) → acts_of p (events ++ begun start) ≡ []
   no_acts start = ap (λ a. acts (wrote_in a)) (span_begun start)
 
-  -- a remove takes the right
-  taken : (index owner : ℕ) (mode : ReleaseMode) → AreOwned events → settled_of index events ≡ Some owner
-      → IsBy p index owner (events ++ begun (starts.TheVariants.Remove index owner mode))
-  taken index owner mode owned e =
-      let k = owned.settled index owner e in
-      record {
-        right = takes_right p index owner mode events k.1;
-        filled = fold-append (filled_after index) None events (begun (starts.TheVariants.Remove index owner mode)) ∙ k.0;
-      }
-
   module _ (index owner : ℕ) (mode : ReleaseMode) where
     abbrev removing : ContainerStart T
     removing = starts.TheVariants.Remove index owner mode
@@ -222,7 +211,7 @@ module _ {T : Type 0} (scene : Scene T)
           paid = paid removing;
           scanned = tt;
           owns =
-              λ calm alive began. taken index owner mode
+              λ calm alive began. taken p index owner (Container removing) events (λ r. refl)
               (g.owned (calm_less scene.terms.by events (begun removing) calm))
               (since_begun p (λ part. settled_of index part ≡ Some owner) events (Container removing) began);
           says = tt;

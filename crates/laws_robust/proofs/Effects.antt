@@ -11,6 +11,7 @@ use Rattle.model.specs.declared.event.Event.{Event}
 use Rattle.model.specs.declared.event.Event.TheVariants.{Filled, Asked, Told, Finished}
 use Rattle.model.specs.declared.event.Start.TheVariants.{Robust}
 use Rattle.model.specs.declared.families.indices.robust.RobustStart.{RobustStart}
+use Rattle.model.specs.Families.Container.Reading.{NoneTakes}
 use Rattle.model.specs.Families.Indices.Reading.{locked_after, is_locked}
 use Rattle.model.specs.Families.Indices.Robust.Promises.{cell_of, SetDoes, IsWellFormed, HoldsRight, IsUnlocked}
 use Rattle.model.specs.Families.Indices.Robust.Reading.{deeds, filled_after, filled_of, holder_after, holder_of}
@@ -56,6 +57,12 @@ module _ {T : Type 0} where
     pub locked : (b : Bool) → fold locked_after b es ≡ b
     pub dead : (owner : ℕ) (b : Bool) → fold (dead_after owner) b es ≡ b
     pub holds : (before : List (Event T)) → AreRight HoldsRight before es
+
+  -- events by which no index is filled or freed, nothing is locked and nobody dies
+  pub record Keeps (es : List (Event T)) : Type 0 where
+    pub filled : (i : ℕ) (o : Option ℕ) → fold (filled_after i) o es ≡ o
+    pub locked : (b : Bool) → fold locked_after b es ≡ b
+    pub dead : (owner : ℕ) (b : Bool) → fold (dead_after owner) b es ≡ b
 
   pub quiet_none : Quiet []
   quiet_none =
@@ -143,6 +150,75 @@ module _ {T : Type 0} (scene : Scene T) where
       ((counter_of ws < greatest) × (words' ≡ set ws 0 (counter_of ws + 1)))
       ⊎ (IsWorn by ws × (counter_of ws ≡ greatest) × (words' ≡ ws))
 
+  -- ---- a step that leaves the cells and the lock, fills and frees nothing, and by which nobody dies
+
+  -- who holds an index, who may give it back, and who has the right to it
+  pub record Hands (es : List (Event T)) : Type 0 where
+    pub owned : IsCalm by (events ++ es) → AreOwned events → AreOwned (events ++ es)
+    pub holds : IsCalm by (events ++ es) → AreRight HoldsRight events es
+    pub right : IsCalm by (events ++ es) → (q : ℕ) → q ≢ p → (i owner : ℕ) → IsBy q i owner events
+        → right_of i (events ++ es) ≡ right_of i events
+    pub holder : IsCalm by (events ++ es) → (q : ℕ) → q ≢ p → (i owner : ℕ) → IsBy q i owner events
+        → holder_of i (events ++ es) ≡ holder_of i events
+    pub settled : IsCalm by (events ++ es) → (i owner : ℕ) → settled_of i events ≡ Some owner → NoneTakes i owner es
+        → settled_of i (events ++ es) ≡ Some owner
+
+  module _ (good : Good by c ws dead events turns) (words' : List ℕ) (es : List (Event T)) (stays : Leaves words') (keeps : Keeps es) where
+    pub same_filled : (i : ℕ) → filled_of i (events ++ es) ≡ filled_of i events
+    same_filled i = fold-append (filled_after i) None events es ∙ keeps.filled i (filled_of i events)
+
+    same_lock : is_locked (events ++ es) ≡ is_locked events
+    same_lock = fold-append locked_after false events es ∙ keeps.locked (is_locked events)
+
+    same_dead : (owner : ℕ) → is_dead owner (events ++ es) ≡ is_dead owner events
+    same_dead owner = fold-append (dead_after owner) false events es ∙ keeps.dead owner (is_dead owner events)
+
+    pub hands_on : AreOwn p es → AreRight (SetDoes c) events es → AreRight (AnswersBy by (IsWorn by words') c) events es → Hands es
+        → (counter_of words' ≡ counter_of ws → counter_of ws < greatest → (i : ℕ) → holder_of i events ≡ None → holder_of i (events ++ es) ≡ None)
+        → Does scene words' es
+    hands_on own right answers hands grants =
+        record {
+          own = own;
+          good =
+              record {
+                some = good.some;
+                few = good.few;
+                wide = let same = stays.wide in let wide = good.wide in omega arith;
+                cells = λ i below. stays.cells i below ∙ (good.cells i below ∙ sym (ap cell_of (same_filled i)));
+                filled = λ i owner e. good.filled i owner (sym (same_filled i) ∙ e);
+                lock = stays.lock ∙ (good.lock ∙ sym same_lock);
+                low = λ t. let low = stays.low (good.lock ∙ (sym same_lock ∙ t)) in omega arith;
+                bound = stays.bound;
+                died = λ owner. good.died owner ∙ sym (same_dead owner);
+                does = Each-append (SetDoes c) events es good.does right;
+                answers =
+                    Each-append (AnswersBy by (IsWorn by words') c) events es
+                    (answers_on (IsWorn by ws) (IsWorn by words') (worn_on by ws words' stays.stuck) by c events good.answers)
+                    answers;
+                owned = λ calm. hands.owned calm (good.owned (calm_less by events es calm));
+                holds = λ calm. Each-append HoldsRight events es (good.holds (calm_less by events es calm)) (hands.holds calm);
+              };
+          goes =
+              record {
+                grows = stays.grows;
+                stuck = stays.stuck;
+                grants = grants;
+                fills = λ i owner d e. sym (same_filled i) ∙ e;
+                dead = λ owner d. same_dead owner ∙ d;
+                lives = λ owner l. sym (same_dead owner) ∙ l;
+                well_formed = well_formed_less events es;
+              };
+          spares = λ q ne.
+              record {
+                none = others_begin_none q p es ne own;
+                deeds = ap (λ s. deeds (wrote_in s)) (span_of-other p q events es ne own);
+                owned = λ calm i owner alive h. record { right = hands.right calm q ne i owner h ∙ h.right; filled = same_filled i ∙ h.filled };
+                unheld = λ calm i owner alive h none. hands.holder calm q ne i owner h ∙ none;
+                held = λ calm i owner alive h here. hands.holder calm q ne i owner h ∙ here;
+                settled = λ calm i owner alive h none. hands.settled calm i owner h none;
+              };
+        }
+
   module _ (inv : Inv scene) where
     g : Good by c ws dead events turns
     g = inv.good
@@ -219,8 +295,11 @@ module _ {T : Type 0} (scene : Scene T) where
     module _ (words' : List ℕ) (es : List (Event T)) (stays : Leaves words') (quiet : Quiet es) (own : AreOwn p es)
         (right : AreRight (SetDoes c) events es)
         (answers : AreRight (AnswersBy by (IsWorn by words') c) events es) where
+      keeps : Keeps es
+      keeps = record { filled = quiet.filled; locked = quiet.locked; dead = quiet.dead }
+
       filled_more : (i : ℕ) → filled_of i (events ++ es) ≡ filled_of i events
-      filled_more i = fold-append (filled_after i) None events es ∙ quiet.filled i (filled_of i events)
+      filled_more i = same_filled g words' es stays keeps i
 
       holder_more : (i : ℕ) → holder_of i (events ++ es) ≡ holder_of i events
       holder_more i = fold-append (holder_after i) None events es ∙ quiet.holder i (holder_of i events)
@@ -231,15 +310,8 @@ module _ {T : Type 0} (scene : Scene T) where
       right_more : (i : ℕ) → right_of i (events ++ es) ≡ right_of i events
       right_more i = fold-append (right_after i) _ events es ∙ quiet.right i (right_of i events)
 
-      locked_more : is_locked (events ++ es) ≡ is_locked events
-      locked_more = fold-append locked_after false events es ∙ quiet.locked (is_locked events)
-
-      dead_more : (owner : ℕ) → is_dead owner (events ++ es) ≡ is_dead owner events
-      dead_more owner = fold-append (dead_after owner) false events es ∙ quiet.dead owner (is_dead owner events)
-
-      still_owned : IsCalm by (events ++ es) → AreOwned (events ++ es)
-      still_owned calm =
-          let h = g.owned (calm_less by events es calm) in
+      still_owned : AreOwned events → AreOwned (events ++ es)
+      still_owned h =
           record {
             held = λ i owner e. filled_more i ∙ h.held i owner (sym (holder_more i) ∙ e);
             settled = λ i owner e. let k = h.settled i owner (sym (settled_more i) ∙ e) in (filled_more i ∙ k.0, right_more i ∙ k.1);
@@ -247,47 +319,15 @@ module _ {T : Type 0} (scene : Scene T) where
 
       pub quietly : Does scene words' es
       quietly =
-          record {
-            own = own;
-            good =
-                record {
-                  some = g.some;
-                  few = g.few;
-                  wide = let same = stays.wide in let wide = g.wide in omega arith;
-                  cells = λ i below. stays.cells i below ∙ (g.cells i below ∙ sym (ap cell_of (filled_more i)));
-                  filled = λ i owner e. g.filled i owner (sym (filled_more i) ∙ e);
-                  lock = stays.lock ∙ (g.lock ∙ sym locked_more);
-                  low = λ t. let low = stays.low (g.lock ∙ (sym locked_more ∙ t)) in omega arith;
-                  bound = stays.bound;
-                  died = λ owner. g.died owner ∙ sym (dead_more owner);
-                  does = Each-append (SetDoes c) events es g.does right;
-                  answers =
-                      Each-append (AnswersBy by (IsWorn by words') c) events es
-                      (answers_on (IsWorn by ws) (IsWorn by words') (worn_on by ws words' stays.stuck) by c events g.answers)
-                      answers;
-                  owned = still_owned;
-                  holds = λ calm. Each-append HoldsRight events es (g.holds (calm_less by events es calm)) (quiet.holds events);
-                };
-            goes =
-                record {
-                  grows = stays.grows;
-                  stuck = stays.stuck;
-                  grants = λ same less i none. holder_more i ∙ none;
-                  fills = λ i owner d e. sym (filled_more i) ∙ e;
-                  dead = λ owner d. dead_more owner ∙ d;
-                  lives = λ owner l. sym (dead_more owner) ∙ l;
-                  well_formed = well_formed_less events es;
-                };
-            spares = λ q ne.
-                record {
-                  none = others_begin_none q p es ne own;
-                  deeds = ap (λ s. deeds (wrote_in s)) (span_of-other p q events es ne own);
-                  owned = λ calm i owner alive h. record { right = right_more i ∙ h.right; filled = filled_more i ∙ h.filled };
-                  unheld = λ calm i owner alive h none. holder_more i ∙ none;
-                  held = λ calm i owner alive h here. holder_more i ∙ here;
-                  settled = λ calm i owner alive h none. settled_more i ∙ h;
-                };
-          }
+          hands_on g words' es stays keeps own right answers
+          (record {
+            owned = λ calm. still_owned;
+            holds = λ calm. quiet.holds events;
+            right = λ calm q ne i owner h. right_more i;
+            holder = λ calm q ne i owner h. holder_more i;
+            settled = λ calm i owner h none. settled_more i ∙ h;
+          })
+          (λ same less i none. holder_more i ∙ none)
 
     -- ---- an index is filled
 

@@ -348,7 +348,7 @@ module _ {T : Type 0} (by : GoneBy) (code : Coding T) (c : ℕ) (t : Trace T) (s
     begins_now start flight known span may =
         let y : Party T = party_at_begin (Robust start) (flights.TheVariants.Robust flight) t.world.changes in
         let scene = scene_of p y t.world.changes in
-        let does = begins scene s.holds.good start in
+        let does = begins scene s.holds.good (Robust start) in
         let shows : Shows scene s.state.words (span_of p t.events) y (Begun p (Robust start) ∷ []) t.world.changes =
         record {
           does = does;
