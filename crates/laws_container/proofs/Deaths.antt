@@ -108,9 +108,21 @@ module _ {T : Type 0} (terms : Terms) (code : Coding T) (c : ℕ) (words dead : 
         good = death_good terms.by c words dead events turns o g alive;
         elements = elements_then;
         knows = λ q since changes backs flight k.
-            still_knows code c (view terms words states latest events q since changes backs) words states latest es
-            changes (death_goes terms.by c words dead events turns o g alive)
-            (death_spares terms.by c words dead events turns o g alive q) (inl (refl, refl)) passes (leaves q)
-            (span_of-death q events o) refl refl
+            still_knows code c (view terms words states latest events q since changes backs)
+            (record {
+              words_then = words;
+              states_then = states;
+              latest_then = latest;
+              es = es;
+              changes_then = changes;
+              goes = death_goes terms.by c words dead events turns o g alive;
+              spares = death_spares terms.by c words dead events turns o g alive q;
+              seen = inl (refl, refl);
+              passes = passes;
+              leaves = leaves q;
+              span = span_of-death q events o;
+              same_party = refl;
+              same_state = refl;
+            })
             flight k;
       }

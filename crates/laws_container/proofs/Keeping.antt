@@ -6,8 +6,6 @@ use Rattle.steps.specs.declared.container.add.AddStage.{AddStage}
 use Rattle.steps.specs.declared.container.add.AddStage as adds
 use Rattle.steps.specs.declared.container.find.FindStage.{FindStage}
 use Rattle.steps.specs.declared.container.find.FindStage as finds
-use Rattle.steps.specs.declared.container.look.LookStage.{LookStage}
-use Rattle.steps.specs.declared.container.recover.RecoverStage.{RecoverStage}
 use Rattle.steps.specs.declared.container.remove.RemoveStage.{RemoveStage}
 use Rattle.steps.specs.declared.container.remove.RemoveStage as removes
 use Rattle.steps.specs.declared.container.replace.ReplaceStage.{ReplaceStage}
@@ -22,7 +20,6 @@ use Rattle.steps.specs.declared.indices.robust.release.ReleaseStage.{ReleaseStag
 use Rattle.steps.specs.declared.indices.robust.release.ReleaseStage as releases
 use Rattle.model.specs.declared.event.Event.{Event}
 use Rattle.model.specs.declared.event.Event.TheVariants.{Locked}
-use Rattle.model.specs.declared.families.container.calls.ContainerFlight.{ContainerFlight}
 use Rattle.model.specs.declared.party.Party.{Party}
 use Rattle.model.specs.Coding.{Coding}
 use Rattle.model.specs.Families.Container.Promises.{StandsWellFormed}
@@ -30,7 +27,7 @@ use Rattle.model.specs.Families.Container.Reading.{MayReplace, Copies, Has, HasL
 use Rattle.model.specs.Families.Container.States.{state_of}
 use Rattle.model.specs.Families.Indices.Reading.{locked_after, is_locked}
 use Rattle.model.specs.Families.Indices.Robust.Promises.{IsFilledWith, IsUnlocked, FilledSinceFreed}
-use Rattle.model.specs.Families.Indices.Robust.Reading.{Asks, deeds_of, wrote_in}
+use Rattle.model.specs.Families.Indices.Robust.Reading.{deeds_of, wrote_in}
 use Rattle.model.specs.Families.Queues.Calls.{read_in}
 use Rattle.model.specs.Moments.{HeldSometime}
 use Rattle.model.specs.Parties.{party_of}
@@ -50,7 +47,6 @@ use Rattle.laws_container.proofs.Knows.{View, of_set, now, IsPaid, Lives, Worn, 
 use Rattle.laws_container.proofs.Knows.{ReplaceKnows, Covers, Writes, HasPlaced, Stood, AddKnows, ReplacesKnow}
 use Rattle.laws_container.proofs.Knows.{RemoveSays, HasCome, HasLeft, ReleaseHides, ReleaseLeft, RemoveKnows, Copying}
 use Rattle.laws_container.proofs.Knows.{HasCopied, CheckPaid, HasFoundBelow, Finds, Steady, FindKnows}
-use Rattle.laws_container.proofs.Knows.{Knows}
 use Rattle.laws_container.proofs.Replaces.{ReplaceOwns, replace_later, add_later}
 use Rattle.laws_container.proofs.Sights.{StoodThere}
 use Rattle.laws_container.proofs.Terms.{Keeps}
@@ -77,14 +73,38 @@ module _ {T : Type 0} where
       → WellFormed (now v) → Lives owner v → Replacing v.party index owner v.events
   replacing c index owner value v h well_formed alive = h.owns well_formed.calm alive (may_replace index owner value v h.found h.filled well_formed)
 
-module _ {T : Type 0} (code : Coding T) (c : ℕ) (v : View T) (words' : List ℕ)
-    (states' : List (ℕ × ContainerState T)) (latest' : List (ℕ × Party T)) (es : List (Event T)) (changes' : ℕ)
-    (goes : Goes v.words words' v.events es) (spares : Spares v.terms.by v.party v.events es) (seen : IsSeen v.words words' v.changes changes')
-    (passes : Passes code c (now v) (record { terms = v.terms; words = words'; latest = latest'; events = v.events ++ es }))
-    (leaves : Leaves code c v.party (now v) (record { terms = v.terms; words = words'; latest = latest'; events = v.events ++ es }))
-    (span : span_of v.party (v.events ++ es) ≡ span_of v.party v.events)
-    (same_party : party_of v.party latest' ≡ party_of v.party v.latest)
-    (same_state : state_of v.party states' ≡ state_of v.party v.states) where
+  -- a turn of another party, to the party that knows this
+  pub record OthersTurn (code : Coding T) (c : ℕ) (v : View T) : Type 0 where
+    pub words_then : List ℕ
+    pub states_then : List (ℕ × ContainerState T)
+    pub latest_then : List (ℕ × Party T)
+    pub es : List (Event T)
+    pub changes_then : ℕ
+    pub goes : Goes v.words words_then v.events es
+    pub spares : Spares v.terms.by v.party v.events es
+    pub seen : IsSeen v.words words_then v.changes changes_then
+    pub passes : Passes code c (now v) (record { terms = v.terms; words = words_then; latest = latest_then; events = v.events ++ es })
+    pub leaves : Leaves code c v.party (now v) (record { terms = v.terms; words = words_then; latest = latest_then; events = v.events ++ es })
+    pub span : span_of v.party (v.events ++ es) ≡ span_of v.party v.events
+    pub same_party : party_of v.party latest_then ≡ party_of v.party v.latest
+    pub same_state : state_of v.party states_then ≡ state_of v.party v.states
+
+module _ {T : Type 0} (code : Coding T) (c : ℕ) (v : View T) (turn : OthersTurn code c v) where
+  open turn use {
+    words_then as words',
+    states_then as states',
+    latest_then as latest',
+    es as es,
+    changes_then as changes',
+    goes as goes,
+    spares as spares,
+    seen as seen,
+    passes as passes,
+    leaves as leaves,
+    span as span,
+    same_party as same_party,
+  }
+
   abbrev pub later : View T
   later =
       record {
