@@ -53,6 +53,7 @@ use Rattle.laws_container.proofs.Invariant.{Scene, Inv, family_by}
 use Rattle.laws_container.proofs.KeptCopies.{name_of, IsGetting, HasCopied}
 use Rattle.laws_container.proofs.Looks.{looks_as}
 use Rattle.laws_container.proofs.LooksEnd.{look_tells, look_leaves}
+pub use Rattle.laws_container.proofs.Moves.{look_asks_none}
 use Rattle.laws_container.proofs.WellFormed.{IsWellFormedSoFar}
 use Rattle.laws_container.proofs.Sound.{MayGoOn, Shown, kept_is, kept_now, scene_of, inv_with, IsThere, is_there}
 use Rattle.laws_container.proofs.Stages.{all, done, any_call}
@@ -132,9 +133,6 @@ module _ {T : Type 0} where
       → At c z made did (looks_as which) (look_at which c stage) → LookAt c z made did stage
   look_stands kinds.TheVariants.GetState c z made did stage at = at.2
   look_stands kinds.TheVariants.UpdateState c z made did stage at = at.2
-
-pub look_asks_none : (size c : ℕ) (stage : LookStage) → is_question (look_asks size c stage) ≡ false
-look_asks_none size c stage = grind arith
 
 look_counts : (size c : ℕ) (stage : LookStage) → step_count (ask_of (look_asks size c stage)) ≡ 1
 look_counts size c stage = grind arith
