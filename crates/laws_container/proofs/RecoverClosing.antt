@@ -5,7 +5,6 @@ use Rattle.std.proofs.Common.{append-nil, arith}
 use Rattle.std.proofs.lemmas.Bool.{cases_lt}
 use Rattle.std.proofs.lemmas.Bool.Decides.{nat_tests}
 use Rattle.steps.specs.declared.ask.Ask.{Ask}
-use Rattle.steps.specs.declared.ask.After.{After}
 use Rattle.steps.specs.declared.ask.After.TheVariants.{Done}
 use Rattle.steps.specs.declared.container.recover.RecoverStage.{RecoverStage}
 use Rattle.steps.specs.declared.container.recover.RecoverStage as recovers
@@ -22,14 +21,13 @@ use Rattle.steps.specs.Container.Layout.{change_word}
 use Rattle.steps.specs.Container.Recover.{recover_ends}
 use Rattle.steps.specs.Indices.Robust.Parts.{empty, locked, greatest}
 use Rattle.model.specs.declared.event.Answer.TheVariants as answers
-use Rattle.model.specs.declared.event.Event.{Event}
-use Rattle.model.specs.declared.event.Event.TheVariants.{Locked, Finished}
+use Rattle.model.specs.declared.event.Event.TheVariants.{Finished}
 use Rattle.model.specs.declared.event.Start.TheVariants.{Container}
 use Rattle.model.specs.declared.families.container.ContainerStart.TheVariants.{Recover}
 use Rattle.model.specs.Families.Container.Recoveries.{UnlockedAtLast}
 use Rattle.model.specs.Families.Indices.Reading.{is_locked}
 use Rattle.model.specs.Families.Indices.Robust.Promises.{IsUnlocked, StillToFree}
-use Rattle.model.specs.Families.Indices.Robust.Reading.{Locks, filled_of, deeds_of}
+use Rattle.model.specs.Families.Indices.Robust.Reading.{filled_of, deeds_of}
 use Rattle.model.specs.Turns.{words_after}
 use Rattle.model.proofs.Moments.{held_now}
 use Rattle.laws_robust.specs.Gone.{is_gone}

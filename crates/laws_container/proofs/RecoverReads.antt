@@ -19,12 +19,10 @@ use Rattle.steps.specs.Container.Recover.{recover_comes_to, recover_ends, recove
 use Rattle.steps.specs.Indices.Robust.Parts.{cell_word, empty, locked}
 use Rattle.model.specs.declared.event.Event.{Event}
 use Rattle.model.specs.declared.event.Event.TheVariants.{Shown}
-use Rattle.model.specs.declared.event.Start.TheVariants.{Container}
-use Rattle.model.specs.declared.families.container.ContainerStart.{ContainerStart}
 use Rattle.model.specs.declared.families.container.ContainerStart.TheVariants.{Recover}
 use Rattle.model.specs.declared.party.Party.{Party}
 use Rattle.model.specs.Families.Container.Promises.{WasShown}
-use Rattle.model.specs.Families.Container.Reading.{Act, Copies, Sees, Has, acts_of, seen_in, contents_of}
+use Rattle.model.specs.Families.Container.Reading.{Act, Sees, Has, acts_of, seen_in, contents_of}
 use Rattle.model.specs.Families.Indices.Robust.Promises.{cell_of, IsFilledWith, IsUnlocked, HeldThroughout, StillToFree}
 use Rattle.model.specs.Families.Indices.Robust.Reading.{Deed, Frees, Asks, Yes, deeds_of, IsOneOf, asked_in}
 use Rattle.model.specs.Turns.{words_after, step_count}
@@ -41,7 +39,7 @@ use Rattle.laws_container.proofs.Core.{count_at}
 use Rattle.laws_container.proofs.Finds.{has_last, nothing_stands}
 use Rattle.laws_container.proofs.HiddenKnows.{HasHidden}
 use Rattle.laws_container.proofs.HiddenOn.{hidden_on}
-use Rattle.laws_container.proofs.Invariant.{Scene, Inv, AreAllRight, before, after, of_set, inv_of_set}
+use Rattle.laws_container.proofs.Invariant.{Scene, Inv, AreAllRight, before, of_set, inv_of_set}
 use Rattle.laws_container.proofs.Keeping.{shut_later}
 use Rattle.laws_container.proofs.KeptLocks.{NoIndex, FilledBut, filled_none}
 use Rattle.laws_container.proofs.Knows.{WasFilled, Recovers, RecoverKnows, IsLong, Knows}

@@ -51,7 +51,7 @@ use Rattle.laws_container.proofs.HiddenOn.{hidden_on}
 use Rattle.laws_container.proofs.Invariant.{Scene, Inv, of_set, inv_of_set, wrote_of}
 use Rattle.laws_container.proofs.Keeping.{shut_later}
 use Rattle.laws_container.proofs.KeptLocks.{NoIndex, FilledBut, FoundFilled, filled_locked, filled_worn, filled_last}
-use Rattle.laws_container.proofs.Knows.{RecoverKnows, IsLong, Knows}
+use Rattle.laws_container.proofs.Knows.{RecoverKnows, IsLong}
 use Rattle.laws_container.proofs.RecoverParts.{fill_same, fill_stays, none, hidden_still, as_recover, first, Few, then_at, recs, asked_on, comes_to_next}
 use Rattle.laws_container.proofs.RecoverEnds.{stays_recs, stays_on, stays_next, just_on}
 use Rattle.laws_container.proofs.RecoverReads.{Here, Course, course_calm, back_at_least}

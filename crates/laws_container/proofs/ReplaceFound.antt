@@ -58,7 +58,7 @@ use Rattle.laws_container.proofs.Stages.{IsHere, Lengthens, all, done, sees_now,
 use Rattle.laws_container.proofs.Stages.{none_lengthens, party_then, since_then, changes_then, backs_then, acts_more}
 use Rattle.laws_container.proofs.Stages.{goes_on, goes_calmly, ends, owes_none}
 use Rattle.laws_container.proofs.Standing.{replace_at, replace_number, ReplaceAt, MayHaveHidden, place_is}
-use Rattle.laws_container.proofs.Steps.{loads, stores_word, hides, places as places_it, misplaces, ends_counted, ends_calmly}
+use Rattle.laws_container.proofs.Steps.{stores_word, hides, places as places_it, misplaces, ends_counted, ends_calmly}
 use Rattle.laws_container.proofs.Turns.{WellFormed, replace_owes, count_in}
 use Rattle.laws_container.proofs.Writers.{IsWriter, one_writer}
 use Rattle.laws_container.proofs.Writing.{even_is, odd_is, adds_one, stores_to, adds_to_count, adds_to_change, hides_count}

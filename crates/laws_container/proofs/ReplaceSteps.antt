@@ -27,7 +27,7 @@ use Rattle.model.specs.declared.families.container.calls.ContainerFlight as call
 use Rattle.model.specs.declared.party.Party.{Party}
 use Rattle.model.specs.Families.Container.Calls.{place_of, replaced}
 use Rattle.model.specs.Families.Container.Promises.{StandsWellFormed}
-use Rattle.model.specs.Families.Container.Reading.{places, MayReplace}
+use Rattle.model.specs.Families.Container.Reading.{MayReplace}
 use Rattle.model.specs.Families.Indices.Robust.Promises.{cell_of, IsFilledWith}
 use Rattle.model.specs.Families.Queues.Calls.{as_it_is}
 use Rattle.model.specs.Moments.{BeginsNone, HeldSometime}
