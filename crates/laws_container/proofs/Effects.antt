@@ -1,16 +1,17 @@
 -- What a turn does to the elements, by what it changes: nothing of them; the number of changes; a word of an element; or the
 -- number of an element, where a value is placed or hidden.
-use Rattle.std.proofs.Common.{◌≡◌, ◌≢◌, ⊎_elim, inl, inr, ℕ, ◌+◌, ◌%◌, ◌<◌, ◌≤◌, true, false, Some, is_some, List}
-use Rattle.std.proofs.Common.{◌++◌, length, get_or, set, sym, ap, subst, ◌∙◌, arith, get_or-set_other}
+use Rattle.std.proofs.Common.{◌≡◌, ◌≢◌, ⊎_elim, inl, inr, ℕ, ◌+◌, ◌%◌, ◌<◌, ◌≤◌, Bool, true, false, Option, Some, None, is_some, List}
+use Rattle.std.proofs.Common.{◌++◌, length, get_or, set, fold, sym, ap, subst, ◌∙◌, arith, get_or-set_other}
 use Rattle.std.proofs.lemmas.Bool.{cases_eq}
 use Rattle.std.proofs.lemmas.List.{length-set}
+use Rattle.std.proofs.lemmas.List.Sums.{fold-append}
 use Rattle.steps.specs.Container.Layout.{change_word, count_word, element_word}
 use Rattle.steps.specs.Indices.Robust.Parts.{one_more}
 use Rattle.model.specs.declared.event.Event.{Event}
 use Rattle.model.specs.declared.event.Start.{Start}
 use Rattle.model.specs.declared.party.Party.{Party}
 use Rattle.model.specs.Families.Container.Looks.{WasAlone}
-use Rattle.model.specs.Families.Container.Reading.{contents_of, announced_of}
+use Rattle.model.specs.Families.Container.Reading.{contents_after, contents_of, announced_after, announced_of}
 use Rattle.model.specs.Families.Indices.Robust.Reading.{filled_of}
 use Rattle.model.specs.Parties.{party_of, put, doing_of, flight_of}
 use Rattle.model.specs.Reading.{Open, span_of}
@@ -24,7 +25,7 @@ use Rattle.laws_container.proofs.Contents.{IsWhole, Writing, Stands, stands_on, 
 use Rattle.laws_container.proofs.Core.{count_at, datum_at, change_at, counts_stay, data_stay, count_set, count_stays}
 use Rattle.laws_container.proofs.Core.{data_all_stay, change_set, changes_no_count, changes_no_datum}
 use Rattle.laws_container.proofs.Invariant.{Scene, Inv, Elements, Changes, before, after}
-use Rattle.laws_container.proofs.Left.{left_of}
+use Rattle.laws_container.proofs.Left.{left_after, left_of}
 use Rattle.laws_container.proofs.Terms.{Keeps}
 use Rattle.laws_container.proofs.Turns.{Owing, owes, Now, WellFormed, count_in, datum_in, change_in}
 use Rattle.laws_container.proofs.Writers.{IsWriter}
@@ -77,6 +78,17 @@ module _ {T : Type 0} (scene : Scene T) (inv : Inv scene) (words' : List ℕ) (y
     -- nor frees an index where another writes
     pub spares : WellFormed m' → (q : ℕ) → q ≢ p → (i o : ℕ) → is_gone scene.terms.by o events ≡ false
         → IsWriter q i o events → left_of i events ≡ false → left_of i (events ++ es) ≡ false
+
+  -- so it is where its events change no reading of the elements
+  pub reads_same : ((i : ℕ) (o : Option T) → fold (contents_after i) o es ≡ o) → ((i : ℕ) (b : Bool) → fold (announced_after i) b es ≡ b)
+      → ((i : ℕ) (b : Bool) → fold (left_after i) b es ≡ b) → IsCalm
+  reads_same contents announced left =
+      record {
+        contents = λ i. fold-append (contents_after i) None events es ∙ contents i (contents_of i events);
+        announced = λ i. fold-append (announced_after i) false events es ∙ announced i (announced_of i events);
+        left = λ i was. fold-append (left_after i) true events es ∙ (left i (left_of i events) ∙ was);
+        spares = λ holds q ne i o lives mine was. fold-append (left_after i) true events es ∙ (left i (left_of i events) ∙ was);
+      }
 
   still_stands : ((i : ℕ) → i < c → count_in code c m' i ≡ count_in code c m i)
       → ((i : ℕ) → i < c → (j : ℕ) → j < code.size → datum_in code c m' i j ≡ datum_in code c m i j)
