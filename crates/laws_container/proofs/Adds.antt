@@ -50,7 +50,7 @@ use Rattle.laws_container.proofs.Turns.{WellFormed}
 
 module _ {T : Type 0} (scene : Scene T) (inv : Inv scene) (value : T) (owner : ℕ) (fits : owner < empty) (acts : ActsFor scene owner) (stage : AcquireStage)
     (here : IsHere scene (Add value owner) (add_at scene.capacity value owner (adds.TheVariants.Acquires stage))) where
-  open scene use {coding as code, capacity as c, party as p, steps as steps, backs as backs, events as events}
+  open scene use {capacity as c, party as p, steps as steps, backs as backs}
 
   abbrev ws : List ℕ
   ws = scene.words

@@ -54,7 +54,7 @@ module _ {T : Type 0} (scene : Scene T)
     (h : Elements scene.coding scene.capacity (before scene) scene.states scene.turns)
     (free : flight_of (doing_of (party_of scene.party scene.latest)) ≡ None)
     (shut : IsShut (span_of scene.party scene.events)) where
-  open scene use {coding as code, capacity as c, party as p, changes as changes, turns as turns, latest as latest, events as events}
+  open scene use {coding as code, capacity as c, party as p, changes as changes, latest as latest, events as events}
 
   abbrev begun : ContainerStart T → List (Event T)
   begun start = Begun p (Container start) ∷ []

@@ -47,7 +47,7 @@ use Rattle.laws_container.proofs.Finds.{below_more, cell_step, comes_to_next, co
 use Rattle.laws_container.proofs.Finds.{has_last, has_more, seen_more, then_at, word_step}
 
 module _ {T : Type 0} (scene : Scene T) (inv : Inv scene) (owner : ℕ) (fits : owner < empty) where
-  open scene use {coding as code, capacity as c, party as p, steps as steps, backs as backs, events as events, latest as latest}
+  open scene use {coding as code, capacity as c, party as p, steps as steps, events as events}
 
   abbrev ws : List ℕ
   ws = scene.words

@@ -85,7 +85,7 @@ module _ {T : Type 0} where
   nothing_stands code c words i (Some value) h even = let odd = h.0 in absurd (omega arith)
 
 module _ {T : Type 0} (scene : Scene T) (inv : Inv scene) (owner : ℕ) (fits : owner < empty) where
-  open scene use {coding as code, capacity as c, party as p, steps as steps, backs as backs, events as events, latest as latest}
+  open scene use {coding as code, capacity as c, party as p, steps as steps, events as events, latest as latest}
 
   abbrev ws : List ℕ
   ws = scene.words

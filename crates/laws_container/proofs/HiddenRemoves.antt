@@ -75,7 +75,7 @@ removed_done index owner mode state made acts h = grind arith
 
 module _ {T : Type 0} (scene : Scene T) (inv : Inv scene) (index owner : ℕ) (mode : ReleaseMode)
     (fits : owner < empty) (acts : ActsFor scene owner) (below : index < scene.capacity) where
-  open scene use {coding as code, capacity as c, party as p, steps as steps, backs as backs, events as events, latest as latest}
+  open scene use {coding as code, capacity as c, party as p, steps as steps, backs as backs, events as events}
 
   abbrev ws : List ℕ
   ws = scene.words

@@ -67,17 +67,7 @@ index_at_least c z Default = omega arith
 index_at_least c z LockIfLastIndex = omega arith
 
 module _ {T : Type 0} (scene : Scene T) (inv : Inv scene) (owner : ℕ) (mode : ReleaseMode) (fits : owner < empty) where
-  open scene use {
-    coding as code,
-    capacity as c,
-    party as p,
-    steps as steps,
-    backs as backs,
-    since as since,
-    changes as changes,
-    events as events,
-    latest as latest,
-  }
+  open scene use {coding as code, capacity as c, party as p, steps as steps, backs as backs, events as events}
 
   abbrev ws : List ℕ
   ws = scene.words

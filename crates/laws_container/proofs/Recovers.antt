@@ -68,17 +68,7 @@ most_is c z owner backs T Default = omega arith
 most_is c z owner backs T LockIfLastIndex = omega arith
 
 module _ {T : Type 0} (scene : Scene T) (inv : Inv scene) (owner : ℕ) (mode : ReleaseMode) (fits : owner < empty) where
-  open scene use {
-    coding as code,
-    capacity as c,
-    party as p,
-    steps as steps,
-    backs as backs,
-    since as since,
-    changes as changes,
-    events as events,
-    latest as latest,
-  }
+  open scene use {coding as code, capacity as c, party as p, steps as steps, backs as backs, events as events}
 
   abbrev ws : List ℕ
   ws = scene.words

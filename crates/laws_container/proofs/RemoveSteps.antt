@@ -39,7 +39,7 @@ use Rattle.laws_container.proofs.Removes.{refused_done, refused_right, release_s
 
 module _ {T : Type 0} (scene : Scene T) (inv : Inv scene) (index owner : ℕ) (mode : ReleaseMode)
     (fits : owner < empty) (acts : ActsFor scene owner) (below : index < scene.capacity) where
-  open scene use {coding as code, capacity as c, party as p, steps as steps, backs as backs, events as events, latest as latest}
+  open scene use {coding as code, capacity as c, steps as steps}
 
   abbrev ws : List ℕ
   ws = scene.words

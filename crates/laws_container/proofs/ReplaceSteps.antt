@@ -57,7 +57,7 @@ use Rattle.laws_container.proofs.Turns.{WellFormed, replace_owes}
 
 module _ {T : Type 0} (scene : Scene T) (inv : Inv scene) (index : ℕ) (value : T) (owner : ℕ) (fits : owner < empty)
     (acts : ActsFor scene owner) (below : index < scene.capacity) (none_done : all scene ≡ []) where
-  open scene use {coding as code, capacity as c, party as p, steps as steps, backs as backs, events as events, latest as latest}
+  open scene use {coding as code, capacity as c, party as p, steps as steps, events as events, latest as latest}
 
   abbrev ws : List ℕ
   ws = scene.words

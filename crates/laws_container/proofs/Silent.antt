@@ -101,7 +101,7 @@ module _ {T : Type 0} where
 
 module _ {T : Type 0} (scene : Scene T) (inv : Inv scene) (words' : List ℕ) (same : words' ≡ scene.words)
     (y : Party T) (es : List (Event T)) (silent : AllByRecursion Silent es) (own : AreOwn scene.party es) where
-  open scene use {capacity as c, party as p, events as events}
+  open scene use {capacity as c, events as events}
 
   -- of the set
   pub silent_set : set_invariant.Does (of_set scene) words' es

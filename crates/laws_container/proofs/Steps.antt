@@ -32,7 +32,7 @@ use Rattle.laws_container.proofs.Writers.{IsWriter, one_writer}
 
 module _ {T : Type 0} (scene : Scene T) (inv : Inv scene) (start : ContainerStart T) (flight : ContainerFlight T)
     (none : NoLook flight) (here : IsHere scene start flight) (y : Party T) where
-  open scene use {coding as code, capacity as c, party as p, turns as turns, latest as latest, events as events}
+  open scene use {coding as code, capacity as c, party as p, turns as turns, events as events}
 
   abbrev ws : List ℕ
   ws = scene.words

@@ -65,40 +65,13 @@ module _ {T : Type 0} where
     pub dead : (owner : ℕ) (b : Bool) → fold (dead_after owner) b es ≡ b
 
   pub quiet_none : Quiet []
-  quiet_none =
-      record {
-        filled = λ i o. refl;
-        holder = λ i o. refl;
-        settled = λ i o. refl;
-        right = λ i r. refl;
-        locked = λ b. refl;
-        dead = λ owner b. refl;
-        holds = λ before. tt;
-      }
+  quiet_none = grind arith
 
   pub quiet_asked : (p index owner : ℕ) → Quiet (Asked p index owner ∷ [])
-  quiet_asked p index owner =
-      record {
-        filled = λ i o. refl;
-        holder = λ i o. refl;
-        settled = λ i o. refl;
-        right = λ i r. refl;
-        locked = λ b. refl;
-        dead = λ owner b. refl;
-        holds = λ before. (tt, tt);
-      }
+  quiet_asked p index owner = grind arith
 
   pub quiet_told : (p index owner : ℕ) → Quiet (Told p index owner ∷ [])
-  quiet_told p index owner =
-      record {
-        filled = λ i o. refl;
-        holder = λ i o. refl;
-        settled = λ i o. refl;
-        right = λ i r. refl;
-        locked = λ b. refl;
-        dead = λ owner b. refl;
-        holds = λ before. (tt, tt);
-      }
+  quiet_told p index owner = grind arith
 
   -- an end, but that of an acquire with an index
   pub quiet_end : (p : ℕ) (start : RobustStart) (answer : Answer T)

@@ -61,7 +61,7 @@ none_locks : {X : Type 0} (P : X → Type 0) (a b : X) (zero last : Bool) → la
 none_locks h a b zero last e k = grind arith
 
 module _ {T : Type 0} (scene : Scene T) (inv : Inv scene) where
-  open scene use {by as by, capacity as c, party as p, steps as steps, backs as backs, since as since, changes as changes, turns as turns, events as events}
+  open scene use {by as by, capacity as c, party as p, steps as steps, backs as backs, turns as turns, events as events}
 
   abbrev ws : List ℕ
   ws = scene.set.words

@@ -50,7 +50,7 @@ use Rattle.laws_robust.proofs.Stages.{goes_on, goes_quietly}
 use Rattle.laws_robust.proofs.Recovers.{asked_then, comes_quietly, ends_so, g, gone_then, open_then}
 
 module _ {T : Type 0} (scene : Scene T) (inv : Inv scene) (mode : ReleaseMode) (here : IsHere scene (Recover mode)) where
-  open scene use {by as by, capacity as c, party as p, steps as steps, backs as backs, since as since, changes as changes, events as events}
+  open scene use {by as by, capacity as c, party as p, steps as steps, backs as backs, events as events}
 
   abbrev ws : List ℕ
   ws = scene.set.words

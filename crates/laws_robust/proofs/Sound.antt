@@ -107,7 +107,7 @@ MayDecide Death dead flight said = frees_living dead flight (Some said) ≡ fals
 MayDecide Word dead flight said = Unit {0}
 
 module _ {T : Type 0} (scene : Scene T) (inv : Inv scene) where
-  open scene use {by as by, capacity as c, party as p, events as events}
+  open scene use {by as by, capacity as c, events as events}
 
   lives : (owner : ℕ) → has_died owner scene.set.dead ≡ false → is_dead owner events ≡ false
   lives owner alive = sym (inv.good.died owner) ∙ alive

@@ -89,7 +89,7 @@ module _ {T : Type 0} where
   none_lengthens start w = ap (λ es. Open (Robust start) es) (sym (append-nil w))
 
 module _ {T : Type 0} (scene : Scene T) where
-  open scene use {by as by, capacity as c, party as p, steps as steps, backs as backs, since as since, changes as changes, turns as turns, events as events}
+  open scene use {by as by, capacity as c, party as p, steps as steps, backs as backs, since as since, changes as changes, events as events}
 
   abbrev pub ws : List ℕ
   ws = scene.set.words
