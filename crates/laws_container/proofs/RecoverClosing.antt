@@ -32,7 +32,7 @@ use Rattle.model.specs.Turns.{words_after}
 use Rattle.model.proofs.Moments.{held_now}
 use Rattle.laws_robust.specs.Gone.{is_gone}
 use Rattle.laws_robust.proofs.Core.{counter_of}
-use Rattle.laws_robust.proofs.Effects.{some_none, is_shut, unlocked}
+use Rattle.laws_robust.proofs.Effects.{some_none, is_shut, unlocked, quiet_end}
 use Rattle.laws_robust.proofs.Effects as set_effects
 use Rattle.laws_robust.proofs.Invariant.{IsWorn, worn_on}
 use Rattle.laws_robust.proofs.Parts.{none_beyond}
@@ -52,7 +52,7 @@ use Rattle.laws_container.proofs.RecoverReads.{Here, Becomes, calm_on}
 use Rattle.laws_container.proofs.RecoverReads.{counter_step, cell_step, count_step}
 use Rattle.laws_container.proofs.RecoverWords.{word_step}
 use Rattle.laws_container.proofs.RecoverWords.{check_step, decided}
-use Rattle.laws_container.proofs.Sets.{leaves_behind, quiet_end}
+use Rattle.laws_container.proofs.Sets.{leaves_behind}
 use Rattle.laws_container.proofs.Stages.{all, done, sees_now, StepOf, AnswerOf, none_lengthens, party_then}
 use Rattle.laws_container.proofs.Stages.{backs_then, since_then, changes_then, ends, was_well_formed}
 use Rattle.laws_container.proofs.Standing.{recover_at, recover_number, for_back, for_index, RecoverAt}
@@ -185,7 +185,7 @@ module _ {T : Type 0} (scene : Scene T) (inv : Inv scene) (owner : ℕ) (mode : 
         (answers.State state)
         (set_effects.quietly (of_set scene) (inv_of_set scene inv) (words_after ws end_it) es
         (leaves_behind (of_set scene) (inv_of_set scene inv) (words_after ws end_it) (change_word c) _ (omega arith) new)
-        (quiet_end (of_set scene) (inv_of_set scene inv) (Recover owner mode) (answers.State state) (λ i o. refl) (λ i r. refl))
+        (quiet_end p (Container (Recover owner mode)) (answers.State state) (λ i o. refl) (λ i r. refl))
         (refl, tt) (tt, tt) (tt, tt))
         (answers_right state k.1) well_formed
         (λ holds i was. ⊎_elim (λ empty. empty) (λ never. absurd never) (k.2 (well_formed holds) i was)) new

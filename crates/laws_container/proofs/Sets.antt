@@ -1,24 +1,20 @@
 -- What the container's own steps do to its set of indices: nothing, but that the end of an add gives its right away.
-use Rattle.std.proofs.Common.{◌≡◌, ℕ, ◌+◌, ◌≤◌, ◌==◌, false, true, Option, None, List, [], ◌∷◌, ◌++◌}
+use Rattle.std.proofs.Common.{◌≡◌, ℕ, ◌+◌, ◌≤◌, ◌==◌, false, true, None, List, [], ◌∷◌, ◌++◌}
 use Rattle.std.proofs.Common.{length, set, refl, sym, ap, ◌∙◌, arith, get_or-set_other}
 use Rattle.std.proofs.lemmas.List.{length-set}
 use Rattle.std.proofs.lemmas.List.Sums.{fold-append}
 use Rattle.steps.specs.Indices.Robust.Parts.{cell_word, locked}
-use Rattle.model.specs.declared.event.Answer.{Answer}
 use Rattle.model.specs.declared.event.Answer.TheVariants.{Index}
 use Rattle.model.specs.declared.event.Event.{Event}
 use Rattle.model.specs.declared.event.Event.TheVariants.{Placed, Hidden, Finished}
 use Rattle.model.specs.declared.event.Start.TheVariants.{Container}
-use Rattle.model.specs.declared.families.container.ContainerStart.{ContainerStart}
 use Rattle.model.specs.declared.families.container.ContainerStart.TheVariants.{Add}
 use Rattle.model.specs.Families.Indices.Robust.Reading.{holder_after, holder_of}
-use Rattle.model.specs.Families.Indices.Robust.Reading.{settled_after}
 use Rattle.laws_robust.specs.Gone.{IsCalm}
 use Rattle.laws_robust.proofs.Core.{counter_of, cell}
 use Rattle.laws_robust.proofs.Effects.{Leaves, Quiet}
 use Rattle.laws_robust.proofs.Grants.{gives}
 use Rattle.laws_robust.proofs.Invariant.{Scene, Inv, Good, Does}
-use Rattle.laws_robust.proofs.Rights.{Right, right_after}
 use Rattle.laws_container.proofs.Writers.{Adds}
 
 module _ {T : Type 0} (scene : Scene T) (inv : Inv scene) where
@@ -48,44 +44,10 @@ module _ {T : Type 0} (scene : Scene T) (inv : Inv scene) where
   -- ---- events that change nothing of the set
 
   pub quiet_placed : (i : ℕ) (value : T) → Quiet (Placed p i value ∷ [])
-  quiet_placed i value =
-      record {
-        filled = λ j o. refl;
-        holder = λ j o. refl;
-        settled = λ j o. refl;
-        right = λ j r. refl;
-        locked = λ b. refl;
-        dead = λ owner b. refl;
-        holds = λ before. (tt, tt);
-      }
+  quiet_placed i value = grind arith
 
   pub quiet_hidden : (i : ℕ) → Quiet {T = T} (Hidden p i ∷ [])
-  quiet_hidden i =
-      record {
-        filled = λ j o. refl;
-        holder = λ j o. refl;
-        settled = λ j o. refl;
-        right = λ j r. refl;
-        locked = λ b. refl;
-        dead = λ owner b. refl;
-        holds = λ before. (tt, tt);
-      }
-
-  -- an end, but that of an add with an index
-  pub quiet_end : (start : ContainerStart T) (answer : Answer T)
-      → ((i : ℕ) (o : Option ℕ) → settled_after i o (Finished p (Container start) answer) ≡ o)
-      → ((i : ℕ) (r : Right) → right_after i r (Finished p (Container start) answer) ≡ r)
-      → Quiet (Finished p (Container start) answer ∷ [])
-  quiet_end start answer settles rights =
-      record {
-        filled = λ i o. refl;
-        holder = λ i o. refl;
-        settled = settles;
-        right = rights;
-        locked = λ b. refl;
-        dead = λ owner b. refl;
-        holds = λ before. (tt, tt);
-      }
+  quiet_hidden i = grind arith
 
   -- ---- an add that was granted an index is done
 

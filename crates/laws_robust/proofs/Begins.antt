@@ -5,7 +5,6 @@ use Rattle.std.proofs.lemmas.List.Sums.{fold-append}
 use Rattle.model.specs.declared.event.Event.{Event}
 use Rattle.model.specs.declared.event.Event.TheVariants.{Begun}
 use Rattle.model.specs.declared.event.Start.{Start}
-use Rattle.model.specs.declared.event.Start.TheVariants.{Robust, Container}
 use Rattle.model.specs.Families.Container.Reading.{NoneTakes}
 use Rattle.model.specs.Families.Indices.Robust.Reading.{filled_after, filled_of, holder_after, holder_of, settled_after, settled_of}
 use Rattle.laws_robust.proofs.Effects.{Keeps, Leaves, at_same, hands_on, same_filled}
@@ -17,21 +16,15 @@ use Rattle.laws_robust.proofs.Rights.{Right, Settled, By, taken_by, right_after,
 still_settled : (T : Type 0) (p : ℕ) (start : Start T) (i o : ℕ) (old : Option ℕ) (r : Right)
     → settled_after i old (Begun p start) ≡ Some o → (old ≡ Some o → r ≡ Settled o)
     → (old ≡ Some o) × (right_after i r (Begun p start) ≡ Settled o)
-still_settled T p (Robust start) i o old r e was = grind arith
-still_settled T p (Container start) i o old r e was = grind arith
-still_settled T p start i o old r e was = (e, was e)
+still_settled T p start i o old r e was = grind arith
 
 -- what may be given back still may, unless a release of it for its owner begins
 not_taken_from : (T : Type 0) (p : ℕ) (start : Start T) (i o : ℕ) (old : Option ℕ) → old ≡ Some o
     → NoneTakes i o (Begun p start ∷ []) → settled_after i old (Begun p start) ≡ Some o
-not_taken_from T p (Robust start) i o old e none = grind arith
-not_taken_from T p (Container start) i o old e none = grind arith
-not_taken_from T p start i o old e none = e
+not_taken_from T p start i o old e none = grind arith
 
 still_by : (T : Type 0) (p q : ℕ) (start : Start T) (i : ℕ) (r : Right) → r ≡ By q → right_after i r (Begun p start) ≡ By q
-still_by T p q (Robust start) i r e = grind arith
-still_by T p q (Container start) i r e = grind arith
-still_by T p q start i r e = e
+still_by T p q start i r e = grind arith
 
 module _ {T : Type 0} where
   -- a call that takes the right to an index has it once it has begun
@@ -59,16 +52,7 @@ module _ {T : Type 0} (scene : Scene T) (g : Good scene.by scene.capacity scene.
   keeps = record { filled = λ i o. refl; locked = λ b. refl; dead = λ owner b. refl }
 
   leaves : Leaves scene scene.set.words
-  leaves =
-      record {
-        wide = refl;
-        cells = λ i below. refl;
-        lock = refl;
-        low = λ t. let low = g.low (sym g.lock ∙ t) in omega arith;
-        grows = omega arith;
-        bound = g.bound;
-        stuck = λ end. end;
-      }
+  leaves = grind arith
 
   same : (i : ℕ) → filled_of i (events ++ es) ≡ filled_of i events
   same i = same_filled scene g scene.set.words es leaves keeps i

@@ -9,8 +9,7 @@ use Rattle.steps.specs.Indices.Robust.Parts.{cell_word, empty, locked, greatest}
 use Rattle.model.specs.declared.event.Answer.{Answer}
 use Rattle.model.specs.declared.event.Event.{Event}
 use Rattle.model.specs.declared.event.Event.TheVariants.{Filled, Asked, Told, Finished}
-use Rattle.model.specs.declared.event.Start.TheVariants.{Robust}
-use Rattle.model.specs.declared.families.indices.robust.RobustStart.{RobustStart}
+use Rattle.model.specs.declared.event.Start.{Start}
 use Rattle.model.specs.Families.Container.Reading.{NoneTakes}
 use Rattle.model.specs.Families.Indices.Reading.{locked_after, is_locked}
 use Rattle.model.specs.Families.Indices.Robust.Promises.{cell_of, SetDoes, IsWellFormed, HoldsRight, IsUnlocked}
@@ -73,21 +72,10 @@ module _ {T : Type 0} where
   pub quiet_told : (p index owner : ℕ) → Quiet (Told p index owner ∷ [])
   quiet_told p index owner = grind arith
 
-  -- an end, but that of an acquire with an index
-  pub quiet_end : (p : ℕ) (start : RobustStart) (answer : Answer T)
-      → ((i : ℕ) (o : Option ℕ) → settled_after i o (Finished p (Robust start) answer) ≡ o)
-      → ((i : ℕ) (r : Right) → right_after i r (Finished p (Robust start) answer) ≡ r)
-      → Quiet (Finished p (Robust start) answer ∷ [])
-  quiet_end p start answer settles rights =
-      record {
-        filled = λ i o. refl;
-        holder = λ i o. refl;
-        settled = settles;
-        right = rights;
-        locked = λ b. refl;
-        dead = λ owner b. refl;
-        holds = λ before. (tt, tt);
-      }
+  -- an end, but that of an acquire or an add with an index
+  pub quiet_end : (p : ℕ) (start : Start T) (answer : Answer T) → ((i : ℕ) (o : Option ℕ) → settled_after i o (Finished p start answer) ≡ o)
+      → ((i : ℕ) (r : Right) → right_after i r (Finished p start answer) ≡ r) → Quiet (Finished p start answer ∷ [])
+  quiet_end p start answer settles rights = grind arith
 
   pub well_formed_less : (events es : List (Event T)) → IsWellFormed (events ++ es) → IsWellFormed events
   well_formed_less events es all before after e is = all before (after ++ es) e (ap (λ xs. xs ++ es) is ∙ append_assoc before (e ∷ after) es)

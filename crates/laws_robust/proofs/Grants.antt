@@ -1,8 +1,7 @@
 -- What a step does by which an index is granted, by which a call that was granted one ends, or both at once. The right to the
 -- index stays with the party until its call is done.
-use Rattle.std.proofs.Common.{◌<◌, ◌≡◌, ◌≢◌, ◌⊎◌, ℕ, ◌==◌, ◌&&◌, ⊎_elim, inl, inr, if◌then◌else◌, Bool, true, false}
+use Rattle.std.proofs.Common.{◌<◌, ◌≡◌, ◌≢◌, ◌⊎◌, ℕ, ◌==◌, ◌&&◌, ⊎_elim, if◌then◌else◌, Bool, true, false}
 use Rattle.std.proofs.Common.{Option, Some, None, List, [], ◌∷◌, ◌++◌, fold, refl, sym, ap, subst, ◌∙◌, append_assoc, arith}
-use Rattle.std.proofs.lemmas.Bool.{cases_eq}
 use Rattle.std.proofs.lemmas.List.Sums.{fold-append}
 use Rattle.steps.specs.Indices.Robust.Parts.{greatest}
 use Rattle.model.specs.declared.event.Answer.TheVariants.{Index}
@@ -15,7 +14,7 @@ use Rattle.model.specs.Families.Indices.Robust.Reading.{filled_of, holder_after,
 use Rattle.model.proofs.Readings.{AreOwn, AreRight}
 use Rattle.laws_robust.specs.Gone.{IsCalm, AnswersBy}
 use Rattle.laws_robust.proofs.Core.{counter_of}
-use Rattle.laws_robust.proofs.Effects.{Keeps, Leaves, at_same, at_other, one_owner, one_party, hands_on, same_filled}
+use Rattle.laws_robust.proofs.Effects.{Keeps, Leaves, at_same, one_party, hands_on, same_filled}
 use Rattle.laws_robust.proofs.Effects.{IsRaised, raised_open, raised_stays, raised_more, unlocked}
 use Rattle.laws_robust.proofs.Gone.{calm_less}
 use Rattle.laws_robust.proofs.Invariant.{IsWorn, Scene, Inv, Good, Does}
@@ -24,25 +23,13 @@ use Rattle.laws_robust.proofs.Rights.{Right, Nobody, Settled, By, right_after, r
 -- ---- readings of one index, where an event may set them
 
 other_stays : {A : Type 0} (sets : Bool) (i j : ℕ) (x y : A) → j ≢ i → (if sets && (i == j) then x else y) ≡ y
-other_stays false i j x y ne = refl
-other_stays true i j x y ne = at_other i j x y ne
+other_stays sets i j x y ne = grind arith
 
 -- an owner that is read now was set now, or was read before
 comes_from : (sets : Bool) (i j owner o : ℕ) (old : Option ℕ) (r : Right) → (if sets && (i == j) then Some owner else old) ≡ Some o
     → ((j ≡ i) × (owner ≡ o) × ((if sets && (i == j) then Settled owner else r) ≡ Settled o))
     ⊎ ((old ≡ Some o) × ((if sets && (i == j) then Settled owner else r) ≡ r))
-comes_from false i j owner o old r e = inr (e, refl)
-comes_from true i j owner o old r e = ⊎_elim here there (cases_eq j i)
-  where
-    here : j ≡ i → ((j ≡ i) × (owner ≡ o) × ((if i == j then Settled owner else r) ≡ Settled o))
-        ⊎ ((old ≡ Some o) × ((if i == j then Settled owner else r) ≡ r))
-    here same =
-        let is : owner ≡ o = one_owner (if i == j then Some owner else old) owner o (at_same i j (Some owner) old same) e in
-        inl (same, is, at_same i j (Settled owner) r same ∙ ap Settled is)
-
-    there : j ≢ i → ((j ≡ i) × (owner ≡ o) × ((if i == j then Settled owner else r) ≡ Settled o))
-        ⊎ ((old ≡ Some o) × ((if i == j then Settled owner else r) ≡ r))
-    there ne = inr (sym (at_other i j (Some owner) old ne) ∙ e, at_other i j (Settled owner) r ne)
+comes_from sets i j owner o old r e = grind arith
 
 module _ {T : Type 0} (scene : Scene T) (inv : Inv scene) where
   open scene use {by as by, capacity as c, party as p, turns as turns, events as events}

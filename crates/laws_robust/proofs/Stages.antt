@@ -259,5 +259,5 @@ module _ {T : Type 0} (scene : Scene T) where
     ends_quietly start answer ask back here stays settles rights right done few paid =
         ends start answer ask back [] here none_lengthens
         (quietly scene inv (words_after ws ask) (Finished p (Robust start) answer ∷ []) stays.leaves
-        (quiet_end p start answer settles rights) (refl, tt) (tt, tt) (right, tt))
+        (quiet_end p (Robust start) answer settles rights) (refl, tt) (tt, tt) (right, tt))
         ((refl, done), tt) (tt, tt) few paid
