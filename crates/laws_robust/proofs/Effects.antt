@@ -1,8 +1,7 @@
 -- What each kind of step does to a robust index set and to the other parties.
 use Rattle.std.proofs.Common.{◌⊎◌, ◌≡◌, ◌≢◌, ℕ, ◌+◌, ◌<◌, ◌≤◌, ◌==◌, ⊎_elim, if◌then◌else◌, Bool, true, false, Option}
 use Rattle.std.proofs.Common.{Some, None, List, [], ◌∷◌, ◌++◌, length, get_or, set, get_or-set_other, fold, refl, sym}
-use Rattle.std.proofs.Common.{ap, subst, ◌∙◌, append_assoc, arith, eq-eqb, ne_eqb}
-use Rattle.std.proofs.lemmas.Bool.{cases_eq}
+use Rattle.std.proofs.Common.{ap, ◌∙◌, append_assoc, arith, eq-eqb, ne_eqb}
 use Rattle.std.proofs.lemmas.List.{length-set}
 use Rattle.std.proofs.lemmas.List.Sums.{fold-append}
 use Rattle.steps.specs.Indices.Robust.Parts.{cell_word, empty, locked, greatest}
@@ -22,7 +21,7 @@ use Rattle.laws_robust.specs.Gone.{IsCalm, AnswersBy}
 use Rattle.laws_robust.proofs.Core.{counter_of, cell, counter_set, cells_stay, counter_stays, cell_set, cell_stays}
 use Rattle.laws_robust.proofs.Gone.{calm_less, answers_on}
 use Rattle.laws_robust.proofs.Invariant.{IsWorn, worn_on, Scene, Inv, Good, Does}
-use Rattle.laws_robust.proofs.Rights.{Right, Settled, By, right_after, right_of, IsBy, AreOwned}
+use Rattle.laws_robust.proofs.Rights.{Right, By, right_after, right_of, IsBy, AreOwned}
 
 -- ---- readings of one index
 
@@ -302,14 +301,8 @@ module _ {T : Type 0} (scene : Scene T) where
       filled_then : (j : ℕ) → filled_of j (events ++ fill) ≡ (if i == j then Some owner else filled_of j events)
       filled_then j = fold-append (filled_after j) None events fill
 
-      filled_here : filled_of i (events ++ fill) ≡ Some owner
-      filled_here = filled_then i ∙ at_same i i (Some owner) (filled_of i events) refl
-
-      filled_there : (j : ℕ) → j ≢ i → filled_of j (events ++ fill) ≡ filled_of j events
-      filled_there j ne = filled_then j ∙ at_other i j (Some owner) (filled_of j events) ne
-
-      fill_right : (j : ℕ) → j ≢ i → right_of j (events ++ fill) ≡ right_of j events
-      fill_right j ne = fold-append (right_after j) _ events fill ∙ at_other i j (By p) (right_of j events) ne
+      fill_right : (j : ℕ) → right_of j (events ++ fill) ≡ (if i == j then By p else right_of j events)
+      fill_right j = fold-append (right_after j) _ events fill
 
       fill_holder : (j : ℕ) → holder_of j (events ++ fill) ≡ holder_of j events
       fill_holder j = fold-append (holder_after j) None events fill
@@ -327,55 +320,36 @@ module _ {T : Type 0} (scene : Scene T) where
       within_words = let wide = g.wide in omega arith
 
       fill_cells : (j : ℕ) → j < c → cell words' j ≡ cell_of (filled_of j (events ++ fill))
-      fill_cells j low = ap (λ w. cell w j) new ∙ ⊎_elim here there (cases_eq j i)
-        where
-          here : j ≡ i → cell (set ws (cell_word i) owner) j ≡ cell_of (filled_of j (events ++ fill))
-          here e =
-              subst (λ k. cell (set ws (cell_word i) owner) k ≡ cell_of (filled_of k (events ++ fill))) (sym e)
-              (cell_set ws i owner within_words ∙ sym (ap cell_of filled_here))
-
-          there : j ≢ i → cell (set ws (cell_word i) owner) j ≡ cell_of (filled_of j (events ++ fill))
-          there ne = cell_stays ws i owner j ne ∙ (g.cells j low ∙ sym (ap cell_of (filled_there j ne)))
+      fill_cells j low =
+          let is = filled_then j in
+          let was = g.cells j low in
+          let here = cell_set ws i owner within_words in
+          let there = cell_stays ws i owner j in
+          grind arith
 
       fill_filled : (j o : ℕ) → filled_of j (events ++ fill) ≡ Some o → (j < c) × (o < empty)
-      fill_filled j o e = ⊎_elim here there (cases_eq j i)
-        where
-          here : j ≡ i → (j < c) × (o < empty)
-          here same =
-              let is : owner ≡ o = one_owner (filled_of i (events ++ fill)) owner o filled_here (subst (λ k. filled_of k (events ++ fill) ≡ Some o) same e) in
-              (omega arith, omega arith)
+      fill_filled j o e = let is = filled_then j in let was = g.filled j o in grind arith
 
-          there : j ≢ i → (j < c) × (o < empty)
-          there ne = g.filled j o (sym (filled_there j ne) ∙ e)
-
-      module _ (h : AreOwned events) where
-        fill_held : (j o : ℕ) → holder_of j (events ++ fill) ≡ Some o → filled_of j (events ++ fill) ≡ Some o
-        fill_held j o e =
-            let was = h.held j o (sym (fill_holder j) ∙ e) in
-            ⊎_elim (λ same. some_none (filled_of i events) o none (subst (λ k. filled_of k events ≡ Some o) same was))
-            (λ ne. filled_there j ne ∙ was) (cases_eq j i)
-
-        fill_settles : (j o : ℕ) → settled_of j (events ++ fill) ≡ Some o → (filled_of j (events ++ fill) ≡ Some o) × (right_of j (events ++ fill) ≡ Settled o)
-        fill_settles j o e =
-            let was = h.settled j o (sym (fill_settled j) ∙ e) in
-            ⊎_elim (λ same. some_none (filled_of i events) o none (subst (λ k. filled_of k events ≡ Some o) same was.0))
-            (λ ne. (filled_there j ne ∙ was.0, fill_right j ne ∙ was.1)) (cases_eq j i)
+      fill_owned : AreOwned events → AreOwned (events ++ fill)
+      fill_owned h =
+          record {
+            held = λ j o e. let filled = filled_then j in let holder = fill_holder j in let was = h.held j o in grind arith;
+            settled = λ j o e.
+                let filled = filled_then j in
+                let settled = fill_settled j in
+                let right = fill_right j in
+                let was = h.settled j o in
+                grind arith;
+          }
 
       fill_counter : counter_of words' ≡ counter_of ws
       fill_counter = ap counter_of new ∙ counter_stays ws i owner
 
       fill_dead_out : (j o : ℕ) → is_dead o events ≡ true → filled_of j (events ++ fill) ≡ Some o → filled_of j events ≡ Some o
-      fill_dead_out j o d e = ⊎_elim here (λ ne. sym (filled_there j ne) ∙ e) (cases_eq j i)
-        where
-          here : j ≡ i → filled_of j events ≡ Some o
-          here same =
-              let is : owner ≡ o = one_owner (filled_of i (events ++ fill)) owner o filled_here (subst (λ k. filled_of k (events ++ fill) ≡ Some o) same e) in
-              both_ways (is_dead o events) (subst (λ k. is_dead k events ≡ false) is alive) d
+      fill_dead_out j o d e = let is = filled_then j in grind arith
 
       fill_by : (q j o : ℕ) → IsBy q j o events → IsBy q j o (events ++ fill)
-      fill_by q j o h =
-          ⊎_elim (λ same. some_none (filled_of i events) o none (subst (λ k. filled_of k events ≡ Some o) same h.filled))
-          (λ ne. record { right = fill_right j ne ∙ h.right; filled = filled_there j ne ∙ h.filled }) (cases_eq j i)
+      fill_by q j o h = let filled = filled_then j in let right = fill_right j in grind arith
 
       pub fills : Does scene words' fill
       fills =
@@ -401,7 +375,7 @@ module _ {T : Type 0} (scene : Scene T) where
                       (answers_on (IsWorn by ws) (IsWorn by words') (worn_on by ws words' (λ end. fill_counter ∙ end))
                       by c events g.answers)
                       (tt, tt);
-                  owned = λ calm. let h = g.owned (calm_less by events fill calm) in record { held = fill_held h; settled = fill_settles h };
+                  owned = λ calm. fill_owned (g.owned (calm_less by events fill calm));
                   holds = λ calm. Each-append HoldsRight events fill (g.holds (calm_less by events fill calm)) (tt, tt);
                 };
             goes =

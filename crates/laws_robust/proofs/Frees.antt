@@ -15,10 +15,10 @@ use Rattle.model.specs.Reading.{span_of}
 use Rattle.model.proofs.Readings.{Each-append, span_of-other}
 use Rattle.laws_robust.specs.Gone.{is_gone, IsCalm, AnswersBy}
 use Rattle.laws_robust.proofs.Core.{counter_of, cell, counter_stays, cell_set, cell_stays}
-use Rattle.laws_robust.proofs.Effects.{at_same, at_other, some_none, well_formed_less}
+use Rattle.laws_robust.proofs.Effects.{well_formed_less}
 use Rattle.laws_robust.proofs.Gone.{calm_less, answers_on}
 use Rattle.laws_robust.proofs.Invariant.{IsWorn, worn_on, Scene, Inv, Good, Does}
-use Rattle.laws_robust.proofs.Rights.{Nobody, Settled, right_after, right_of, IsBy, AreOwned}
+use Rattle.laws_robust.proofs.Rights.{Nobody, right_after, right_of, IsBy, AreOwned}
 
 module _ {T : Type 0} (scene : Scene T) (inv : Inv scene) where
   open scene use {by as by, capacity as c, party as p, turns as turns, events as events}

@@ -1,6 +1,6 @@
 -- What a step does by which an index is granted, by which a call that was granted one ends, or both at once. The right to the
 -- index stays with the party until its call is done.
-use Rattle.std.proofs.Common.{◌<◌, ◌≡◌, ◌≢◌, ◌⊎◌, ℕ, ◌==◌, ◌&&◌, ⊎_elim, if◌then◌else◌, Bool, true, false}
+use Rattle.std.proofs.Common.{◌<◌, ◌≡◌, ◌≢◌, ℕ, ◌==◌, ◌&&◌, if◌then◌else◌, Bool, true, false}
 use Rattle.std.proofs.Common.{Option, Some, None, List, [], ◌∷◌, ◌++◌, fold, refl, sym, ap, subst, ◌∙◌, append_assoc, arith}
 use Rattle.std.proofs.lemmas.List.Sums.{fold-append}
 use Rattle.steps.specs.Indices.Robust.Parts.{greatest}
@@ -18,18 +18,11 @@ use Rattle.laws_robust.proofs.Effects.{Keeps, Leaves, at_same, one_party, hands_
 use Rattle.laws_robust.proofs.Effects.{IsRaised, raised_open, raised_stays, raised_more, unlocked}
 use Rattle.laws_robust.proofs.Gone.{calm_less}
 use Rattle.laws_robust.proofs.Invariant.{IsWorn, Scene, Inv, Good, Does}
-use Rattle.laws_robust.proofs.Rights.{Right, Nobody, Settled, By, right_after, right_of, IsBy, AreOwned}
+use Rattle.laws_robust.proofs.Rights.{Right, Settled, By, right_after, right_of, IsBy, AreOwned}
 
--- ---- readings of one index, where an event may set them
-
+-- what an event may set at one index it leaves at another
 other_stays : {A : Type 0} (sets : Bool) (i j : ℕ) (x y : A) → j ≢ i → (if sets && (i == j) then x else y) ≡ y
 other_stays sets i j x y ne = grind arith
-
--- an owner that is read now was set now, or was read before
-comes_from : (sets : Bool) (i j owner o : ℕ) (old : Option ℕ) (r : Right) → (if sets && (i == j) then Some owner else old) ≡ Some o
-    → ((j ≡ i) × (owner ≡ o) × ((if sets && (i == j) then Settled owner else r) ≡ Settled o))
-    ⊎ ((old ≡ Some o) × ((if sets && (i == j) then Settled owner else r) ≡ r))
-comes_from sets i j owner o old r e = grind arith
 
 module _ {T : Type 0} (scene : Scene T) (inv : Inv scene) where
   open scene use {by as by, capacity as c, party as p, turns as turns, events as events}
@@ -60,19 +53,22 @@ module _ {T : Type 0} (scene : Scene T) (inv : Inv scene) where
     right_then j = fold-append (right_after j) _ events es ∙ rights j (right_of j events)
 
     module _ (calm : IsCalm by (events ++ es)) where
-      filled_mine : (j o : ℕ) → j ≡ i → owner ≡ o → filled_of j (events ++ es) ≡ Some o
-      filled_mine j o e is = same j ∙ (ap (λ k. filled_of k events) e ∙ ((mine calm).filled ∙ ap Some is))
-
       still_owned : AreOwned events → AreOwned (events ++ es)
       still_owned h =
           record {
             held = λ j o e.
-                ⊎_elim (λ now. filled_mine j o now.0 now.1) (λ was. same j ∙ h.held j o was.0)
-                (comes_from granted i j owner o (holder_of j events) Nobody (sym (holder_then j) ∙ e));
+                let filled = same j in
+                let holder = holder_then j in
+                let ours = (mine calm).filled in
+                let was = h.held j o in
+                grind arith;
             settled = λ j o e.
-                ⊎_elim (λ now. (filled_mine j o now.0 now.1, right_then j ∙ now.2))
-                (λ was. let k = h.settled j o was.0 in (same j ∙ k.0, right_then j ∙ (was.1 ∙ k.1)))
-                (comes_from done i j owner o (settled_of j events) (right_of j events) (sym (settled_then j) ∙ e));
+                let filled = same j in
+                let settled = settled_then j in
+                let right = right_then j in
+                let ours = (mine calm).filled in
+                let was = h.settled j o in
+                grind arith;
           }
 
       -- no other party has a right to it
