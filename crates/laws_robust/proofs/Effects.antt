@@ -272,10 +272,7 @@ module _ {T : Type 0} (scene : Scene T) where
 
       still_owned : AreOwned events → AreOwned (events ++ es)
       still_owned h =
-          record {
-            held = λ i owner e. filled_more i ∙ h.held i owner (sym (holder_more i) ∙ e);
-            settled = λ i owner e. let k = h.settled i owner (sym (settled_more i) ∙ e) in (filled_more i ∙ k.0, right_more i ∙ k.1);
-          }
+          let filled = filled_more in let holder = holder_more in let settled = settled_more in let right = right_more in grind arith
 
       pub quietly : Does scene words' es
       quietly =
@@ -332,15 +329,7 @@ module _ {T : Type 0} (scene : Scene T) where
 
       fill_owned : AreOwned events → AreOwned (events ++ fill)
       fill_owned h =
-          record {
-            held = λ j o e. let filled = filled_then j in let holder = fill_holder j in let was = h.held j o in grind arith;
-            settled = λ j o e.
-                let filled = filled_then j in
-                let settled = fill_settled j in
-                let right = fill_right j in
-                let was = h.settled j o in
-                grind arith;
-          }
+          let filled = filled_then in let holder = fill_holder in let settled = fill_settled in let right = fill_right in grind arith
 
       fill_counter : counter_of words' ≡ counter_of ws
       fill_counter = ap counter_of new ∙ counter_stays ws i owner

@@ -79,15 +79,7 @@ module _ {T : Type 0} (scene : Scene T) (inv : Inv scene) where
 
     still_owned : AreOwned events → AreOwned (events ++ es)
     still_owned h =
-        record {
-          held = λ j o e. let filled = filled_then j in let holder = holder_then j in let was = h.held j o in grind arith;
-          settled = λ j o e.
-              let filled = filled_then j in
-              let settled = settled_then j in
-              let right = right_then j in
-              let was = h.settled j o in
-              grind arith;
-        }
+        let filled = filled_then in let holder = holder_then in let settled = settled_then in let right = right_then in grind arith
 
     unheld_then : (j : ℕ) → holder_of j events ≡ None → holder_of j (events ++ es) ≡ None
     unheld_then j none = let is = holder_then j in grind arith
@@ -125,15 +117,8 @@ module _ {T : Type 0} (scene : Scene T) (inv : Inv scene) where
                 holds = λ calm. Each-append HoldsRight events es (g.holds (calm_less by events es calm)) (tt, tt);
               };
           goes =
-              record {
-                grows = let is = counter_same in omega arith;
-                stuck = λ end. counter_same ∙ end;
-                grants = λ same less j none. unheld_then j none;
-                fills = λ j o d e. filled_was j o e;
-                dead = λ o d. same_dead o ∙ d;
-                lives = λ o l. sym (same_dead o) ∙ l;
-                well_formed = well_formed_less events es;
-              };
+              let same = counter_same in let filled = filled_was in let unheld = unheld_then in let dead = same_dead in
+              let less = well_formed_less events es in grind arith;
           spares = λ q ne.
               record {
                 none = tt;

@@ -55,21 +55,12 @@ module _ {T : Type 0} (scene : Scene T) (inv : Inv scene) where
     module _ (calm : IsCalm by (events ++ es)) where
       still_owned : AreOwned events → AreOwned (events ++ es)
       still_owned h =
-          record {
-            held = λ j o e.
-                let filled = same j in
-                let holder = holder_then j in
-                let ours = (mine calm).filled in
-                let was = h.held j o in
-                grind arith;
-            settled = λ j o e.
-                let filled = same j in
-                let settled = settled_then j in
-                let right = right_then j in
-                let ours = (mine calm).filled in
-                let was = h.settled j o in
-                grind arith;
-          }
+          let filled = same in
+          let holder = holder_then in
+          let settled = settled_then in
+          let right = right_then in
+          let ours = (mine calm).filled in
+          grind arith
 
       -- no other party has a right to it
       other_index : (q : ℕ) → q ≢ p → (j o : ℕ) → IsBy q j o events → j ≢ i

@@ -59,10 +59,7 @@ module _ {T : Type 0} (scene : Scene T) (inv : Inv scene) where
     still_owned : IsCalm by (events ++ es) → AreOwned (events ++ es)
     still_owned calm =
         let h = g.owned (calm_less by events es calm) in
-        record {
-          held = λ i owner e. same_filled i ∙ h.held i owner (sym (same_holder i) ∙ e);
-          settled = λ i owner e. let k = h.settled i owner (sym (same_settled i) ∙ e) in (same_filled i ∙ k.0, same_right i ∙ k.1);
-        }
+        let filled = same_filled in let holder = same_holder in let settled = same_settled in let right = same_right in grind arith
 
     pub locks : Does scene words' (Locked p ∷ more)
     locks =
