@@ -9,7 +9,7 @@ use Rattle.model.specs.Families.Container.Reading.{NoneTakes}
 use Rattle.model.specs.Families.Indices.Robust.Reading.{filled_after, filled_of, holder_after, holder_of, settled_after, settled_of}
 use Rattle.laws_robust.proofs.Effects.{Keeps, Leaves, at_same, hands_on, same_filled}
 use Rattle.laws_robust.proofs.Invariant.{Scene, Good, Does}
-use Rattle.laws_robust.proofs.Rights.{Right, Settled, By, taken_by, right_after, right_of, IsBy, AreOwned}
+use Rattle.laws_robust.proofs.Rights.{Right, Nobody, Settled, By, taken_by, right_after, right_of, IsBy, AreOwned}
 
 -- ---- the right to one index
 
@@ -62,10 +62,12 @@ module _ {T : Type 0} (scene : Scene T) (g : Good scene.by scene.capacity scene.
 
   settles : AreOwned events → (i o : ℕ) → settled_of i (events ++ es) ≡ Some o → (filled_of i (events ++ es) ≡ Some o) × (right_of i (events ++ es) ≡ Settled o)
   settles h i o e =
-      let k =
-      still_settled T p start i o (settled_of i events) (right_of i events)
-      (sym (fold-append (settled_after i) None events es) ∙ e) (λ was. (h.settled i o was).1) in
-      (same i ∙ (h.settled i o k.0).0, fold-append (right_after i) _ events es ∙ k.1)
+      let was = still_settled T p start i o (settled_of i events) (right_of i events) in
+      let settled = fold-append (settled_after i) None events es in
+      let right = fold-append (right_after i) Nobody events es in
+      let filled = same i in
+      let owned = h.settled i o in
+      grind arith
 
   pub begins : Does scene scene.set.words (Begun p start ∷ [])
   begins =

@@ -158,16 +158,7 @@ module _ {T : Type 0} (scene : Scene T) where
                 owned = λ calm. hands.owned calm (good.owned (calm_less by events es calm));
                 holds = λ calm. Each-append HoldsRight events es (good.holds (calm_less by events es calm)) (hands.holds calm);
               };
-          goes =
-              record {
-                grows = stays.grows;
-                stuck = stays.stuck;
-                grants = grants;
-                fills = λ i owner d e. sym (same_filled i) ∙ e;
-                dead = λ owner d. same_dead owner ∙ d;
-                lives = λ owner l. sym (same_dead owner) ∙ l;
-                well_formed = well_formed_less events es;
-              };
+          goes = let filled = same_filled in let dead = same_dead in let less = well_formed_less events es in grind arith;
           spares = λ q ne.
               record {
                 none = others_begin_none q p es ne own;
@@ -368,15 +359,12 @@ module _ {T : Type 0} (scene : Scene T) where
                   holds = λ calm. Each-append HoldsRight events fill (g.holds (calm_less by events fill calm)) (tt, tt);
                 };
             goes =
-                record {
-                  grows = let is : counter_of words' ≡ counter_of ws = ap counter_of new ∙ counter_stays ws i owner in omega arith;
-                  stuck = λ end. fill_counter ∙ end;
-                  grants = λ same less j unheld. fill_holder j ∙ unheld;
-                  fills = fill_dead_out;
-                  dead = λ o d. fill_dead o ∙ d;
-                  lives = λ o l. sym (fill_dead o) ∙ l;
-                  well_formed = well_formed_less events fill;
-                };
+                let same = fill_counter in
+                let holder = fill_holder in
+                let filled = fill_dead_out in
+                let dead = fill_dead in
+                let less = well_formed_less events fill in
+                grind arith;
             spares = λ q ne.
                 record {
                   none = tt;
