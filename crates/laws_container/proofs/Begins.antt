@@ -1,5 +1,5 @@
 -- What a call does as it begins, and what its first stage knows. The party's span was shut.
-use Rattle.std.proofs.Common.{◌≡◌, ◌≢◌, ℕ, ⊎_elim, inl, if◌then◌else◌, nat_lt, Bool, true, false, Option, Some, None}
+use Rattle.std.proofs.Common.{◌≡◌, ◌≢◌, ℕ, ⊎_elim, if◌then◌else◌, nat_lt, Bool, true, false, Option, Some, None}
 use Rattle.std.proofs.Common.{is_some, List, [], ◌∷◌, ◌++◌, refl, sym, ap, subst, ◌∙◌, arith}
 use Rattle.std.proofs.lemmas.Bool.Decides.{nat_tests}
 use Rattle.std.proofs.lemmas.List.{length-replicate}
@@ -100,32 +100,18 @@ module _ {T : Type 0} (scene : Scene T)
 
   passes : (start : ContainerStart T) → Passes code c m (m' start)
   passes start =
-      record {
-        well_formed = was_well_formed start;
-        kept = λ kept. kept;
-        counts = λ kept i below. omega arith;
-        change = λ kept. omega arith;
-        stands = λ well_formed i below same. same_contents start i;
-        words = λ well_formed i below same odd j js. refl;
-        stood = λ well_formed i below was is. refl;
-        left = λ well_formed i below same was. same_left start i ∙ was;
-        announces = λ well_formed same i below said. (sym (same_announced start i) ∙ said, refl);
-        owing = λ same owing. still_owing start owing;
-        owed = λ same i below. inl refl;
-        lost = λ well_formed i o below dead filled. inl refl;
-      }
+      let well_formed = was_well_formed start in
+      let contents = same_contents start in
+      let announced = same_announced start in
+      let left = same_left start in
+      let owing = still_owing start in
+      grind arith
 
   changes_none : (start : ContainerStart T) → Changes scene scene.words (y start) (begun start)
   changes_none start =
       record {
         passes = passes start;
-        leaves = λ q ne.
-            record {
-              under = λ well_formed i owner below lives writes even. (refl, λ j js. refl);
-              over = λ well_formed i owner below lives writes. inl refl;
-              placed = λ well_formed i owner below lives writes left some. (same_left start i ∙ left, ap is_some (same_contents start i) ∙ some);
-              alone = λ alone i below. refl;
-            };
+        leaves = λ q ne. let contents = same_contents start in let left = same_left start in grind arith;
         wide = refl;
         counts = λ kept i below. let few = h.counts kept i below in omega arith;
         change = λ kept. let few = h.change kept in omega arith;
@@ -159,16 +145,7 @@ module _ {T : Type 0} (scene : Scene T)
   rests_then : (start : ContainerStart T) (s : ContainerState T)
       → is_looking (flight_of (Some (y start).doing)) ≡ false → state_of p (states' start) ≡ Some s
       → Rests code c (m' start) p s
-  rests_then (starts.TheVariants.Add value owner) s no_look found = still_rests (starts.TheVariants.Add value owner) s found
-  rests_then (starts.TheVariants.Remove index owner mode) s no_look found = still_rests (starts.TheVariants.Remove index owner mode) s found
-  rests_then (starts.TheVariants.Replace index value owner) s no_look found = still_rests (starts.TheVariants.Replace index value owner) s found
-  rests_then (starts.TheVariants.Find owner) s no_look found = still_rests (starts.TheVariants.Find owner) s found
-  rests_then (starts.TheVariants.Recover owner mode) s no_look found = still_rests (starts.TheVariants.Recover owner mode) s found
-  rests_then starts.TheVariants.GetState s no_look found = absurd (cc)
-  rests_then starts.TheVariants.UpdateState s no_look found = absurd (cc)
-  rests_then starts.TheVariants.Len s no_look found = still_rests starts.TheVariants.Len s found
-  rests_then starts.TheVariants.IsEmpty s no_look found = still_rests starts.TheVariants.IsEmpty s found
-  rests_then starts.TheVariants.IsLocked s no_look found = still_rests starts.TheVariants.IsLocked s found
+  rests_then start s no_look found = let rests = still_rests start s in grind arith
 
   does : (start : ContainerStart T) → Does scene scene.words (states' start) (y start) (begun start)
   does start =

@@ -113,20 +113,7 @@ module _ {T : Type 0} (scene : Scene T) (inv : Inv scene) (words' : List ℕ) (y
     calmly =
         record {
           passes =
-              record {
-                well_formed = well_formed;
-                kept = λ kept. kept;
-                counts = λ kept i low. let same = same_count i low in omega arith;
-                change = λ kept. let same = same_change in omega arith;
-                stands = λ holds i low is. calm.contents i;
-                words = λ holds i low is odd j js. same_datum i j;
-                stood = λ holds i low was now. same_count i low;
-                left = λ holds i low is was. calm.left i was;
-                announces = λ holds is i low said. (sym (calm.announced i) ∙ said, same_count i low);
-                owing = λ is o. owing_still still o;
-                owed = λ is i low. inl (same_count i low);
-                lost = λ holds i o low dead filled. inl (same_count i low);
-              };
+              let count = same_count in let datum = same_datum in let change = same_change in let owing = owing_still still in grind arith;
           leaves = λ q ne.
               record {
                 under = λ holds i o low lives mine even. (same_count i low, λ j js. same_datum i j);

@@ -96,9 +96,7 @@ module _ {T : Type 0} (scene : Scene T) (inv : Inv scene) (start : ContainerStar
           theirs
 
       left_on : (j : ℕ) → left_of j events ≡ true → left_of j (events ++ free) ≡ true
-      left_on j was =
-          fold-append (left_after j) true events free
-          ∙ ⊎_elim (λ same. at_same i j true (left_of j events) same) (λ ne. at_other i j true (left_of j events) ne ∙ was) (cases_eq j i)
+      left_on j was = let left = fold-append (left_after j) true events free in grind arith
 
       spared : WellFormed (after scene words' y free) → (q : ℕ) → q ≢ p → (j o : ℕ)
           → is_gone scene.terms.by o events ≡ false → IsWriter q j o events → left_of j events ≡ false
