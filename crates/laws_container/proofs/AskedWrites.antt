@@ -31,9 +31,6 @@ use Rattle.laws_container.proofs.Standing.{At}
 use Rattle.laws_container.proofs.Terms.{Terms}
 
 module _ {T : Type 0} (code : Coding T) (c : ℕ) (t : Trace T) (turn : Turn T) (q : ℕ) where
-  abbrev new : Trace T
-  new = after_turn t turn
-
   abbrev R : Event T → Type 0
   R e = WritesRight t turn (after_turn t turn) e
 

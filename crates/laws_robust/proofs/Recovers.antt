@@ -254,9 +254,6 @@ module _ {T : Type 0} (scene : Scene T) (inv : Inv scene) (mode : ReleaseMode) (
         (passed_says is) k.gone
 
     module _ (other : cell ws index ≢ empty) where
-      abbrev found : ℕ
-      found = cell ws index
-
       abbrev asking : List (Event T)
       asking = Asked p index (cell ws index) ∷ []
 
