@@ -52,19 +52,8 @@ module _ {T : Type 0} (scene : Scene T) (inv : Inv scene) (words' : List ℕ) (y
       owes (flight_of (doing_of (party_of p latest))) ≡ true → owes (flight_of (Some y.doing)) ≡ true
 
   owing_still : OwesStill → Owing latest → Owing (put p y latest)
-  owing_still still o = ⊎_elim here there (cases_eq o.party p)
-    where
-      here : o.party ≡ p → Owing (put p y latest)
-      here same =
-          record {
-            party = p;
-            is =
-                ap (λ x. owes (flight_of (doing_of x))) (party_put_same p y latest)
-                ∙ still (subst (λ n. owes (flight_of (doing_of (party_of n latest))) ≡ true) same o.is);
-          }
-
-      there : o.party ≢ p → Owing (put p y latest)
-      there ne = record { party = o.party; is = ap (λ x. owes (flight_of (doing_of x))) (party_put_other o.party p y latest ne) ∙ o.is }
+  owing_still still o =
+      let here = party_put_same p y latest in let there = party_put_other o.party p y latest in grind arith
 
   -- it owes one from now on
   owing_now : owes (flight_of (Some y.doing)) ≡ true → Owing (put p y latest)
@@ -157,27 +146,8 @@ module _ {T : Type 0} (scene : Scene T) (inv : Inv scene) (words' : List ℕ) (y
     counts_change =
         record {
           passes =
-              record {
-                well_formed = well_formed;
-                kept = λ kept. kept;
-                counts = λ kept i low. let same = count_as_it_was i in omega arith;
-                change = λ kept. let more = raised_few kept in omega arith;
-                stands = λ holds i low is. contents i;
-                words = λ holds i low is odd j js. datum_as_it_was i j;
-                stood = λ holds i low was now. count_as_it_was i;
-                left = λ holds i low is was. left i ∙ was;
-                announces = λ holds is i low said. let more = raised in absurd (omega arith);
-                owing = λ is o. let more = raised in absurd (omega arith);
-                owed = λ is i low. inl (count_as_it_was i);
-                lost = λ holds i o low dead filled. inl (count_as_it_was i);
-              };
-          leaves = λ q ne.
-              record {
-                under = λ holds i o low lives mine even. (count_as_it_was i, λ j js. datum_as_it_was i j);
-                over = λ holds i o low lives mine. inl (count_as_it_was i);
-                placed = λ holds i o low lives mine fresh some. (left i ∙ fresh, ap is_some (contents i) ∙ some);
-                alone = λ was i low. count_as_it_was i;
-              };
+              let count = count_as_it_was in let datum = datum_as_it_was in let more = raised in let by_one = raised_few in grind arith;
+          leaves = λ q ne. let count = count_as_it_was in let datum = datum_as_it_was in grind arith;
           wide = ap length new ∙ length-set ws (change_word c) (one_more (change_in code c m));
           counts = λ kept i low. let same = count_as_it_was i in let few = e.counts kept i low in omega arith;
           change = λ kept. let more = raised_few kept in let few = e.change kept in omega arith;
@@ -212,20 +182,12 @@ module _ {T : Type 0} (scene : Scene T) (inv : Inv scene) (words' : List ℕ) (y
     stores =
         record {
           passes =
-              record {
-                well_formed = well_formed;
-                kept = λ kept. kept;
-                counts = λ kept a low. let same = count_kept a low in omega arith;
-                change = λ kept. let same = change_kept in omega arith;
-                stands = λ holds a low is. calm.contents a;
-                words = λ holds a low is odd j js. datum_kept a j (elsewhere holds a odd) js;
-                stood = λ holds a low was now. count_kept a low;
-                left = λ holds a low is was. calm.left a was;
-                announces = λ holds is a low said. (sym (calm.announced a) ∙ said, count_kept a low);
-                owing = λ is o. owing_still still o;
-                owed = λ is a low. inl (count_kept a low);
-                lost = λ holds a o low dead filled. inl (count_kept a low);
-              };
+              let count = count_kept in
+              let datum = datum_kept in
+              let change = change_kept in
+              let there = elsewhere in
+              let owing = owing_still still in
+              grind arith;
           leaves = λ q ne.
               record {
                 under = λ holds a o low lives theirs even. (count_kept a low, λ j js. datum_kept a j (not_theirs holds q ne a o theirs) js);
