@@ -262,22 +262,16 @@ module _ {T : Type 0} (scene : Scene T) (inv : Inv scene) (words' : List ℕ) (y
               record {
                 well_formed = well_formed;
                 kept = λ kept. kept;
-                counts = λ kept a low. ⊎_elim (λ same. grown kept a same) (λ ne. let is = count_there a ne in omega arith) (cases_eq a i);
+                counts = λ kept a low. let here = count_few kept in let there = count_there a in grind arith;
                 change = λ kept. let same = change_same in omega arith;
                 stands = λ holds a low is. h.contents a (moved a is);
                 words = λ holds a low is odd j js. datum_all a j;
-                stood =
-                    λ holds a low was now. ⊎_elim
-                    (λ same. absurd (h.stood holds (subst (λ b. is_some (contents_of b events) ≡ true) same was)
-                    (subst (λ b. is_some (contents_of b (events ++ es)) ≡ true) same now)))
-                    (λ ne. count_there a ne) (cases_eq a i);
+                stood = λ holds a low was now. let here = h.stood holds in let there = count_there a in grind arith;
                 left = λ holds a low is was. h.left a (moved a is) ∙ was;
                 announces = λ holds is a low said. let k = h.announced holds a said in (k.1, count_there a k.0);
                 owing = λ is o. owing_now owed;
                 owed = λ is a low. inr (owing_now owed);
-                lost =
-                    λ holds a o low dead filled. ⊎_elim (λ same. inr (lost_here holds a o same dead filled))
-                    (λ other. inl (count_there a other)) (cases_eq a i);
+                lost = λ holds a o low dead filled. let odd = h.lost holds o dead in let new = count_here in let there = count_there a in grind arith;
               };
           leaves = λ q ne.
               record {
@@ -294,31 +288,14 @@ module _ {T : Type 0} (scene : Scene T) (inv : Inv scene) (words' : List ℕ) (y
                 alone = λ was a low. not_alone q ne was;
               };
           wide = ap length new ∙ length-set ws (count_word c i) _;
-          counts =
-              λ kept a low. ⊎_elim (λ same. bounded kept a same)
-              (λ ne. let is = count_there a ne in let few = e.counts kept a low in omega arith) (cases_eq a i);
+          counts = λ kept a low. let here = count_few kept in let few = e.counts kept in let there = count_there a in grind arith;
           change = λ kept. let same = change_same in let few = e.change kept in omega arith;
-          within = λ a v is. ⊎_elim (λ same. subst (λ b. b < c) (sym same) below) (λ ne. e.within a v (sym (h.contents a ne) ∙ is)) (cases_eq a i);
+          within = λ a v is. let was = e.within a v in let there = h.contents a in grind arith;
           announced = λ holds a said. let k = h.announced holds a said in ap is_some (h.contents a k.0) ∙ e.announced (well_formed holds) a k.1;
           whole = h.whole;
         }
       where
-        grown : Keeps scene.terms → (a : ℕ) → a ≡ i → count_in code c m a ≤ count_in code c m' a
-        grown kept a same = subst (λ b. count_in code c m b ≤ count_in code c m' b) (sym same) (let here = count_few kept in omega arith)
-
-        bounded : Keeps scene.terms → (a : ℕ) → a ≡ i → count_in code c m' a ≤ turns + 1
-        bounded kept a same =
-            subst (λ b. count_in code c m' b ≤ turns + 1) (sym same)
-            (let here = count_few kept in let few = e.counts kept i below in omega arith)
-
         over_here : WellFormed m' → (q : ℕ) → q ≢ p → (a o : ℕ) → a ≡ i → IsWriter q a o events → count_in code c m' a % 2 ≡ 0
         over_here holds q ne a o same theirs =
             subst (λ b. count_in code c m' b % 2 ≡ 0) (sym same)
             (ap (λ n. n % 2) count_here ∙ h.over holds q ne o (subst (λ b. IsWriter q b o events) same theirs))
-
-        lost_here : WellFormed m' → (a o : ℕ) → a ≡ i → is_gone scene.terms.by o events ≡ true
-            → filled_of a events ≡ Some o → (count_in code c m a % 2 ≡ 1) × (count_in code c m' a % 2 ≡ 0)
-        lost_here holds a o same dead filled =
-            let odd = h.lost holds o dead (subst (λ b. filled_of b events ≡ Some o) same filled) in
-            let new = count_here in
-            subst (λ b. (count_in code c m b % 2 ≡ 1) × (count_in code c m' b % 2 ≡ 0)) (sym same) (odd, omega arith)
