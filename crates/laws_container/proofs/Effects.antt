@@ -1,8 +1,7 @@
 -- What a turn does to the elements, by what it changes: nothing of them; the number of changes; a word of an element; or the
 -- number of an element, where a value is placed or hidden.
-use Rattle.std.proofs.Common.{◌≡◌, ◌≢◌, ⊎_elim, inl, inr, ℕ, ◌+◌, ◌%◌, ◌<◌, ◌≤◌, Bool, true, false, Option, Some, None, is_some, List}
+use Rattle.std.proofs.Common.{◌≡◌, ◌≢◌, inl, ℕ, ◌+◌, ◌%◌, ◌<◌, ◌≤◌, Bool, true, false, Option, Some, None, is_some, List}
 use Rattle.std.proofs.Common.{◌++◌, length, get_or, set, fold, sym, ap, subst, ◌∙◌, arith, get_or-set_other}
-use Rattle.std.proofs.lemmas.Bool.{cases_eq}
 use Rattle.std.proofs.lemmas.List.{length-set}
 use Rattle.std.proofs.lemmas.List.Sums.{fold-append}
 use Rattle.steps.specs.Container.Layout.{change_word, count_word, element_word}
@@ -259,32 +258,19 @@ module _ {T : Type 0} (scene : Scene T) (inv : Inv scene) (words' : List ℕ) (y
     counts_one h =
         record {
           passes =
-              record {
-                well_formed = well_formed;
-                kept = λ kept. kept;
-                counts = λ kept a low. let here = count_few kept in let there = count_there a in grind arith;
-                change = λ kept. let same = change_same in omega arith;
-                stands = λ holds a low is. h.contents a (moved a is);
-                words = λ holds a low is odd j js. datum_all a j;
-                stood = λ holds a low was now. let here = h.stood holds in let there = count_there a in grind arith;
-                left = λ holds a low is was. h.left a (moved a is) ∙ was;
-                announces = λ holds is a low said. let k = h.announced holds a said in (k.1, count_there a k.0);
-                owing = λ is o. owing_now owed;
-                owed = λ is a low. inr (owing_now owed);
-                lost = λ holds a o low dead filled. let odd = h.lost holds o dead in let new = count_here in let there = count_there a in grind arith;
-              };
+              let here = count_here in
+              let by_one = count_few in
+              let there = count_there in
+              let datum = datum_all in
+              let change = change_same in
+              let elsewhere = moved in
+              let owing = owing_now owed in
+              grind arith;
           leaves = λ q ne.
               record {
                 under = λ holds a o low lives theirs even. (count_there a (h.under holds q ne a o theirs even), λ j js. datum_all a j);
-                over =
-                    λ holds a o low lives theirs. ⊎_elim (λ same. inr (over_here holds q ne a o same theirs))
-                    (λ other. inl (count_there a other)) (cases_eq a i);
-                placed =
-                    λ holds a o low lives theirs fresh some. ⊎_elim
-                    (λ same. absurd (h.placed holds q ne o (subst (λ b. IsWriter q b o events) same theirs)
-                    (subst (λ b. left_of b events ≡ false) same fresh)
-                    (subst (λ b. is_some (contents_of b events) ≡ true) same some)))
-                    (λ other. (h.left a other ∙ fresh, ap is_some (h.contents a other) ∙ some)) (cases_eq a i);
+                over = λ holds a o low lives theirs. let here = count_here in let ok = h.over holds q ne o in let there = count_there a in grind arith;
+                placed = λ holds a o low lives theirs fresh some. let here = h.placed holds q ne o in let left = h.left a in let same = h.contents a in grind arith;
                 alone = λ was a low. not_alone q ne was;
               };
           wide = ap length new ∙ length-set ws (count_word c i) _;
@@ -294,8 +280,3 @@ module _ {T : Type 0} (scene : Scene T) (inv : Inv scene) (words' : List ℕ) (y
           announced = λ holds a said. let k = h.announced holds a said in ap is_some (h.contents a k.0) ∙ e.announced (well_formed holds) a k.1;
           whole = h.whole;
         }
-      where
-        over_here : WellFormed m' → (q : ℕ) → q ≢ p → (a o : ℕ) → a ≡ i → IsWriter q a o events → count_in code c m' a % 2 ≡ 0
-        over_here holds q ne a o same theirs =
-            subst (λ b. count_in code c m' b % 2 ≡ 0) (sym same)
-            (ap (λ n. n % 2) count_here ∙ h.over holds q ne o (subst (λ b. IsWriter q b o events) same theirs))
