@@ -1,7 +1,6 @@
 -- What a step does that frees an index.
-use Rattle.std.proofs.Common.{◌≡◌, ◌≢◌, ℕ, ◌<◌, ◌==◌, ⊎_elim, if◌then◌else◌, false, Some, None, List, [], ◌∷◌, ◌++◌}
-use Rattle.std.proofs.Common.{length, set, refl, sym, ap, subst, ◌∙◌, arith}
-use Rattle.std.proofs.lemmas.Bool.{cases_eq}
+use Rattle.std.proofs.Common.{◌≡◌, ◌≢◌, ℕ, ◌<◌, ◌==◌, if◌then◌else◌, false, Some, None, List, [], ◌∷◌, ◌++◌}
+use Rattle.std.proofs.Common.{length, set, refl, sym, ap, ◌∙◌, arith}
 use Rattle.std.proofs.lemmas.List.{length-set}
 use Rattle.std.proofs.lemmas.List.Sums.{fold-append}
 use Rattle.steps.specs.Indices.Robust.Parts.{cell_word, empty, locked}
@@ -85,13 +84,8 @@ module _ {T : Type 0} (scene : Scene T) (inv : Inv scene) where
     unheld_then j none = let is = holder_then j in grind arith
 
     owned_then : IsCalm by (events ++ es) → (q : ℕ) → q ≢ p → (j o : ℕ) → is_gone by o events ≡ false → IsBy q j o events → IsBy q j o (events ++ es)
-    owned_then calm q ne j o alive h = ⊎_elim here there (cases_eq j i)
-      where
-        here : j ≡ i → IsBy q j o (events ++ es)
-        here same = absurd (mine calm q ne o alive (subst (λ k. IsBy q k o events) same h))
-
-        there : j ≢ i → IsBy q j o (events ++ es)
-        there other = let filled = filled_then j in let right = right_then j in grind arith
+    owned_then calm q ne j o alive h =
+        let none = mine calm q ne o alive in let filled = filled_then j in let right = right_then j in grind arith
 
     pub frees : Does scene words' (free i owner)
     frees =
@@ -125,11 +119,7 @@ module _ {T : Type 0} (scene : Scene T) (inv : Inv scene) where
                 deeds = ap (λ s. deeds (wrote_in s)) (span_of-other p q events es ne (refl, tt));
                 owned = λ calm j o alive h. owned_then calm q ne j o alive h;
                 unheld = λ calm j o alive h none. unheld_then j none;
-                held = λ calm j o alive h here. ⊎_elim
-                    (λ same. absurd (mine calm q ne o alive (subst (λ k. IsBy q k o events) same h)))
-                    (λ other. let is = holder_then j in grind arith) (cases_eq j i);
-                settled = λ calm j o alive h none. ⊎_elim
-                    (λ same. absurd (unsettled calm o alive (subst (λ k. settled_of k events ≡ Some o) same h)))
-                    (λ other. let is = settled_then j in grind arith) (cases_eq j i);
+                held = λ calm j o alive h here. let none = mine calm q ne o alive in let is = holder_then j in grind arith;
+                settled = λ calm j o alive h none. let not = unsettled calm o alive in let is = settled_then j in grind arith;
               };
         }

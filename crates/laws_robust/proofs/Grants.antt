@@ -1,7 +1,7 @@
 -- What a step does by which an index is granted, by which a call that was granted one ends, or both at once. The right to the
 -- index stays with the party until its call is done.
 use Rattle.std.proofs.Common.{◌<◌, ◌≡◌, ◌≢◌, ℕ, ◌==◌, ◌&&◌, if◌then◌else◌, Bool, true, false}
-use Rattle.std.proofs.Common.{Option, Some, None, List, [], ◌∷◌, ◌++◌, fold, refl, sym, ap, subst, ◌∙◌, append_assoc, arith}
+use Rattle.std.proofs.Common.{Option, Some, None, List, [], ◌∷◌, ◌++◌, fold, refl, sym, subst, ◌∙◌, append_assoc, arith}
 use Rattle.std.proofs.lemmas.List.Sums.{fold-append}
 use Rattle.steps.specs.Indices.Robust.Parts.{greatest}
 use Rattle.model.specs.declared.event.Answer.TheVariants.{Index}
@@ -14,11 +14,11 @@ use Rattle.model.specs.Families.Indices.Robust.Reading.{filled_of, holder_after,
 use Rattle.model.proofs.Readings.{AreOwn, AreRight}
 use Rattle.laws_robust.specs.Gone.{IsCalm, AnswersBy}
 use Rattle.laws_robust.proofs.Core.{counter_of}
-use Rattle.laws_robust.proofs.Effects.{Keeps, Leaves, at_same, one_party, hands_on, same_filled}
+use Rattle.laws_robust.proofs.Effects.{Keeps, Leaves, at_same, hands_on, same_filled}
 use Rattle.laws_robust.proofs.Effects.{IsRaised, raised_open, raised_stays, raised_more, unlocked}
 use Rattle.laws_robust.proofs.Gone.{calm_less}
 use Rattle.laws_robust.proofs.Invariant.{IsWorn, Scene, Inv, Good, Does}
-use Rattle.laws_robust.proofs.Rights.{Right, Settled, By, right_after, right_of, IsBy, AreOwned}
+use Rattle.laws_robust.proofs.Rights.{Right, Settled, right_after, right_of, IsBy, AreOwned}
 
 -- what an event may set at one index it leaves at another
 other_stays : {A : Type 0} (sets : Bool) (i j : ℕ) (x y : A) → j ≢ i → (if sets && (i == j) then x else y) ≡ y
@@ -64,15 +64,12 @@ module _ {T : Type 0} (scene : Scene T) (inv : Inv scene) where
 
       -- no other party has a right to it
       other_index : (q : ℕ) → q ≢ p → (j o : ℕ) → IsBy q j o events → j ≢ i
-      other_index q ne j o h is = ne (one_party (right_of i events) p q (mine calm).right (subst (λ k. IsBy q k o events) is h).right)
+      other_index q ne j o h is = let ours = (mine calm).right in grind arith
 
       -- nor may it be given back
       unsettled : (j o : ℕ) → settled_of j events ≡ Some o → j ≢ i
       unsettled j o h is =
-          let theirs : right_of j events ≡ Settled o = ((g.owned (calm_less by events es calm)).settled j o h).1 in
-          let ours : right_of j events ≡ By p = ap (λ k. right_of k events) is ∙ (mine calm).right in
-          let both : Settled o ≡ By p = sym theirs ∙ ours in
-          absurd (cc)
+          let settled = (g.owned (calm_less by events es calm)).settled j o in let ours = (mine calm).right in grind arith
 
     pub gives : AreOwn p es → AreRight (SetDoes c) events es → AreRight (AnswersBy by (IsWorn by words') c) events es
         → (IsCalm by (events ++ es) → AreRight HoldsRight events es)
