@@ -1,7 +1,6 @@
 -- The death of an owner.
-use Rattle.std.proofs.Common.{◌≡◌, ◌≢◌, ℕ, ◌+◌, ◌==◌, ◌||◌, ⊎_elim, inl, false, None, List, [], ◌∷◌, ◌++◌}
-use Rattle.std.proofs.Common.{refl, sym, ap, ◌∙◌, arith, eq-eqb, ne_eqb}
-use Rattle.std.proofs.lemmas.Bool.{cases_eq}
+use Rattle.std.proofs.Common.{◌≡◌, ℕ, ◌+◌, ◌==◌, ◌||◌, inl, false, None, List, [], ◌∷◌, ◌++◌}
+use Rattle.std.proofs.Common.{refl, sym, ap, ◌∙◌, arith}
 use Rattle.std.proofs.lemmas.List.Sums.{fold-append}
 use Rattle.model.specs.declared.event.Event.{Event}
 use Rattle.model.specs.declared.event.Event.TheVariants.{Died}
@@ -24,13 +23,7 @@ use Rattle.laws_robust.proofs.Rights.{right_after, right_of}
 -- ---- who has died
 
 pub died_with : (q o : ℕ) (dead : List ℕ) → has_died q (dead_with o dead) ≡ ((o == q) || has_died q dead)
-died_with q o dead = ⊎_elim now before (cases_eq q o)
-  where
-    now : q ≡ o → has_died q (dead_with o dead) ≡ ((o == q) || has_died q dead)
-    now e = ap (λ n. has_died q (dead_with n dead)) (sym e) ∙ (died_now q dead ∙ sym (ap (λ b. b || has_died q dead) (eq-eqb o q (sym e))))
-
-    before : q ≢ o → has_died q (dead_with o dead) ≡ ((o == q) || has_died q dead)
-    before ne = died_before q o dead ne ∙ sym (ap (λ b. b || has_died q dead) (ne_eqb o q (λ e. ne (sym e))))
+died_with q o dead = let now = died_now q dead in let before = died_before q o dead in grind arith
 
 -- ---- what a death does to the set and to all parties
 

@@ -219,27 +219,15 @@ module _ {T : Type 0} (scene : Scene T) where
 
     -- a cell tells with whom its index is filled
     module _ (i : ℕ) (below : i < c) where
-      by_owner : (o : Option ℕ) → filled_of i events ≡ o → cell ws i ≡ cell_of o → (owner : ℕ) → owner < empty → cell ws i ≡ owner → o ≡ Some owner
-      by_owner None e is owner fits here = absurd (omega arith)
-      by_owner (Some other) e is owner fits here = let same : other ≡ owner = sym is ∙ here in ap Some same
-
       pub filled_by : (owner : ℕ) → owner < empty → cell ws i ≡ owner → filled_of i events ≡ Some owner
-      filled_by owner fits here = by_owner (filled_of i events) refl (g.cells i below) owner fits here
-
-      by_none : (o : Option ℕ) → filled_of i events ≡ o → cell ws i ≡ cell_of o → cell ws i ≡ empty → o ≡ None
-      by_none None e is here = refl
-      by_none (Some other) e is here = let fits = (g.filled i other e).1 in absurd (omega arith)
+      filled_by owner fits here = let is = g.cells i below in grind arith
 
       pub filled_none : cell ws i ≡ empty → filled_of i events ≡ None
-      filled_none here = by_none (filled_of i events) refl (g.cells i below) here
-
-      by_some : (o : Option ℕ) → filled_of i events ≡ o → cell ws i ≡ cell_of o → cell ws i ≢ empty → (cell ws i < empty) × (o ≡ Some (cell ws i))
-      by_some None e is other = absurd (other is)
-      by_some (Some owner) e is other = let fits = (g.filled i owner e).1 in (omega arith, ap Some (sym is))
+      filled_none here = let is = g.cells i below in let fits = g.filled i in grind arith
 
       -- a cell that is not empty holds an owner
       pub filled_some : cell ws i ≢ empty → (cell ws i < empty) × (filled_of i events ≡ Some (cell ws i))
-      filled_some other = by_some (filled_of i events) refl (g.cells i below) other
+      filled_some other = let is = g.cells i below in let fits = g.filled i in grind arith
 
     -- ---- a step that is quiet
 
