@@ -233,11 +233,7 @@ module _ {T : Type 0} (scene : Scene T) (inv : Inv scene) (words' : List ℕ) (y
 
     -- a number that stays is another's
     moved : (a : ℕ) → count_in code c m' a ≡ count_in code c m a → a ≢ i
-    moved a is same =
-        let here = count_here in
-        let now : count_in code c m' a ≡ count_in code c m' i = ap (count_in code c m') same in
-        let was : count_in code c m a ≡ count_in code c m i = ap (count_in code c m) same in
-        absurd (omega arith)
+    moved a is same = let by_count_here = count_here in grind arith
 
     not_alone : {A : Type 0} → (q : ℕ) → q ≢ p → WasAlone q (events ++ es) → A
     not_alone q ne was =
@@ -270,7 +266,9 @@ module _ {T : Type 0} (scene : Scene T) (inv : Inv scene) (words' : List ℕ) (y
               record {
                 under = λ holds a o low lives theirs even. (count_there a (h.under holds q ne a o theirs even), λ j js. datum_all a j);
                 over = λ holds a o low lives theirs. let here = count_here in let ok = h.over holds q ne o in let there = count_there a in grind arith;
-                placed = λ holds a o low lives theirs fresh some. let here = h.placed holds q ne o in let left = h.left a in let same = h.contents a in grind arith;
+                placed =
+                    λ holds a o low lives theirs fresh some. let here = h.placed holds q ne o in
+                    let left = h.left a in let same = h.contents a in grind arith;
                 alone = λ was a low. not_alone q ne was;
               };
           wide = ap length new ∙ length-set ws (count_word c i) _;

@@ -131,26 +131,7 @@ module _ {T : Type 0} (code : Coding T) (c : ℕ) (m : Now T) (p : ℕ) where
 
   pub course_first : (s : ContainerState T) (change : ℕ) → change ≡ change_in code c m → Rests code c m p s
       → ShowsOwn p s c m.events → Course code c m p (record s { shown = with_change s.shown change }) 0 c
-  course_first s change is h own =
-      record {
-        sight =
-            record {
-              wide = h.sight.wide;
-              below = h.sight.below;
-              change = λ kept. omega arith;
-              copied = h.sight.copied;
-              same = h.sight.same;
-              caught = λ well_formed same i low. absurd (omega arith);
-              owed = λ kept same i low. absurd (omega arith);
-            };
-        known = h.known;
-        room = h.room;
-        unseen = λ i from low ne. h.counts i low;
-        fresh = λ well_formed i low. absurd (omega arith);
-        once = λ well_formed i low. absurd (omega arith);
-        alone = λ was i low. absurd (omega arith);
-        own = own;
-      }
+  course_first s change is h own = grind arith
 
   -- ---- at an index
 

@@ -1,5 +1,5 @@
 -- What a call of the container knows it knows still after any turn of another party.
-use Rattle.std.proofs.Common.{◌≡◌, ⊎_elim, inl, inr, ℕ, ◌+◌, ◌%◌, ◌<◌, Bool, false, true, is_some, List}
+use Rattle.std.proofs.Common.{◌≡◌, ⊎_elim, inl, inr, ℕ, ◌+◌, ◌<◌, Bool, false, true, is_some, List}
 use Rattle.std.proofs.Common.{[], ◌∷◌, ◌++◌, fold, refl, sym, ap, subst, ◌∙◌, arith}
 use Rattle.std.proofs.lemmas.List.Sums.{fold-append}
 use Rattle.steps.specs.declared.container.add.AddStage.{AddStage}
@@ -40,7 +40,6 @@ use Rattle.laws_robust.proofs.Knows.{Goes, Spares, IsSeen, knows_later}
 use Rattle.laws_robust.proofs.Knows as set
 use Rattle.laws_robust.proofs.Past.{through_less, through_now}
 use Rattle.laws_robust.proofs.Standing.{acquire_at, release_at}
-use Rattle.laws_container.proofs.Contents.{writes_on}
 use Rattle.laws_container.proofs.HiddenKnows.{no_index}
 use Rattle.laws_container.proofs.HiddenLater.{remove_covers, hidden_stands, hidden_later}
 use Rattle.laws_container.proofs.Knows.{View, of_set, now, IsPaid, Lives, Worn, WasFilled, AddOwns, HasFound}
@@ -180,25 +179,11 @@ module _ {T : Type 0} (code : Coding T) (c : ℕ) (v : View T) (turn : OthersTur
   replaces_write owner index value h well_formed alive = inr (replacing c index owner value v h well_formed alive)
 
   covers : (owner index count : ℕ) → index < c → IsTheWriter owner index → Covers code c owner index count v → Covers code c owner index count later
-  covers owner index count below writer h well_formed alive =
-      let before = passes.well_formed well_formed in
-      let mine = writer before (lives owner alive) in
-      ⊎_elim
-      (λ e. ⊎_elim (λ same. inl (same ∙ e)) (λ even. inr even) (leaves.over well_formed index owner below (lives owner alive) mine))
-      (λ even. inr (ap (λ n. n % 2) (leaves.under well_formed index owner below (lives owner alive) mine even).0 ∙ even))
-      (h before (lives owner alive))
+  covers owner index count below writer h well_formed alive = let by_lives = lives in grind arith
 
   writes : (owner index : ℕ) (value : T) (k : ℕ) → index < c → IsTheWriter owner index
       → Writes code c owner index value k v → Writes code c owner index value k later
-  writes owner index value k below writer h =
-      record {
-        few = h.few;
-        has = λ well_formed alive.
-            let before = passes.well_formed well_formed in
-            let w = h.has before (lives owner alive) in
-            let same = leaves.under well_formed index owner below (lives owner alive) (writer before (lives owner alive)) w.even in
-            writes_on code c v.words words' index value k h.few same.0 same.1 w;
-      }
+  writes owner index value k below writer h = let by_lives = lives in grind arith
 
   placed : (index : ℕ) (value : T) → HasPlaced code c index value v → HasPlaced code c index value later
   placed index value h well_formed = ap (λ a. places a) acts_same ∙ h (passes.well_formed well_formed)
@@ -297,18 +282,9 @@ module _ {T : Type 0} (code : Coding T) (c : ℕ) (v : View T) (turn : OthersTur
 
   pub copying : (index count : ℕ) (copy : List ℕ) (k : ℕ) → Copying code c index count copy k v → Copying code c index count copy k later
   copying index count copy k h =
-      record {
-        within = h.within;
-        few = h.few;
-        room = h.room;
-        odd = h.odd;
-        below = count_below index count h.within h.below;
-        same = λ well_formed is j js.
-            let was : count_in code c (now v) index ≡ count = was_there index count h.within h.below well_formed.kept is in
-            h.same (passes.well_formed well_formed) was j js
-            ∙ sym
-            (passes.words well_formed index h.within (is ∙ sym was) (ap (λ n. n % 2) was ∙ h.odd) j (let few = h.few in omega arith));
-      }
+      let by_count_below = count_below in
+      let by_was_there = was_there in
+      grind arith
 
   pub has_copied : (index : ℕ) (room : buffers.Buffer 128) → HasCopied code c index room v → HasCopied code c index room later
   has_copied index room h = subst (HasLatest (Copies index (read_in code room))) (sym acts_same) h

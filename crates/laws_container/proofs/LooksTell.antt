@@ -37,7 +37,7 @@ use Rattle.model.specs.Families.Container.Steps.{effects, questions}
 use Rattle.model.specs.Families.Indices.Robust.Reading.{Deed}
 use Rattle.model.specs.Parties.{party_of, put, doing_of, flight_of}
 use Rattle.model.specs.Promises.Turns.{IsParty, IsEffectOf}
-use Rattle.model.specs.Reading.{Span, span_of}
+use Rattle.model.specs.Reading.{span_of}
 use Rattle.model.specs.Refusals.{is_due}
 use Rattle.model.specs.Shape.{IsShut}
 use Rattle.model.specs.Step.{Step, answer_in}
@@ -308,18 +308,7 @@ module _ {T : Type 0} (shown : Shown T) (terms : Terms) (code : Coding T) (c : �
 
   -- a call that owes is under way
   alone_now : (q : ℕ) → owes (flight_of (doing_of (party_of q t.world.latest))) ≡ true → IsShut (span_of q t.events) → ⊥
-  alone_now q = by (party_of q t.world.latest) (span_of q t.events) (s.inv.calls q)
-    where
-      by_doing : (x : Party T) (doing : Doing T) (span : Span T)
-          → frame.FitsDoing (family_by terms code c) s.state q x doing span → owes (flight_of (Some doing)) ≡ true
-          → IsShut span → ⊥
-      by_doing x (Going flight since) span fits is shut = subst IsShut fits.span shut
-      by_doing x (Over others) span fits is shut = absurd (cc)
-
-      by : (o : Option (Party T)) (span : Span T) → frame.Fits (family_by terms code c) s.state q o span
-          → owes (flight_of (doing_of o)) ≡ true → IsShut span → ⊥
-      by None span fits is shut = absurd (cc)
-      by (Some x) span fits is shut = by_doing x x.doing span fits is shut
+  alone_now q = grind arith
 
   module _ (new : Trace T) (end : LookEnd new) (well_formed : Type 0) (so_far : well_formed → IsWellFormedSoFar terms new.world.latest new.events) where
     abbrev l : LookTurn end.party new.world.kept new.world.latest end.events

@@ -374,14 +374,10 @@ module _ {T : Type 0} (scene : Scene T) (inv : Inv scene) (owner : ℕ) (mode : 
     pub sees_number : Leads scene (Recover owner mode) ask back scene.states
         ((if is_even number then Shown p index ∷ [] else []) ++ [])
         (as_recover scene inv owner mode fits room (recover_sees (first scene inv owner mode fits) index number))
-    sees_number = go (is_even number) refl
-      where
-        go : (b : Bool) → is_even number ≡ b → Leads scene (Recover owner mode) ask back scene.states ((if b then Shown p index ∷ [] else []) ++ [])
-            (as_recover scene inv owner mode fits room (GoOn (record (first scene inv owner mode fits) {
-              stage = if b then recovers.TheVariants.EmptiesCell index number else recovers.TheVariants.LoadsWord index number 0;
-            })))
-        go true t = is_shown t
-        go false t = is_copied t
+    sees_number =
+        let by_is_shown = is_shown in
+        let by_is_copied = is_copied in
+        grind arith
 
   pub count_step : (room : buffers.Buffer 128) (index : ℕ)
       (here : Here room (recovers.TheVariants.LoadsCount index)) (long : IsLong room) (course : Course index index)

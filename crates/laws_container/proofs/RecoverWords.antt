@@ -363,11 +363,7 @@ module _ {T : Type 0} (scene : Scene T) (inv : Inv scene) (owner : ℕ) (mode : 
         (λ y. (calm_recs scene inv owner mode fits) room (recovers.TheVariants.Asks index count) here long None refl false paid_now y (index + 1) k.1) f
 
     pub decided : (answer : ℕ) → AnswerOf scene (Recover owner mode) (recover_at c owner mode room (recovers.TheVariants.Asks index count)) None answer
-    decided answer = go (answer == 0)
-      where
-        go : (b : Bool) → Leads scene (Recover owner mode) None false scene.states ((if b then [] else Told p index owner ∷ []) ++ [])
-            (as_recover scene inv owner mode fits room
-            (if b then recover_comes_to (first scene inv owner mode fits) (index + 1) else GoOn
-            (record (first scene inv owner mode fits) { stage = recovers.TheVariants.EmptiesCell index count })))
-        go true = says_no
-        go false = says_yes
+    decided answer =
+        let by_says_yes = says_yes in
+        let by_says_no = says_no in
+        grind arith
