@@ -31,9 +31,10 @@ use Rattle.model.specs.Families.Indices.Robust.Reading.{Fills, Grants}
 use Rattle.model.specs.Families.Queues.Calls.{as_it_is}
 use Rattle.model.specs.Step.{as_call}
 use Rattle.model.specs.Turns.{words_after}
-use Rattle.laws_robust.proofs.Alone.{grants_alone, owns_then}
 use Rattle.laws_robust.proofs.Core as set_core
 use Rattle.laws_robust.proofs.Effects as set_effects
+use Rattle.laws_robust.proofs.Effects.{quiet_end}
+use Rattle.laws_robust.proofs.Grants.{grants_alone, owns_then}
 use Rattle.laws_robust.proofs.Held.{Caller, WhyNot, FewEnd, held_step}
 use Rattle.laws_robust.proofs.Invariant as set_invariant
 use Rattle.laws_robust.proofs.Knows as set_knows
@@ -41,7 +42,6 @@ use Rattle.laws_robust.proofs.Stages as set_stages
 use Rattle.laws_robust.proofs.Standing.{acquire_at, acquire_number, AcquireAt}
 use Rattle.laws_container.proofs.Effects.{OwesStill}
 use Rattle.laws_container.proofs.Invariant.{Scene, Inv, ActsFor, before, after, of_set, inv_of_set}
-use Rattle.laws_container.proofs.Sets.{quiet_end}
 use Rattle.laws_container.proofs.SetSteps.{rest_set, wide_set, fills, grants}
 use Rattle.laws_container.proofs.Stages.{IsHere, all, done, Leads, none_lengthens, StepOf, party_then, goes_on, goes_calmly, ends, owes_none, was_well_formed}
 use Rattle.laws_container.proofs.Standing.{add_at}
@@ -50,7 +50,7 @@ use Rattle.laws_container.proofs.Turns.{WellFormed}
 
 module _ {T : Type 0} (scene : Scene T) (inv : Inv scene) (value : T) (owner : ℕ) (fits : owner < empty) (acts : ActsFor scene owner) (stage : AcquireStage)
     (here : IsHere scene (Add value owner) (add_at scene.capacity value owner (adds.TheVariants.Acquires stage))) where
-  open scene use {coding as code, capacity as c, party as p, steps as steps, backs as backs, events as events}
+  open scene use {capacity as c, party as p, steps as steps, backs as backs}
 
   abbrev ws : List ℕ
   ws = scene.words
@@ -88,7 +88,7 @@ module _ {T : Type 0} (scene : Scene T) (inv : Inv scene) (value : T) (owner : �
         (ends_calmly scene inv start flight tt here y (words_after ws ask) (NoPlace add_failures.TheVariants.IsLocked)
         (set_effects.quietly (of_set scene) (inv_of_set scene inv) (words_after ws ask) es
         (set_effects.stays_same (of_set scene) (inv_of_set scene inv) (words_after ws ask) same).leaves
-        (quiet_end (of_set scene) (inv_of_set scene inv) start (NoPlace add_failures.TheVariants.IsLocked) (λ i o. refl) (λ i r. refl))
+        (quiet_end p (Container start) (NoPlace add_failures.TheVariants.IsLocked) (λ i o. refl) (λ i r. refl))
         (refl, tt) (tt, tt) (tt, tt))
         why.0 well_formed (λ holds. tt) same (λ i b. refl) (still (words_after ws ask) y es well_formed))
         ((refl, why.1), tt) (omega arith) (omega arith)
@@ -100,7 +100,7 @@ module _ {T : Type 0} (scene : Scene T) (inv : Inv scene) (value : T) (owner : �
         (ends_calmly scene inv start flight tt here y (words_after ws ask) (NoPlace add_failures.TheVariants.OutOfSpace)
         (set_effects.quietly (of_set scene) (inv_of_set scene inv) (words_after ws ask) es
         (set_effects.stays_same (of_set scene) (inv_of_set scene inv) (words_after ws ask) same).leaves
-        (quiet_end (of_set scene) (inv_of_set scene inv) start (NoPlace add_failures.TheVariants.OutOfSpace)
+        (quiet_end p (Container start) (NoPlace add_failures.TheVariants.OutOfSpace)
         (λ i o. refl) (λ i r. refl))
         (refl, tt) (tt, tt) (tt, tt)) (
           why.0,

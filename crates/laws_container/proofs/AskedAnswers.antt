@@ -188,9 +188,6 @@ module _ {T : Type 0} (shown : Shown T) (terms : Terms) (code : Coding T) (t : T
   -- ---- any turn
 
   module _ (turn : Turn T) (r : IsAllowed t.world turn) where
-    abbrev new : Trace T
-    new = after_turn t turn
-
     by_turn : (p : ℕ) (said : Bool) → turn ≡ Decide p said → IsAllowed t.world (Decide p said)
     by_turn p said is = subst (λ u. IsAllowed t.world u) is r
 

@@ -1,5 +1,5 @@
 -- A find that ends writes nothing else in that turn, and where no no ends it, it has come to the indices of the whole container.
-use Rattle.std.proofs.Common.{◌≡◌, ℕ, ◌+◌, ⊎_elim, Option, Some, List, [], ◌∷◌, ◌++◌, refl, sym, ap, subst, ◌∙◌, append-nil, arith}
+use Rattle.std.proofs.Common.{◌≡◌, ℕ, ⊎_elim, Option, Some, List, [], ◌∷◌, ◌++◌, refl, sym, ap, subst, ◌∙◌, append-nil, arith}
 use Rattle.std.proofs.lemmas.List.{append_cancel_left}
 use Rattle.steps.specs.declared.container.find.FindStage.{FindStage}
 use Rattle.steps.specs.declared.container.state.ContainerState.{ContainerState}

@@ -16,7 +16,7 @@ use Rattle.model.specs.Families.Container.Calls.{want}
 use Rattle.model.specs.Families.Container.Questions.{question_at, WritesRight}
 use Rattle.model.specs.Families.Container.Reading.{acts_of}
 use Rattle.model.specs.Families.Container.States.{state_of}
-use Rattle.model.specs.Families.Container.Steps.{shown, effects, questions}
+use Rattle.model.specs.Families.Container.Steps.{effects, questions}
 use Rattle.model.specs.Families.Indices.Robust.Reading.{deeds_of}
 use Rattle.model.specs.Reading.{Open, span_of}
 use Rattle.model.specs.Turns.{ending_of, events_of, after_turn}
@@ -31,9 +31,6 @@ use Rattle.laws_container.proofs.Standing.{At}
 use Rattle.laws_container.proofs.Terms.{Terms}
 
 module _ {T : Type 0} (code : Coding T) (c : ℕ) (t : Trace T) (turn : Turn T) (q : ℕ) where
-  abbrev new : Trace T
-  new = after_turn t turn
-
   abbrev R : Event T → Type 0
   R e = WritesRight t turn (after_turn t turn) e
 

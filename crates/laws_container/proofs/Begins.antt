@@ -1,5 +1,5 @@
 -- What a call does as it begins, and what its first stage knows. The party's span was shut.
-use Rattle.std.proofs.Common.{◌≡◌, ◌≢◌, ℕ, ⊎_elim, inl, if◌then◌else◌, nat_lt, Bool, true, false, Option, Some, None}
+use Rattle.std.proofs.Common.{◌≡◌, ◌≢◌, ℕ, ⊎_elim, if◌then◌else◌, nat_lt, Bool, true, false, Option, Some, None}
 use Rattle.std.proofs.Common.{is_some, List, [], ◌∷◌, ◌++◌, refl, sym, ap, subst, ◌∙◌, arith}
 use Rattle.std.proofs.lemmas.Bool.Decides.{nat_tests}
 use Rattle.std.proofs.lemmas.List.{length-replicate}
@@ -21,26 +21,25 @@ use Rattle.model.specs.Families.Container.Promises.{StandsWellFormed, WasShown}
 use Rattle.model.specs.Families.Container.Reading.{Sees, contents_after, contents_of, announced_after, announced_of, acts, acts_of}
 use Rattle.model.specs.Families.Container.States.{state_of, with_state, fresh}
 use Rattle.model.specs.Families.Indices.Robust.Promises.{IsFilledWith}
-use Rattle.model.specs.Families.Indices.Robust.Reading.{Yes, deeds, deeds_of, dead_after, filled_after, settled_of, wrote_in, IsOneOf}
+use Rattle.model.specs.Families.Indices.Robust.Reading.{Yes, deeds, deeds_of, dead_after, settled_of, wrote_in, IsOneOf}
 use Rattle.model.specs.Parties.{party_of, put, doing_of, flight_of}
 use Rattle.model.specs.Reading.{Open, span_of}
 use Rattle.model.specs.Shape.{IsShut}
 use Rattle.model.proofs.Parties.{party_put_other, found_put_same, found_put_other}
 use Rattle.model.proofs.Readings.{no_more, span_of-own}
+use Rattle.laws_robust.proofs.Begins.{begins, taken}
 use Rattle.laws_robust.proofs.Counting.{count_none}
 use Rattle.laws_robust.specs.Gone.{GoneBy, Death, Word, is_gone}
 use Rattle.laws_robust.proofs.Effects.{both_ways}
 use Rattle.laws_robust.proofs.Gone.{calm_less, gone_begun}
 use Rattle.laws_robust.proofs.Invariant as set
 use Rattle.laws_robust.proofs.Past.{since_begun}
-use Rattle.laws_robust.proofs.Rights.{IsBy, AreOwned}
 use Rattle.laws_container.proofs.Invariant.{Scene, Elements, Changes, Does, before, after, of_set, view}
 use Rattle.laws_container.proofs.KeptCopies.{name_of}
 use Rattle.laws_container.proofs.Knows.{View, Knows, IsPaid, RemoveKnows, ReplacesKnow, LookRests}
 use Rattle.laws_container.proofs.Left.{left_after, left_of}
 use Rattle.laws_container.proofs.WellFormed.{well_formed_before}
 use Rattle.laws_container.proofs.Replaces.{replace_begun}
-use Rattle.laws_container.proofs.SetBegins.{begins, takes_right}
 use Rattle.laws_container.proofs.Opening.{shows_same}
 use Rattle.laws_container.proofs.Sights.{Rests, rests_later}
 use Rattle.laws_container.proofs.Sound.{MayRecover, first_party, Begins}
@@ -55,7 +54,7 @@ module _ {T : Type 0} (scene : Scene T)
     (h : Elements scene.coding scene.capacity (before scene) scene.states scene.turns)
     (free : flight_of (doing_of (party_of scene.party scene.latest)) ≡ None)
     (shut : IsShut (span_of scene.party scene.events)) where
-  open scene use {coding as code, capacity as c, party as p, changes as changes, turns as turns, latest as latest, events as events}
+  open scene use {coding as code, capacity as c, party as p, changes as changes, latest as latest, events as events}
 
   abbrev begun : ContainerStart T → List (Event T)
   begun start = Begun p (Container start) ∷ []
@@ -101,32 +100,18 @@ module _ {T : Type 0} (scene : Scene T)
 
   passes : (start : ContainerStart T) → Passes code c m (m' start)
   passes start =
-      record {
-        well_formed = was_well_formed start;
-        kept = λ kept. kept;
-        counts = λ kept i below. omega arith;
-        change = λ kept. omega arith;
-        stands = λ well_formed i below same. same_contents start i;
-        words = λ well_formed i below same odd j js. refl;
-        stood = λ well_formed i below was is. refl;
-        left = λ well_formed i below same was. same_left start i ∙ was;
-        announces = λ well_formed same i below said. (sym (same_announced start i) ∙ said, refl);
-        owing = λ same owing. still_owing start owing;
-        owed = λ same i below. inl refl;
-        lost = λ well_formed i o below dead filled. inl refl;
-      }
+      let well_formed = was_well_formed start in
+      let contents = same_contents start in
+      let announced = same_announced start in
+      let left = same_left start in
+      let owing = still_owing start in
+      grind arith
 
   changes_none : (start : ContainerStart T) → Changes scene scene.words (y start) (begun start)
   changes_none start =
       record {
         passes = passes start;
-        leaves = λ q ne.
-            record {
-              under = λ well_formed i owner below lives writes even. (refl, λ j js. refl);
-              over = λ well_formed i owner below lives writes. inl refl;
-              placed = λ well_formed i owner below lives writes left some. (same_left start i ∙ left, ap is_some (same_contents start i) ∙ some);
-              alone = λ alone i below. refl;
-            };
+        leaves = λ q ne. let contents = same_contents start in let left = same_left start in grind arith;
         wide = refl;
         counts = λ kept i below. let few = h.counts kept i below in omega arith;
         change = λ kept. let few = h.change kept in omega arith;
@@ -160,21 +145,12 @@ module _ {T : Type 0} (scene : Scene T)
   rests_then : (start : ContainerStart T) (s : ContainerState T)
       → is_looking (flight_of (Some (y start).doing)) ≡ false → state_of p (states' start) ≡ Some s
       → Rests code c (m' start) p s
-  rests_then (starts.TheVariants.Add value owner) s no_look found = still_rests (starts.TheVariants.Add value owner) s found
-  rests_then (starts.TheVariants.Remove index owner mode) s no_look found = still_rests (starts.TheVariants.Remove index owner mode) s found
-  rests_then (starts.TheVariants.Replace index value owner) s no_look found = still_rests (starts.TheVariants.Replace index value owner) s found
-  rests_then (starts.TheVariants.Find owner) s no_look found = still_rests (starts.TheVariants.Find owner) s found
-  rests_then (starts.TheVariants.Recover owner mode) s no_look found = still_rests (starts.TheVariants.Recover owner mode) s found
-  rests_then starts.TheVariants.GetState s no_look found = absurd (cc)
-  rests_then starts.TheVariants.UpdateState s no_look found = absurd (cc)
-  rests_then starts.TheVariants.Len s no_look found = still_rests starts.TheVariants.Len s found
-  rests_then starts.TheVariants.IsEmpty s no_look found = still_rests starts.TheVariants.IsEmpty s found
-  rests_then starts.TheVariants.IsLocked s no_look found = still_rests starts.TheVariants.IsLocked s found
+  rests_then start s no_look found = let rests = still_rests start s in grind arith
 
   does : (start : ContainerStart T) → Does scene scene.words (states' start) (y start) (begun start)
   does start =
       record {
-        set = begins (of_set scene) g start;
+        set = begins (of_set scene) g (Container start);
         changes = changes_none start;
         right = record { asks = (tt, tt); recovers = (tt, tt); answers = (tt, tt); contains = λ well_formed. (tt, tt); places = λ well_formed. (tt, tt) };
         others = other_states start;
@@ -198,16 +174,6 @@ module _ {T : Type 0} (scene : Scene T)
   no_acts : (start : ContainerStart T) → acts_of p (events ++ begun start) ≡ []
   no_acts start = ap (λ a. acts (wrote_in a)) (span_begun start)
 
-  -- a remove takes the right
-  taken : (index owner : ℕ) (mode : ReleaseMode) → AreOwned events → settled_of index events ≡ Some owner
-      → IsBy p index owner (events ++ begun (starts.TheVariants.Remove index owner mode))
-  taken index owner mode owned e =
-      let k = owned.settled index owner e in
-      record {
-        right = takes_right p index owner mode events k.1;
-        filled = fold-append (filled_after index) None events (begun (starts.TheVariants.Remove index owner mode)) ∙ k.0;
-      }
-
   module _ (index owner : ℕ) (mode : ReleaseMode) where
     abbrev removing : ContainerStart T
     removing = starts.TheVariants.Remove index owner mode
@@ -222,7 +188,7 @@ module _ {T : Type 0} (scene : Scene T)
           paid = paid removing;
           scanned = tt;
           owns =
-              λ calm alive began. taken index owner mode
+              λ calm alive began. taken p index owner (Container removing) events (λ r. refl)
               (g.owned (calm_less scene.terms.by events (begun removing) calm))
               (since_begun p (λ part. settled_of index part ≡ Some owner) events (Container removing) began);
           says = tt;

@@ -2,7 +2,7 @@
 -- value is ever half there: under an even count nothing is said of the data words but by the one writer.
 use Rattle.std.proofs.Common.{◌≡◌, ◌≢◌, ℕ, ◌+◌, ◌*◌, ◌%◌, ◌<◌, ◌≤◌, ⊎_elim, Option, Some, None, List, [], ◌∷◌, ◌++◌}
 use Rattle.std.proofs.Common.{length, get_or, set, refl, sym, ap, subst, ◌∙◌, arith}
-use Rattle.std.proofs.lemmas.Bool.{cases_eq, cases_lt}
+use Rattle.std.proofs.lemmas.Bool.{cases_eq}
 use Rattle.std.proofs.lemmas.List.Sums.{fold-append}
 use Rattle.steps.specs.Container.Layout.{count_word, element_word}
 use Rattle.model.specs.declared.event.Event.{Event}
@@ -86,17 +86,13 @@ module _ {T : Type 0} (code : Coding T) (c : ℕ) where
       store_writes =
           record {
             even = ap (λ n. n % 2) (counts_stay c z words i k x i below) ∙ w.even;
-            written = λ j js. ⊎_elim (before j) (here j js) (cases_lt j k);
+            written = λ j js.
+                let before = datum_before c z words i k x j in
+                let was = w.written j in
+                let within = data_within c z i k below ks in
+                let now = datum_set c z words i k x (omega arith) in
+                grind arith;
           }
-        where
-          before : (j : ℕ) → j < k → datum_at c z stored i j ≡ get_or (code.words_of value) j 0
-          before j less = datum_before c z words i k x j less ∙ w.written j less
-
-          here : (j : ℕ) → j < k + 1 → k ≤ j → datum_at c z stored i j ≡ get_or (code.words_of value) j 0
-          here j js more =
-              let same : j ≡ k = omega arith in
-              let within = data_within c z i k below ks in
-              rw same (datum_set c z words i k x (omega arith))
 
     -- ---- a count changes
 

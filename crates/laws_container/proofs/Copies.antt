@@ -1,9 +1,8 @@
 -- Copies of elements. While the number of an element is still the one that was loaded, the words read so far are those that stand;
 -- and at the exchange of the number for itself the copy is the value that stands.
-use Rattle.std.proofs.Common.{◌≡◌, ◌≢◌, ⊎_elim, ℕ, ◌+◌, ◌%◌, ◌<◌, ◌≤◌, if◌then◌else◌, nat_lt, false, Option, Some}
-use Rattle.std.proofs.Common.{None, List, length, take, get_or, set, replicate, sym, ap, subst, ◌∙◌, arith}
+use Rattle.std.proofs.Common.{◌≡◌, ℕ, ◌+◌, ◌%◌, ◌<◌, ◌≤◌, if◌then◌else◌, nat_lt, false, Option, Some}
+use Rattle.std.proofs.Common.{None, List, length, take, set, replicate, sym, ap, ◌∙◌, arith}
 use Rattle.std.proofs.Common.{get_or-set_same, get_or-set_other, get_or-take, length-take-le, ext_get_or}
-use Rattle.std.proofs.lemmas.Bool.{cases_eq}
 use Rattle.std.proofs.lemmas.Bool.Decides.{nat_tests}
 use Rattle.std.proofs.lemmas.List.{length-set}
 use Rattle.steps.specs.Copied.{value_in}
@@ -35,7 +34,13 @@ module _ {T : Type 0} (code : Coding T) (c : ℕ) where
         room = length-set copy at _ ∙ h.room;
         odd = h.odd;
         below = λ keeps. let low = h.below (kept keeps) in let eq = count_same in omega arith;
-        same = λ holds is j js. ⊎_elim (λ e. here j e) (λ ne. there holds is j js ne) (cases_eq j at);
+        same = λ holds is j js.
+            let here = get_or-set_same copy at (datum_in code c (now v) index at) 0 (let room = h.room in omega arith) in
+            let there = get_or-set_other copy at j (datum_in code c (now v) index at) 0 in
+            let counts = count_same in
+            let datum = datum_same j in
+            let was = h.same (well_formed holds) in
+            grind arith;
       }
     where
       count_same : count_in code c (now v') index ≡ count_in code c (now v) index
@@ -43,17 +48,6 @@ module _ {T : Type 0} (code : Coding T) (c : ℕ) where
 
       datum_same : (j : ℕ) → datum_in code c (now v') index j ≡ datum_in code c (now v) index j
       datum_same j = ap (λ w. datum_in code c (record { terms = v.terms; words = w; latest = v.latest; events = v.events }) index j) same
-
-      here : (j : ℕ) → j ≡ at → get_or (set copy at (datum_in code c (now v) index at)) j 0 ≡ datum_in code c (now v') index j
-      here j e =
-          subst (λ n. get_or (set copy at (datum_in code c (now v) index at)) n 0 ≡ datum_in code c (now v') index n) (sym e)
-          (get_or-set_same copy at (datum_in code c (now v) index at) 0 (let room = h.room in omega arith) ∙ sym (datum_same at))
-
-      there : WellFormed (now v') → count_in code c (now v') index ≡ count → (j : ℕ) → j < at + 1 → j ≢ at
-          → get_or (set copy at (datum_in code c (now v) index at)) j 0 ≡ datum_in code c (now v') index j
-      there holds is j js ne =
-          get_or-set_other copy at j (datum_in code c (now v) index at) 0 ne
-          ∙ (h.same (well_formed holds) (sym count_same ∙ is) j (omega arith) ∙ sym (datum_same j))
 
   -- ---- all its words are read, and the number is there still
 

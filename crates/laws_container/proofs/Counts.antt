@@ -31,7 +31,7 @@ use Rattle.model.specs.Step.{as_call}
 use Rattle.model.specs.Turns.{old_of, words_after, step_count}
 use Rattle.laws_robust.proofs.Core.{counter_of}
 use Rattle.laws_robust.proofs.Counting.{count_none, count_next}
-use Rattle.laws_robust.proofs.Effects.{Stays, both_ways, not_shut, unlocked, is_shut, stays_same, stays_raised}
+use Rattle.laws_robust.proofs.Effects.{Stays, both_ways, not_shut, unlocked, is_shut, stays_same, stays_raised, quiet_end}
 use Rattle.laws_robust.proofs.Knows as set_knows
 use Rattle.laws_robust.proofs.Parts.{count_ask, count_step as part_step, IsSaid}
 use Rattle.laws_robust.proofs.Rights.{Right, right_after}
@@ -44,7 +44,6 @@ use Rattle.laws_container.proofs.Effects.{OwesStill}
 use Rattle.laws_container.proofs.HiddenKnows.{EndsRight}
 use Rattle.laws_container.proofs.Invariant.{Scene, Inv, before, after, of_set, inv_of_set}
 use Rattle.laws_container.proofs.Knows.{Knows}
-use Rattle.laws_container.proofs.Sets.{quiet_end}
 use Rattle.laws_container.proofs.SetStays.{moves, ends_there}
 use Rattle.laws_container.proofs.Stages.{NoReplace, IsHere, all, done, sees_now, StepOf, Leads, none_lengthens}
 use Rattle.laws_container.proofs.Stages.{party_then, backs_then, goes_calmly, ends, owes_none, was_well_formed}
@@ -149,7 +148,7 @@ module _ {T : Type 0} (scene : Scene T) (inv : Inv scene) where
         ends scene start (counted which number) ask false scene.states [] here.span none_lengthens
         (ends_there scene inv start (count_at which c count) tt here y (words_after ws ask) stays
         (counted which number)
-        (quiet_end (of_set scene) (inv_of_set scene inv) start (counted which number) (settles_not T which p number)
+        (quiet_end p (Container start) (counted which number) (settles_not T which p number)
         (rights_not T which p number))
         (announces_not T which p number)
         (answers_count T scene.terms.by (IsWorn scene.terms.by (words_after ws ask)) which c p number events is)
@@ -211,7 +210,7 @@ module _ {T : Type 0} (scene : Scene T) (inv : Inv scene) where
       ends scene starts.TheVariants.IsLocked answer ask false scene.states [] here.span none_lengthens
       (ends_there scene inv starts.TheVariants.IsLocked lock_at tt here y (words_after ws ask)
       (stays_same (of_set scene) (inv_of_set scene inv) (words_after ws ask) (set_stages.loads_same ws 0)) answer
-      (quiet_end (of_set scene) (inv_of_set scene inv) starts.TheVariants.IsLocked answer (λ i o. refl) (λ i r. refl))
+      (quiet_end p (Container starts.TheVariants.IsLocked) answer (λ i o. refl) (λ i r. refl))
       (λ i b. refl) inv.good.lock well_formed (λ holds. tt)
       (owes_none scene starts.TheVariants.IsLocked lock_at y here refl))
       ((refl, none), tt) (omega arith) (omega arith)

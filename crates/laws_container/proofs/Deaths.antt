@@ -59,29 +59,10 @@ module _ {T : Type 0} (terms : Terms) (code : Coding T) (c : ℕ) (words dead : 
 
   passes : Passes code c m m'
   passes =
-      record {
-        well_formed = was_well_formed;
-        kept = λ kept. kept;
-        counts = λ kept i below. omega arith;
-        change = λ kept. omega arith;
-        stands = λ well_formed i below same. same_contents i;
-        words = λ well_formed i below same odd j js. refl;
-        stood = λ well_formed i below was is. refl;
-        left = λ well_formed i below same was. same_left i ∙ was;
-        announces = λ well_formed same i below said. (sym (same_announced i) ∙ said, refl);
-        owing = λ same owing. owing;
-        owed = λ same i below. inl refl;
-        lost = λ well_formed i owner below dead filled. inl refl;
-      }
+      let well_formed = was_well_formed in let contents = same_contents in let announced = same_announced in let left = same_left in grind arith
 
   leaves : (q : ℕ) → Leaves code c q m m'
-  leaves q =
-      record {
-        under = λ well_formed i owner below lives writes even. (refl, λ j js. refl);
-        over = λ well_formed i owner below lives writes. inl refl;
-        placed = λ well_formed i owner below lives writes left some. (same_left i ∙ left, ap is_some (same_contents i) ∙ some);
-        alone = λ alone i below. refl;
-      }
+  leaves q = let contents = same_contents in let left = same_left in grind arith
 
   elements_then : Elements code c m' states (turns + 1)
   elements_then =
@@ -108,9 +89,21 @@ module _ {T : Type 0} (terms : Terms) (code : Coding T) (c : ℕ) (words dead : 
         good = death_good terms.by c words dead events turns o g alive;
         elements = elements_then;
         knows = λ q since changes backs flight k.
-            still_knows code c (view terms words states latest events q since changes backs) words states latest es
-            changes (death_goes terms.by c words dead events turns o g alive)
-            (death_spares terms.by c words dead events turns o g alive q) (inl (refl, refl)) passes (leaves q)
-            (span_of-death q events o) refl refl
+            still_knows code c (view terms words states latest events q since changes backs)
+            (record {
+              words_then = words;
+              states_then = states;
+              latest_then = latest;
+              es = es;
+              changes_then = changes;
+              goes = death_goes terms.by c words dead events turns o g alive;
+              spares = death_spares terms.by c words dead events turns o g alive q;
+              seen = inl (refl, refl);
+              passes = passes;
+              leaves = leaves q;
+              span = span_of-death q events o;
+              same_party = refl;
+              same_state = refl;
+            })
             flight k;
       }

@@ -1,16 +1,16 @@
 -- What a turn does to the elements, by what it changes: nothing of them; the number of changes; a word of an element; or the
 -- number of an element, where a value is placed or hidden.
-use Rattle.std.proofs.Common.{◌≡◌, ◌≢◌, ⊎_elim, inl, inr, ℕ, ◌+◌, ◌%◌, ◌<◌, ◌≤◌, true, false, Some, is_some, List}
-use Rattle.std.proofs.Common.{◌++◌, length, get_or, set, sym, ap, subst, ◌∙◌, arith, get_or-set_other}
-use Rattle.std.proofs.lemmas.Bool.{cases_eq}
+use Rattle.std.proofs.Common.{◌≡◌, ◌≢◌, inl, ℕ, ◌+◌, ◌%◌, ◌<◌, ◌≤◌, Bool, true, false, Option, Some, None, is_some, List}
+use Rattle.std.proofs.Common.{◌++◌, length, get_or, set, fold, sym, ap, subst, ◌∙◌, arith, get_or-set_other}
 use Rattle.std.proofs.lemmas.List.{length-set}
+use Rattle.std.proofs.lemmas.List.Sums.{fold-append}
 use Rattle.steps.specs.Container.Layout.{change_word, count_word, element_word}
 use Rattle.steps.specs.Indices.Robust.Parts.{one_more}
 use Rattle.model.specs.declared.event.Event.{Event}
 use Rattle.model.specs.declared.event.Start.{Start}
 use Rattle.model.specs.declared.party.Party.{Party}
 use Rattle.model.specs.Families.Container.Looks.{WasAlone}
-use Rattle.model.specs.Families.Container.Reading.{contents_of, announced_of}
+use Rattle.model.specs.Families.Container.Reading.{contents_after, contents_of, announced_after, announced_of}
 use Rattle.model.specs.Families.Indices.Robust.Reading.{filled_of}
 use Rattle.model.specs.Parties.{party_of, put, doing_of, flight_of}
 use Rattle.model.specs.Reading.{Open, span_of}
@@ -24,7 +24,7 @@ use Rattle.laws_container.proofs.Contents.{IsWhole, Writing, Stands, stands_on, 
 use Rattle.laws_container.proofs.Core.{count_at, datum_at, change_at, counts_stay, data_stay, count_set, count_stays}
 use Rattle.laws_container.proofs.Core.{data_all_stay, change_set, changes_no_count, changes_no_datum}
 use Rattle.laws_container.proofs.Invariant.{Scene, Inv, Elements, Changes, before, after}
-use Rattle.laws_container.proofs.Left.{left_of}
+use Rattle.laws_container.proofs.Left.{left_after, left_of}
 use Rattle.laws_container.proofs.Terms.{Keeps}
 use Rattle.laws_container.proofs.Turns.{Owing, owes, Now, WellFormed, count_in, datum_in, change_in}
 use Rattle.laws_container.proofs.Writers.{IsWriter}
@@ -51,19 +51,8 @@ module _ {T : Type 0} (scene : Scene T) (inv : Inv scene) (words' : List ℕ) (y
       owes (flight_of (doing_of (party_of p latest))) ≡ true → owes (flight_of (Some y.doing)) ≡ true
 
   owing_still : OwesStill → Owing latest → Owing (put p y latest)
-  owing_still still o = ⊎_elim here there (cases_eq o.party p)
-    where
-      here : o.party ≡ p → Owing (put p y latest)
-      here same =
-          record {
-            party = p;
-            is =
-                ap (λ x. owes (flight_of (doing_of x))) (party_put_same p y latest)
-                ∙ still (subst (λ n. owes (flight_of (doing_of (party_of n latest))) ≡ true) same o.is);
-          }
-
-      there : o.party ≢ p → Owing (put p y latest)
-      there ne = record { party = o.party; is = ap (λ x. owes (flight_of (doing_of x))) (party_put_other o.party p y latest ne) ∙ o.is }
+  owing_still still o =
+      let here = party_put_same p y latest in let there = party_put_other o.party p y latest in grind arith
 
   -- it owes one from now on
   owing_now : owes (flight_of (Some y.doing)) ≡ true → Owing (put p y latest)
@@ -77,6 +66,17 @@ module _ {T : Type 0} (scene : Scene T) (inv : Inv scene) (words' : List ℕ) (y
     -- nor frees an index where another writes
     pub spares : WellFormed m' → (q : ℕ) → q ≢ p → (i o : ℕ) → is_gone scene.terms.by o events ≡ false
         → IsWriter q i o events → left_of i events ≡ false → left_of i (events ++ es) ≡ false
+
+  -- so it is where its events change no reading of the elements
+  pub reads_same : ((i : ℕ) (o : Option T) → fold (contents_after i) o es ≡ o) → ((i : ℕ) (b : Bool) → fold (announced_after i) b es ≡ b)
+      → ((i : ℕ) (b : Bool) → fold (left_after i) b es ≡ b) → IsCalm
+  reads_same contents announced left =
+      record {
+        contents = λ i. fold-append (contents_after i) None events es ∙ contents i (contents_of i events);
+        announced = λ i. fold-append (announced_after i) false events es ∙ announced i (announced_of i events);
+        left = λ i was. fold-append (left_after i) true events es ∙ (left i (left_of i events) ∙ was);
+        spares = λ holds q ne i o lives mine was. fold-append (left_after i) true events es ∙ (left i (left_of i events) ∙ was);
+      }
 
   still_stands : ((i : ℕ) → i < c → count_in code c m' i ≡ count_in code c m i)
       → ((i : ℕ) → i < c → (j : ℕ) → j < code.size → datum_in code c m' i j ≡ datum_in code c m i j)
@@ -101,20 +101,7 @@ module _ {T : Type 0} (scene : Scene T) (inv : Inv scene) (words' : List ℕ) (y
     calmly =
         record {
           passes =
-              record {
-                well_formed = well_formed;
-                kept = λ kept. kept;
-                counts = λ kept i low. let same = same_count i low in omega arith;
-                change = λ kept. let same = same_change in omega arith;
-                stands = λ holds i low is. calm.contents i;
-                words = λ holds i low is odd j js. same_datum i j;
-                stood = λ holds i low was now. same_count i low;
-                left = λ holds i low is was. calm.left i was;
-                announces = λ holds is i low said. (sym (calm.announced i) ∙ said, same_count i low);
-                owing = λ is o. owing_still still o;
-                owed = λ is i low. inl (same_count i low);
-                lost = λ holds i o low dead filled. inl (same_count i low);
-              };
+              let count = same_count in let datum = same_datum in let change = same_change in let owing = owing_still still in grind arith;
           leaves = λ q ne.
               record {
                 under = λ holds i o low lives mine even. (same_count i low, λ j js. same_datum i j);
@@ -158,27 +145,8 @@ module _ {T : Type 0} (scene : Scene T) (inv : Inv scene) (words' : List ℕ) (y
     counts_change =
         record {
           passes =
-              record {
-                well_formed = well_formed;
-                kept = λ kept. kept;
-                counts = λ kept i low. let same = count_as_it_was i in omega arith;
-                change = λ kept. let more = raised_few kept in omega arith;
-                stands = λ holds i low is. contents i;
-                words = λ holds i low is odd j js. datum_as_it_was i j;
-                stood = λ holds i low was now. count_as_it_was i;
-                left = λ holds i low is was. left i ∙ was;
-                announces = λ holds is i low said. let more = raised in absurd (omega arith);
-                owing = λ is o. let more = raised in absurd (omega arith);
-                owed = λ is i low. inl (count_as_it_was i);
-                lost = λ holds i o low dead filled. inl (count_as_it_was i);
-              };
-          leaves = λ q ne.
-              record {
-                under = λ holds i o low lives mine even. (count_as_it_was i, λ j js. datum_as_it_was i j);
-                over = λ holds i o low lives mine. inl (count_as_it_was i);
-                placed = λ holds i o low lives mine fresh some. (left i ∙ fresh, ap is_some (contents i) ∙ some);
-                alone = λ was i low. count_as_it_was i;
-              };
+              let count = count_as_it_was in let datum = datum_as_it_was in let more = raised in let by_one = raised_few in grind arith;
+          leaves = λ q ne. let count = count_as_it_was in let datum = datum_as_it_was in grind arith;
           wide = ap length new ∙ length-set ws (change_word c) (one_more (change_in code c m));
           counts = λ kept i low. let same = count_as_it_was i in let few = e.counts kept i low in omega arith;
           change = λ kept. let more = raised_few kept in let few = e.change kept in omega arith;
@@ -213,20 +181,12 @@ module _ {T : Type 0} (scene : Scene T) (inv : Inv scene) (words' : List ℕ) (y
     stores =
         record {
           passes =
-              record {
-                well_formed = well_formed;
-                kept = λ kept. kept;
-                counts = λ kept a low. let same = count_kept a low in omega arith;
-                change = λ kept. let same = change_kept in omega arith;
-                stands = λ holds a low is. calm.contents a;
-                words = λ holds a low is odd j js. datum_kept a j (elsewhere holds a odd) js;
-                stood = λ holds a low was now. count_kept a low;
-                left = λ holds a low is was. calm.left a was;
-                announces = λ holds is a low said. (sym (calm.announced a) ∙ said, count_kept a low);
-                owing = λ is o. owing_still still o;
-                owed = λ is a low. inl (count_kept a low);
-                lost = λ holds a o low dead filled. inl (count_kept a low);
-              };
+              let count = count_kept in
+              let datum = datum_kept in
+              let change = change_kept in
+              let there = elsewhere in
+              let owing = owing_still still in
+              grind arith;
           leaves = λ q ne.
               record {
                 under = λ holds a o low lives theirs even. (count_kept a low, λ j js. datum_kept a j (not_theirs holds q ne a o theirs) js);
@@ -273,11 +233,7 @@ module _ {T : Type 0} (scene : Scene T) (inv : Inv scene) (words' : List ℕ) (y
 
     -- a number that stays is another's
     moved : (a : ℕ) → count_in code c m' a ≡ count_in code c m a → a ≢ i
-    moved a is same =
-        let here = count_here in
-        let now : count_in code c m' a ≡ count_in code c m' i = ap (count_in code c m') same in
-        let was : count_in code c m a ≡ count_in code c m i = ap (count_in code c m) same in
-        absurd (omega arith)
+    moved a is same = let by_count_here = count_here in grind arith
 
     not_alone : {A : Type 0} → (q : ℕ) → q ≢ p → WasAlone q (events ++ es) → A
     not_alone q ne was =
@@ -298,66 +254,27 @@ module _ {T : Type 0} (scene : Scene T) (inv : Inv scene) (words' : List ℕ) (y
     counts_one h =
         record {
           passes =
-              record {
-                well_formed = well_formed;
-                kept = λ kept. kept;
-                counts = λ kept a low. ⊎_elim (λ same. grown kept a same) (λ ne. let is = count_there a ne in omega arith) (cases_eq a i);
-                change = λ kept. let same = change_same in omega arith;
-                stands = λ holds a low is. h.contents a (moved a is);
-                words = λ holds a low is odd j js. datum_all a j;
-                stood =
-                    λ holds a low was now. ⊎_elim
-                    (λ same. absurd (h.stood holds (subst (λ b. is_some (contents_of b events) ≡ true) same was)
-                    (subst (λ b. is_some (contents_of b (events ++ es)) ≡ true) same now)))
-                    (λ ne. count_there a ne) (cases_eq a i);
-                left = λ holds a low is was. h.left a (moved a is) ∙ was;
-                announces = λ holds is a low said. let k = h.announced holds a said in (k.1, count_there a k.0);
-                owing = λ is o. owing_now owed;
-                owed = λ is a low. inr (owing_now owed);
-                lost =
-                    λ holds a o low dead filled. ⊎_elim (λ same. inr (lost_here holds a o same dead filled))
-                    (λ other. inl (count_there a other)) (cases_eq a i);
-              };
+              let here = count_here in
+              let by_one = count_few in
+              let there = count_there in
+              let datum = datum_all in
+              let change = change_same in
+              let elsewhere = moved in
+              let owing = owing_now owed in
+              grind arith;
           leaves = λ q ne.
               record {
                 under = λ holds a o low lives theirs even. (count_there a (h.under holds q ne a o theirs even), λ j js. datum_all a j);
-                over =
-                    λ holds a o low lives theirs. ⊎_elim (λ same. inr (over_here holds q ne a o same theirs))
-                    (λ other. inl (count_there a other)) (cases_eq a i);
+                over = λ holds a o low lives theirs. let here = count_here in let ok = h.over holds q ne o in let there = count_there a in grind arith;
                 placed =
-                    λ holds a o low lives theirs fresh some. ⊎_elim
-                    (λ same. absurd (h.placed holds q ne o (subst (λ b. IsWriter q b o events) same theirs)
-                    (subst (λ b. left_of b events ≡ false) same fresh)
-                    (subst (λ b. is_some (contents_of b events) ≡ true) same some)))
-                    (λ other. (h.left a other ∙ fresh, ap is_some (h.contents a other) ∙ some)) (cases_eq a i);
+                    λ holds a o low lives theirs fresh some. let here = h.placed holds q ne o in
+                    let left = h.left a in let same = h.contents a in grind arith;
                 alone = λ was a low. not_alone q ne was;
               };
           wide = ap length new ∙ length-set ws (count_word c i) _;
-          counts =
-              λ kept a low. ⊎_elim (λ same. bounded kept a same)
-              (λ ne. let is = count_there a ne in let few = e.counts kept a low in omega arith) (cases_eq a i);
+          counts = λ kept a low. let here = count_few kept in let few = e.counts kept in let there = count_there a in grind arith;
           change = λ kept. let same = change_same in let few = e.change kept in omega arith;
-          within = λ a v is. ⊎_elim (λ same. subst (λ b. b < c) (sym same) below) (λ ne. e.within a v (sym (h.contents a ne) ∙ is)) (cases_eq a i);
+          within = λ a v is. let was = e.within a v in let there = h.contents a in grind arith;
           announced = λ holds a said. let k = h.announced holds a said in ap is_some (h.contents a k.0) ∙ e.announced (well_formed holds) a k.1;
           whole = h.whole;
         }
-      where
-        grown : Keeps scene.terms → (a : ℕ) → a ≡ i → count_in code c m a ≤ count_in code c m' a
-        grown kept a same = subst (λ b. count_in code c m b ≤ count_in code c m' b) (sym same) (let here = count_few kept in omega arith)
-
-        bounded : Keeps scene.terms → (a : ℕ) → a ≡ i → count_in code c m' a ≤ turns + 1
-        bounded kept a same =
-            subst (λ b. count_in code c m' b ≤ turns + 1) (sym same)
-            (let here = count_few kept in let few = e.counts kept i below in omega arith)
-
-        over_here : WellFormed m' → (q : ℕ) → q ≢ p → (a o : ℕ) → a ≡ i → IsWriter q a o events → count_in code c m' a % 2 ≡ 0
-        over_here holds q ne a o same theirs =
-            subst (λ b. count_in code c m' b % 2 ≡ 0) (sym same)
-            (ap (λ n. n % 2) count_here ∙ h.over holds q ne o (subst (λ b. IsWriter q b o events) same theirs))
-
-        lost_here : WellFormed m' → (a o : ℕ) → a ≡ i → is_gone scene.terms.by o events ≡ true
-            → filled_of a events ≡ Some o → (count_in code c m a % 2 ≡ 1) × (count_in code c m' a % 2 ≡ 0)
-        lost_here holds a o same dead filled =
-            let odd = h.lost holds o dead (subst (λ b. filled_of b events ≡ Some o) same filled) in
-            let new = count_here in
-            subst (λ b. (count_in code c m b % 2 ≡ 1) × (count_in code c m' b % 2 ≡ 0)) (sym same) (odd, omega arith)

@@ -20,7 +20,6 @@ use Rattle.model.specs.declared.event.Answer.{Answer}
 use Rattle.model.specs.declared.event.Answer.TheVariants as answers
 use Rattle.model.specs.declared.event.Event.{Event}
 use Rattle.model.specs.declared.event.Event.TheVariants.{Copied}
-use Rattle.model.specs.declared.event.Start.TheVariants.{Container}
 use Rattle.model.specs.declared.families.container.ContainerStart.{ContainerStart}
 use Rattle.model.specs.declared.families.container.ContainerStart.TheVariants.{Find}
 use Rattle.model.specs.declared.families.container.calls.ContainerFlight.{ContainerFlight}
@@ -37,7 +36,7 @@ use Rattle.laws_robust.proofs.Past.{through_less}
 use Rattle.laws_robust.proofs.Stages.{exchanges, exchange_sets, fails_same}
 use Rattle.laws_container.proofs.Copies.{copied_value}
 use Rattle.laws_container.proofs.Invariant.{Scene, Inv, before}
-use Rattle.laws_container.proofs.Knows.{View, Finds, FindKnows, Knows}
+use Rattle.laws_container.proofs.Knows.{View, FindKnows, Knows}
 use Rattle.laws_container.proofs.Silent.{silently}
 use Rattle.laws_container.proofs.Stages.{IsHere, all, done, sees_now, StepOf, AnswerOf, Leads}
 use Rattle.laws_container.proofs.Stages.{acts_more, goes_on}
@@ -48,7 +47,7 @@ use Rattle.laws_container.proofs.Finds.{below_more, cell_step, comes_to_next, co
 use Rattle.laws_container.proofs.Finds.{has_last, has_more, seen_more, then_at, word_step}
 
 module _ {T : Type 0} (scene : Scene T) (inv : Inv scene) (owner : ℕ) (fits : owner < empty) where
-  open scene use {coding as code, capacity as c, party as p, steps as steps, backs as backs, events as events, latest as latest}
+  open scene use {coding as code, capacity as c, party as p, steps as steps, events as events}
 
   abbrev ws : List ℕ
   ws = scene.words

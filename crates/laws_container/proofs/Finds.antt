@@ -20,7 +20,6 @@ use Rattle.steps.specs.Indices.Robust.Parts.{cell_word, empty, one_more}
 use Rattle.steps.specs.Routine.{went_on}
 use Rattle.model.specs.declared.event.Answer.{Answer}
 use Rattle.model.specs.declared.event.Answer.TheVariants as answers
-use Rattle.model.specs.declared.event.Event.{Event}
 use Rattle.model.specs.declared.event.Event.TheVariants.{Finished}
 use Rattle.model.specs.declared.event.Start.TheVariants.{Container}
 use Rattle.model.specs.declared.families.container.ContainerStart.{ContainerStart}
@@ -29,7 +28,7 @@ use Rattle.model.specs.declared.families.container.calls.ContainerFlight.{Contai
 use Rattle.model.specs.declared.families.container.calls.ContainerFlight as calls
 use Rattle.model.specs.declared.party.Party.{Party}
 use Rattle.model.specs.Coding.{Coding}
-use Rattle.model.specs.Families.Container.Reading.{Act, Copies, Has, index_seen, seen_in, contents_of}
+use Rattle.model.specs.Families.Container.Reading.{Act, Has, index_seen, seen_in, contents_of}
 use Rattle.model.specs.Families.Indices.Robust.Promises.{cell_of, count_below, IsFilledWith, IsCount}
 use Rattle.model.specs.Families.Queues.Calls.{as_it_is, kept_at}
 use Rattle.model.specs.Parties.{put}
@@ -86,7 +85,7 @@ module _ {T : Type 0} where
   nothing_stands code c words i (Some value) h even = let odd = h.0 in absurd (omega arith)
 
 module _ {T : Type 0} (scene : Scene T) (inv : Inv scene) (owner : ℕ) (fits : owner < empty) where
-  open scene use {coding as code, capacity as c, party as p, steps as steps, backs as backs, events as events, latest as latest}
+  open scene use {coding as code, capacity as c, party as p, steps as steps, events as events, latest as latest}
 
   abbrev ws : List ℕ
   ws = scene.words

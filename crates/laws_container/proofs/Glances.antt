@@ -131,26 +131,7 @@ module _ {T : Type 0} (code : Coding T) (c : ℕ) (m : Now T) (p : ℕ) where
 
   pub course_first : (s : ContainerState T) (change : ℕ) → change ≡ change_in code c m → Rests code c m p s
       → ShowsOwn p s c m.events → Course code c m p (record s { shown = with_change s.shown change }) 0 c
-  course_first s change is h own =
-      record {
-        sight =
-            record {
-              wide = h.sight.wide;
-              below = h.sight.below;
-              change = λ kept. omega arith;
-              copied = h.sight.copied;
-              same = h.sight.same;
-              caught = λ well_formed same i low. absurd (omega arith);
-              owed = λ kept same i low. absurd (omega arith);
-            };
-        known = h.known;
-        room = h.room;
-        unseen = λ i from low ne. h.counts i low;
-        fresh = λ well_formed i low. absurd (omega arith);
-        once = λ well_formed i low. absurd (omega arith);
-        alone = λ was i low. absurd (omega arith);
-        own = own;
-      }
+  course_first s change is h own = grind arith
 
   -- ---- at an index
 
@@ -277,26 +258,7 @@ module _ {T : Type 0} (code : Coding T) (c : ℕ) (m : Now T) (p : ℕ) where
   -- ---- a word is read
 
   pub course_word : (s : ContainerState T) (k x at word : ℕ) → Course code c m p s k x → Course code c m p (record s { shown = with_word s.shown at word }) k x
-  course_word s k x at word h =
-      record {
-        sight =
-            record {
-              wide = h.sight.wide;
-              below = h.sight.below;
-              change = h.sight.change;
-              copied = h.sight.copied;
-              same = h.sight.same;
-              caught = h.sight.caught;
-              owed = h.sight.owed;
-            };
-        known = h.known;
-        room = length-set s.shown.copy at word ∙ h.room;
-        unseen = h.unseen;
-        fresh = h.fresh;
-        once = h.once;
-        alone = h.alone;
-        own = h.own;
-      }
+  course_word s k x at word h = let room = length-set s.shown.copy at word in grind arith
 
   -- ---- the look has gone over all of them
 
@@ -317,16 +279,7 @@ module _ {T : Type 0} (code : Coding T) (c : ℕ) (m : Now T) (p : ℕ) where
   rests_settled s h =
       let wide : length s.seen.counts ≡ length s.shown.elements = h.known ∙ sym h.sight.wide in
       record {
-        sight =
-            record {
-              wide = h.sight.wide;
-              below = h.sight.below;
-              change = h.sight.change;
-              copied = h.sight.copied;
-              same = h.sight.same;
-              caught = h.sight.caught;
-              owed = h.sight.owed;
-            };
+        sight = grind arith;
         known = over_length s.seen.counts s.shown.elements wide ∙ h.sight.wide;
         seen = refl;
         counts = λ i low. over_at s.seen.counts s.shown.elements i wide (let w = h.sight.wide in omega arith);

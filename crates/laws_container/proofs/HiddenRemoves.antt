@@ -32,7 +32,7 @@ use Rattle.model.specs.Turns.{words_after}
 use Rattle.model.proofs.Moments.{held_later}
 use Rattle.laws_robust.proofs.Core.{counter_of}
 use Rattle.laws_robust.proofs.Invariant.{IsWorn, worn_on}
-use Rattle.laws_robust.proofs.Effects.{both_ways}
+use Rattle.laws_robust.proofs.Effects.{both_ways, quiet_end}
 use Rattle.laws_robust.proofs.Effects as set_effects
 use Rattle.laws_robust.proofs.Stages.{exchanges, fails_same}
 use Rattle.laws_container.specs.Gone.{AnswersBy}
@@ -41,7 +41,7 @@ use Rattle.laws_container.proofs.Invariant.{Scene, Inv, ActsFor, before, of_set,
 use Rattle.laws_container.proofs.Keeping.{shut_later}
 use Rattle.laws_container.proofs.Knows.{RemoveSays, RemoveKnows}
 use Rattle.laws_container.proofs.Left.{left_of}
-use Rattle.laws_container.proofs.Sets.{leaves_behind, quiet_end}
+use Rattle.laws_container.proofs.Sets.{leaves_behind}
 use Rattle.laws_container.proofs.Stages.{IsHere, all, done, sees_now, then_sees, StepOf, Leads, none_lengthens}
 use Rattle.laws_container.proofs.Stages.{party_then, backs_then, goes_on, ends, was_well_formed}
 use Rattle.laws_container.proofs.Standing.{remove_at, release_total, RemoveAt, place_is}
@@ -75,7 +75,7 @@ removed_done index owner mode state made acts h = grind arith
 
 module _ {T : Type 0} (scene : Scene T) (inv : Inv scene) (index owner : ℕ) (mode : ReleaseMode)
     (fits : owner < empty) (acts : ActsFor scene owner) (below : index < scene.capacity) where
-  open scene use {coding as code, capacity as c, party as p, steps as steps, backs as backs, events as events, latest as latest}
+  open scene use {coding as code, capacity as c, party as p, steps as steps, backs as backs, events as events}
 
   abbrev ws : List ℕ
   ws = scene.words
@@ -235,7 +235,7 @@ module _ {T : Type 0} (scene : Scene T) (inv : Inv scene) (index owner : ℕ) (m
         (ends_counted scene inv start (at_stage (removes.TheVariants.AddsChange state)) tt here y (words_after ws end_it) (answers.State state)
         (set_effects.quietly (of_set scene) (inv_of_set scene inv) (words_after ws end_it) es
         (leaves_behind (of_set scene) (inv_of_set scene inv) (words_after ws end_it) (change_word c) _ (omega arith) new)
-        (quiet_end (of_set scene) (inv_of_set scene inv) start (answers.State state) (λ i o. refl) (λ i r. refl))
+        (quiet_end p (Container start) (answers.State state) (λ i o. refl) (λ i r. refl))
         (refl, tt) (tt, tt) (tt, tt))
         (answers_right mode state k.1) well_formed
         (λ holds. ⊎_elim (λ empty. empty) (λ never. absurd never)

@@ -302,9 +302,22 @@ module _ {T : Type 0} (scene : Scene T) where
       → Knowing code c flight (view scene.terms words' states' (put p y latest) (events ++ es) q since changes' backs)
   any_knows words' states' y es changes' does seen q ne since backs (flights.TheVariants.Container flight) h =
       still_knows code c (view scene.terms scene.words scene.states latest events q since scene.changes backs)
-      words' states' (put p y latest) es changes' does.set.goes (does.set.spares q ne) seen does.changes.passes
-      (does.changes.leaves q ne)
-      (span_of-other p q events es ne does.set.own) (party_put_other q p y latest ne) (does.others q ne) flight h
+      (record {
+        words_then = words';
+        states_then = states';
+        latest_then = put p y latest;
+        es = es;
+        changes_then = changes';
+        goes = does.set.goes;
+        spares = does.set.spares q ne;
+        seen = seen;
+        passes = does.changes.passes;
+        leaves = does.changes.leaves q ne;
+        span = span_of-other p q events es ne does.set.own;
+        same_party = party_put_other q p y latest ne;
+        same_state = does.others q ne;
+      })
+      flight h
   any_knows words' states' y es changes' does seen q ne since backs flight h = absurd h
 
   pub at_written : (c z : ℕ) (w w' : List (Event T)) (start : Start T) (flight : Flight T) → w' ≡ w

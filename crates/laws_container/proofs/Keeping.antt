@@ -1,13 +1,11 @@
 -- What a call of the container knows it knows still after any turn of another party.
-use Rattle.std.proofs.Common.{◌≡◌, ⊎_elim, inl, inr, ℕ, ◌+◌, ◌%◌, ◌<◌, Bool, false, true, is_some, List}
+use Rattle.std.proofs.Common.{◌≡◌, ⊎_elim, inl, inr, ℕ, ◌+◌, ◌<◌, Bool, false, true, is_some, List}
 use Rattle.std.proofs.Common.{[], ◌∷◌, ◌++◌, fold, refl, sym, ap, subst, ◌∙◌, arith}
 use Rattle.std.proofs.lemmas.List.Sums.{fold-append}
 use Rattle.steps.specs.declared.container.add.AddStage.{AddStage}
 use Rattle.steps.specs.declared.container.add.AddStage as adds
 use Rattle.steps.specs.declared.container.find.FindStage.{FindStage}
 use Rattle.steps.specs.declared.container.find.FindStage as finds
-use Rattle.steps.specs.declared.container.look.LookStage.{LookStage}
-use Rattle.steps.specs.declared.container.recover.RecoverStage.{RecoverStage}
 use Rattle.steps.specs.declared.container.remove.RemoveStage.{RemoveStage}
 use Rattle.steps.specs.declared.container.remove.RemoveStage as removes
 use Rattle.steps.specs.declared.container.replace.ReplaceStage.{ReplaceStage}
@@ -22,7 +20,6 @@ use Rattle.steps.specs.declared.indices.robust.release.ReleaseStage.{ReleaseStag
 use Rattle.steps.specs.declared.indices.robust.release.ReleaseStage as releases
 use Rattle.model.specs.declared.event.Event.{Event}
 use Rattle.model.specs.declared.event.Event.TheVariants.{Locked}
-use Rattle.model.specs.declared.families.container.calls.ContainerFlight.{ContainerFlight}
 use Rattle.model.specs.declared.party.Party.{Party}
 use Rattle.model.specs.Coding.{Coding}
 use Rattle.model.specs.Families.Container.Promises.{StandsWellFormed}
@@ -30,7 +27,7 @@ use Rattle.model.specs.Families.Container.Reading.{MayReplace, Copies, Has, HasL
 use Rattle.model.specs.Families.Container.States.{state_of}
 use Rattle.model.specs.Families.Indices.Reading.{locked_after, is_locked}
 use Rattle.model.specs.Families.Indices.Robust.Promises.{IsFilledWith, IsUnlocked, FilledSinceFreed}
-use Rattle.model.specs.Families.Indices.Robust.Reading.{Asks, deeds_of, wrote_in}
+use Rattle.model.specs.Families.Indices.Robust.Reading.{deeds_of, wrote_in}
 use Rattle.model.specs.Families.Queues.Calls.{read_in}
 use Rattle.model.specs.Moments.{HeldSometime}
 use Rattle.model.specs.Parties.{party_of}
@@ -43,14 +40,12 @@ use Rattle.laws_robust.proofs.Knows.{Goes, Spares, IsSeen, knows_later}
 use Rattle.laws_robust.proofs.Knows as set
 use Rattle.laws_robust.proofs.Past.{through_less, through_now}
 use Rattle.laws_robust.proofs.Standing.{acquire_at, release_at}
-use Rattle.laws_container.proofs.Contents.{writes_on}
 use Rattle.laws_container.proofs.HiddenKnows.{no_index}
 use Rattle.laws_container.proofs.HiddenLater.{remove_covers, hidden_stands, hidden_later}
 use Rattle.laws_container.proofs.Knows.{View, of_set, now, IsPaid, Lives, Worn, WasFilled, AddOwns, HasFound}
 use Rattle.laws_container.proofs.Knows.{ReplaceKnows, Covers, Writes, HasPlaced, Stood, AddKnows, ReplacesKnow}
 use Rattle.laws_container.proofs.Knows.{RemoveSays, HasCome, HasLeft, ReleaseHides, ReleaseLeft, RemoveKnows, Copying}
 use Rattle.laws_container.proofs.Knows.{HasCopied, CheckPaid, HasFoundBelow, Finds, Steady, FindKnows}
-use Rattle.laws_container.proofs.Knows.{Knows}
 use Rattle.laws_container.proofs.Replaces.{ReplaceOwns, replace_later, add_later}
 use Rattle.laws_container.proofs.Sights.{StoodThere}
 use Rattle.laws_container.proofs.Terms.{Keeps}
@@ -77,14 +72,38 @@ module _ {T : Type 0} where
       → WellFormed (now v) → Lives owner v → Replacing v.party index owner v.events
   replacing c index owner value v h well_formed alive = h.owns well_formed.calm alive (may_replace index owner value v h.found h.filled well_formed)
 
-module _ {T : Type 0} (code : Coding T) (c : ℕ) (v : View T) (words' : List ℕ)
-    (states' : List (ℕ × ContainerState T)) (latest' : List (ℕ × Party T)) (es : List (Event T)) (changes' : ℕ)
-    (goes : Goes v.words words' v.events es) (spares : Spares v.terms.by v.party v.events es) (seen : IsSeen v.words words' v.changes changes')
-    (passes : Passes code c (now v) (record { terms = v.terms; words = words'; latest = latest'; events = v.events ++ es }))
-    (leaves : Leaves code c v.party (now v) (record { terms = v.terms; words = words'; latest = latest'; events = v.events ++ es }))
-    (span : span_of v.party (v.events ++ es) ≡ span_of v.party v.events)
-    (same_party : party_of v.party latest' ≡ party_of v.party v.latest)
-    (same_state : state_of v.party states' ≡ state_of v.party v.states) where
+  -- a turn of another party, to the party that knows this
+  pub record OthersTurn (code : Coding T) (c : ℕ) (v : View T) : Type 0 where
+    pub words_then : List ℕ
+    pub states_then : List (ℕ × ContainerState T)
+    pub latest_then : List (ℕ × Party T)
+    pub es : List (Event T)
+    pub changes_then : ℕ
+    pub goes : Goes v.words words_then v.events es
+    pub spares : Spares v.terms.by v.party v.events es
+    pub seen : IsSeen v.words words_then v.changes changes_then
+    pub passes : Passes code c (now v) (record { terms = v.terms; words = words_then; latest = latest_then; events = v.events ++ es })
+    pub leaves : Leaves code c v.party (now v) (record { terms = v.terms; words = words_then; latest = latest_then; events = v.events ++ es })
+    pub span : span_of v.party (v.events ++ es) ≡ span_of v.party v.events
+    pub same_party : party_of v.party latest_then ≡ party_of v.party v.latest
+    pub same_state : state_of v.party states_then ≡ state_of v.party v.states
+
+module _ {T : Type 0} (code : Coding T) (c : ℕ) (v : View T) (turn : OthersTurn code c v) where
+  open turn use {
+    words_then as words',
+    states_then as states',
+    latest_then as latest',
+    es as es,
+    changes_then as changes',
+    goes as goes,
+    spares as spares,
+    seen as seen,
+    passes as passes,
+    leaves as leaves,
+    span as span,
+    same_party as same_party,
+  }
+
   abbrev pub later : View T
   later =
       record {
@@ -160,25 +179,11 @@ module _ {T : Type 0} (code : Coding T) (c : ℕ) (v : View T) (words' : List �
   replaces_write owner index value h well_formed alive = inr (replacing c index owner value v h well_formed alive)
 
   covers : (owner index count : ℕ) → index < c → IsTheWriter owner index → Covers code c owner index count v → Covers code c owner index count later
-  covers owner index count below writer h well_formed alive =
-      let before = passes.well_formed well_formed in
-      let mine = writer before (lives owner alive) in
-      ⊎_elim
-      (λ e. ⊎_elim (λ same. inl (same ∙ e)) (λ even. inr even) (leaves.over well_formed index owner below (lives owner alive) mine))
-      (λ even. inr (ap (λ n. n % 2) (leaves.under well_formed index owner below (lives owner alive) mine even).0 ∙ even))
-      (h before (lives owner alive))
+  covers owner index count below writer h well_formed alive = let by_lives = lives in grind arith
 
   writes : (owner index : ℕ) (value : T) (k : ℕ) → index < c → IsTheWriter owner index
       → Writes code c owner index value k v → Writes code c owner index value k later
-  writes owner index value k below writer h =
-      record {
-        few = h.few;
-        has = λ well_formed alive.
-            let before = passes.well_formed well_formed in
-            let w = h.has before (lives owner alive) in
-            let same = leaves.under well_formed index owner below (lives owner alive) (writer before (lives owner alive)) w.even in
-            writes_on code c v.words words' index value k h.few same.0 same.1 w;
-      }
+  writes owner index value k below writer h = let by_lives = lives in grind arith
 
   placed : (index : ℕ) (value : T) → HasPlaced code c index value v → HasPlaced code c index value later
   placed index value h well_formed = ap (λ a. places a) acts_same ∙ h (passes.well_formed well_formed)
@@ -277,18 +282,9 @@ module _ {T : Type 0} (code : Coding T) (c : ℕ) (v : View T) (words' : List �
 
   pub copying : (index count : ℕ) (copy : List ℕ) (k : ℕ) → Copying code c index count copy k v → Copying code c index count copy k later
   copying index count copy k h =
-      record {
-        within = h.within;
-        few = h.few;
-        room = h.room;
-        odd = h.odd;
-        below = count_below index count h.within h.below;
-        same = λ well_formed is j js.
-            let was : count_in code c (now v) index ≡ count = was_there index count h.within h.below well_formed.kept is in
-            h.same (passes.well_formed well_formed) was j js
-            ∙ sym
-            (passes.words well_formed index h.within (is ∙ sym was) (ap (λ n. n % 2) was ∙ h.odd) j (let few = h.few in omega arith));
-      }
+      let by_count_below = count_below in
+      let by_was_there = was_there in
+      grind arith
 
   pub has_copied : (index : ℕ) (room : buffers.Buffer 128) → HasCopied code c index room v → HasCopied code c index room later
   has_copied index room h = subst (HasLatest (Copies index (read_in code room))) (sym acts_same) h

@@ -1,36 +1,25 @@
 -- What a recovery and a look know stays known while others take turns; and so of any call.
-use Rattle.std.proofs.Common.{◌≡◌, ⊎_elim, inl, inr, ℕ, ◌+◌, ◌<◌, Some, None, List}
+use Rattle.std.proofs.Common.{◌≡◌, ◌⊎◌, ⊎_elim, inl, inr, ℕ, ◌+◌, ◌<◌, Some, None, List}
 use Rattle.std.proofs.Common.{◌++◌, refl, sym, subst, ◌∙◌}
-use Rattle.steps.specs.declared.container.add.AddStage.{AddStage}
-use Rattle.steps.specs.declared.container.find.FindStage.{FindStage}
 use Rattle.steps.specs.declared.container.look.LookStage.{LookStage}
 use Rattle.steps.specs.declared.container.look.LookStage as looks
 use Rattle.steps.specs.declared.container.recover.RecoverStage.{RecoverStage}
 use Rattle.steps.specs.declared.container.recover.RecoverStage as recovers
-use Rattle.steps.specs.declared.container.remove.RemoveStage.{RemoveStage}
-use Rattle.steps.specs.declared.container.replace.ReplaceStage.{ReplaceStage}
-use Rattle.steps.specs.declared.container.state.ContainerState.{ContainerState}
 use Rattle.steps.specs.declared.copied.Buffer as buffers
 use Rattle.steps.specs.declared.indices.enums.ReleaseMode.{ReleaseMode}
 use Rattle.steps.specs.declared.indices.enums.ReleaseState.{ReleaseState}
 use Rattle.steps.specs.declared.indices.enums.ReleaseState as states
-use Rattle.steps.specs.declared.indices.robust.release.ReleaseStage.{ReleaseStage}
 use Rattle.model.specs.declared.event.Event.{Event}
-use Rattle.model.specs.declared.event.Event.TheVariants.{Locked}
 use Rattle.model.specs.declared.families.container.calls.ContainerFlight.{ContainerFlight}
 use Rattle.model.specs.declared.families.container.calls.ContainerFlight.TheVariants.{Add, Remove, Replace, Find, Recover, Look, Count, IsLocked}
-use Rattle.model.specs.declared.party.Party.{Party}
 use Rattle.model.specs.Coding.{Coding}
 use Rattle.model.specs.Families.Container.Promises.{WasShown}
 use Rattle.model.specs.Families.Container.Reading.{Sees, Has}
-use Rattle.model.specs.Families.Container.States.{state_of}
 use Rattle.model.specs.Families.Indices.Robust.Promises.{IsFilledWith, IsUnlocked, StillToFree}
-use Rattle.model.specs.Families.Indices.Robust.Reading.{filled_of, Frees, Asks, Yes, IsOneOf}
-use Rattle.model.specs.Parties.{party_of}
-use Rattle.model.specs.Reading.{span_of}
+use Rattle.model.specs.Families.Indices.Robust.Reading.{filled_of, Frees, Asks, Yes, deeds_of, IsOneOf}
 use Rattle.laws_robust.specs.Gone.{IsHonestBy}
 use Rattle.laws_robust.proofs.Gone.{gone_more, honest_less, stays_lost}
-use Rattle.laws_robust.proofs.Knows.{Goes, Spares, IsSeen, held_paid, still_scanned}
+use Rattle.laws_robust.proofs.Knows.{held_paid, still_scanned}
 use Rattle.laws_robust.proofs.Knows as set
 use Rattle.laws_robust.proofs.Past.{through_less}
 use Rattle.laws_robust.proofs.Standing.{borrowed_at, looking}
@@ -44,32 +33,29 @@ use Rattle.laws_container.proofs.Knows.{LookRests, LookKnows, Knows}
 use Rattle.laws_container.proofs.KeptCopies.{CallsOn, own_later, calls_same}
 use Rattle.laws_container.proofs.KeptLocks.{NoIndex, FilledBut, filled_then, each_later, says_later, unlocked_later}
 use Rattle.laws_container.proofs.Sights.{rests_later, course_later}
-use Rattle.laws_container.proofs.Turns.{Now, Passes, Leaves}
-use Rattle.laws_container.proofs.Keeping.{acts_same, add_knows, check_paid, copying, count_below, deeds_same}
+use Rattle.laws_container.proofs.Turns.{Now}
+use Rattle.laws_container.proofs.Keeping as keeping
+use Rattle.laws_container.proofs.Keeping.{OthersTurn, acts_same, add_knows, check_paid, copying, count_below, deeds_same}
 use Rattle.laws_container.proofs.Keeping.{find_knows, found, has_copied, has_left, once, paid, remove_knows}
 use Rattle.laws_container.proofs.Keeping.{replaces_know, set_knows, shut_later, worn}
 
-module _ {T : Type 0} (code : Coding T) (c : ℕ) (v : View T) (words' : List ℕ)
-    (states' : List (ℕ × ContainerState T)) (latest' : List (ℕ × Party T)) (es : List (Event T)) (changes' : ℕ)
-    (goes : Goes v.words words' v.events es) (spares : Spares v.terms.by v.party v.events es) (seen : IsSeen v.words words' v.changes changes')
-    (passes : Passes code c (now v) (record { terms = v.terms; words = words'; latest = latest'; events = v.events ++ es }))
-    (leaves : Leaves code c v.party (now v) (record { terms = v.terms; words = words'; latest = latest'; events = v.events ++ es }))
-    (span : span_of v.party (v.events ++ es) ≡ span_of v.party v.events)
-    (same_party : party_of v.party latest' ≡ party_of v.party v.latest)
-    (same_state : state_of v.party states' ≡ state_of v.party v.states) where
+module _ {T : Type 0} (code : Coding T) (c : ℕ) (v : View T) (turn : OthersTurn code c v) where
+  open turn use {
+    words_then as words',
+    latest_then as latest',
+    es as es,
+    changes_then as changes',
+    goes as goes,
+    spares as spares,
+    seen as seen,
+    passes as passes,
+    leaves as leaves,
+    span as span,
+    same_state as same_state,
+  }
+
   abbrev pub later : View T
-  later =
-      record {
-        terms = v.terms;
-        words = words';
-        states = states';
-        latest = latest';
-        events = v.events ++ es;
-        party = v.party;
-        since = v.since;
-        changes = changes';
-        backs = v.backs;
-      }
+  later = keeping.later code c v turn
 
   abbrev q : ℕ
   q = v.party
@@ -79,18 +65,22 @@ module _ {T : Type 0} (code : Coding T) (c : ℕ) (v : View T) (words' : List �
 
   -- ---- a recovery
 
-  shown_same : (i : ℕ) → WasShown q i (events ++ es) → WasShown q i events
-  shown_same i h = subst (Has (Sees i)) (acts_same code c v words' states' latest' es changes' goes spares seen passes leaves span same_party same_state) h
+  -- what it was told or shown by now, it was before
+  told_before : (i owner : ℕ) → IsOneOf (Yes i owner) (deeds_of q (events ++ es)) ⊎ WasShown q i (events ++ es)
+      → IsOneOf (Yes i owner) (deeds_of q events) ⊎ WasShown q i events
+  told_before i owner told =
+      ⊎_elim (λ yes. inl (subst (IsOneOf (Yes i owner)) (deeds_same code c v turn) yes))
+      (λ shown. inr (subst (Has (Sees i)) (acts_same code c v turn) shown)) told
+
+  asked_later : (i owner : ℕ) → IsOneOf (Asks i owner) (deeds_of q events) ⊎ WasShown q i events
+      → IsOneOf (Asks i owner) (deeds_of q (events ++ es)) ⊎ WasShown q i (events ++ es)
+  asked_later i owner asked =
+      ⊎_elim (λ asks. inl (subst (IsOneOf (Asks i owner)) (sym (deeds_same code c v turn)) asks))
+      (λ shown. inr (subst (Has (Sees i)) (sym (acts_same code c v turn)) shown)) asked
 
   asked_below : (owner k : ℕ) → AskedBelow code c owner k v → AskedBelow code c owner k later
   asked_below owner k h i below through =
-      ⊎_elim (λ asked. inl (subst (IsOneOf (Asks i owner))
-      (sym (deeds_same code c v words' states' latest' es changes' goes spares seen passes leaves span same_party same_state))
-      asked))
-      (λ shown. inr (subst (Has (Sees i))
-      (sym (acts_same code c v words' states' latest' es changes' goes spares seen passes leaves span same_party same_state))
-      shown))
-      (h i below (through_less q (StillToFree q owner i) events es spares.none through))
+      asked_later i owner (h i below (through_less q (StillToFree q owner i) events es spares.none through))
 
   lost : (i owner : ℕ) → IsHonestBy v.terms.by (events ++ es) → IsGone owner v → filled_of i (events ++ es) ≡ Some owner → filled_of i events ≡ Some owner
   lost i owner honest dead filled = stays_lost v.terms.by events es goes.fills i owner honest dead filled
@@ -102,11 +92,7 @@ module _ {T : Type 0} (code : Coding T) (c : ℕ) (v : View T) (words' : List �
   gone_but : (owner : ℕ) (Here : ℕ → Type 0) → IsGone owner v → GoneBut code c owner Here v → GoneBut code c owner Here later
   gone_but owner Here dead h honest i told =
       ⊎_elim (λ gone. inl (λ e. gone (lost i owner honest dead e))) (λ here. inr here)
-      (h (honest_less v.terms.by events es honest) i
-      (⊎_elim (λ yes. inl (subst (IsOneOf (Yes i owner))
-      (deeds_same code c v words' states' latest' es changes' goes spares seen passes leaves span same_party same_state)
-      yes))
-      (λ shown. inr (shown_same i shown)) told))
+      (h (honest_less v.terms.by events es honest) i (told_before i owner told))
 
   recovers_then : (owner k : ℕ) (Here But But' : ℕ → Type 0)
       → (HasHidden code c q owner But (now v) → HasHidden code c q owner But' (now later))
@@ -114,7 +100,7 @@ module _ {T : Type 0} (code : Coding T) (c : ℕ) (v : View T) (words' : List �
   recovers_then owner k Here But But' stays h =
       record {
         dead = still_gone owner h.dead;
-        was_open = (once code c v words' states' latest' es changes' goes spares seen passes leaves span same_party same_state) IsUnlocked h.was_open;
+        was_open = once code c v turn IsUnlocked h.was_open;
         asked = asked_below owner k h.asked;
         gone = gone_but owner Here h.dead h.gone;
         hidden = stays h.hidden;
@@ -131,47 +117,24 @@ module _ {T : Type 0} (code : Coding T) (c : ℕ) (v : View T) (words' : List �
   recovered : (owner : ℕ) → IsGone owner v → HasRecoveredBy v.terms.by q owner events → HasRecoveredBy v.terms.by q owner (events ++ es)
   recovered owner dead h =
       record {
-        gone = λ honest i told e.
-            h.gone (honest_less v.terms.by events es honest) i
-            (⊎_elim (λ yes. inl (subst (IsOneOf (Yes i owner))
-            (deeds_same code c v words' states' latest' es changes' goes spares seen passes leaves span same_party same_state)
-            yes))
-            (λ shown. inr (shown_same i shown)) told)
-            (lost i owner honest dead e);
-        asked = λ i through.
-            ⊎_elim (λ asked. inl (subst (IsOneOf (Asks i owner))
-            (sym (deeds_same code c v words' states' latest' es changes' goes spares seen passes leaves span same_party same_state))
-            asked))
-            (λ shown. inr (subst (Has (Sees i))
-            (sym (acts_same code c v words' states' latest' es changes' goes spares seen passes leaves span same_party same_state))
-            shown))
-            (h.asked i (through_less q (StillToFree q owner i) events es spares.none through));
+        gone = λ honest i told e. h.gone (honest_less v.terms.by events es honest) i (told_before i owner told) (lost i owner honest dead e);
+        asked = λ i through. asked_later i owner (h.asked i (through_less q (StillToFree q owner i) events es spares.none through));
       }
 
   recover_says : (owner : ℕ) (mode : ReleaseMode) (state : ReleaseState) → RecoverSays code c owner mode state v → RecoverSays code c owner mode state later
   recover_says owner mode states.TheVariants.Locked h = shut_later events es h
   recover_says owner mode states.TheVariants.Unlocked h = (
     still_gone owner h.0,
-    unlocked_later q owner events es spares.none
-        (deeds_same code c v words' states' latest' es changes' goes spares seen passes leaves span same_party same_state)
-        h.1,
+    unlocked_later q owner events es spares.none (deeds_same code c v turn) h.1,
     recovered owner h.0 h.2,
-    each_later q owner (Worn v) (Worn later)
-        (worn code c v words' states' latest' es changes' goes spares seen passes leaves span same_party same_state)
-        mode events es spares.none
-        (deeds_same code c v words' states' latest' es changes' goes spares seen passes leaves span same_party same_state)
-        h.3,
+    each_later q owner (Worn v) (Worn later) (worn code c v turn) mode events es spares.none (deeds_same code c v turn) h.3,
   )
 
   fills : (owner : ℕ) (mode : ReleaseMode) (But : ℕ → Type 0) → FilledBut (Worn v) mode q owner But events
       → FilledBut (Worn later) mode q owner But (events ++ es)
   fills owner mode But h =
-      filled_then q owner (Worn v) (Worn later)
-      (worn code c v words' states' latest' es changes' goes spares seen passes leaves span same_party same_state)
-      mode But But events es spares.none
-      (λ i was. inl (subst (IsOneOf (Frees i owner))
-      (deeds_same code c v words' states' latest' es changes' goes spares seen passes leaves span same_party same_state)
-      was))
+      filled_then q owner (Worn v) (Worn later) (worn code c v turn) mode But But events es spares.none
+      (λ i was. inl (subst (IsOneOf (Frees i owner)) (deeds_same code c v turn) was))
       (λ i e. e) (shut_later events es) h
 
   recover_fills : (owner : ℕ) (mode : ReleaseMode) (stage : RecoverStage) → RecoverFills code c owner mode stage v → RecoverFills code c owner mode stage later
@@ -186,9 +149,7 @@ module _ {T : Type 0} (code : Coding T) (c : ℕ) (v : View T) (words' : List �
   recover_fills owner mode (recovers.TheVariants.Raises index raise) h = fills owner mode (λ i. i ≡ index) h
   recover_fills owner mode (recovers.TheVariants.Locks index lock) h = (
     fills owner mode (λ i. i ≡ index) h.0,
-    says_later q owner c events es spares.none
-        (deeds_same code c v words' states' latest' es changes' goes spares seen passes leaves span same_party same_state)
-        lock h.1,
+    says_later q owner c events es spares.none (deeds_same code c v turn) lock h.1,
   )
   recover_fills owner mode recovers.TheVariants.LoadsCounterAgain h = fills owner mode NoIndex h
   recover_fills owner mode (recovers.TheVariants.AddsChange state) h = tt
@@ -199,56 +160,52 @@ module _ {T : Type 0} (code : Coding T) (c : ℕ) (v : View T) (words' : List �
   recover_knows : (owner : ℕ) (mode : ReleaseMode) (room : buffers.Buffer 128) (stage : RecoverStage)
       → RecoverKnows code c owner mode room stage v → RecoverKnows code c owner mode room stage later
   recover_knows owner mode room recovers.TheVariants.LoadsCounter h = (
-    (paid code c v words' states' latest' es changes' goes spares seen passes leaves span same_party same_state) h.0,
+    paid code c v turn h.0,
     still_gone owner h.1,
     gone_but owner none h.1 h.2,
   )
-  recover_knows owner mode room (recovers.TheVariants.LoadsCell index) h = (
-    (paid code c v words' states' latest' es changes' goes spares seen passes leaves span same_party same_state) h.0,
-    recovers_on owner index none h.1,
-  )
+  recover_knows owner mode room (recovers.TheVariants.LoadsCell index) h = (paid code c v turn h.0, recovers_on owner index none h.1)
   recover_knows owner mode room (recovers.TheVariants.LoadsCount index) h = (
-    (paid code c v words' states' latest' es changes' goes spares seen passes leaves span same_party same_state) h.0,
+    paid code c v turn h.0,
     recovers_on owner index none h.1,
-    (once code c v words' states' latest' es changes' goes spares seen passes leaves span same_party same_state)
-        (IsFilledWith owner index) h.2,
+    once code c v turn (IsFilledWith owner index) h.2,
   )
   recover_knows owner mode room (recovers.TheVariants.LoadsWord index count at) h = (
-    (check_paid code c v words' states' latest' es changes' goes spares seen passes leaves span same_party same_state) index count h.0,
+    check_paid code c v turn index count h.0,
     recovers_on owner index none h.1,
-    (once code c v words' states' latest' es changes' goes spares seen passes leaves span same_party same_state) (IsFilledWith owner index) h.2,
-    (copying code c v words' states' latest' es changes' goes spares seen passes leaves span same_party same_state) index count room.words at h.3,
+    once code c v turn (IsFilledWith owner index) h.2,
+    copying code c v turn index count room.words at h.3,
     covers_on owner index count h.3.within h.1.dead h.4,
   )
   recover_knows owner mode room (recovers.TheVariants.ChecksCount index count) h = (
-    (check_paid code c v words' states' latest' es changes' goes spares seen passes leaves span same_party same_state) index count h.0,
+    check_paid code c v turn index count h.0,
     recovers_on owner index none h.1,
-    (once code c v words' states' latest' es changes' goes spares seen passes leaves span same_party same_state) (IsFilledWith owner index) h.2,
-    (copying code c v words' states' latest' es changes' goes spares seen passes leaves span same_party same_state) index count room.words code.size h.3,
+    once code c v turn (IsFilledWith owner index) h.2,
+    copying code c v turn index count room.words code.size h.3,
     covers_on owner index count h.3.within h.1.dead h.4,
   )
   recover_knows owner mode room (recovers.TheVariants.Asks index count) h = (
-    (paid code c v words' states' latest' es changes' goes spares seen passes leaves span same_party same_state) h.0,
+    paid code c v turn h.0,
     recovers_on owner (index + 1) none h.1,
     h.2,
-    (count_below code c v words' states' latest' es changes' goes spares seen passes leaves span same_party same_state) index count h.2 h.3,
-    (has_copied code c v words' states' latest' es changes' goes spares seen passes leaves span same_party same_state) index room h.4,
+    count_below code c v turn index count h.2 h.3,
+    has_copied code c v turn index room h.4,
     covers_on owner index count h.2 h.1.dead h.5,
   )
   recover_knows owner mode room (recovers.TheVariants.EmptiesCell index count) h = (
-    (paid code c v words' states' latest' es changes' goes spares seen passes leaves span same_party same_state) h.0,
+    paid code c v turn h.0,
     recovers_on owner (index + 1) (λ i. i ≡ index) h.1,
     h.2,
-    (count_below code c v words' states' latest' es changes' goes spares seen passes leaves span same_party same_state) index count h.2 h.3,
+    count_below code c v turn index count h.2 h.3,
     covers_on owner index count h.2 h.1.dead h.4,
   )
   recover_knows owner mode room (recovers.TheVariants.Hides index count) h = (
-    (paid code c v words' states' latest' es changes' goes spares seen passes leaves span same_party same_state) h.0,
+    paid code c v turn h.0,
     recovers_then owner (index + 1) none (StillStands code c index count (now v))
         (StillStands code c index count (now later))
         (λ g. hidden_stands code c q owner index count (now v) words' latest' es goes spares passes leaves h.2.within g)
         h.1,
-    (has_left code c v words' states' latest' es changes' goes spares seen passes leaves span same_party same_state) index count h.2,
+    has_left code c v turn index count h.2,
   )
   recover_knows owner mode room (recovers.TheVariants.Raises index raise) h = (
     held_paid v.terms.by v.words words' events es q v.since v.changes changes' v.backs goes spares seen (set.raise_holds raise) h.0,
@@ -259,12 +216,9 @@ module _ {T : Type 0} (code : Coding T) (c : ℕ) (v : View T) (words' : List �
     recovers_on owner (index + 1) none h.1,
     still_scanned v.terms.by v.words words' events es q v.since v.changes changes' v.backs goes spares seen (set.lock_scan c lock) h.2,
   )
-  recover_knows owner mode room recovers.TheVariants.LoadsCounterAgain h = (
-    (paid code c v words' states' latest' es changes' goes spares seen passes leaves span same_party same_state) h.0,
-    recovers_on owner c none h.1,
-  )
+  recover_knows owner mode room recovers.TheVariants.LoadsCounterAgain h = (paid code c v turn h.0, recovers_on owner c none h.1)
   recover_knows owner mode room (recovers.TheVariants.AddsChange state) h = (
-    (paid code c v words' states' latest' es changes' goes spares seen passes leaves span same_party same_state) h.0,
+    paid code c v turn h.0,
     recover_says owner mode state h.1,
     hidden_later code c q owner no_index (now v) words' latest' es spares passes h.2,
   )
@@ -291,9 +245,7 @@ module _ {T : Type 0} (code : Coding T) (c : ℕ) (v : View T) (words' : List �
       record {
         looks = looks_on index index h.looks;
         number = h.number;
-        copying =
-            (copying code c v words' states' latest' es changes' goes spares seen passes leaves span same_party same_state)
-            index count h.looks.state.shown.copy k h.copying;
+        copying = copying code c v turn index count h.looks.state.shown.copy k h.copying;
       }
 
   look_rests : LookRests code c v → LookRests code c later
@@ -306,45 +258,26 @@ module _ {T : Type 0} (code : Coding T) (c : ℕ) (v : View T) (words' : List �
       }
 
   look_knows : (stage : LookStage) → LookKnows code c stage v → LookKnows code c stage later
-  look_knows looks.TheVariants.LoadsChange h =
-      ((paid code c v words' states' latest' es changes' goes spares seen passes leaves span same_party same_state) h.0, look_rests h.1)
-  look_knows (looks.TheVariants.LoadsCount index) h = (
-    (paid code c v words' states' latest' es changes' goes spares seen passes leaves span same_party same_state) h.0,
-    looks_on index c h.1,
-  )
-  look_knows (looks.TheVariants.LoadsWord index count at) h = (
-    (check_paid code c v words' states' latest' es changes' goes spares seen passes leaves span same_party same_state) index count h.0,
-    look_copies index count at h.1,
-  )
+  look_knows looks.TheVariants.LoadsChange h = (paid code c v turn h.0, look_rests h.1)
+  look_knows (looks.TheVariants.LoadsCount index) h = (paid code c v turn h.0, looks_on index c h.1)
+  look_knows (looks.TheVariants.LoadsWord index count at) h = (check_paid code c v turn index count h.0, look_copies index count at h.1)
   look_knows (looks.TheVariants.ChecksCount index count) h = (
-    (check_paid code c v words' states' latest' es changes' goes spares seen passes leaves span same_party same_state) index count h.0,
+    check_paid code c v turn index count h.0,
     look_copies index count code.size h.1,
   )
 
   -- ---- any call
 
   pub still_knows : (flight : ContainerFlight T) → Knows code c flight v → Knows code c flight later
-  still_knows (Add run) h =
-      (add_knows code c v words' states' latest' es changes' goes spares seen passes leaves span same_party same_state)
-      run.given.value run.given.owner run.call.stage h
-  still_knows (Remove run) h =
-      (remove_knows code c v words' states' latest' es changes' goes spares seen passes leaves span same_party same_state)
-      run.given.index run.given.owner run.given.mode run.call.stage h
-  still_knows (Replace run) h =
-      (replaces_know code c v words' states' latest' es changes' goes spares seen passes leaves span same_party same_state)
-      run.given.index run.given.value run.given.owner run.call.stage h
-  still_knows (Find run) h = (
-    h.0,
-    (find_knows code c v words' states' latest' es changes' goes spares seen passes leaves span same_party same_state)
-        run.given run.room run.call.stage h.1,
-  )
+  still_knows (Add run) h = add_knows code c v turn run.given.value run.given.owner run.call.stage h
+  still_knows (Remove run) h = remove_knows code c v turn run.given.index run.given.owner run.given.mode run.call.stage h
+  still_knows (Replace run) h = replaces_know code c v turn run.given.index run.given.value run.given.owner run.call.stage h
+  still_knows (Find run) h = (h.0, find_knows code c v turn run.given run.room run.call.stage h.1)
   still_knows (Recover run) h = (
     h.0,
     recover_knows run.given.owner run.given.mode run.room run.call.stage h.1,
     recover_fills run.given.owner run.given.mode run.call.stage h.2,
   )
   still_knows (Look which call) h = look_knows call.stage h
-  still_knows (Count which run) h =
-      (set_knows code c v words' states' latest' es changes' goes spares seen passes leaves span same_party same_state)
-      (borrowed_at c run.call.count) h
-  still_knows (IsLocked run) h = (set_knows code c v words' states' latest' es changes' goes spares seen passes leaves span same_party same_state) looking h
+  still_knows (Count which run) h = set_knows code c v turn (borrowed_at c run.call.count) h
+  still_knows (IsLocked run) h = set_knows code c v turn looking h

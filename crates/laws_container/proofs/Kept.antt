@@ -1,5 +1,5 @@
 -- What the invariant says of the events, in the promise's words.
-use Rattle.std.proofs.Common.{◌≡◌, ◌≢◌, ℕ, ◌<◌, ◌≤◌, ◌==◌, ⊎_elim, Option, Some, None, length, slice_index, sym, ap, subst, ◌∙◌, arith}
+use Rattle.std.proofs.Common.{◌≡◌, ℕ, ◌<◌, ◌≤◌, ◌==◌, ⊎_elim, Option, Some, None, length, slice_index, sym, ap, subst, ◌∙◌, arith}
 use Rattle.std.proofs.lemmas.Bool.{cases_lt}
 use Rattle.std.proofs.lemmas.Option.{slice_get_past}
 use Rattle.steps.specs.Container.State.{value_if}
@@ -49,11 +49,7 @@ module _ {T : Type 0} where
 
   at_rest : (code : Coding T) (c : ℕ) (m : _) (q i : ℕ) (s : ContainerState T) (value : T) → Rests code c m q s
       → shows s i ≡ Some value → WasCopied q i value m.events
-  at_rest code c m q i s value h e =
-      let within = shown_within s i value e in
-      let wide = h.sight.wide in
-      let ne : i ≢ c = λ same. absurd (omega arith) in
-      h.sight.copied i value ne e
+  at_rest code c m q i s value h e = let by_shown_within = shown_within in grind arith
 
 -- ---- what is promised
 

@@ -1,5 +1,5 @@
 -- What a get_state shows, it has itself copied: how that is said, and that it stays so while the call goes on.
-use Rattle.std.proofs.Common.{◌≡◌, ◌≢◌, ℕ, Option, Some, None, List, [], ◌∷◌, ◌++◌, fold, length, refl, sym, ap, subst, ◌∙◌, append-nil, append_assoc, arith}
+use Rattle.std.proofs.Common.{◌≡◌, ◌≢◌, ℕ, Option, Some, None, List, [], ◌∷◌, ◌++◌, fold, length, refl, sym, ap, ◌∙◌, append-nil, append_assoc, arith}
 use Rattle.std.proofs.lemmas.List.Concat.{flat_map-append}
 use Rattle.std.proofs.lemmas.Option.{slice_get_past}
 use Rattle.steps.specs.Container.State.{value_if}
@@ -94,20 +94,11 @@ module _ {T : Type 0} where
 
       calls : CallsOn p what events (events ++ es)
       calls =
-          record {
-            getting = λ g. ap name_of here ∙ (sym name ∙ (ap name_of (sym span_then) ∙ g));
-            still = λ g. ap name_of span_then ∙ (name ∙ (ap name_of (sym here) ∙ g));
-            has =
-                λ i value h. subst (Has (Copies i value)) (sym acts_then)
-                (has_more (Copies i value) (acts w) (acts (copies_of p what)) (subst (Has (Copies i value)) acts_now h));
-            now = λ i value e. subst (Has (Copies i value)) (sym acts_then) (copied_now what i value e);
-          }
-        where
-          copied_now : (o : Option (ℕ × T)) (i : ℕ) (value : T) → o ≡ Some (i, value) → Has (Copies i value) (acts w ++ acts (copies_of p o))
-          copied_now None i value e = absurd (cc)
-          copied_now (Some copy) i value e =
-              let is : copy ≡ (i, value) = cc in
-              subst (λ (k : ℕ × T). Has (Copies k.0 k.1) (acts w ++ acts (copies_of p (Some copy)))) is (record { before = acts w; after = []; is = refl })
+          let by_has_more = has_more in
+          let by_span_then = span_then in
+          let by_acts_then = acts_then in
+          let by_acts_now = acts_now in
+          grind arith
 
     -- it goes on, or ends
     pub calls_on : (what : Option (ℕ × T)) (outcome : Option (Answer T)) → CallsOn p what events (events ++ (copies_of p what ++ ending_of p start outcome))

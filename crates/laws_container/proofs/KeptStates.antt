@@ -23,7 +23,7 @@ use Rattle.model.specs.declared.party.Doing.{Doing}
 use Rattle.model.specs.declared.party.Doing.TheVariants.{Going, Over}
 use Rattle.model.specs.declared.party.Party.{Party}
 use Rattle.model.specs.declared.turn.Turn.{Turn}
-use Rattle.model.specs.declared.turn.Turn.TheVariants.{Begin, Next, Decide, Die}
+use Rattle.model.specs.declared.turn.Turn.TheVariants.{Begin}
 use Rattle.model.specs.Coding.{Coding}
 use Rattle.model.specs.Families.{first_of, want_of, is_question, beside_of, step_of, kept_after_begin, kept_after_death}
 use Rattle.model.specs.Families.Container.Calls.{after as goes_after, states_after, writes_state}
@@ -185,13 +185,11 @@ module _ {T : Type 0} (shown : Shown T) (terms : Terms) (code : Coding T) (t : T
 
   module _ (turn : Turn T) (r : IsAllowed t.world turn) where
     moves : MovesInLooks t turn (after_turn t turn)
-    moves q none = by turn r none
-      where
-        by : (u : Turn T) → IsAllowed t.world u → is_look_of t.world q u ≡ false → state_in (after_turn t u).world.kept q ≡ state_in t.world.kept q
-        by (Begin p start) r none = begin_moves p q start none (first_of t.world.kind t.world.capacity start t.world.kept)
-        by (Next p) r none = next_moves p q none (party_of p t.world.latest) refl
-        by (Decide p said) r none = decision_moves p q said r (party_of p t.world.latest) refl
-        by (Die owner) r none = died_stays t.world.kept owner q
+    moves q none =
+        let by_next_moves = next_moves in
+        let by_decision_moves = decision_moves in
+        let by_begin_moves = begin_moves in
+        grind arith
 
     begins : BeginsWithState t turn (after_turn t turn)
     begins p state is found =

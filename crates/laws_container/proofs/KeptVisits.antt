@@ -29,9 +29,9 @@ use Rattle.model.specs.Turns.{old_of, number_of, ask_of_doing, events_of_step, e
 use Rattle.model.specs.Turns.{events_of_decision, events_of, ending_of, after_turn}
 use Rattle.model.specs.World.{Trace}
 use Rattle.model.proofs.Frame as frame
-use Rattle.model.proofs.Scenes.{StandsThere, stands_there}
+use Rattle.model.proofs.Scenes.{StandsThere}
 use Rattle.laws_container.proofs.Invariant.{family_by}
-use Rattle.laws_container.proofs.Sound.{MayGoOn, Shown as AllShown, kept_is, kept_now, IsThere, is_there}
+use Rattle.laws_container.proofs.Sound.{MayGoOn, Shown as AllShown, kept_now, IsThere, is_there}
 use Rattle.laws_container.proofs.Stages.{any_call}
 use Rattle.laws_container.proofs.Terms.{Terms}
 use Rattle.laws_container.proofs.Written.{all_effects}
@@ -86,11 +86,7 @@ module _ {T : Type 0} (shown : AllShown T) (terms : Terms) (code : Coding T) (c 
   step_visits n a flight stands = absurd stands.at
 
   any_visits : (n : ℕ) (flight : Flight T) → x.doing ≡ Going flight since → Visits n t.world.coding t.world.kept x.start flight
-  any_visits n flight doing =
-      let same = kept_is t.world.kept t.world.words s.state s.fit in
-      subst (λ y. Visits n y t.world.kept x.start flight) (sym s.coding)
-      (subst (λ kept. Visits n code kept x.start flight) (sym same.0)
-      (step_visits n x.start flight (stands_there (family_by terms code c) t s q x since flight found doing)))
+  any_visits n flight doing = let by_step_visits = step_visits in grind arith
 
 -- ---- any turn
 

@@ -59,7 +59,6 @@ pub mod ReplaceSteps
 pub mod ReplaceFound
 pub mod Replacers
 pub mod Replaces
-pub mod SetBegins
 pub mod SetStays
 pub mod SetSteps
 pub mod Sets

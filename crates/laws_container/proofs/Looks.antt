@@ -144,7 +144,7 @@ module _ (T : Type 0) where
 module _ {T : Type 0} (scene : Scene T) (inv : Inv scene) (which : LookOf) (stage : LookStage)
     (here : IsHere scene (looks_as which) (look_at which scene.capacity stage)) (s : ContainerState T)
     (found : state_of scene.party scene.states ≡ Some s) where
-  open scene use {coding as code, capacity as c, party as p, steps as steps, backs as backs, latest as latest, events as events}
+  open scene use {coding as code, capacity as c, party as p, steps as steps, latest as latest, events as events}
 
   abbrev ws : List ℕ
   ws = scene.words
@@ -343,7 +343,7 @@ module _ {T : Type 0} (scene : Scene T) (inv : Inv scene) (which : LookOf) (stag
 -- ---- any stage
 
 module _ {T : Type 0} (scene : Scene T) (inv : Inv scene) where
-  open scene use {coding as code, capacity as c, party as p, steps as steps, backs as backs, events as events}
+  open scene use {coding as code, capacity as c, party as p, steps as steps, backs as backs}
 
   -- the state that a look has
   pub record HasState : Type 0 where

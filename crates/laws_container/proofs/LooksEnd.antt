@@ -130,9 +130,6 @@ module _ {T : Type 0} (scene : Scene T) (inv : Inv scene) (which : LookOf) (stag
   module _ (did : List (Event T)) (st : ContainerState T) (y : Party T) where
     -- it has gone over them
     module _ (answer : Answer T) (passed : HasPassed ask_now did st) where
-      abbrev finish : List (Event T)
-      finish = Finished p (Container start) answer ∷ []
-
       module _ (m' : Now T) (comes' : Comes scene inv m' passed.what) (holds : WellFormed m') where
         course : Course code c m' p st c c
         course = passed.course m' comes'

@@ -37,7 +37,7 @@ use Rattle.model.specs.Families.Container.Steps.{effects, questions}
 use Rattle.model.specs.Families.Indices.Robust.Reading.{Deed}
 use Rattle.model.specs.Parties.{party_of, put, doing_of, flight_of}
 use Rattle.model.specs.Promises.Turns.{IsParty, IsEffectOf}
-use Rattle.model.specs.Reading.{Span, span_of}
+use Rattle.model.specs.Reading.{span_of}
 use Rattle.model.specs.Refusals.{is_due}
 use Rattle.model.specs.Shape.{IsShut}
 use Rattle.model.specs.Step.{Step, answer_in}
@@ -53,6 +53,7 @@ use Rattle.laws_container.proofs.Invariant.{Scene, Inv, family_by}
 use Rattle.laws_container.proofs.KeptCopies.{name_of, IsGetting, HasCopied}
 use Rattle.laws_container.proofs.Looks.{looks_as}
 use Rattle.laws_container.proofs.LooksEnd.{look_tells, look_leaves}
+pub use Rattle.laws_container.proofs.Moves.{look_asks_none}
 use Rattle.laws_container.proofs.WellFormed.{IsWellFormedSoFar}
 use Rattle.laws_container.proofs.Sound.{MayGoOn, Shown, kept_is, kept_now, scene_of, inv_with, IsThere, is_there}
 use Rattle.laws_container.proofs.Stages.{all, done, any_call}
@@ -132,9 +133,6 @@ module _ {T : Type 0} where
       → At c z made did (looks_as which) (look_at which c stage) → LookAt c z made did stage
   look_stands kinds.TheVariants.GetState c z made did stage at = at.2
   look_stands kinds.TheVariants.UpdateState c z made did stage at = at.2
-
-pub look_asks_none : (size c : ℕ) (stage : LookStage) → is_question (look_asks size c stage) ≡ false
-look_asks_none size c stage = grind arith
 
 look_counts : (size c : ℕ) (stage : LookStage) → step_count (ask_of (look_asks size c stage)) ≡ 1
 look_counts size c stage = grind arith
@@ -310,18 +308,7 @@ module _ {T : Type 0} (shown : Shown T) (terms : Terms) (code : Coding T) (c : �
 
   -- a call that owes is under way
   alone_now : (q : ℕ) → owes (flight_of (doing_of (party_of q t.world.latest))) ≡ true → IsShut (span_of q t.events) → ⊥
-  alone_now q = by (party_of q t.world.latest) (span_of q t.events) (s.inv.calls q)
-    where
-      by_doing : (x : Party T) (doing : Doing T) (span : Span T)
-          → frame.FitsDoing (family_by terms code c) s.state q x doing span → owes (flight_of (Some doing)) ≡ true
-          → IsShut span → ⊥
-      by_doing x (Going flight since) span fits is shut = subst IsShut fits.span shut
-      by_doing x (Over others) span fits is shut = absurd (cc)
-
-      by : (o : Option (Party T)) (span : Span T) → frame.Fits (family_by terms code c) s.state q o span
-          → owes (flight_of (doing_of o)) ≡ true → IsShut span → ⊥
-      by None span fits is shut = absurd (cc)
-      by (Some x) span fits is shut = by_doing x x.doing span fits is shut
+  alone_now q = grind arith
 
   module _ (new : Trace T) (end : LookEnd new) (well_formed : Type 0) (so_far : well_formed → IsWellFormedSoFar terms new.world.latest new.events) where
     abbrev l : LookTurn end.party new.world.kept new.world.latest end.events

@@ -119,7 +119,7 @@ module _ {T : Type 0} (code : Coding T) (c : ℕ) where
 pub remove_asks_none : (c : ℕ) (stage : RemoveStage) (given : GiveBack) → is_question (remove_asks c stage given) ≡ false
 remove_asks_none c stage given = grind arith
 
-look_asks_none : (size c : ℕ) (stage : LookStage) → is_question (look_asks size c stage) ≡ false
+pub look_asks_none : (size c : ℕ) (stage : LookStage) → is_question (look_asks size c stage) ≡ false
 look_asks_none size c stage = grind arith
 
 -- ---- any call

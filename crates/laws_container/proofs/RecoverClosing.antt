@@ -5,7 +5,6 @@ use Rattle.std.proofs.Common.{append-nil, arith}
 use Rattle.std.proofs.lemmas.Bool.{cases_lt}
 use Rattle.std.proofs.lemmas.Bool.Decides.{nat_tests}
 use Rattle.steps.specs.declared.ask.Ask.{Ask}
-use Rattle.steps.specs.declared.ask.After.{After}
 use Rattle.steps.specs.declared.ask.After.TheVariants.{Done}
 use Rattle.steps.specs.declared.container.recover.RecoverStage.{RecoverStage}
 use Rattle.steps.specs.declared.container.recover.RecoverStage as recovers
@@ -22,19 +21,18 @@ use Rattle.steps.specs.Container.Layout.{change_word}
 use Rattle.steps.specs.Container.Recover.{recover_ends}
 use Rattle.steps.specs.Indices.Robust.Parts.{empty, locked, greatest}
 use Rattle.model.specs.declared.event.Answer.TheVariants as answers
-use Rattle.model.specs.declared.event.Event.{Event}
-use Rattle.model.specs.declared.event.Event.TheVariants.{Locked, Finished}
+use Rattle.model.specs.declared.event.Event.TheVariants.{Finished}
 use Rattle.model.specs.declared.event.Start.TheVariants.{Container}
 use Rattle.model.specs.declared.families.container.ContainerStart.TheVariants.{Recover}
 use Rattle.model.specs.Families.Container.Recoveries.{UnlockedAtLast}
 use Rattle.model.specs.Families.Indices.Reading.{is_locked}
 use Rattle.model.specs.Families.Indices.Robust.Promises.{IsUnlocked, StillToFree}
-use Rattle.model.specs.Families.Indices.Robust.Reading.{Locks, filled_of, deeds_of}
+use Rattle.model.specs.Families.Indices.Robust.Reading.{filled_of, deeds_of}
 use Rattle.model.specs.Turns.{words_after}
 use Rattle.model.proofs.Moments.{held_now}
 use Rattle.laws_robust.specs.Gone.{is_gone}
 use Rattle.laws_robust.proofs.Core.{counter_of}
-use Rattle.laws_robust.proofs.Effects.{some_none, is_shut, unlocked}
+use Rattle.laws_robust.proofs.Effects.{some_none, is_shut, unlocked, quiet_end}
 use Rattle.laws_robust.proofs.Effects as set_effects
 use Rattle.laws_robust.proofs.Invariant.{IsWorn, worn_on}
 use Rattle.laws_robust.proofs.Parts.{none_beyond}
@@ -54,7 +52,7 @@ use Rattle.laws_container.proofs.RecoverReads.{Here, Becomes, calm_on}
 use Rattle.laws_container.proofs.RecoverReads.{counter_step, cell_step, count_step}
 use Rattle.laws_container.proofs.RecoverWords.{word_step}
 use Rattle.laws_container.proofs.RecoverWords.{check_step, decided}
-use Rattle.laws_container.proofs.Sets.{leaves_behind, quiet_end}
+use Rattle.laws_container.proofs.Sets.{leaves_behind}
 use Rattle.laws_container.proofs.Stages.{all, done, sees_now, StepOf, AnswerOf, none_lengthens, party_then}
 use Rattle.laws_container.proofs.Stages.{backs_then, since_then, changes_then, ends, was_well_formed}
 use Rattle.laws_container.proofs.Standing.{recover_at, recover_number, for_back, for_index, RecoverAt}
@@ -63,17 +61,7 @@ use Rattle.laws_container.proofs.Writing.{adds_one, adds_to_change}
 use Rattle.laws_container.proofs.Recovers.{locks_step, most_is, raises_step}
 
 module _ {T : Type 0} (scene : Scene T) (inv : Inv scene) (owner : ℕ) (mode : ReleaseMode) (fits : owner < empty) where
-  open scene use {
-    coding as code,
-    capacity as c,
-    party as p,
-    steps as steps,
-    backs as backs,
-    since as since,
-    changes as changes,
-    events as events,
-    latest as latest,
-  }
+  open scene use {coding as code, capacity as c, party as p, steps as steps, backs as backs, events as events}
 
   abbrev ws : List ℕ
   ws = scene.words
@@ -197,7 +185,7 @@ module _ {T : Type 0} (scene : Scene T) (inv : Inv scene) (owner : ℕ) (mode : 
         (answers.State state)
         (set_effects.quietly (of_set scene) (inv_of_set scene inv) (words_after ws end_it) es
         (leaves_behind (of_set scene) (inv_of_set scene inv) (words_after ws end_it) (change_word c) _ (omega arith) new)
-        (quiet_end (of_set scene) (inv_of_set scene inv) (Recover owner mode) (answers.State state) (λ i o. refl) (λ i r. refl))
+        (quiet_end p (Container (Recover owner mode)) (answers.State state) (λ i o. refl) (λ i r. refl))
         (refl, tt) (tt, tt) (tt, tt))
         (answers_right state k.1) well_formed
         (λ holds i was. ⊎_elim (λ empty. empty) (λ never. absurd never) (k.2 (well_formed holds) i was)) new

@@ -55,17 +55,7 @@ use Rattle.laws_container.proofs.Turns.{owes, count_in}
 use Rattle.laws_container.proofs.Writing.{even_is, odd_is, hides_count}
 
 module _ {T : Type 0} (scene : Scene T) (inv : Inv scene) (owner : ℕ) (mode : ReleaseMode) (fits : owner < empty) where
-  open scene use {
-    coding as code,
-    capacity as c,
-    party as p,
-    steps as steps,
-    backs as backs,
-    since as since,
-    changes as changes,
-    events as events,
-    latest as latest,
-  }
+  open scene use {coding as code, capacity as c, party as p, steps as steps, backs as backs, events as events, latest as latest}
 
   abbrev ws : List ℕ
   ws = scene.words

@@ -61,17 +61,7 @@ abbrev pub none : ℕ → Type 0
 none i = ⊥
 
 module _ {T : Type 0} (scene : Scene T) (inv : Inv scene) (owner : ℕ) (mode : ReleaseMode) (fits : owner < empty) where
-  open scene use {
-    coding as code,
-    capacity as c,
-    party as p,
-    steps as steps,
-    backs as backs,
-    since as since,
-    changes as changes,
-    events as events,
-    latest as latest,
-  }
+  open scene use {coding as code, capacity as c, party as p, steps as steps, events as events, latest as latest}
 
   abbrev ws : List ℕ
   ws = scene.words

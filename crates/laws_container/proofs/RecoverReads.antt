@@ -19,12 +19,10 @@ use Rattle.steps.specs.Container.Recover.{recover_comes_to, recover_ends, recove
 use Rattle.steps.specs.Indices.Robust.Parts.{cell_word, empty, locked}
 use Rattle.model.specs.declared.event.Event.{Event}
 use Rattle.model.specs.declared.event.Event.TheVariants.{Shown}
-use Rattle.model.specs.declared.event.Start.TheVariants.{Container}
-use Rattle.model.specs.declared.families.container.ContainerStart.{ContainerStart}
 use Rattle.model.specs.declared.families.container.ContainerStart.TheVariants.{Recover}
 use Rattle.model.specs.declared.party.Party.{Party}
 use Rattle.model.specs.Families.Container.Promises.{WasShown}
-use Rattle.model.specs.Families.Container.Reading.{Act, Copies, Sees, Has, acts_of, seen_in, contents_of}
+use Rattle.model.specs.Families.Container.Reading.{Act, Sees, Has, acts_of, seen_in, contents_of}
 use Rattle.model.specs.Families.Indices.Robust.Promises.{cell_of, IsFilledWith, IsUnlocked, HeldThroughout, StillToFree}
 use Rattle.model.specs.Families.Indices.Robust.Reading.{Deed, Frees, Asks, Yes, deeds_of, IsOneOf, asked_in}
 use Rattle.model.specs.Turns.{words_after, step_count}
@@ -41,7 +39,7 @@ use Rattle.laws_container.proofs.Core.{count_at}
 use Rattle.laws_container.proofs.Finds.{has_last, nothing_stands}
 use Rattle.laws_container.proofs.HiddenKnows.{HasHidden}
 use Rattle.laws_container.proofs.HiddenOn.{hidden_on}
-use Rattle.laws_container.proofs.Invariant.{Scene, Inv, AreAllRight, before, after, of_set, inv_of_set}
+use Rattle.laws_container.proofs.Invariant.{Scene, Inv, AreAllRight, before, of_set, inv_of_set}
 use Rattle.laws_container.proofs.Keeping.{shut_later}
 use Rattle.laws_container.proofs.KeptLocks.{NoIndex, FilledBut, filled_none}
 use Rattle.laws_container.proofs.Knows.{WasFilled, Recovers, RecoverKnows, IsLong, Knows}
@@ -69,17 +67,7 @@ index_at_least c z Default = omega arith
 index_at_least c z LockIfLastIndex = omega arith
 
 module _ {T : Type 0} (scene : Scene T) (inv : Inv scene) (owner : ℕ) (mode : ReleaseMode) (fits : owner < empty) where
-  open scene use {
-    coding as code,
-    capacity as c,
-    party as p,
-    steps as steps,
-    backs as backs,
-    since as since,
-    changes as changes,
-    events as events,
-    latest as latest,
-  }
+  open scene use {coding as code, capacity as c, party as p, steps as steps, backs as backs, events as events}
 
   abbrev ws : List ℕ
   ws = scene.words
@@ -386,14 +374,10 @@ module _ {T : Type 0} (scene : Scene T) (inv : Inv scene) (owner : ℕ) (mode : 
     pub sees_number : Leads scene (Recover owner mode) ask back scene.states
         ((if is_even number then Shown p index ∷ [] else []) ++ [])
         (as_recover scene inv owner mode fits room (recover_sees (first scene inv owner mode fits) index number))
-    sees_number = go (is_even number) refl
-      where
-        go : (b : Bool) → is_even number ≡ b → Leads scene (Recover owner mode) ask back scene.states ((if b then Shown p index ∷ [] else []) ++ [])
-            (as_recover scene inv owner mode fits room (GoOn (record (first scene inv owner mode fits) {
-              stage = if b then recovers.TheVariants.EmptiesCell index number else recovers.TheVariants.LoadsWord index number 0;
-            })))
-        go true t = is_shown t
-        go false t = is_copied t
+    sees_number =
+        let by_is_shown = is_shown in
+        let by_is_copied = is_copied in
+        grind arith
 
   pub count_step : (room : buffers.Buffer 128) (index : ℕ)
       (here : Here room (recovers.TheVariants.LoadsCount index)) (long : IsLong room) (course : Course index index)

@@ -1,5 +1,5 @@
 -- A recovery of a container reads the words of an element, checks its number, and is told.
-use Rattle.std.proofs.Common.{◌≡◌, ◌≢◌, ◌⊎◌, ⊎_elim, inl, inr, ℕ, ◌+◌, ◌*◌, ◌<◌, ◌≤◌, ◌==◌, if◌then◌else◌, nat_lt}
+use Rattle.std.proofs.Common.{◌≡◌, ◌≢◌, ⊎_elim, inl, inr, ℕ, ◌+◌, ◌*◌, ◌<◌, ◌≤◌, ◌==◌, if◌then◌else◌, nat_lt}
 use Rattle.std.proofs.Common.{Bool, false, true, not, Option, Some, None, List, [], ◌∷◌, ◌++◌, set, fold}
 use Rattle.std.proofs.Common.{refl, sym, ap, subst, ◌∙◌, append-nil, append_assoc, arith}
 use Rattle.std.proofs.lemmas.Bool.Decides.{nat_tests}
@@ -54,17 +54,7 @@ use Rattle.laws_container.proofs.Turns.{count_in, datum_in}
 use Rattle.laws_container.proofs.RecoverReads.{back_at_least, calm_next, calm_on, calm_recs, course_calm, index_at_least, sees_number}
 
 module _ {T : Type 0} (scene : Scene T) (inv : Inv scene) (owner : ℕ) (mode : ReleaseMode) (fits : owner < empty) where
-  open scene use {
-    coding as code,
-    capacity as c,
-    party as p,
-    steps as steps,
-    backs as backs,
-    since as since,
-    changes as changes,
-    events as events,
-    latest as latest,
-  }
+  open scene use {coding as code, capacity as c, party as p, steps as steps, backs as backs, events as events, latest as latest}
 
   abbrev ws : List ℕ
   ws = scene.words
@@ -373,11 +363,7 @@ module _ {T : Type 0} (scene : Scene T) (inv : Inv scene) (owner : ℕ) (mode : 
         (λ y. (calm_recs scene inv owner mode fits) room (recovers.TheVariants.Asks index count) here long None refl false paid_now y (index + 1) k.1) f
 
     pub decided : (answer : ℕ) → AnswerOf scene (Recover owner mode) (recover_at c owner mode room (recovers.TheVariants.Asks index count)) None answer
-    decided answer = go (answer == 0)
-      where
-        go : (b : Bool) → Leads scene (Recover owner mode) None false scene.states ((if b then [] else Told p index owner ∷ []) ++ [])
-            (as_recover scene inv owner mode fits room
-            (if b then recover_comes_to (first scene inv owner mode fits) (index + 1) else GoOn
-            (record (first scene inv owner mode fits) { stage = recovers.TheVariants.EmptiesCell index count })))
-        go true = says_no
-        go false = says_yes
+    decided answer =
+        let by_says_yes = says_yes in
+        let by_says_no = says_no in
+        grind arith

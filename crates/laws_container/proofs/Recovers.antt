@@ -51,7 +51,7 @@ use Rattle.laws_container.proofs.HiddenOn.{hidden_on}
 use Rattle.laws_container.proofs.Invariant.{Scene, Inv, of_set, inv_of_set, wrote_of}
 use Rattle.laws_container.proofs.Keeping.{shut_later}
 use Rattle.laws_container.proofs.KeptLocks.{NoIndex, FilledBut, FoundFilled, filled_locked, filled_worn, filled_last}
-use Rattle.laws_container.proofs.Knows.{RecoverKnows, IsLong, Knows}
+use Rattle.laws_container.proofs.Knows.{RecoverKnows, IsLong}
 use Rattle.laws_container.proofs.RecoverParts.{fill_same, fill_stays, none, hidden_still, as_recover, first, Few, then_at, recs, asked_on, comes_to_next}
 use Rattle.laws_container.proofs.RecoverEnds.{stays_recs, stays_on, stays_next, just_on}
 use Rattle.laws_container.proofs.RecoverReads.{Here, Course, course_calm, back_at_least}
@@ -68,17 +68,7 @@ most_is c z owner backs T Default = omega arith
 most_is c z owner backs T LockIfLastIndex = omega arith
 
 module _ {T : Type 0} (scene : Scene T) (inv : Inv scene) (owner : ℕ) (mode : ReleaseMode) (fits : owner < empty) where
-  open scene use {
-    coding as code,
-    capacity as c,
-    party as p,
-    steps as steps,
-    backs as backs,
-    since as since,
-    changes as changes,
-    events as events,
-    latest as latest,
-  }
+  open scene use {coding as code, capacity as c, party as p, steps as steps, backs as backs, events as events}
 
   abbrev ws : List ℕ
   ws = scene.words

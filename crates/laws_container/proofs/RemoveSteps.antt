@@ -2,27 +2,22 @@
 use Rattle.std.proofs.Common.{◌≡◌, inl, ℕ, ◌+◌, ◌<◌, ◌≤◌, false}
 use Rattle.std.proofs.Common.{Option, Some, None, List, [], ◌∷◌, refl, sym, ap, subst, arith}
 use Rattle.steps.specs.declared.ask.Ask.{Ask}
-use Rattle.steps.specs.declared.ask.After.{After}
 use Rattle.steps.specs.declared.ask.After.TheVariants.{Done}
 use Rattle.steps.specs.declared.container.enums.ContainerRemoveError.TheVariants.{ContainerHandleNotOwnedByContainer}
 use Rattle.steps.specs.declared.container.remove.RemoveStage.{RemoveStage}
 use Rattle.steps.specs.declared.container.remove.RemoveStage as removes
 use Rattle.steps.specs.declared.indices.enums.ReleaseMode.{ReleaseMode}
-use Rattle.steps.specs.declared.indices.enums.ReleaseState.{ReleaseState}
 use Rattle.steps.specs.declared.indices.robust.release.ReleaseStage.{ReleaseStage}
 use Rattle.steps.specs.declared.indices.robust.release.ReleaseStage as releases
 use Rattle.steps.specs.Container.Layout.{count_word}
 use Rattle.steps.specs.Indices.Robust.Parts.{empty}
-use Rattle.model.specs.declared.event.Answer.{Answer}
 use Rattle.model.specs.declared.event.Answer.TheVariants as answers
-use Rattle.model.specs.declared.event.Event.{Event}
 use Rattle.model.specs.declared.event.Event.TheVariants.{Finished}
 use Rattle.model.specs.declared.event.Start.TheVariants.{Container}
 use Rattle.model.specs.declared.families.container.ContainerStart.{ContainerStart}
 use Rattle.model.specs.declared.families.container.ContainerStart.TheVariants.{Remove}
 use Rattle.model.specs.declared.families.container.calls.ContainerFlight.{ContainerFlight}
 use Rattle.model.specs.Families.Container.Calls.{place_of}
-use Rattle.model.specs.Families.Indices.Robust.Reading.{Locks}
 use Rattle.model.specs.Turns.{words_after}
 use Rattle.laws_robust.proofs.Effects as set_effects
 use Rattle.laws_robust.proofs.Invariant as set_invariant
@@ -33,7 +28,7 @@ use Rattle.laws_robust.proofs.Standing.{release_at}
 use Rattle.laws_container.proofs.Core.{count_at}
 use Rattle.laws_container.proofs.HiddenRemoves.{total_is, hides_step, end_step}
 use Rattle.laws_container.proofs.Invariant.{Scene, Inv, ActsFor, before, of_set, inv_of_set}
-use Rattle.laws_container.proofs.Knows.{RemoveKnows, Knows}
+use Rattle.laws_container.proofs.Knows.{RemoveKnows}
 use Rattle.laws_container.proofs.Silent.{silently}
 use Rattle.laws_container.proofs.Stages.{IsHere, all, done, sees_now, StepOf, none_lengthens}
 use Rattle.laws_container.proofs.Stages.{party_then, ends}
@@ -44,7 +39,7 @@ use Rattle.laws_container.proofs.Removes.{refused_done, refused_right, release_s
 
 module _ {T : Type 0} (scene : Scene T) (inv : Inv scene) (index owner : ℕ) (mode : ReleaseMode)
     (fits : owner < empty) (acts : ActsFor scene owner) (below : index < scene.capacity) where
-  open scene use {coding as code, capacity as c, party as p, steps as steps, backs as backs, events as events, latest as latest}
+  open scene use {coding as code, capacity as c, steps as steps}
 
   abbrev ws : List ℕ
   ws = scene.words

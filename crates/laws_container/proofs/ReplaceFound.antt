@@ -38,7 +38,7 @@ use Rattle.model.specs.Step.{as_call}
 use Rattle.model.specs.Turns.{words_after}
 use Rattle.model.proofs.Moments.{held_later}
 use Rattle.model.proofs.Readings.{AreOwn}
-use Rattle.laws_robust.proofs.Effects.{at_same, at_other}
+use Rattle.laws_robust.proofs.Effects.{at_same, at_other, quiet_end}
 use Rattle.laws_robust.proofs.Gone.{calm_less, gone_less}
 use Rattle.laws_robust.proofs.Effects as set_effects
 use Rattle.laws_robust.proofs.Stages.{loads_same, exchanges, fails_same}
@@ -53,12 +53,12 @@ use Rattle.laws_container.proofs.Left.{left_after, left_of}
 use Rattle.laws_container.proofs.WellFormed.{IsWellFormedSoFar, well_formed_before}
 use Rattle.laws_container.proofs.Replacers.{replacer_after}
 use Rattle.laws_container.proofs.Replaces.{ReplaceOwns, earlier}
-use Rattle.laws_container.proofs.Sets.{leaves_behind, quiet_end}
+use Rattle.laws_container.proofs.Sets.{leaves_behind}
 use Rattle.laws_container.proofs.Stages.{IsHere, Lengthens, all, done, sees_now, then_sees, StepOf, Leads}
 use Rattle.laws_container.proofs.Stages.{none_lengthens, party_then, since_then, changes_then, backs_then, acts_more}
 use Rattle.laws_container.proofs.Stages.{goes_on, goes_calmly, ends, owes_none}
 use Rattle.laws_container.proofs.Standing.{replace_at, replace_number, ReplaceAt, MayHaveHidden, place_is}
-use Rattle.laws_container.proofs.Steps.{loads, stores_word, hides, places as places_it, misplaces, ends_counted, ends_calmly}
+use Rattle.laws_container.proofs.Steps.{stores_word, hides, places as places_it, misplaces, ends_counted, ends_calmly}
 use Rattle.laws_container.proofs.Turns.{WellFormed, replace_owes, count_in}
 use Rattle.laws_container.proofs.Writers.{IsWriter, one_writer}
 use Rattle.laws_container.proofs.Writing.{even_is, odd_is, adds_one, stores_to, adds_to_count, adds_to_change, hides_count}
@@ -391,7 +391,7 @@ module _ {T : Type 0} (scene : Scene T) (inv : Inv scene) (index : ℕ) (value :
           (ends_counted scene inv start (at_stage replaces.TheVariants.AddsChange) tt here y (words_after ws (Some end_it)) answers.Done
           (set_effects.quietly (of_set scene) (inv_of_set scene inv) (words_after ws (Some end_it)) es
           (leaves_behind (of_set scene) (inv_of_set scene inv) (words_after ws (Some end_it)) (change_word c) _ (omega arith) new)
-          (quiet_end (of_set scene) (inv_of_set scene inv) start answers.Done (λ i o. refl) (λ i r. refl))
+          (quiet_end p (Container start) answers.Done (λ i o. refl) (λ i r. refl))
           (refl, tt) (tt, tt) (tt, tt))
           (below, k.filled) well_formed (λ holds. placed (well_formed holds)) new says)
           ((refl, none_done), tt) (omega arith) (let paid = k.paid in omega arith)
@@ -430,7 +430,7 @@ module _ {T : Type 0} (scene : Scene T) (inv : Inv scene) (index : ℕ) (value :
       (answers.NotRemoved ContainerHandleNotOwnedByContainer)
       (set_effects.quietly (of_set scene) (inv_of_set scene inv) scene.words es
       (set_effects.stays_same (of_set scene) (inv_of_set scene inv) scene.words refl).leaves
-      (quiet_end (of_set scene) (inv_of_set scene inv) start (answers.NotRemoved ContainerHandleNotOwnedByContainer)
+      (quiet_end p (Container start) (answers.NotRemoved ContainerHandleNotOwnedByContainer)
       (λ i o. refl) (λ i r. refl))
       (refl, tt) (tt, tt) (tt, tt))
       (inl past) well_formed (λ holds. tt) refl (λ i b. refl) (owes_none scene start (replace_at c at value owner replaces.TheVariants.Refuses) y here refl))

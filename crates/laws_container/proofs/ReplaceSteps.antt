@@ -27,7 +27,7 @@ use Rattle.model.specs.declared.families.container.calls.ContainerFlight as call
 use Rattle.model.specs.declared.party.Party.{Party}
 use Rattle.model.specs.Families.Container.Calls.{place_of, replaced}
 use Rattle.model.specs.Families.Container.Promises.{StandsWellFormed}
-use Rattle.model.specs.Families.Container.Reading.{places, MayReplace}
+use Rattle.model.specs.Families.Container.Reading.{MayReplace}
 use Rattle.model.specs.Families.Indices.Robust.Promises.{cell_of, IsFilledWith}
 use Rattle.model.specs.Families.Queues.Calls.{as_it_is}
 use Rattle.model.specs.Moments.{BeginsNone, HeldSometime}
@@ -39,7 +39,7 @@ use Rattle.model.proofs.Moments.{held_now, held_later}
 use Rattle.model.proofs.Parties.{party_put_same}
 use Rattle.model.proofs.Readings.{AreOwn, span_of-own}
 use Rattle.laws_robust.proofs.Core.{cell}
-use Rattle.laws_robust.proofs.Effects.{filled_by}
+use Rattle.laws_robust.proofs.Effects.{filled_by, quiet_end}
 use Rattle.laws_robust.proofs.Effects as set_effects
 use Rattle.laws_robust.proofs.Stages.{loads_same}
 use Rattle.laws_robust.proofs.Stages as set_stages
@@ -47,7 +47,6 @@ use Rattle.laws_container.proofs.Invariant.{Scene, Inv, ActsFor, before, after, 
 use Rattle.laws_container.proofs.Knows.{View, HasFound, IsPaid, Knows}
 use Rattle.laws_container.proofs.WellFormed.{IsWellFormedSoFar, well_formed_before}
 use Rattle.laws_container.proofs.Replaces.{ReplaceOwns, earlier}
-use Rattle.laws_container.proofs.Sets.{quiet_end}
 use Rattle.laws_container.proofs.Stages.{IsHere, Lengthens, all, done, sees_now, then_sees, StepOf, Leads}
 use Rattle.laws_container.proofs.Stages.{none_lengthens, party_then, since_then, changes_then, backs_then}
 use Rattle.laws_container.proofs.Stages.{goes_calmly, ends, owes_none}
@@ -57,7 +56,7 @@ use Rattle.laws_container.proofs.Turns.{WellFormed, replace_owes}
 
 module _ {T : Type 0} (scene : Scene T) (inv : Inv scene) (index : ℕ) (value : T) (owner : ℕ) (fits : owner < empty)
     (acts : ActsFor scene owner) (below : index < scene.capacity) (none_done : all scene ≡ []) where
-  open scene use {coding as code, capacity as c, party as p, steps as steps, backs as backs, events as events, latest as latest}
+  open scene use {coding as code, capacity as c, party as p, steps as steps, events as events, latest as latest}
 
   abbrev ws : List ℕ
   ws = scene.words
@@ -183,7 +182,7 @@ module _ {T : Type 0} (scene : Scene T) (inv : Inv scene) (index : ℕ) (value :
         (words_after ws (Some load_cell)) (answers.NotRemoved ContainerHandleNotOwnedByContainer)
         (set_effects.quietly (of_set scene) (inv_of_set scene inv) (words_after ws (Some load_cell)) es
         (set_effects.stays_same (of_set scene) (inv_of_set scene inv) (words_after ws (Some load_cell)) same).leaves
-        (quiet_end (of_set scene) (inv_of_set scene inv) start
+        (quiet_end p (Container start)
         (answers.NotRemoved ContainerHandleNotOwnedByContainer) (λ i o. refl) (λ i r. refl))
         (refl, tt) (tt, tt) (tt, tt))
         (inr (λ filled. other (inv.good.cells index below ∙ ap cell_of filled))) well_formed (λ holds. tt) same

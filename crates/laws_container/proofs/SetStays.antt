@@ -1,6 +1,5 @@
 -- The steps of the calls of a container that leave its cells and its elements, but may raise the counter: a call goes on, or ends.
-use Rattle.std.proofs.Common.{◌≡◌, ℕ, Bool, true, false, None, List, [], ◌∷◌, refl, ◌∙◌, arith}
-use Rattle.std.proofs.lemmas.List.Sums.{fold-append}
+use Rattle.std.proofs.Common.{◌≡◌, ℕ, Bool, List, [], ◌∷◌, refl, arith}
 use Rattle.model.specs.declared.event.Answer.{Answer}
 use Rattle.model.specs.declared.event.Event.{Event}
 use Rattle.model.specs.declared.event.Event.TheVariants.{Finished}
@@ -8,15 +7,14 @@ use Rattle.model.specs.declared.event.Start.TheVariants.{Container}
 use Rattle.model.specs.declared.families.container.ContainerStart.{ContainerStart}
 use Rattle.model.specs.declared.families.container.calls.ContainerFlight.{ContainerFlight}
 use Rattle.model.specs.declared.party.Party.{Party}
-use Rattle.model.specs.Families.Container.Reading.{contents_after, announced_after, announced_of}
+use Rattle.model.specs.Families.Container.Reading.{announced_after}
 use Rattle.laws_robust.proofs.Effects.{Stays, quiet_none, quietly}
 use Rattle.laws_robust.proofs.Effects as set_effects
 use Rattle.laws_robust.proofs.Invariant.{IsWorn}
 use Rattle.laws_container.specs.Gone.{AnswersBy}
-use Rattle.laws_container.proofs.Effects.{OwesStill, calmly}
+use Rattle.laws_container.proofs.Effects.{OwesStill, calmly, reads_same}
 use Rattle.laws_container.proofs.HiddenKnows.{EndsRight}
 use Rattle.laws_container.proofs.Invariant.{Scene, Inv, Does, before, after, of_set, inv_of_set}
-use Rattle.laws_container.proofs.Left.{left_after}
 use Rattle.laws_container.proofs.Stages.{NoLook, IsHere, does_with}
 use Rattle.laws_container.proofs.Turns.{WellFormed}
 
@@ -31,13 +29,7 @@ module _ {T : Type 0} (scene : Scene T) (inv : Inv scene) (start : ContainerStar
   moves well_formed still =
       does_with scene inv start flight none here words' y []
       (calmly scene inv words' y [] well_formed (λ n behind. stays.others n (omega arith)) stays.leaves.wide
-      (record {
-        contents = λ i. fold-append (contents_after i) None events [];
-        announced = λ i. fold-append (announced_after i) false events [];
-        left = λ i was. fold-append (left_after i) true events [] ∙ was;
-        spares = λ holds q ne i o lives mine was. fold-append (left_after i) true events [] ∙ was;
-      })
-      still)
+      (reads_same scene inv words' y [] well_formed (λ i o. refl) (λ i b. refl) (λ i b. refl)) still)
       (quietly (of_set scene) (inv_of_set scene inv) words' [] stays.leaves quiet_none tt tt tt)
       (record { asks = tt; recovers = tt; answers = tt; contains = λ holds. tt; places = λ holds. tt })
 
@@ -57,13 +49,7 @@ module _ {T : Type 0} (scene : Scene T) (inv : Inv scene) (start : ContainerStar
     ends_there quiet says right well_formed placed still =
         does_with scene inv start flight none here words' y finish
         (calmly scene inv words' y finish well_formed (λ n behind. stays.others n (omega arith)) stays.leaves.wide
-        (record {
-          contents = λ i. fold-append (contents_after i) None events finish;
-          announced = λ i. fold-append (announced_after i) false events finish ∙ says i (announced_of i events);
-          left = λ i was. fold-append (left_after i) true events finish ∙ was;
-          spares = λ holds q ne i o lives mine was. fold-append (left_after i) true events finish ∙ was;
-        })
-        still)
+        (reads_same scene inv words' y finish well_formed (λ i o. refl) says (λ i b. refl)) still)
         (quietly (of_set scene) (inv_of_set scene inv) words' finish stays.leaves quiet (refl, tt) (tt, tt) (tt, tt))
         (record {
           asks = (tt, tt);

@@ -17,7 +17,7 @@ use Rattle.laws_container.specs.Gone.{RecoversBy}
 use Rattle.laws_robust.proofs.Effects.{at_same, at_other, some_none}
 use Rattle.laws_robust.proofs.Invariant as set_invariant
 use Rattle.laws_robust.proofs.Rights.{IsBy}
-use Rattle.laws_container.proofs.Effects.{OwesStill, calmly}
+use Rattle.laws_container.proofs.Effects.{OwesStill, calmly, reads_same}
 use Rattle.laws_container.proofs.Invariant.{Scene, Inv, Does, before, after, of_set}
 use Rattle.laws_container.proofs.Left.{left_after, left_of}
 use Rattle.laws_container.proofs.Stages.{NoLook, IsHere, does_with}
@@ -26,7 +26,7 @@ use Rattle.laws_container.proofs.Writers.{IsWriter, Replacing}
 
 module _ {T : Type 0} (scene : Scene T) (inv : Inv scene) (start : ContainerStart T) (flight : ContainerFlight T)
     (none : NoLook flight) (here : IsHere scene start flight) (y : Party T) where
-  open scene use {coding as code, capacity as c, party as p, turns as turns, latest as latest, events as events}
+  open scene use {capacity as c, party as p, events as events}
 
   abbrev ws : List ℕ
   ws = scene.words
@@ -53,14 +53,7 @@ module _ {T : Type 0} (scene : Scene T) (inv : Inv scene) (start : ContainerStar
     fills i owner does well_formed still =
         does_with scene inv start flight none here words' y (Filled p i owner ∷ [])
         (calmly scene inv words' y (Filled p i owner ∷ []) well_formed rest wide
-        (record {
-          contents = λ j. fold-append (contents_after j) None events (Filled p i owner ∷ []);
-          announced = λ j. fold-append (announced_after j) false events (Filled p i owner ∷ []);
-          left = λ j was. fold-append (left_after j) true events (Filled p i owner ∷ []) ∙ was;
-          spares = λ holds q ne j o lives mine was. fold-append (left_after j) true events (Filled p i owner ∷ []) ∙ was;
-        })
-        still)
-        does
+        (reads_same scene inv words' y (Filled p i owner ∷ []) well_formed (λ j o. refl) (λ j b. refl) (λ j b. refl)) still) does
         (record { asks = (tt, tt); recovers = (tt, tt); answers = (tt, tt); contains = λ holds. (tt, tt); places = λ holds. (tt, tt) })
 
     pub grants : (i owner : ℕ) → set_invariant.Does (of_set scene) words' (Granted p i owner ∷ [])
@@ -70,14 +63,7 @@ module _ {T : Type 0} (scene : Scene T) (inv : Inv scene) (start : ContainerStar
     grants i owner does well_formed still =
         does_with scene inv start flight none here words' y (Granted p i owner ∷ [])
         (calmly scene inv words' y (Granted p i owner ∷ []) well_formed rest wide
-        (record {
-          contents = λ j. fold-append (contents_after j) None events (Granted p i owner ∷ []);
-          announced = λ j. fold-append (announced_after j) false events (Granted p i owner ∷ []);
-          left = λ j was. fold-append (left_after j) true events (Granted p i owner ∷ []) ∙ was;
-          spares = λ holds q ne j o lives mine was. fold-append (left_after j) true events (Granted p i owner ∷ []) ∙ was;
-        })
-        still)
-        does
+        (reads_same scene inv words' y (Granted p i owner ∷ []) well_formed (λ j o. refl) (λ j b. refl) (λ j b. refl)) still) does
         (record { asks = (tt, tt); recovers = (tt, tt); answers = (tt, tt); contains = λ holds. (tt, tt); places = λ holds. (tt, tt) })
 
     pub locks : set_invariant.Does (of_set scene) words' (Locked p ∷ [])
@@ -86,14 +72,7 @@ module _ {T : Type 0} (scene : Scene T) (inv : Inv scene) (start : ContainerStar
     locks does well_formed still =
         does_with scene inv start flight none here words' y (Locked p ∷ [])
         (calmly scene inv words' y (Locked p ∷ []) well_formed rest wide
-        (record {
-          contents = λ j. fold-append (contents_after j) None events (Locked p ∷ []);
-          announced = λ j. fold-append (announced_after j) false events (Locked p ∷ []);
-          left = λ j was. fold-append (left_after j) true events (Locked p ∷ []) ∙ was;
-          spares = λ holds q ne j o lives mine was. fold-append (left_after j) true events (Locked p ∷ []) ∙ was;
-        })
-        still)
-        does
+        (reads_same scene inv words' y (Locked p ∷ []) well_formed (λ j o. refl) (λ j b. refl) (λ j b. refl)) still) does
         (record { asks = (tt, tt); recovers = (tt, tt); answers = (tt, tt); contains = λ holds. (tt, tt); places = λ holds. (tt, tt) })
 
     -- ---- an index is freed
@@ -117,9 +96,7 @@ module _ {T : Type 0} (scene : Scene T) (inv : Inv scene) (start : ContainerStar
           theirs
 
       left_on : (j : ℕ) → left_of j events ≡ true → left_of j (events ++ free) ≡ true
-      left_on j was =
-          fold-append (left_after j) true events free
-          ∙ ⊎_elim (λ same. at_same i j true (left_of j events) same) (λ ne. at_other i j true (left_of j events) ne ∙ was) (cases_eq j i)
+      left_on j was = let left = fold-append (left_after j) true events free in grind arith
 
       spared : WellFormed (after scene words' y free) → (q : ℕ) → q ≢ p → (j o : ℕ)
           → is_gone scene.terms.by o events ≡ false → IsWriter q j o events → left_of j events ≡ false

@@ -1,8 +1,7 @@
 -- Steps that change no word, and write events that change nothing of the set nor of what stands: copies, what is shown, questions,
 -- and the end of any call but an add and a replace.
-use Rattle.std.proofs.Common.{◌≡◌, ℕ, Bool, true, false, Option, None, List, [], ◌∷◌, ◌++◌, length, get_or, fold, refl, ap, ◌∙◌, arith}
+use Rattle.std.proofs.Common.{◌≡◌, ℕ, Bool, Option, List, [], ◌∷◌, ◌++◌, length, get_or, fold, refl, ap, ◌∙◌, arith}
 use Rattle.std.specs.List.{AllByRecursion}
-use Rattle.std.proofs.lemmas.List.Sums.{fold-append}
 use Rattle.model.specs.declared.event.Event.{Event}
 use Rattle.model.specs.declared.event.Event.TheVariants.{Asked, Told, Copied, Shown, Finished}
 use Rattle.model.specs.declared.event.Start.TheVariants.{Container}
@@ -20,7 +19,7 @@ use Rattle.laws_robust.proofs.Invariant.{IsWorn}
 use Rattle.laws_robust.proofs.Effects.{Quiet, stays_same, quietly}
 use Rattle.laws_robust.proofs.Invariant as set_invariant
 use Rattle.laws_robust.proofs.Rights.{Right, right_after}
-use Rattle.laws_container.proofs.Effects.{OwesStill, calmly}
+use Rattle.laws_container.proofs.Effects.{OwesStill, calmly, reads_same}
 use Rattle.laws_container.proofs.Invariant.{Scene, Inv, Changes, AreAllRight, Does, before, after, of_set, inv_of_set}
 use Rattle.laws_container.proofs.Left.{left_after}
 use Rattle.laws_container.proofs.Stages.{NoLook, IsHere, does_with}
@@ -102,7 +101,7 @@ module _ {T : Type 0} where
 
 module _ {T : Type 0} (scene : Scene T) (inv : Inv scene) (words' : List ℕ) (same : words' ≡ scene.words)
     (y : Party T) (es : List (Event T)) (silent : AllByRecursion Silent es) (own : AreOwn scene.party es) where
-  open scene use {capacity as c, party as p, events as events}
+  open scene use {capacity as c, events as events}
 
   -- of the set
   pub silent_set : set_invariant.Does (of_set scene) words' es
@@ -118,12 +117,8 @@ module _ {T : Type 0} (scene : Scene T) (inv : Inv scene) (words' : List ℕ) (s
       → OwesStill scene inv words' y es well_formed → Changes scene words' y es
   silent_changes well_formed still =
       calmly scene inv words' y es well_formed (λ n behind. ap (λ w. get_or w n 0) same) (ap length same)
-      (record {
-        contents = λ i. fold-append (contents_after i) None events es ∙ fold_stays (contents_after i) (contents_stay i) es silent _;
-        announced = λ i. fold-append (announced_after i) false events es ∙ fold_stays (announced_after i) (announced_stays i) es silent _;
-        left = λ i was. fold-append (left_after i) true events es ∙ (fold_stays (left_after i) (left_stays i) es silent _ ∙ was);
-        spares = λ holds q ne i o lives mine was. fold-append (left_after i) true events es ∙ (fold_stays (left_after i) (left_stays i) es silent _ ∙ was);
-      })
+      (reads_same scene inv words' y es well_formed (λ i. fold_stays (contents_after i) (contents_stay i) es silent)
+      (λ i. fold_stays (announced_after i) (announced_stays i) es silent) (λ i. fold_stays (left_after i) (left_stays i) es silent))
       still
 
   -- in a call that is no look

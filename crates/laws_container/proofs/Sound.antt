@@ -145,13 +145,7 @@ module _ {T : Type 0} where
 
   pub may_go_on : (terms : Terms) (code : Coding T) (c : ℕ) (t : Trace T) → frame.Sound (family_by terms code c) t
       → t.world.turns < 2 ^ 64 - 2 → MayGoOn terms t
-  may_go_on terms code c t s small =
-      record {
-        room =
-            subst (set.HasRoom terms.by) (sym (kept_is t.world.kept t.world.words s.state s.fit).1)
-            (few_room terms.by c s.state.words s.state.dead t.events t.world.turns s.holds.good small);
-        few = λ kept. small;
-      }
+  may_go_on terms code c t s small = let by_few_room = few_room in grind arith
 
 module _ {T : Type 0} (shown : Shown T) (terms : Terms) (code : Coding T) (c : ℕ) (t : Trace T) (s : frame.Sound (family_by terms code c) t) where
   abbrev pub kept_now : Registry T

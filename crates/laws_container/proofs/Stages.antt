@@ -77,7 +77,6 @@ module _ {T : Type 0} (scene : Scene T) where
     backs as backs,
     since as since,
     changes as changes,
-    turns as turns,
     latest as latest,
     events as events,
   }

@@ -21,7 +21,7 @@ use Rattle.laws_robust.proofs.Effects.{at_same, at_other, both_ways}
 use Rattle.laws_robust.proofs.Invariant as set_invariant
 use Rattle.laws_container.specs.Gone.{AnswersBy}
 use Rattle.laws_container.proofs.Contents.{IsWhole, Writing, place_none, place_whole, hide_some, hide_whole}
-use Rattle.laws_container.proofs.Effects.{OwesStill, IsCalm, calmly, counts_change, stores, IsCounted, counts_one}
+use Rattle.laws_container.proofs.Effects.{OwesStill, IsCalm, calmly, counts_change, stores, IsCounted, counts_one, reads_same}
 use Rattle.laws_container.proofs.HiddenKnows.{EndsRight}
 use Rattle.laws_container.proofs.Invariant.{Scene, Inv, ActsFor, Elements, AreAllRight, Does, before, after, of_set, inv_of_set, wrote_of}
 use Rattle.laws_container.proofs.Left.{left_after, left_of}
@@ -32,7 +32,7 @@ use Rattle.laws_container.proofs.Writers.{IsWriter, one_writer}
 
 module _ {T : Type 0} (scene : Scene T) (inv : Inv scene) (start : ContainerStart T) (flight : ContainerFlight T)
     (none : NoLook flight) (here : IsHere scene start flight) (y : Party T) where
-  open scene use {coding as code, capacity as c, party as p, turns as turns, latest as latest, events as events}
+  open scene use {coding as code, capacity as c, party as p, turns as turns, events as events}
 
   abbrev ws : List ℕ
   ws = scene.words
@@ -48,13 +48,7 @@ module _ {T : Type 0} (scene : Scene T) (inv : Inv scene) (start : ContainerStar
       record { asks = tt; recovers = tt; answers = tt; contains = λ well_formed. tt; places = λ well_formed. tt }
 
   pub calm_none : (words' : List ℕ) (well_formed : WellFormedBefore words' []) → IsCalm scene inv words' y [] well_formed
-  calm_none words' well_formed =
-      record {
-        contents = λ i. fold-append (contents_after i) None events [];
-        announced = λ i. fold-append (announced_after i) false events [];
-        left = λ i was. fold-append (left_after i) true events [] ∙ was;
-        spares = λ holds q ne i o lives mine was. fold-append (left_after i) true events [] ∙ was;
-      }
+  calm_none words' well_formed = reads_same scene inv words' y [] well_formed (λ i o. refl) (λ i b. refl) (λ i b. refl)
 
   -- ---- it changes nothing, and writes nothing
 

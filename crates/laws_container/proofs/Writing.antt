@@ -24,7 +24,7 @@ pub odd_is : (n : ℕ) → is_even n ≡ false → n % 2 ≡ 1
 odd_is n t = grind arith
 
 module _ {T : Type 0} (scene : Scene T) (inv : Inv scene) where
-  open scene use {coding as code, capacity as c, turns as turns}
+  open scene use {coding as code, capacity as c}
 
   abbrev ws : List ℕ
   ws = scene.words

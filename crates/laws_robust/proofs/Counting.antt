@@ -79,13 +79,7 @@ module _ {T : Type 0} (p : ℕ) (P : ℕ → List (Event T) → Type 0) where
       chosen_now false e t = absurd (not e (through_now p (P k) events t))
 
       pub still_through : (i : ℕ) → i < k + 1 → HeldThroughout p (P i) events → chosen_with h.chosen k b i ≡ true
-      still_through i below t = ⊎_elim here there (cases_eq i k)
-        where
-          here : i ≡ k → chosen_with h.chosen k b i ≡ true
-          here same = ap (chosen_with h.chosen k b) same ∙ (with_here h.chosen k b ∙ chosen_now b refl (subst (λ j. HeldThroughout p (P j) events) same t))
-
-          there : i ≢ k → chosen_with h.chosen k b i ≡ true
-          there ne = with_there h.chosen k b i ne ∙ h.through i (omega arith) t
+      still_through i below t = let by_chosen_now = chosen_now in grind arith
 
       pub count_next : IsCount p P (k + 1) new events
       count_next =

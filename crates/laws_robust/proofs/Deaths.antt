@@ -1,7 +1,6 @@
 -- The death of an owner.
-use Rattle.std.proofs.Common.{◌≡◌, ◌≢◌, ℕ, ◌+◌, ◌==◌, ◌||◌, ⊎_elim, inl, Bool, true, false, None, List, [], ◌∷◌, ◌++◌}
-use Rattle.std.proofs.Common.{refl, sym, ap, ◌∙◌, arith, eq-eqb, ne_eqb}
-use Rattle.std.proofs.lemmas.Bool.{cases_eq}
+use Rattle.std.proofs.Common.{◌≡◌, ℕ, ◌+◌, ◌==◌, ◌||◌, inl, false, None, List, [], ◌∷◌, ◌++◌}
+use Rattle.std.proofs.Common.{refl, sym, ap, ◌∙◌, arith}
 use Rattle.std.proofs.lemmas.List.Sums.{fold-append}
 use Rattle.model.specs.declared.event.Event.{Event}
 use Rattle.model.specs.declared.event.Event.TheVariants.{Died}
@@ -24,13 +23,7 @@ use Rattle.laws_robust.proofs.Rights.{right_after, right_of}
 -- ---- who has died
 
 pub died_with : (q o : ℕ) (dead : List ℕ) → has_died q (dead_with o dead) ≡ ((o == q) || has_died q dead)
-died_with q o dead = ⊎_elim now before (cases_eq q o)
-  where
-    now : q ≡ o → has_died q (dead_with o dead) ≡ ((o == q) || has_died q dead)
-    now e = ap (λ n. has_died q (dead_with n dead)) (sym e) ∙ (died_now q dead ∙ sym (ap (λ b. b || has_died q dead) (eq-eqb o q (sym e))))
-
-    before : q ≢ o → has_died q (dead_with o dead) ≡ ((o == q) || has_died q dead)
-    before ne = died_before q o dead ne ∙ sym (ap (λ b. b || has_died q dead) (ne_eqb o q (λ e. ne (sym e))))
+died_with q o dead = let now = died_now q dead in let before = died_before q o dead in grind arith
 
 -- ---- what a death does to the set and to all parties
 
@@ -57,14 +50,6 @@ module _ {T : Type 0} (by : GoneBy) (c : ℕ) (words dead : List ℕ) (events : 
   dead_then : (q : ℕ) → is_dead q (events ++ es) ≡ ((o == q) || is_dead q events)
   dead_then q = fold-append (dead_after q) false events es
 
-  still_dead : (b d : Bool) → d ≡ true → (b || d) ≡ true
-  still_dead true d e = refl
-  still_dead false d e = e
-
-  was_alive : (b d : Bool) → (b || d) ≡ false → d ≡ false
-  was_alive true d e = absurd (cc)
-  was_alive false d e = e
-
   pub death_good : Good by c words (dead_with o dead) (events ++ es) (turns + 1)
   death_good =
       record {
@@ -81,24 +66,17 @@ module _ {T : Type 0} (by : GoneBy) (c : ℕ) (words dead : List ℕ) (events : 
         answers = Each-append (AnswersBy by (IsWorn by words) c) events es g.answers (tt, tt);
         owned = λ calm.
             let h = g.owned (calm_less by events es calm) in
-            record {
-              held = λ i owner e. same_filled i ∙ h.held i owner (sym (same_holder i) ∙ e);
-              settled = λ i owner e. let k = h.settled i owner (sym (same_settled i) ∙ e) in (same_filled i ∙ k.0, same_right i ∙ k.1);
-            };
+            let filled = same_filled in
+            let holder = same_holder in
+            let settled = same_settled in
+            let right = same_right in
+            grind arith;
         holds = λ calm. Each-append HoldsRight events es (g.holds (calm_less by events es calm)) (tt, tt);
       }
 
   pub death_goes : Goes words words events es
   death_goes =
-      record {
-        grows = omega arith;
-        stuck = λ end. end;
-        grants = λ same less j none. same_holder j ∙ none;
-        fills = λ j owner d e. sym (same_filled j) ∙ e;
-        dead = λ q d. dead_then q ∙ still_dead (o == q) (is_dead q events) d;
-        lives = λ q l. was_alive (o == q) (is_dead q events) (sym (dead_then q) ∙ l);
-        well_formed = well_formed_less events es;
-      }
+      let filled = same_filled in let holder = same_holder in let dead = dead_then in let less = well_formed_less events es in grind arith
 
   pub death_spares : (q : ℕ) → Spares by q events es
   death_spares q =

@@ -1,16 +1,15 @@
 -- What each kind of step does to a robust index set and to the other parties.
 use Rattle.std.proofs.Common.{◌⊎◌, ◌≡◌, ◌≢◌, ℕ, ◌+◌, ◌<◌, ◌≤◌, ◌==◌, ⊎_elim, if◌then◌else◌, Bool, true, false, Option}
 use Rattle.std.proofs.Common.{Some, None, List, [], ◌∷◌, ◌++◌, length, get_or, set, get_or-set_other, fold, refl, sym}
-use Rattle.std.proofs.Common.{ap, subst, ◌∙◌, append_assoc, arith, eq-eqb, ne_eqb}
-use Rattle.std.proofs.lemmas.Bool.{cases_eq}
+use Rattle.std.proofs.Common.{ap, ◌∙◌, append_assoc, arith, eq-eqb, ne_eqb}
 use Rattle.std.proofs.lemmas.List.{length-set}
 use Rattle.std.proofs.lemmas.List.Sums.{fold-append}
 use Rattle.steps.specs.Indices.Robust.Parts.{cell_word, empty, locked, greatest}
 use Rattle.model.specs.declared.event.Answer.{Answer}
 use Rattle.model.specs.declared.event.Event.{Event}
 use Rattle.model.specs.declared.event.Event.TheVariants.{Filled, Asked, Told, Finished}
-use Rattle.model.specs.declared.event.Start.TheVariants.{Robust}
-use Rattle.model.specs.declared.families.indices.robust.RobustStart.{RobustStart}
+use Rattle.model.specs.declared.event.Start.{Start}
+use Rattle.model.specs.Families.Container.Reading.{NoneTakes}
 use Rattle.model.specs.Families.Indices.Reading.{locked_after, is_locked}
 use Rattle.model.specs.Families.Indices.Robust.Promises.{cell_of, SetDoes, IsWellFormed, HoldsRight, IsUnlocked}
 use Rattle.model.specs.Families.Indices.Robust.Reading.{deeds, filled_after, filled_of, holder_after, holder_of}
@@ -22,7 +21,7 @@ use Rattle.laws_robust.specs.Gone.{IsCalm, AnswersBy}
 use Rattle.laws_robust.proofs.Core.{counter_of, cell, counter_set, cells_stay, counter_stays, cell_set, cell_stays}
 use Rattle.laws_robust.proofs.Gone.{calm_less, answers_on}
 use Rattle.laws_robust.proofs.Invariant.{IsWorn, worn_on, Scene, Inv, Good, Does}
-use Rattle.laws_robust.proofs.Rights.{Right, Settled, By, right_after, right_of, IsBy, AreOwned}
+use Rattle.laws_robust.proofs.Rights.{Right, By, right_after, right_of, IsBy, AreOwned}
 
 -- ---- readings of one index
 
@@ -57,57 +56,25 @@ module _ {T : Type 0} where
     pub dead : (owner : ℕ) (b : Bool) → fold (dead_after owner) b es ≡ b
     pub holds : (before : List (Event T)) → AreRight HoldsRight before es
 
+  -- events by which no index is filled or freed, nothing is locked and nobody dies
+  pub record Keeps (es : List (Event T)) : Type 0 where
+    pub filled : (i : ℕ) (o : Option ℕ) → fold (filled_after i) o es ≡ o
+    pub locked : (b : Bool) → fold locked_after b es ≡ b
+    pub dead : (owner : ℕ) (b : Bool) → fold (dead_after owner) b es ≡ b
+
   pub quiet_none : Quiet []
-  quiet_none =
-      record {
-        filled = λ i o. refl;
-        holder = λ i o. refl;
-        settled = λ i o. refl;
-        right = λ i r. refl;
-        locked = λ b. refl;
-        dead = λ owner b. refl;
-        holds = λ before. tt;
-      }
+  quiet_none = grind arith
 
   pub quiet_asked : (p index owner : ℕ) → Quiet (Asked p index owner ∷ [])
-  quiet_asked p index owner =
-      record {
-        filled = λ i o. refl;
-        holder = λ i o. refl;
-        settled = λ i o. refl;
-        right = λ i r. refl;
-        locked = λ b. refl;
-        dead = λ owner b. refl;
-        holds = λ before. (tt, tt);
-      }
+  quiet_asked p index owner = grind arith
 
   pub quiet_told : (p index owner : ℕ) → Quiet (Told p index owner ∷ [])
-  quiet_told p index owner =
-      record {
-        filled = λ i o. refl;
-        holder = λ i o. refl;
-        settled = λ i o. refl;
-        right = λ i r. refl;
-        locked = λ b. refl;
-        dead = λ owner b. refl;
-        holds = λ before. (tt, tt);
-      }
+  quiet_told p index owner = grind arith
 
-  -- an end, but that of an acquire with an index
-  pub quiet_end : (p : ℕ) (start : RobustStart) (answer : Answer T)
-      → ((i : ℕ) (o : Option ℕ) → settled_after i o (Finished p (Robust start) answer) ≡ o)
-      → ((i : ℕ) (r : Right) → right_after i r (Finished p (Robust start) answer) ≡ r)
-      → Quiet (Finished p (Robust start) answer ∷ [])
-  quiet_end p start answer settles rights =
-      record {
-        filled = λ i o. refl;
-        holder = λ i o. refl;
-        settled = settles;
-        right = rights;
-        locked = λ b. refl;
-        dead = λ owner b. refl;
-        holds = λ before. (tt, tt);
-      }
+  -- an end, but that of an acquire or an add with an index
+  pub quiet_end : (p : ℕ) (start : Start T) (answer : Answer T) → ((i : ℕ) (o : Option ℕ) → settled_after i o (Finished p start answer) ≡ o)
+      → ((i : ℕ) (r : Right) → right_after i r (Finished p start answer) ≡ r) → Quiet (Finished p start answer ∷ [])
+  quiet_end p start answer settles rights = grind arith
 
   pub well_formed_less : (events es : List (Event T)) → IsWellFormed (events ++ es) → IsWellFormed events
   well_formed_less events es all before after e is = all before (after ++ es) e (ap (λ xs. xs ++ es) is ∙ append_assoc before (e ∷ after) es)
@@ -142,6 +109,66 @@ module _ {T : Type 0} (scene : Scene T) where
   IsRaised words' =
       ((counter_of ws < greatest) × (words' ≡ set ws 0 (counter_of ws + 1)))
       ⊎ (IsWorn by ws × (counter_of ws ≡ greatest) × (words' ≡ ws))
+
+  -- ---- a step that leaves the cells and the lock, fills and frees nothing, and by which nobody dies
+
+  -- who holds an index, who may give it back, and who has the right to it
+  pub record Hands (es : List (Event T)) : Type 0 where
+    pub owned : IsCalm by (events ++ es) → AreOwned events → AreOwned (events ++ es)
+    pub holds : IsCalm by (events ++ es) → AreRight HoldsRight events es
+    pub right : IsCalm by (events ++ es) → (q : ℕ) → q ≢ p → (i owner : ℕ) → IsBy q i owner events
+        → right_of i (events ++ es) ≡ right_of i events
+    pub holder : IsCalm by (events ++ es) → (q : ℕ) → q ≢ p → (i owner : ℕ) → IsBy q i owner events
+        → holder_of i (events ++ es) ≡ holder_of i events
+    pub settled : IsCalm by (events ++ es) → (i owner : ℕ) → settled_of i events ≡ Some owner → NoneTakes i owner es
+        → settled_of i (events ++ es) ≡ Some owner
+
+  module _ (good : Good by c ws dead events turns) (words' : List ℕ) (es : List (Event T)) (stays : Leaves words') (keeps : Keeps es) where
+    pub same_filled : (i : ℕ) → filled_of i (events ++ es) ≡ filled_of i events
+    same_filled i = fold-append (filled_after i) None events es ∙ keeps.filled i (filled_of i events)
+
+    same_lock : is_locked (events ++ es) ≡ is_locked events
+    same_lock = fold-append locked_after false events es ∙ keeps.locked (is_locked events)
+
+    same_dead : (owner : ℕ) → is_dead owner (events ++ es) ≡ is_dead owner events
+    same_dead owner = fold-append (dead_after owner) false events es ∙ keeps.dead owner (is_dead owner events)
+
+    pub hands_on : AreOwn p es → AreRight (SetDoes c) events es → AreRight (AnswersBy by (IsWorn by words') c) events es → Hands es
+        → (counter_of words' ≡ counter_of ws → counter_of ws < greatest → (i : ℕ) → holder_of i events ≡ None → holder_of i (events ++ es) ≡ None)
+        → Does scene words' es
+    hands_on own right answers hands grants =
+        record {
+          own = own;
+          good =
+              record {
+                some = good.some;
+                few = good.few;
+                wide = let same = stays.wide in let wide = good.wide in omega arith;
+                cells = λ i below. stays.cells i below ∙ (good.cells i below ∙ sym (ap cell_of (same_filled i)));
+                filled = λ i owner e. good.filled i owner (sym (same_filled i) ∙ e);
+                lock = stays.lock ∙ (good.lock ∙ sym same_lock);
+                low = λ t. let low = stays.low (good.lock ∙ (sym same_lock ∙ t)) in omega arith;
+                bound = stays.bound;
+                died = λ owner. good.died owner ∙ sym (same_dead owner);
+                does = Each-append (SetDoes c) events es good.does right;
+                answers =
+                    Each-append (AnswersBy by (IsWorn by words') c) events es
+                    (answers_on (IsWorn by ws) (IsWorn by words') (worn_on by ws words' stays.stuck) by c events good.answers)
+                    answers;
+                owned = λ calm. hands.owned calm (good.owned (calm_less by events es calm));
+                holds = λ calm. Each-append HoldsRight events es (good.holds (calm_less by events es calm)) (hands.holds calm);
+              };
+          goes = let filled = same_filled in let dead = same_dead in let less = well_formed_less events es in grind arith;
+          spares = λ q ne.
+              record {
+                none = others_begin_none q p es ne own;
+                deeds = ap (λ s. deeds (wrote_in s)) (span_of-other p q events es ne own);
+                owned = λ calm i owner alive h. record { right = hands.right calm q ne i owner h ∙ h.right; filled = same_filled i ∙ h.filled };
+                unheld = λ calm i owner alive h none. hands.holder calm q ne i owner h ∙ none;
+                held = λ calm i owner alive h here. hands.holder calm q ne i owner h ∙ here;
+                settled = λ calm i owner alive h none. hands.settled calm i owner h none;
+              };
+        }
 
   module _ (inv : Inv scene) where
     g : Good by c ws dead events turns
@@ -192,35 +219,26 @@ module _ {T : Type 0} (scene : Scene T) where
 
     -- a cell tells with whom its index is filled
     module _ (i : ℕ) (below : i < c) where
-      by_owner : (o : Option ℕ) → filled_of i events ≡ o → cell ws i ≡ cell_of o → (owner : ℕ) → owner < empty → cell ws i ≡ owner → o ≡ Some owner
-      by_owner None e is owner fits here = absurd (omega arith)
-      by_owner (Some other) e is owner fits here = let same : other ≡ owner = sym is ∙ here in ap Some same
-
       pub filled_by : (owner : ℕ) → owner < empty → cell ws i ≡ owner → filled_of i events ≡ Some owner
-      filled_by owner fits here = by_owner (filled_of i events) refl (g.cells i below) owner fits here
-
-      by_none : (o : Option ℕ) → filled_of i events ≡ o → cell ws i ≡ cell_of o → cell ws i ≡ empty → o ≡ None
-      by_none None e is here = refl
-      by_none (Some other) e is here = let fits = (g.filled i other e).1 in absurd (omega arith)
+      filled_by owner fits here = let is = g.cells i below in grind arith
 
       pub filled_none : cell ws i ≡ empty → filled_of i events ≡ None
-      filled_none here = by_none (filled_of i events) refl (g.cells i below) here
-
-      by_some : (o : Option ℕ) → filled_of i events ≡ o → cell ws i ≡ cell_of o → cell ws i ≢ empty → (cell ws i < empty) × (o ≡ Some (cell ws i))
-      by_some None e is other = absurd (other is)
-      by_some (Some owner) e is other = let fits = (g.filled i owner e).1 in (omega arith, ap Some (sym is))
+      filled_none here = let is = g.cells i below in let fits = g.filled i in grind arith
 
       -- a cell that is not empty holds an owner
       pub filled_some : cell ws i ≢ empty → (cell ws i < empty) × (filled_of i events ≡ Some (cell ws i))
-      filled_some other = by_some (filled_of i events) refl (g.cells i below) other
+      filled_some other = let is = g.cells i below in let fits = g.filled i in grind arith
 
     -- ---- a step that is quiet
 
     module _ (words' : List ℕ) (es : List (Event T)) (stays : Leaves words') (quiet : Quiet es) (own : AreOwn p es)
         (right : AreRight (SetDoes c) events es)
         (answers : AreRight (AnswersBy by (IsWorn by words') c) events es) where
+      keeps : Keeps es
+      keeps = record { filled = quiet.filled; locked = quiet.locked; dead = quiet.dead }
+
       filled_more : (i : ℕ) → filled_of i (events ++ es) ≡ filled_of i events
-      filled_more i = fold-append (filled_after i) None events es ∙ quiet.filled i (filled_of i events)
+      filled_more i = same_filled g words' es stays keeps i
 
       holder_more : (i : ℕ) → holder_of i (events ++ es) ≡ holder_of i events
       holder_more i = fold-append (holder_after i) None events es ∙ quiet.holder i (holder_of i events)
@@ -231,63 +249,21 @@ module _ {T : Type 0} (scene : Scene T) where
       right_more : (i : ℕ) → right_of i (events ++ es) ≡ right_of i events
       right_more i = fold-append (right_after i) _ events es ∙ quiet.right i (right_of i events)
 
-      locked_more : is_locked (events ++ es) ≡ is_locked events
-      locked_more = fold-append locked_after false events es ∙ quiet.locked (is_locked events)
-
-      dead_more : (owner : ℕ) → is_dead owner (events ++ es) ≡ is_dead owner events
-      dead_more owner = fold-append (dead_after owner) false events es ∙ quiet.dead owner (is_dead owner events)
-
-      still_owned : IsCalm by (events ++ es) → AreOwned (events ++ es)
-      still_owned calm =
-          let h = g.owned (calm_less by events es calm) in
-          record {
-            held = λ i owner e. filled_more i ∙ h.held i owner (sym (holder_more i) ∙ e);
-            settled = λ i owner e. let k = h.settled i owner (sym (settled_more i) ∙ e) in (filled_more i ∙ k.0, right_more i ∙ k.1);
-          }
+      still_owned : AreOwned events → AreOwned (events ++ es)
+      still_owned h =
+          let filled = filled_more in let holder = holder_more in let settled = settled_more in let right = right_more in grind arith
 
       pub quietly : Does scene words' es
       quietly =
-          record {
-            own = own;
-            good =
-                record {
-                  some = g.some;
-                  few = g.few;
-                  wide = let same = stays.wide in let wide = g.wide in omega arith;
-                  cells = λ i below. stays.cells i below ∙ (g.cells i below ∙ sym (ap cell_of (filled_more i)));
-                  filled = λ i owner e. g.filled i owner (sym (filled_more i) ∙ e);
-                  lock = stays.lock ∙ (g.lock ∙ sym locked_more);
-                  low = λ t. let low = stays.low (g.lock ∙ (sym locked_more ∙ t)) in omega arith;
-                  bound = stays.bound;
-                  died = λ owner. g.died owner ∙ sym (dead_more owner);
-                  does = Each-append (SetDoes c) events es g.does right;
-                  answers =
-                      Each-append (AnswersBy by (IsWorn by words') c) events es
-                      (answers_on (IsWorn by ws) (IsWorn by words') (worn_on by ws words' stays.stuck) by c events g.answers)
-                      answers;
-                  owned = still_owned;
-                  holds = λ calm. Each-append HoldsRight events es (g.holds (calm_less by events es calm)) (quiet.holds events);
-                };
-            goes =
-                record {
-                  grows = stays.grows;
-                  stuck = stays.stuck;
-                  grants = λ same less i none. holder_more i ∙ none;
-                  fills = λ i owner d e. sym (filled_more i) ∙ e;
-                  dead = λ owner d. dead_more owner ∙ d;
-                  lives = λ owner l. sym (dead_more owner) ∙ l;
-                  well_formed = well_formed_less events es;
-                };
-            spares = λ q ne.
-                record {
-                  none = others_begin_none q p es ne own;
-                  deeds = ap (λ s. deeds (wrote_in s)) (span_of-other p q events es ne own);
-                  owned = λ calm i owner alive h. record { right = right_more i ∙ h.right; filled = filled_more i ∙ h.filled };
-                  unheld = λ calm i owner alive h none. holder_more i ∙ none;
-                  held = λ calm i owner alive h here. holder_more i ∙ here;
-                  settled = λ calm i owner alive h none. settled_more i ∙ h;
-                };
-          }
+          hands_on g words' es stays keeps own right answers
+          (record {
+            owned = λ calm. still_owned;
+            holds = λ calm. quiet.holds events;
+            right = λ calm q ne i owner h. right_more i;
+            holder = λ calm q ne i owner h. holder_more i;
+            settled = λ calm i owner h none. settled_more i ∙ h;
+          })
+          (λ same less i none. holder_more i ∙ none)
 
     -- ---- an index is filled
 
@@ -301,14 +277,8 @@ module _ {T : Type 0} (scene : Scene T) where
       filled_then : (j : ℕ) → filled_of j (events ++ fill) ≡ (if i == j then Some owner else filled_of j events)
       filled_then j = fold-append (filled_after j) None events fill
 
-      filled_here : filled_of i (events ++ fill) ≡ Some owner
-      filled_here = filled_then i ∙ at_same i i (Some owner) (filled_of i events) refl
-
-      filled_there : (j : ℕ) → j ≢ i → filled_of j (events ++ fill) ≡ filled_of j events
-      filled_there j ne = filled_then j ∙ at_other i j (Some owner) (filled_of j events) ne
-
-      fill_right : (j : ℕ) → j ≢ i → right_of j (events ++ fill) ≡ right_of j events
-      fill_right j ne = fold-append (right_after j) _ events fill ∙ at_other i j (By p) (right_of j events) ne
+      fill_right : (j : ℕ) → right_of j (events ++ fill) ≡ (if i == j then By p else right_of j events)
+      fill_right j = fold-append (right_after j) _ events fill
 
       fill_holder : (j : ℕ) → holder_of j (events ++ fill) ≡ holder_of j events
       fill_holder j = fold-append (holder_after j) None events fill
@@ -326,55 +296,28 @@ module _ {T : Type 0} (scene : Scene T) where
       within_words = let wide = g.wide in omega arith
 
       fill_cells : (j : ℕ) → j < c → cell words' j ≡ cell_of (filled_of j (events ++ fill))
-      fill_cells j low = ap (λ w. cell w j) new ∙ ⊎_elim here there (cases_eq j i)
-        where
-          here : j ≡ i → cell (set ws (cell_word i) owner) j ≡ cell_of (filled_of j (events ++ fill))
-          here e =
-              subst (λ k. cell (set ws (cell_word i) owner) k ≡ cell_of (filled_of k (events ++ fill))) (sym e)
-              (cell_set ws i owner within_words ∙ sym (ap cell_of filled_here))
-
-          there : j ≢ i → cell (set ws (cell_word i) owner) j ≡ cell_of (filled_of j (events ++ fill))
-          there ne = cell_stays ws i owner j ne ∙ (g.cells j low ∙ sym (ap cell_of (filled_there j ne)))
+      fill_cells j low =
+          let is = filled_then j in
+          let was = g.cells j low in
+          let here = cell_set ws i owner within_words in
+          let there = cell_stays ws i owner j in
+          grind arith
 
       fill_filled : (j o : ℕ) → filled_of j (events ++ fill) ≡ Some o → (j < c) × (o < empty)
-      fill_filled j o e = ⊎_elim here there (cases_eq j i)
-        where
-          here : j ≡ i → (j < c) × (o < empty)
-          here same =
-              let is : owner ≡ o = one_owner (filled_of i (events ++ fill)) owner o filled_here (subst (λ k. filled_of k (events ++ fill) ≡ Some o) same e) in
-              (omega arith, omega arith)
+      fill_filled j o e = let is = filled_then j in let was = g.filled j o in grind arith
 
-          there : j ≢ i → (j < c) × (o < empty)
-          there ne = g.filled j o (sym (filled_there j ne) ∙ e)
-
-      module _ (h : AreOwned events) where
-        fill_held : (j o : ℕ) → holder_of j (events ++ fill) ≡ Some o → filled_of j (events ++ fill) ≡ Some o
-        fill_held j o e =
-            let was = h.held j o (sym (fill_holder j) ∙ e) in
-            ⊎_elim (λ same. some_none (filled_of i events) o none (subst (λ k. filled_of k events ≡ Some o) same was))
-            (λ ne. filled_there j ne ∙ was) (cases_eq j i)
-
-        fill_settles : (j o : ℕ) → settled_of j (events ++ fill) ≡ Some o → (filled_of j (events ++ fill) ≡ Some o) × (right_of j (events ++ fill) ≡ Settled o)
-        fill_settles j o e =
-            let was = h.settled j o (sym (fill_settled j) ∙ e) in
-            ⊎_elim (λ same. some_none (filled_of i events) o none (subst (λ k. filled_of k events ≡ Some o) same was.0))
-            (λ ne. (filled_there j ne ∙ was.0, fill_right j ne ∙ was.1)) (cases_eq j i)
+      fill_owned : AreOwned events → AreOwned (events ++ fill)
+      fill_owned h =
+          let filled = filled_then in let holder = fill_holder in let settled = fill_settled in let right = fill_right in grind arith
 
       fill_counter : counter_of words' ≡ counter_of ws
       fill_counter = ap counter_of new ∙ counter_stays ws i owner
 
       fill_dead_out : (j o : ℕ) → is_dead o events ≡ true → filled_of j (events ++ fill) ≡ Some o → filled_of j events ≡ Some o
-      fill_dead_out j o d e = ⊎_elim here (λ ne. sym (filled_there j ne) ∙ e) (cases_eq j i)
-        where
-          here : j ≡ i → filled_of j events ≡ Some o
-          here same =
-              let is : owner ≡ o = one_owner (filled_of i (events ++ fill)) owner o filled_here (subst (λ k. filled_of k (events ++ fill) ≡ Some o) same e) in
-              both_ways (is_dead o events) (subst (λ k. is_dead k events ≡ false) is alive) d
+      fill_dead_out j o d e = let is = filled_then j in grind arith
 
       fill_by : (q j o : ℕ) → IsBy q j o events → IsBy q j o (events ++ fill)
-      fill_by q j o h =
-          ⊎_elim (λ same. some_none (filled_of i events) o none (subst (λ k. filled_of k events ≡ Some o) same h.filled))
-          (λ ne. record { right = fill_right j ne ∙ h.right; filled = filled_there j ne ∙ h.filled }) (cases_eq j i)
+      fill_by q j o h = let filled = filled_then j in let right = fill_right j in grind arith
 
       pub fills : Does scene words' fill
       fills =
@@ -400,19 +343,16 @@ module _ {T : Type 0} (scene : Scene T) where
                       (answers_on (IsWorn by ws) (IsWorn by words') (worn_on by ws words' (λ end. fill_counter ∙ end))
                       by c events g.answers)
                       (tt, tt);
-                  owned = λ calm. let h = g.owned (calm_less by events fill calm) in record { held = fill_held h; settled = fill_settles h };
+                  owned = λ calm. fill_owned (g.owned (calm_less by events fill calm));
                   holds = λ calm. Each-append HoldsRight events fill (g.holds (calm_less by events fill calm)) (tt, tt);
                 };
             goes =
-                record {
-                  grows = let is : counter_of words' ≡ counter_of ws = ap counter_of new ∙ counter_stays ws i owner in omega arith;
-                  stuck = λ end. fill_counter ∙ end;
-                  grants = λ same less j unheld. fill_holder j ∙ unheld;
-                  fills = fill_dead_out;
-                  dead = λ o d. fill_dead o ∙ d;
-                  lives = λ o l. sym (fill_dead o) ∙ l;
-                  well_formed = well_formed_less events fill;
-                };
+                let same = fill_counter in
+                let holder = fill_holder in
+                let filled = fill_dead_out in
+                let dead = fill_dead in
+                let less = well_formed_less events fill in
+                grind arith;
             spares = λ q ne.
                 record {
                   none = tt;

@@ -27,7 +27,7 @@ use Rattle.laws_robust.proofs.Standing.{find_at, find_number, FindAt}
 use Rattle.laws_robust.proofs.Stages.{IsHere, all, now, sees, loads, loads_same, StepOf, AnswerOf, Leads, goes_quietly, ends_quietly}
 
 module _ {T : Type 0} (scene : Scene T) (inv : Inv scene) (owner : ℕ) (fits : owner < empty) where
-  open scene use {capacity as c, party as p, steps as steps, backs as backs, events as events}
+  open scene use {capacity as c, party as p, steps as steps, events as events}
 
   abbrev ws : List ℕ
   ws = scene.set.words

@@ -1,8 +1,6 @@
 -- What the first stage of a call of the robust index set knows, and which calls begin on the set.
 use Rattle.std.proofs.Common.{◌≡◌, ℕ, ◌<◌, ◌≤◌, nat_le, if◌then◌else◌, Bool, true, false, Some, None, option_map, List, [], ◌∷◌, ◌++◌, refl, sym, ◌∙◌, arith}
 use Rattle.std.proofs.lemmas.Bool.Decides.{nat_tests}
-use Rattle.std.proofs.lemmas.List.Sums.{fold-append}
-use Rattle.steps.specs.declared.indices.enums.ReleaseMode.{ReleaseMode}
 use Rattle.steps.specs.Indices.Robust.Parts.{empty}
 use Rattle.model.specs.declared.event.Event.{Event}
 use Rattle.model.specs.declared.event.Event.TheVariants.{Begun}
@@ -21,18 +19,18 @@ use Rattle.model.specs.Families.Indices.Robust.Calls.{first}
 use Rattle.model.specs.Families.Indices.Robust.Dead.{has_died}
 use Rattle.model.specs.Families.Indices.Robust.Opening.{is_owner, names_owner, call_rows}
 use Rattle.model.specs.Families.Indices.Robust.Promises.{IsFilledWith}
-use Rattle.model.specs.Families.Indices.Robust.Reading.{Deed, Yes, filled_after, settled_of, deeds_of, IsOneOf}
+use Rattle.model.specs.Families.Indices.Robust.Reading.{Deed, Yes, settled_of, deeds_of, IsOneOf}
 use Rattle.model.specs.Rows.{first_row}
 use Rattle.model.proofs.Readings.{no_more}
 use Rattle.model.proofs.Rows.{row_passed}
 use Rattle.laws_robust.specs.Gone.{GoneBy, IsCalm}
-use Rattle.laws_robust.proofs.Begins.{takes_right}
+use Rattle.laws_robust.proofs.Begins.{taken}
 use Rattle.laws_robust.proofs.Counting.{count_none}
 use Rattle.laws_robust.proofs.Gone.{calm_less}
 use Rattle.laws_robust.proofs.Invariant.{view}
 use Rattle.laws_robust.proofs.Knows.{Knows}
 use Rattle.laws_robust.proofs.Past.{since_begun}
-use Rattle.laws_robust.proofs.Rights.{IsBy, AreOwned}
+use Rattle.laws_robust.proofs.Rights.{AreOwned}
 use Rattle.laws_robust.proofs.Standing.{At}
 
 pub record IsFirst (T : Type 0) (by : GoneBy) (c : ℕ) (words : List ℕ) (events : List (Event T)) (p changes : ℕ)
@@ -65,22 +63,13 @@ module _ {T : Type 0} (by : GoneBy) (c : ℕ) (words : List ℕ) (events : List 
               paid = omega arith;
               scanned = tt;
               owns =
-                  λ calm alive began. taken index owner mode
+                  λ calm alive began. taken p index owner (Robust (starts.TheVariants.Release index owner mode)) events (λ r. refl)
                   (owned (calm_less by events (Begun p (Robust (starts.TheVariants.Release index owner mode)) ∷ []) calm))
                   (since_begun p (λ part. settled_of index part ≡ Some owner) events (Robust (starts.TheVariants.Release index owner mode)) began);
               says = tt;
               gone = tt;
             };
       }
-    where
-      taken : (index owner : ℕ) (mode : ReleaseMode) → AreOwned events → settled_of index events ≡ Some owner
-          → IsBy p index owner (events ++ Begun p (Robust (starts.TheVariants.Release index owner mode)) ∷ [])
-      taken index owner mode h e =
-          let k = h.settled index owner e in
-          record {
-            right = takes_right p index owner mode events k.1;
-            filled = fold-append (filled_after index) None events (Begun p (Robust (starts.TheVariants.Release index owner mode)) ∷ []) ∙ k.0;
-          }
   first_is (starts.TheVariants.Find owner) named dead r none =
       record {
         at = (refl, refl, is_below owner named, (omega arith, refl));

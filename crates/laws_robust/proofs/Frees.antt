@@ -1,7 +1,6 @@
 -- What a step does that frees an index.
-use Rattle.std.proofs.Common.{◌≡◌, ◌≢◌, ℕ, ◌<◌, ◌==◌, ⊎_elim, if◌then◌else◌, false, Some, None, List, [], ◌∷◌, ◌++◌}
-use Rattle.std.proofs.Common.{length, set, refl, sym, ap, subst, ◌∙◌, arith}
-use Rattle.std.proofs.lemmas.Bool.{cases_eq}
+use Rattle.std.proofs.Common.{◌≡◌, ◌≢◌, ℕ, ◌<◌, ◌==◌, if◌then◌else◌, false, Some, None, List, [], ◌∷◌, ◌++◌}
+use Rattle.std.proofs.Common.{length, set, refl, sym, ap, ◌∙◌, arith}
 use Rattle.std.proofs.lemmas.List.{length-set}
 use Rattle.std.proofs.lemmas.List.Sums.{fold-append}
 use Rattle.steps.specs.Indices.Robust.Parts.{cell_word, empty, locked}
@@ -15,10 +14,10 @@ use Rattle.model.specs.Reading.{span_of}
 use Rattle.model.proofs.Readings.{Each-append, span_of-other}
 use Rattle.laws_robust.specs.Gone.{is_gone, IsCalm, AnswersBy}
 use Rattle.laws_robust.proofs.Core.{counter_of, cell, counter_stays, cell_set, cell_stays}
-use Rattle.laws_robust.proofs.Effects.{at_same, at_other, some_none, well_formed_less}
+use Rattle.laws_robust.proofs.Effects.{well_formed_less}
 use Rattle.laws_robust.proofs.Gone.{calm_less, answers_on}
 use Rattle.laws_robust.proofs.Invariant.{IsWorn, worn_on, Scene, Inv, Good, Does}
-use Rattle.laws_robust.proofs.Rights.{Nobody, Settled, right_after, right_of, IsBy, AreOwned}
+use Rattle.laws_robust.proofs.Rights.{Nobody, right_after, right_of, IsBy, AreOwned}
 
 module _ {T : Type 0} (scene : Scene T) (inv : Inv scene) where
   open scene use {by as by, capacity as c, party as p, turns as turns, events as events}
@@ -45,26 +44,14 @@ module _ {T : Type 0} (scene : Scene T) (inv : Inv scene) where
     filled_then : (j : ℕ) → filled_of j (events ++ es) ≡ (if i == j then None else filled_of j events)
     filled_then j = fold-append (filled_after j) None events es
 
-    filled_here : (j : ℕ) → j ≡ i → filled_of j (events ++ es) ≡ None
-    filled_here j e = filled_then j ∙ at_same i j None (filled_of j events) e
+    holder_then : (j : ℕ) → holder_of j (events ++ es) ≡ (if i == j then None else holder_of j events)
+    holder_then j = fold-append (holder_after j) None events es
 
-    filled_there : (j : ℕ) → j ≢ i → filled_of j (events ++ es) ≡ filled_of j events
-    filled_there j ne = filled_then j ∙ at_other i j None (filled_of j events) ne
+    settled_then : (j : ℕ) → settled_of j (events ++ es) ≡ (if i == j then None else settled_of j events)
+    settled_then j = fold-append (settled_after j) None events es
 
-    holder_here : (j : ℕ) → j ≡ i → holder_of j (events ++ es) ≡ None
-    holder_here j e = fold-append (holder_after j) None events es ∙ at_same i j None (holder_of j events) e
-
-    holder_there : (j : ℕ) → j ≢ i → holder_of j (events ++ es) ≡ holder_of j events
-    holder_there j ne = fold-append (holder_after j) None events es ∙ at_other i j None (holder_of j events) ne
-
-    settled_here : (j : ℕ) → j ≡ i → settled_of j (events ++ es) ≡ None
-    settled_here j e = fold-append (settled_after j) None events es ∙ at_same i j None (settled_of j events) e
-
-    settled_there : (j : ℕ) → j ≢ i → settled_of j (events ++ es) ≡ settled_of j events
-    settled_there j ne = fold-append (settled_after j) None events es ∙ at_other i j None (settled_of j events) ne
-
-    right_there : (j : ℕ) → j ≢ i → right_of j (events ++ es) ≡ right_of j events
-    right_there j ne = fold-append (right_after j) _ events es ∙ at_other i j Nobody (right_of j events) ne
+    right_then : (j : ℕ) → right_of j (events ++ es) ≡ (if i == j then Nobody else right_of j events)
+    right_then j = fold-append (right_after j) _ events es
 
     same_lock : is_locked (events ++ es) ≡ is_locked events
     same_lock = fold-append locked_after false events es
@@ -79,42 +66,26 @@ module _ {T : Type 0} (scene : Scene T) (inv : Inv scene) where
     counter_same = ap counter_of new ∙ counter_stays ws i empty
 
     cells_then : (j : ℕ) → j < c → cell words' j ≡ cell_of (filled_of j (events ++ es))
-    cells_then j low = ap (λ w. cell w j) new ∙ ⊎_elim here there (cases_eq j i)
-      where
-        here : j ≡ i → cell (set ws (cell_word i) empty) j ≡ cell_of (filled_of j (events ++ es))
-        here e = ap (cell (set ws (cell_word i) empty)) e ∙ (cell_set ws i empty within_words ∙ sym (ap cell_of (filled_here j e)))
-
-        there : j ≢ i → cell (set ws (cell_word i) empty) j ≡ cell_of (filled_of j (events ++ es))
-        there ne = cell_stays ws i empty j ne ∙ (g.cells j low ∙ sym (ap cell_of (filled_there j ne)))
+    cells_then j low =
+        let is = filled_then j in
+        let was = g.cells j low in
+        let here = cell_set ws i empty within_words in
+        let there = cell_stays ws i empty j in
+        grind arith
 
     filled_was : (j o : ℕ) → filled_of j (events ++ es) ≡ Some o → filled_of j events ≡ Some o
-    filled_was j o e = ⊎_elim (λ same. some_none (filled_of j (events ++ es)) o (filled_here j same) e) (λ ne. sym (filled_there j ne) ∙ e) (cases_eq j i)
+    filled_was j o e = let is = filled_then j in grind arith
 
-    module _ (h : AreOwned events) where
-      still_held : (j o : ℕ) → holder_of j (events ++ es) ≡ Some o → filled_of j (events ++ es) ≡ Some o
-      still_held j o e =
-          ⊎_elim (λ same. some_none (holder_of j (events ++ es)) o (holder_here j same) e)
-          (λ ne. filled_there j ne ∙ h.held j o (sym (holder_there j ne) ∙ e)) (cases_eq j i)
-
-      still_settled : (j o : ℕ) → settled_of j (events ++ es) ≡ Some o → (filled_of j (events ++ es) ≡ Some o) × (right_of j (events ++ es) ≡ Settled o)
-      still_settled j o e = ⊎_elim (λ same. some_none (settled_of j (events ++ es)) o (settled_here j same) e) there (cases_eq j i)
-        where
-          there : j ≢ i → (filled_of j (events ++ es) ≡ Some o) × (right_of j (events ++ es) ≡ Settled o)
-          there ne =
-              let was = h.settled j o (sym (settled_there j ne) ∙ e) in
-              (filled_there j ne ∙ was.0, right_there j ne ∙ was.1)
+    still_owned : AreOwned events → AreOwned (events ++ es)
+    still_owned h =
+        let filled = filled_then in let holder = holder_then in let settled = settled_then in let right = right_then in grind arith
 
     unheld_then : (j : ℕ) → holder_of j events ≡ None → holder_of j (events ++ es) ≡ None
-    unheld_then j none = ⊎_elim (holder_here j) (λ ne. holder_there j ne ∙ none) (cases_eq j i)
+    unheld_then j none = let is = holder_then j in grind arith
 
     owned_then : IsCalm by (events ++ es) → (q : ℕ) → q ≢ p → (j o : ℕ) → is_gone by o events ≡ false → IsBy q j o events → IsBy q j o (events ++ es)
-    owned_then calm q ne j o alive h = ⊎_elim here there (cases_eq j i)
-      where
-        here : j ≡ i → IsBy q j o (events ++ es)
-        here same = absurd (mine calm q ne o alive (subst (λ k. IsBy q k o events) same h))
-
-        there : j ≢ i → IsBy q j o (events ++ es)
-        there other = record { right = right_there j other ∙ h.right; filled = filled_there j other ∙ h.filled }
+    owned_then calm q ne j o alive h =
+        let none = mine calm q ne o alive in let filled = filled_then j in let right = right_then j in grind arith
 
     pub frees : Does scene words' (free i owner)
     frees =
@@ -136,30 +107,19 @@ module _ {T : Type 0} (scene : Scene T) (inv : Inv scene) where
                     Each-append (AnswersBy by (IsWorn by words') c) events es
                     (answers_on (IsWorn by ws) (IsWorn by words') (worn_on by ws words' (λ end. counter_same ∙ end)) by c events g.answers)
                     (tt, tt);
-                owned = λ calm. let h = g.owned (calm_less by events es calm) in record { held = still_held h; settled = still_settled h };
+                owned = λ calm. still_owned (g.owned (calm_less by events es calm));
                 holds = λ calm. Each-append HoldsRight events es (g.holds (calm_less by events es calm)) (tt, tt);
               };
           goes =
-              record {
-                grows = let is = counter_same in omega arith;
-                stuck = λ end. counter_same ∙ end;
-                grants = λ same less j none. unheld_then j none;
-                fills = λ j o d e. filled_was j o e;
-                dead = λ o d. same_dead o ∙ d;
-                lives = λ o l. sym (same_dead o) ∙ l;
-                well_formed = well_formed_less events es;
-              };
+              let same = counter_same in let filled = filled_was in let unheld = unheld_then in let dead = same_dead in
+              let less = well_formed_less events es in grind arith;
           spares = λ q ne.
               record {
                 none = tt;
                 deeds = ap (λ s. deeds (wrote_in s)) (span_of-other p q events es ne (refl, tt));
                 owned = λ calm j o alive h. owned_then calm q ne j o alive h;
                 unheld = λ calm j o alive h none. unheld_then j none;
-                held = λ calm j o alive h here. ⊎_elim
-                    (λ same. absurd (mine calm q ne o alive (subst (λ k. IsBy q k o events) same h)))
-                    (λ other. holder_there j other ∙ here) (cases_eq j i);
-                settled = λ calm j o alive h none. ⊎_elim
-                    (λ same. absurd (unsettled calm o alive (subst (λ k. settled_of k events ≡ Some o) same h)))
-                    (λ other. settled_there j other ∙ h) (cases_eq j i);
+                held = λ calm j o alive h here. let none = mine calm q ne o alive in let is = holder_then j in grind arith;
+                settled = λ calm j o alive h none. let not = unsettled calm o alive in let is = settled_then j in grind arith;
               };
         }

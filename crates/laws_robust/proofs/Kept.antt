@@ -11,11 +11,6 @@ use Rattle.steps.specs.declared.indices.robust.parts.Lock as locks
 use Rattle.steps.specs.declared.indices.robust.recover.RecoverStage.{RecoverStage}
 use Rattle.steps.specs.declared.indices.robust.release.GiveBack.{GiveBack}
 use Rattle.steps.specs.declared.indices.robust.release.ReleaseStage.{ReleaseStage}
-use Rattle.model.specs.declared.event.Event.{Event}
-use Rattle.model.specs.declared.event.Start.{Start}
-use Rattle.model.specs.declared.event.Start.TheVariants.{Robust}
-use Rattle.model.specs.declared.families.Flight.{Flight}
-use Rattle.model.specs.declared.families.Flight as flights
 use Rattle.model.specs.declared.families.indices.robust.RobustStart.{RobustStart}
 use Rattle.model.specs.declared.families.indices.robust.RobustStart as starts
 use Rattle.model.specs.declared.families.indices.robust.calls.RobustFlight.{RobustFlight}
@@ -23,7 +18,7 @@ use Rattle.model.specs.declared.families.indices.robust.calls.RobustFlight.TheVa
 use Rattle.model.specs.declared.turn.Kind as kinds
 use Rattle.model.specs.Coding.{Coding}
 use Rattle.model.specs.Families.Indices.Robust.Bounds.{most_steps}
-use Rattle.model.specs.Families.Indices.Robust.Promises.{KeepsDead, IsRobustSet, most, promise}
+use Rattle.model.specs.Families.Indices.Robust.Promises.{KeepsDead, IsRobustSet, promise}
 use Rattle.model.specs.Families.Indices.Robust.Reading.{Deed}
 use Rattle.model.specs.Parties.{party_of}
 use Rattle.model.specs.Promises.{IsKeptBy, IsKept}
@@ -36,8 +31,8 @@ use Rattle.model.proofs.Frame as frame
 use Rattle.laws_robust.specs.Gone.{Death}
 use Rattle.laws_robust.proofs.Core.{cell}
 use Rattle.laws_robust.proofs.Gone.{asks_right, answers_right}
-use Rattle.laws_robust.proofs.Invariant.{RobustSet, family}
-use Rattle.laws_robust.proofs.Knows.{View, flight_holds, Paid}
+use Rattle.laws_robust.proofs.Invariant.{family}
+use Rattle.laws_robust.proofs.Knows.{View, Paid}
 use Rattle.laws_robust.proofs.Standing.{count_number, lock_number, acquire_number, for_back, for_index, release_number}
 use Rattle.laws_robust.proofs.Standing.{recover_number, find_number, number_of, AcquireAt, CountAt, LockAt, ReleaseAt}
 use Rattle.laws_robust.proofs.Standing.{FindAt, RecoverAt, At}
@@ -102,18 +97,10 @@ module _ {T : Type 0} where
   held_paid (Some number) v h = ⊎_elim (λ k. let paid = k.1 in omega arith) (λ k. omega arith) h.paid
 
   bounds : (code : Coding T) (c : ℕ) → frame.Bounds (family code c)
-  bounds code c = record { most = at_most; paid = paid }
-    where
-      at_most : (s : RobustSet T) (p backs : ℕ) (start : Start T) (flight : Flight T)
-          → (family code c).At s p start flight
-          → (family code c).number ((family code c).written s p flight) flight backs ≤ most c code.size start backs
-      at_most s p backs (Robust start) (flights.TheVariants.Robust flight) h = steps_most c _ backs start flight h
-      at_most s p backs start flight h = absurd h
-
-      paid : (s : RobustSet T) (p : ℕ) (events : List (Event T)) (since changes backs : ℕ) (flight : Flight T)
-          → (family code c).Knows s p events since changes backs flight → backs ≤ changes - since
-      paid s p events since changes backs (flights.TheVariants.Robust flight) h = held_paid (flight_holds flight) _ h.paid
-      paid s p events since changes backs flight h = absurd h
+  bounds code c =
+      let by_steps_most = steps_most in
+      let by_held_paid = held_paid in
+      grind arith
 
   -- ---- what is promised
 

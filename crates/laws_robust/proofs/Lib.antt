@@ -1,6 +1,5 @@
 pub mod Acquires
 pub mod Alive
-pub mod Alone
 pub mod Begins
 pub mod Core
 pub mod Counting

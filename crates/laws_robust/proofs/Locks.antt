@@ -59,10 +59,7 @@ module _ {T : Type 0} (scene : Scene T) (inv : Inv scene) where
     still_owned : IsCalm by (events ++ es) → AreOwned (events ++ es)
     still_owned calm =
         let h = g.owned (calm_less by events es calm) in
-        record {
-          held = λ i owner e. same_filled i ∙ h.held i owner (sym (same_holder i) ∙ e);
-          settled = λ i owner e. let k = h.settled i owner (sym (same_settled i) ∙ e) in (same_filled i ∙ k.0, same_right i ∙ k.1);
-        }
+        let filled = same_filled in let holder = same_holder in let settled = same_settled in let right = same_right in grind arith
 
     pub locks : Does scene words' (Locked p ∷ more)
     locks =
@@ -91,15 +88,13 @@ module _ {T : Type 0} (scene : Scene T) (inv : Inv scene) where
                     Each-append HoldsRight events es (g.holds less) (none less, quiet.holds (events ++ Locked p ∷ []));
               };
           goes =
-              record {
-                grows = let is = shut in let bound = g.bound in omega arith;
-                stuck = λ end. absurd (omega arith);
-                grants = λ same below j unheld. same_holder j ∙ unheld;
-                fills = λ j o d e. sym (same_filled j) ∙ e;
-                dead = λ o d. same_dead o ∙ d;
-                lives = λ o l. sym (same_dead o) ∙ l;
-                well_formed = well_formed_less events es;
-              };
+              let is = shut in
+              let bound = g.bound in
+              let filled = same_filled in
+              let holder = same_holder in
+              let dead = same_dead in
+              let well_formed = well_formed_less events es in
+              grind arith;
           spares = λ q ne.
               record {
                 none = others_begin_none q p es ne (refl, own);

@@ -17,7 +17,7 @@ use Rattle.model.specs.declared.turn.Turn.{Turn}
 use Rattle.model.specs.declared.turn.Turn.TheVariants.{Begin, Next, Decide, Die}
 use Rattle.model.specs.Coding.{Coding, IsCoding}
 use Rattle.model.specs.Families.{want_of, is_question}
-use Rattle.model.specs.Families.Indices.Robust.Promises.{AnswersRight, KeepsDead}
+use Rattle.model.specs.Families.Indices.Robust.Promises.{AnswersRight}
 use Rattle.model.specs.Parties.{party_of, doing_of, flight_of}
 use Rattle.model.specs.Reading.{Each}
 use Rattle.model.specs.Refusals.{is_due, call_refusal}
@@ -28,16 +28,15 @@ use Rattle.model.specs.World.{Trace, opening, capacity_error, flight_in}
 use Rattle.model.proofs.Frame as frame
 use Rattle.model.proofs.Reached.{turn_making}
 use Rattle.model.proofs.Rows.{row_passed}
-use Rattle.laws_robust.specs.Gone.{Word, IsHonest, AnswersBy}
+use Rattle.laws_robust.specs.Gone.{Word, IsHonest}
 use Rattle.laws_robust.specs.Open.{open_refusal, attempt_open, run_open, IsReachedOpen, IsOpenSet}
 use Rattle.laws_robust.proofs.Alive.{AllLive, all_live_on}
-use Rattle.laws_robust.proofs.Core.{counter_of, cell}
 use Rattle.laws_robust.proofs.Gone.{answers_right}
 use Rattle.laws_robust.proofs.Invariant.{family_by}
 use Rattle.laws_robust.proofs.Living.{steps_leave}
 use Rattle.laws_robust.proofs.Opening.{admitted_is}
 use Rattle.laws_robust.proofs.OpenTurns.{reached_keeps}
-use Rattle.laws_robust.proofs.Sound.{kept_is, laws_by, opening_sound, decision_comes, MayDecideIn}
+use Rattle.laws_robust.proofs.Sound.{laws_by, opening_sound, decision_comes, MayDecideIn}
 
 module _ {T : Type 0} (code : Coding T) (c : ℕ) where
   abbrev Sound : Trace T → Type 0
@@ -140,19 +139,7 @@ module _ {T : Type 0} where
       (λ u turn e h. (open_turn_sound code c u turn e h.0, all_live_on u (steps_leave code c u h.0) turn e h.1)) t r (opens t is r, λ owner. refl)).1
 
   open_kept : (code : Coding T) (t : Trace T) → frame.Sound (family_by Word code t.world.capacity) t → AllLive t.events → IsOpenSet t
-  open_kept code t s lives =
-      let is = kept_is t.world.kept t.world.words s.state s.fit in
-      let g = s.holds.good in
-      record {
-        does = g.does;
-        asks = s.holds.asks;
-        answers = subst (λ ws. Each (AnswersBy Word (counter_of ws ≡ greatest) t.world.capacity) t.events) (sym is.1) g.answers;
-        holds = λ well_formed honest. g.holds (well_formed, honest);
-        cells = λ index below. ap (λ ws. cell ws index) is.1 ∙ g.cells index below;
-        lock = rw is.1 g.lock;
-        lives = lives;
-        dead = subst (λ kept. KeepsDead kept t.events) (sym is.0) (λ owner. g.died owner);
-      }
+  open_kept code t s lives = grind arith
 
   pub reached_open_kept : (t : Trace T) → t.world.kind ≡ kinds.TheVariants.Robust → IsReachedOpen t → IsOpenSet t
   reached_open_kept t is r = open_kept t.world.coding t (reached_open_sound t is r) (reached_open_lives t is r)

@@ -61,7 +61,7 @@ none_locks : {X : Type 0} (P : X → Type 0) (a b : X) (zero last : Bool) → la
 none_locks h a b zero last e k = grind arith
 
 module _ {T : Type 0} (scene : Scene T) (inv : Inv scene) where
-  open scene use {by as by, capacity as c, party as p, steps as steps, backs as backs, since as since, changes as changes, turns as turns, events as events}
+  open scene use {by as by, capacity as c, party as p, steps as steps, backs as backs, turns as turns, events as events}
 
   abbrev ws : List ℕ
   ws = scene.set.words
@@ -75,11 +75,7 @@ module _ {T : Type 0} (scene : Scene T) (inv : Inv scene) where
 
   -- none that is not of the set is filled
   pub none_beyond : (i : ℕ) → c ≤ i → filled_of i events ≡ None
-  none_beyond i more = go (filled_of i events) refl
-    where
-      go : (o : Option ℕ) → filled_of i events ≡ o → o ≡ None
-      go None e = refl
-      go (Some owner) e = let below = (g.filled i owner e).0 in absurd (omega arith)
+  none_beyond i more = let by_g = g in grind arith
 
   -- the counter has a number that was held, so it is before its end
   pub before_end : (number : ℕ) → counter_of ws ≡ number → Holding number (now scene) → counter_of ws < greatest
@@ -134,13 +130,7 @@ module _ {T : Type 0} (scene : Scene T) (inv : Inv scene) where
     raise_finds : (raise : Raise) → RaiseGoes raise → RaiseMeets raise → RaiseStays raise
         → (ask : Option Ask) (back : Bool) → words_after ws ask ≡ ws → IsPaid (sees scene ask back)
         → RaiseSteps raise 1 ask back → Lead ask back (raise_sees (counter_of ws))
-    raise_finds raise goes meets rests ask back same paid few =
-        by_eq (Lead ask back) (counter_of ws) locked (Done states.TheVariants.Locked) _
-        (λ shut. meets ask back same shut paid (λ n w some low. let next = few n w some low in omega arith))
-        (λ open_now. by_eq (Lead ask back) (counter_of ws) greatest (Done states.TheVariants.Unlocked)
-        (GoOn (raises.TheVariants.ExchangesCounter (counter_of ws)))
-        (λ end. rests ask back same (worn_at by ws inv.room end) end paid (λ n w some low. let next = few n w some low in omega arith))
-        (λ other. goes (counter_of ws) ask back same (finds_counter ask back same open_now other paid) few))
+    raise_finds raise goes meets rests ask back same paid few = let by_finds_counter = finds_counter in grind arith
 
     pub raise_step : (raise : Raise) → Paid (raise_holds raise) (now scene) → RaiseGoes raise → RaiseMeets raise → RaiseStays raise → RaiseEnds raise
         → Lead (Some (raise_ask raise)) (raise_goes_back raise (counter_of ws)) (raise_after raise (counter_of ws))
@@ -168,11 +158,7 @@ module _ {T : Type 0} (scene : Scene T) (inv : Inv scene) where
 
   still_held : (number : ℕ) (ask : Option Ask) → counter_of (words_after ws ask) ≡ counter_of ws
       → Paid (unless_last number) (now scene) → Paid (unless_last number) (sees scene ask false)
-  still_held number ask same h = go (number == greatest) h
-    where
-      go : (b : Bool) → Paid (if b then None else Some number) (now scene) → Paid (if b then None else Some number) (sees scene ask false)
-      go true h = omega arith
-      go false h = holds_on scene number ask events same h
+  still_held number ask same h = grind arith
 
   holds_one : (number : ℕ) → number ≢ greatest → Paid (unless_last number) (now scene) → Holding number (now scene)
   holds_one number other h = subst (λ b. Paid (if b then None else Some number) (now scene)) (ne_eqb number greatest other) h

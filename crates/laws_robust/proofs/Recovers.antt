@@ -14,7 +14,6 @@ use Rattle.steps.specs.declared.indices.enums.ReleaseMode.TheVariants.{LockIfLas
 use Rattle.steps.specs.declared.indices.enums.ReleaseState.{ReleaseState}
 use Rattle.steps.specs.declared.indices.enums.ReleaseState as states
 use Rattle.steps.specs.declared.indices.robust.parts.Lock.{Lock}
-use Rattle.steps.specs.declared.indices.robust.parts.Raise.{Raise}
 use Rattle.steps.specs.declared.indices.robust.recover.Recover as calls
 use Rattle.steps.specs.declared.indices.robust.recover.RecoverStage.{RecoverStage}
 use Rattle.steps.specs.declared.indices.robust.recover.RecoverStage as recovers
@@ -62,7 +61,7 @@ pub nothing_said : (c : ℕ) (lock : Lock) → LockSays c (λ k filled. Unit {0}
 nothing_said c lock = grind arith
 
 module _ {T : Type 0} (scene : Scene T) (inv : Inv scene) (mode : ReleaseMode) (here : IsHere scene (Recover mode)) where
-  open scene use {by as by, capacity as c, party as p, steps as steps, backs as backs, since as since, changes as changes, events as events}
+  open scene use {by as by, capacity as c, party as p, steps as steps, backs as backs, events as events}
 
   abbrev ws : List ℕ
   ws = scene.set.words
@@ -255,9 +254,6 @@ module _ {T : Type 0} (scene : Scene T) (inv : Inv scene) (mode : ReleaseMode) (
         (passed_says is) k.gone
 
     module _ (other : cell ws index ≢ empty) where
-      abbrev found : ℕ
-      found = cell ws index
-
       abbrev asking : List (Event T)
       asking = Asked p index (cell ws index) ∷ []
 

@@ -126,7 +126,7 @@ module _ {T : Type 0} (scene : Scene T) (inv : Inv scene) (index owner : ℕ) (f
     locks_with LockIfLastIndex is ask mode none less new done paid few =
         ends scene (Release index owner LockIfLastIndex) (State states.TheVariants.Locked) ask false (Locked p ∷ []) is (λ start w. refl)
         (locks scene inv (words_after ws ask) (Finished p (Robust (Release index owner LockIfLastIndex)) (State states.TheVariants.Locked) ∷ [])
-        (quiet_end p (Release index owner LockIfLastIndex) (State states.TheVariants.Locked) (λ j o. refl) (λ j r. refl))
+        (quiet_end p (Robust (Release index owner LockIfLastIndex)) (State states.TheVariants.Locked) (λ j o. refl) (λ j r. refl))
         (refl, tt) (tt, tt) (now_locked, tt) none less new)
         (done, ((refl, inr (all_done done)), tt)) (tt, (tt, tt)) (omega arith) paid
 

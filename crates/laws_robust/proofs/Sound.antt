@@ -32,13 +32,11 @@ use Rattle.model.specs.declared.families.indices.robust.calls.RobustFlight as ca
 use Rattle.model.specs.declared.party.Doing.TheVariants.{Going}
 use Rattle.model.specs.declared.party.Party.{Party}
 use Rattle.model.specs.declared.turn.Kind as kinds
-use Rattle.model.specs.declared.turn.Refusal.TheVariants.{OwnerIsDead, OwnerLives}
 use Rattle.model.specs.Coding.{Coding}
 use Rattle.model.specs.Families.{first_of, want_of, is_question, going_rows, beside_of, step_of, kept_after_death, kept_after_begin}
 use Rattle.model.specs.Families as families
 use Rattle.model.specs.Families.Indices.Robust.Calls.{want}
 use Rattle.model.specs.Families.Indices.Robust.Dead.{has_died, dead_with, acts_for_dead, frees_living}
-use Rattle.model.specs.Families.Indices.Robust.Dead as rows
 use Rattle.model.specs.Families.Indices.Robust.Opening.{opening_words, call_rows, kept_rows}
 use Rattle.model.specs.Families.Indices.Robust.Reading.{deeds, is_dead, wrote_in}
 use Rattle.model.specs.Families.Loan.Opening.{is_loan}
@@ -50,7 +48,7 @@ use Rattle.model.specs.Turns.{old_of, words_after, change_of, number_of, party_a
 use Rattle.model.specs.World.{Trace, opening, capacity_error}
 use Rattle.model.proofs.Frame as frame
 use Rattle.model.proofs.Readings.{Each-nil, Each-append, span_of-own, span_of-death}
-use Rattle.model.proofs.Rows.{row_passed, MayBegin, MayDie}
+use Rattle.model.proofs.Rows.{MayBegin, MayDie}
 use Rattle.model.proofs.Scenes.{asked, StandsThere, stands_there, ComesFrom, comes_from}
 use Rattle.laws_robust.specs.Gone.{GoneBy, Death, Word, MayBeTold, AsksBy}
 use Rattle.laws_robust.proofs.Acquires.{acquire_step}
@@ -107,7 +105,7 @@ MayDecide Death dead flight said = frees_living dead flight (Some said) ≡ fals
 MayDecide Word dead flight said = Unit {0}
 
 module _ {T : Type 0} (scene : Scene T) (inv : Inv scene) where
-  open scene use {by as by, capacity as c, party as p, events as events}
+  open scene use {by as by, capacity as c, events as events}
 
   lives : (owner : ℕ) → has_died owner scene.set.dead ≡ false → is_dead owner events ≡ false
   lives owner alive = sym (inv.good.died owner) ∙ alive
@@ -246,13 +244,7 @@ module _ {T : Type 0} (by : GoneBy) (code : Coding T) (c : ℕ) (t : Trace T) (s
     pub passes : (flight : RobustFlight) (said : Option Bool)
         → first_row (going_rows t.world.coding t.world.kept (Some (flights.TheVariants.Robust flight)) said) ≡ None
         → (acts_for_dead s.state.dead flight ≡ false) × (frees_living s.state.dead flight said ≡ false)
-    passes flight said r =
-        let is = kept_is t.world.kept t.world.words s.state s.fit in
-        let own : first_row (rows.going_rows s.state.dead flight said) ≡ None =
-        subst (λ kept. first_row (rows.kept_going_rows flight kept said) ≡ None) is.0 r in
-        let first = row_passed (acts_for_dead s.state.dead flight) OwnerIsDead (first_row ((frees_living s.state.dead flight said, OwnerLives) ∷ [])) own in
-        let second = row_passed (frees_living s.state.dead flight said) OwnerLives None first.1 in
-        (first.0, second.0)
+    passes flight said r = grind arith
 
     -- it may decide so
     pub decides_by : (b : GoneBy) (flight : RobustFlight) (said : Bool)
@@ -348,7 +340,7 @@ module _ {T : Type 0} (by : GoneBy) (code : Coding T) (c : ℕ) (t : Trace T) (s
     begins_now start flight known span may =
         let y : Party T = party_at_begin (Robust start) (flights.TheVariants.Robust flight) t.world.changes in
         let scene = scene_of p y t.world.changes in
-        let does = begins scene s.holds.good start in
+        let does = begins scene s.holds.good (Robust start) in
         let shows : Shows scene s.state.words (span_of p t.events) y (Begun p (Robust start) ∷ []) t.world.changes =
         record {
           does = does;

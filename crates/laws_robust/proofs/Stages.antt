@@ -89,7 +89,7 @@ module _ {T : Type 0} where
   none_lengthens start w = ap (λ es. Open (Robust start) es) (sym (append-nil w))
 
 module _ {T : Type 0} (scene : Scene T) where
-  open scene use {by as by, capacity as c, party as p, steps as steps, backs as backs, since as since, changes as changes, turns as turns, events as events}
+  open scene use {by as by, capacity as c, party as p, steps as steps, backs as backs, since as since, changes as changes, events as events}
 
   abbrev pub ws : List ℕ
   ws = scene.set.words
@@ -259,5 +259,5 @@ module _ {T : Type 0} (scene : Scene T) where
     ends_quietly start answer ask back here stays settles rights right done few paid =
         ends start answer ask back [] here none_lengthens
         (quietly scene inv (words_after ws ask) (Finished p (Robust start) answer ∷ []) stays.leaves
-        (quiet_end p start answer settles rights) (refl, tt) (tt, tt) (right, tt))
+        (quiet_end p (Robust start) answer settles rights) (refl, tt) (tt, tt) (right, tt))
         ((refl, done), tt) (tt, tt) few paid

@@ -43,7 +43,7 @@ use Rattle.model.specs.Turns.{old_of, number_of, ask_of_doing, events_of_step, e
 use Rattle.model.specs.Turns.{events_of_decision, events_of, ending_of, after_turn}
 use Rattle.model.specs.World.{Trace, flight_in}
 use Rattle.model.proofs.Frame as frame
-use Rattle.model.proofs.Rows.{row_passed, passes, must_be_due}
+use Rattle.model.proofs.Rows.{row_passed, passes}
 use Rattle.model.proofs.Scenes.{StandsThere, stands_there}
 use Rattle.laws_robust.proofs.Invariant.{family}
 use Rattle.laws_robust.proofs.Knows.{Knows}
@@ -137,19 +137,7 @@ module _ {T : Type 0} (code : Coding T) (c : ℕ) (t : Trace T) (s : frame.Sound
         by_names since x.start flight there name due wrote
 
   pub decided : (p : ℕ) (said : Bool) (start : RobustStart) → refusal_of t.world (Decide p said) ≡ None → IsIn p (Robust start) t → IsDecided p said start
-  decided p said start r under_way = go (party_of p t.world.latest) refl
-    where
-      passed : is_due t.world.coding (flight_in t.world p) ≡ true
-      passed = frame.is_true (is_due t.world.coding (flight_in t.world p)) (must_be_due t.world p said (passes t.world (Decide p said) r).on)
-
-      go : (o : Option (Party T)) → party_of p t.world.latest ≡ o → IsDecided p said start
-      go None found =
-          let due : is_due t.world.coding (flight_of (doing_of None)) ≡ true =
-          subst (λ o. is_due t.world.coding (flight_of (doing_of o)) ≡ true) found passed in
-          absurd (cc)
-      go (Some x) found =
-          by_doing p said start x found x.doing refl under_way
-          (subst (λ o. is_due t.world.coding (flight_of (doing_of o)) ≡ true) found passed)
+  decided p said start r under_way = grind arith
 
   -- ---- a no ends a find
 
