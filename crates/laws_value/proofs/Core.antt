@@ -1,25 +1,13 @@
 -- The value that the words hold, and what each operation on a word does to it. No event and no party is in it.
 -- size is the number of the words of a value.
 use Rattle.std.proofs.Common.{◌≡◌, ◌≢◌, ℕ, zero, suc, ◌+◌, ◌-◌, ◌*◌, ◌%◌, ◌<◌, ◌≤◌, ⊎_elim, Option, Some, None, List}
-use Rattle.std.proofs.Common.{[], ◌∷◌, length, get_or, set, take, replicate, refl, ◌∙◌, arith, length-set}
+use Rattle.std.proofs.Common.{◌∷◌, length, get_or, set, take, replicate, refl, subst, ◌∙◌, arith, length-set}
 use Rattle.std.proofs.Common.{get_or-set_same, get_or-set_other}
 use Rattle.std.proofs.lemmas.Bool.{cases_lt}
-use Rattle.std.proofs.Math.Nat.{mul-le-mul_left}
+use Rattle.laws_queues.proofs.Queues.Core.{cells_apart}
+use Rattle.laws_queues.proofs.Ring.Pops.{same_words as as_far}
 
 -- ---- the two cells
-
--- the words of different cells are different
-cells_apart : (size a b i j : ℕ) → i < size → j < size → a ≢ b → size * a + i ≢ size * b + j
-cells_apart size a b i j is js ne e = ⊎_elim less more (cases_lt a b)
-  where
-    less : a < b → ⊥
-    less h = let step : size * (a + 1) ≤ size * b = mul-le-mul_left size (omega arith) in absurd (omega arith)
-
-    more : b ≤ a → ⊥
-    more h =
-        let before : b < a = omega arith in
-        let step : size * (b + 1) ≤ size * a = mul-le-mul_left size (omega arith) in
-        absurd (omega arith)
 
 -- a word of a cell lies among the cells
 pub cell_within : (size n i : ℕ) → i < size → size * (n % 2) + i < size * 2
@@ -27,14 +15,7 @@ cell_within x0 x1 x2 x3 = grind arith
 
 -- lists that begin with the same words
 pub same_words : (n : ℕ) (xs ys : List ℕ) → length ys ≡ n → n ≤ length xs → ((i : ℕ) → i < n → get_or xs i 0 ≡ get_or ys i 0) → take n xs ≡ ys
-same_words zero xs [] long enough same = refl
-same_words zero xs (y ∷ ys) long enough same = absurd (omega arith)
-same_words (suc n) [] ys long enough same = absurd (omega arith)
-same_words (suc n) (x ∷ xs) [] long enough same = absurd (omega arith)
-same_words (suc n) (x ∷ xs) (y ∷ ys) long enough same =
-    let first : x ≡ y = same 0 (omega arith) in
-    let rest : take n xs ≡ ys = same_words n xs ys (omega arith) (omega arith) (λ i below. same (suc i) (omega arith)) in
-    rw (first, rest) refl
+same_words n xs ys long enough same = subst (λ m. take m xs ≡ ys) long (as_far xs ys (omega arith) (λ i below. same i (omega arith)))
 
 -- the same number is read everywhere
 pub zeros : (n i d : ℕ) → get_or (replicate n d) i d ≡ d

@@ -207,6 +207,9 @@ module _ {T : Type 0} (code : Coding T) (c : ℕ) (t : Trace T) (s : frame.Sound
         owes = owes scene s.state.holder k (span_of p t.events) y (Begun p (Atomic start) ∷ []) t.world.changes shows refl (inv_of y t.world.changes);
       }
 
+  own : (start : Start T) (flight : Flight T) → first_of t.world.kind t.world.capacity start t.world.kept ≡ Some flight → IsOwn start flight
+  own start flight e = begins_own t.world.capacity t.world.kept start flight (rw s.kind at e)
+
   pub begin_comes : (start : Start T) (flight : Flight T) → MayBegin t.world p start → first_of t.world.kind t.world.capacity start t.world.kept ≡ Some flight
       → frame.Comes (family code c) t p (kept_after_begin t.world.coding t.world.capacity start p t.world.kept)
       t.world.words (party_at_begin start flight t.world.changes) (Begun p start ∷ []) t.world.changes
@@ -215,17 +218,11 @@ module _ {T : Type 0} (code : Coding T) (c : ℕ) (t : Trace T) (s : frame.Sound
       let rows : first_row (kept_rows start (registries.TheVariants.Atomic s.state.holder) p) ≡ None =
       subst (λ kept. first_row (kept_rows start kept p) ≡ None) is.0 may.rows in
       let role = (row_passed (lacks_role s.state.holder p start) NoRole None rows).0 in
-      let named : first_of kinds.TheVariants.Atomic t.world.capacity (Atomic start) t.world.kept
-      ≡ Some (flights.TheVariants.Atomic flight) =
-      subst (λ kind. first_of kind t.world.capacity (Atomic start) t.world.kept ≡ Some (flights.TheVariants.Atomic flight)) s.kind e in
       begins start flight (subst (λ f. IsFirst code s.state.holder s.state.core p t.world.changes start f)
-      (begins_own t.world.capacity t.world.kept (Atomic start) (flights.TheVariants.Atomic flight) named)
+      (own (Atomic start) (flights.TheVariants.Atomic flight) e)
       (first_is code s.state.holder s.state.core p t.world.changes start role))
       s may
-  begin_comes start flight may e =
-      let named : first_of kinds.TheVariants.Atomic t.world.capacity start t.world.kept ≡ Some flight =
-      subst (λ kind. first_of kind t.world.capacity start t.world.kept ≡ Some flight) s.kind e in
-      absurd (begins_own t.world.capacity t.world.kept start flight named)
+  begin_comes start flight may e = absurd (own start flight e)
 
 module _ {T : Type 0} where
   pub fresh_laws : (code : Coding T) (c : ℕ) → LawsAt (family code c) IsFreshTurn
