@@ -216,6 +216,9 @@ module _ {T : Type 0} (code : Coding T) (c : ℕ) (t : Trace T) (s : frame.Sound
             t.world.changes shows refl (inv_of y t.world.changes);
       }
 
+  own : (start : Start T) (flight : Flight T) → first_of t.world.kind t.world.capacity start t.world.kept ≡ Some flight → IsOwn c start flight
+  own start flight e = begins_own c t.world.kept start flight (rw (s.kind, s.capacity) at e)
+
   pub begin_comes : (start : Start T) (flight : Flight T) → MayBegin t.world p start → first_of t.world.kind t.world.capacity start t.world.kept ≡ Some flight
       → frame.Comes (family code c) t p (kept_after_begin t.world.coding t.world.capacity start p t.world.kept)
       t.world.words (party_at_begin start flight t.world.changes) (Begun p start ∷ []) t.world.changes
@@ -225,20 +228,11 @@ module _ {T : Type 0} (code : Coding T) (c : ℕ) (t : Trace T) (s : frame.Sound
       subst (λ kept. first_row (kept_rows {T = T} t.world.capacity start kept p) ≡ None) is.0 may.rows in
       let passed : first_row (call_rows c s.state.holders p start) ≡ None =
       subst (λ n. first_row (call_rows n s.state.holders p start) ≡ None) s.capacity rows in
-      let named : first_of {T = T} kinds.TheVariants.Indices t.world.capacity (Indices start) t.world.kept
-      ≡ Some (flights.TheVariants.Indices flight) =
-      subst (λ kind. first_of {T = T} kind t.world.capacity (Indices start) t.world.kept ≡ Some (flights.TheVariants.Indices flight))
-      s.kind e in
-      let own : first c start ≡ flight =
-      subst (λ n. first n start ≡ flight) s.capacity
-      (begins_own t.world.capacity t.world.kept (Indices start) (flights.TheVariants.Indices flight) named) in
-      begins start flight (subst (λ f. IsFirst T c s.state.words s.state.holders p t.world.changes start f) own
+      begins start flight (subst (λ f. IsFirst T c s.state.words s.state.holders p t.world.changes start f)
+      (own (Indices start) (flights.TheVariants.Indices flight) e)
       (first_is c s.state.words s.state.holders p t.world.changes start passed))
       may
-  begin_comes start flight may e =
-      let named : first_of kinds.TheVariants.Indices t.world.capacity start t.world.kept ≡ Some flight =
-      subst (λ kind. first_of kind t.world.capacity start t.world.kept ≡ Some flight) s.kind e in
-      absurd (begins_own t.world.capacity t.world.kept start flight named)
+  begin_comes start flight may e = absurd (own start flight e)
 
 module _ {T : Type 0} where
   laws : (code : Coding T) (c : ℕ) → frame.LawsOn (family code c)
