@@ -1,10 +1,8 @@
 -- What the invariant says of the events, in the promises' words.
-use Rattle.std.proofs.Common.{◌≡◌, ℕ, suc, ◌+◌, ◌-◌, ◌*◌, ◌%◌, ◌≤◌, Option, List, drop, take, refl, sym, ap, subst, ◌∙◌, arith}
+use Rattle.std.proofs.Common.{◌≡◌, ℕ, suc, ◌+◌, ◌-◌, ◌*◌, ◌%◌, ◌≤◌, Option, drop, take, sym, ap, subst, ◌∙◌, arith}
 use Rattle.std.proofs.lemmas.List.{get_or-drop, length-drop}
 use Rattle.std.proofs.Math.Nat.{mul-le-mul_left}
 use Rattle.steps.specs.Atomic.{cell_word}
-use Rattle.model.specs.declared.event.Start.{Start}
-use Rattle.model.specs.declared.event.Start.TheVariants.{Atomic}
 use Rattle.model.specs.declared.turn.Kind as kinds
 use Rattle.model.specs.Coding.{Coding, IsCoding}
 use Rattle.model.specs.Families.Atomic.Promises.{cell_in, IsValue, promise}

@@ -1,8 +1,6 @@
 -- The steps of a load.
-use Rattle.std.proofs.Common.{◌≡◌, ◌≢◌, ℕ, ◌+◌, ◌*◌, ◌^◌, ◌<◌, ◌≤◌, ◌==◌, nat_lt, Bool, true, false, ⊎_elim, Option}
-use Rattle.std.proofs.Common.{Some, length, get_or, set, take, refl, sym, ap, subst, ◌∙◌, arith, length-set}
-use Rattle.std.proofs.Common.{get_or-set_same, get_or-set_other}
-use Rattle.std.proofs.lemmas.Bool.{cases_lt}
+use Rattle.std.proofs.Common.{◌≡◌, ◌≢◌, ℕ, ◌+◌, ◌*◌, ◌^◌, ◌<◌, ◌≤◌, ◌==◌, nat_lt, Bool, true, false, Option}
+use Rattle.std.proofs.Common.{Some, length, get_or, take, refl, sym, ap, subst, ◌∙◌, arith, length-set}
 use Rattle.std.proofs.lemmas.Bool.Decides.{nat_tests}
 use Rattle.std.proofs.lemmas.List.{set-get_or}
 use Rattle.steps.specs.declared.ask.Ask.{Ask}
@@ -16,14 +14,13 @@ use Rattle.steps.specs.Atomic.{cell_word, before_version, load_begins}
 use Rattle.steps.specs.Queues.Ring.{word_at}
 use Rattle.model.specs.declared.event.Answer.{Answer}
 use Rattle.model.specs.declared.event.Answer as answers
-use Rattle.model.specs.declared.event.Start.TheVariants.{Atomic}
 use Rattle.model.specs.declared.families.atomic.AtomicStart as starts
 use Rattle.model.specs.declared.families.atomic.calls.AtomicFlight.{AtomicFlight}
 use Rattle.model.specs.Coding.{IsCoding}
 use Rattle.model.specs.Families.Atomic.Calls.{after, goes_back}
 use Rattle.model.specs.Families.Queues.Calls.{kept_at, read_in}
 use Rattle.model.specs.Turns.{change_of}
-use Rattle.laws_value.proofs.Core as core
+use Rattle.laws_queues.proofs.Queues.Core.{one_more}
 use Rattle.laws_value.proofs.Core.{Core, Good, layout, same_words}
 use Rattle.laws_value.proofs.Invariant.{Scene, Inv}
 use Rattle.laws_value.proofs.Knows.{KnowsLoad, KnowsBacks, IsCopied, load_at, load_number}
@@ -77,19 +74,9 @@ module _ {T : Type 0} (scene : Scene T) (inv : Inv scene) (small : scene.core.ve
     found_is x0 = grind arith
 
     copied_more : version ≡ k.version → IsCopied k room_then (at + 1)
-    copied_more same i is = ⊎_elim before here (cases_lt i at)
-      where
-        before : i < at → get_or (set room.words at found) i 0 ≡ get_or k.now i 0
-        before h =
-            let other : i ≢ at = λ e. absurd (omega arith) in
-            get_or-set_other room.words at i found 0 other ∙ copied same i h
-
-        here : at ≤ i → get_or (set room.words at found) i 0 ≡ get_or k.now i 0
-        here h =
-            let last : i ≡ at = omega arith in
-            let few = coded.few in
-            let within : at < length room.words = omega arith in
-            rw last (get_or-set_same room.words at found 0 within ∙ found_is same)
+    copied_more same =
+        let few = coded.few in
+        one_more (λ n. n) room.words k.now at found (λ n h e. absurd (omega arith)) (omega arith) (found_is same) (copied same)
 
     -- a word is loaded, and the call goes on so
     loaded_word : (stage : LoadStage) → KnowsLoad code.size k room_then stage

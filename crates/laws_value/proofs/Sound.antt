@@ -23,7 +23,6 @@ use Rattle.model.specs.Families.{first_of, want_of, ask_of, is_question, kept_af
 use Rattle.model.specs.Families.Atomic.Calls.{first, want}
 use Rattle.model.specs.Families.Atomic.Opening.{lacks_role, kept_rows}
 use Rattle.model.specs.Families.Loan.Opening.{is_loan}
-use Rattle.model.specs.Families.Queues.Opening.{holds}
 use Rattle.model.specs.Parties.{party_of}
 use Rattle.model.specs.Reading.{Open, span_of}
 use Rattle.model.specs.Rows.{first_row}
