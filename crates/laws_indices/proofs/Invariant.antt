@@ -1,6 +1,6 @@
 -- What holds of the machine of a unique index set between any two turns beside what the frame says of every machine, and
 -- what a turn must show to keep it.
-use Rattle.std.proofs.Common.{◌≡◌, ◌≢◌, ℕ, ◌+◌, ◌<◌, ◌≤◌, ⊎_elim, if◌then◌else◌, Bool, false, nat_lt, Option, Some}
+use Rattle.std.proofs.Common.{◌≡◌, ◌≢◌, ℕ, ◌+◌, ◌<◌, ◌≤◌, ⊎_elim, if◌then◌else◌, false, nat_lt, Option, Some}
 use Rattle.std.proofs.Common.{None, List, [], ◌++◌, fold, refl, sym, ap, subst, ◌∙◌, arith}
 use Rattle.std.proofs.lemmas.Bool.{cases_eq}
 use Rattle.std.proofs.lemmas.List.Sums.{fold-append}

@@ -1,7 +1,5 @@
 -- What the invariant says of the events, in the promises' words.
 use Rattle.std.proofs.Common.{◌≡◌, ℕ, sym, ap, subst, arith}
-use Rattle.model.specs.declared.event.Start.{Start}
-use Rattle.model.specs.declared.event.Start.TheVariants.{Indices}
 use Rattle.model.specs.declared.turn.Kind as kinds
 use Rattle.model.specs.Coding.{Coding}
 use Rattle.model.specs.Families.Indices.Promises.{promise}

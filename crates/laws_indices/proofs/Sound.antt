@@ -24,7 +24,6 @@ use Rattle.model.specs.Families.Indices.Calls.{first}
 use Rattle.model.specs.Families.Indices.Opening.{opening_words, call_rows, kept_rows}
 use Rattle.model.specs.Families.Indices.Promises.{GoesStraight}
 use Rattle.model.specs.Families.Indices.Reading.{tally_after}
-use Rattle.model.specs.Families.Queues.Opening.{holds}
 use Rattle.model.specs.Families.Loan.Opening.{is_loan}
 use Rattle.model.specs.Parties.{party_of, doing_of, flight_of}
 use Rattle.model.specs.Reading.{Open, span_of}

@@ -32,9 +32,9 @@ use Rattle.model.proofs.Frame as frame
 use Rattle.model.proofs.Readings.{Each-nil}
 use Rattle.model.proofs.Rows.{row_passed, MayBegin}
 use Rattle.model.proofs.Scenes.{asked, StandsThere, stands_there, ComesFrom, comes_from}
-use Rattle.laws_queues.proofs.Queues.Knows.{IsFreshCall, any_fresh}
+use Rattle.laws_queues.proofs.Queues.Knows.{IsFreshCall}
 use Rattle.laws_queues.proofs.Queues.Runs.{LawsAt, run_sound}
-use Rattle.laws_queues.proofs.Queues.Sound.{IsFreshTurn, IsFreshRun, fresh_any}
+use Rattle.laws_queues.proofs.Queues.Sound.{IsFreshTurn, IsFreshRun}
 use Rattle.laws_value.specs.Stored.{stored}
 use Rattle.laws_value.proofs.Core.{Core, layout, zeros}
 use Rattle.laws_value.proofs.Invariant.{Value, Represents, Scene, Inv, Shows, family, owes, holds_more}
@@ -106,9 +106,7 @@ module _ {T : Type 0} (code : Coding T) (c : ℕ) (t : Trace T) (s : frame.Sound
 
   -- few turns are few versions
   few_turns : t.world.turns < 2 ^ 64 - 2 → (p : ℕ) → IsFreshTurn t (Next p)
-  few_turns small p flight here =
-      fresh_any t.world.coding t.world.words flight
-      (any_fresh (get_or t.world.words 0 0) flight (let low = s.holds.reached in let is = version_is in omega arith))
+  few_turns x0 x1 = grind arith
 
 -- ---- the laws of the family
 

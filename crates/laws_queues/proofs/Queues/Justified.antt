@@ -1,7 +1,7 @@
 -- What a turn writes down: what its step did to the queue, then the acts, then the end. A push that answers false, and a
 -- pop that answers None, did so in its own turn, as it loaded the other position; without capacity, an overflowing queue's
 -- pop loads none. A push that is taken, and a pop that answers a value, acts as its position goes on.
-use Rattle.std.proofs.Common.{◌≡◌, ℕ, ◌+◌, ◌-◌, ◌^◌, ◌<◌, ◌≤◌, ◌==◌, Bool, true, false, cond, inr, Option, Some, None}
+use Rattle.std.proofs.Common.{◌≡◌, ℕ, ◌-◌, ◌^◌, ◌<◌, ◌≤◌, ◌==◌, Bool, true, false, cond, inr, Option, Some, None}
 use Rattle.std.proofs.Common.{List, [], ◌∷◌, ◌++◌, get_or, refl, sym, ap, subst, ◌∙◌, arith}
 use Rattle.std.proofs.lemmas.Bool.Decides.{nat_tests}
 use Rattle.std.specs.List.{AllByRecursion}
@@ -32,7 +32,7 @@ use Rattle.model.specs.declared.families.Flight as flights
 use Rattle.model.specs.declared.families.Registry.{Registry}
 use Rattle.model.specs.declared.families.Registry as registries
 use Rattle.model.specs.declared.families.queues.QueueStart.{QueueStart}
-use Rattle.model.specs.declared.families.queues.QueueStart.TheVariants.{PushIndex, Push, Pop}
+use Rattle.model.specs.declared.families.queues.QueueStart.TheVariants.{PushIndex, Pop}
 use Rattle.model.specs.declared.families.queues.Roles.{Roles}
 use Rattle.model.specs.declared.families.queues.calls.OverflowCall as overflows
 use Rattle.model.specs.declared.families.queues.calls.QueueFlight.{QueueFlight}
@@ -50,9 +50,8 @@ use Rattle.model.specs.Coding.{Coding, IsCoding}
 use Rattle.model.specs.Families.{ask_of, beside_of, step_of, goes_of}
 use Rattle.model.specs.Families.Queues.Book.{AnswersRight}
 use Rattle.model.specs.Families.Queues.Calls.{read_word, want, after, popped}
-use Rattle.model.specs.Families.Queues.Opening.{holds}
 use Rattle.model.specs.Families.Queues.Promises.{load_of_write, finding_none, AddsOne, HandsBack, promise}
-use Rattle.model.specs.Families.Queues.Steps.{pending_at, pending, beside, takes_effect, effect_of, acts_if_done, effects_of}
+use Rattle.model.specs.Families.Queues.Steps.{pending_at, beside, takes_effect, effect_of, acts_if_done, effects_of}
 use Rattle.model.specs.Parties.{party_of, doing_of, flight_of}
 use Rattle.model.specs.Promises.{IsTurnBy}
 use Rattle.model.specs.Promises.Turns.{ask_in, IsParty, IsEffectOf, IsAct, ActsRight}
@@ -303,14 +302,7 @@ waiter_is : {T : Type 0} (roles : Roles) (words : List ℕ) (latest : List (ℕ 
     → flight_of (doing_of (party_of p latest)) ≡ Some (flights.TheVariants.Queues flight) → (q w : ℕ)
     → beside roles words latest p ≡ Some (q, w) → q ≡ p
     → pending_at (get_or words 1 0) (Some (flights.TheVariants.Queues flight)) ≡ Some w
-waiter_is {T} roles words latest p flight found q w e same = go (holds roles.consumer p) e
-  where
-    position : ℕ
-    position = get_or words 1 0
-
-    go : (b : Bool) → cond b (pending position roles.producer latest) None ≡ Some (q, w)
-        → pending_at position (Some (flights.TheVariants.Queues flight)) ≡ Some w
-    go x0 x1 = grind arith
+waiter_is x0 x1 x2 x3 x4 x5 x6 x7 x8 x9 = grind arith
 
 module _ {T : Type 0} (en : Coding T) (law : IsCoding en) (kd : QueueKind) (c : ℕ) (t : Trace T) (p : ℕ)
     (s : frame.Sound (family en kd c) t) (small : t.world.turns < 2 ^ 64 - 2) (x : Party T) (since : ℕ) where

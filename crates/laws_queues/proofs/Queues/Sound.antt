@@ -58,7 +58,7 @@ use Rattle.laws_queues.proofs.Queues.Begins.{IsFirst, first_is}
 pub use Rattle.laws_queues.proofs.Queues.Fresh.{IsFreshTurn, IsFreshRun, fresh_there, fresh_any, fresh_more, fresh_opening}
 use Rattle.laws_queues.proofs.Queues.Core.{Core}
 use Rattle.laws_queues.proofs.Queues.Invariant.{Queue, Represents, machine_kind, Scene, Inv, Shows, family, holds_more, owes, queue_part}
-use Rattle.laws_queues.proofs.Queues.Knows.{IsFreshAt, any_fresh, layout, len_at, in_one, in_cell, listed, has_written}
+use Rattle.laws_queues.proofs.Queues.Knows.{IsFreshAt, layout, len_at, in_one, in_cell, listed, has_written}
 use Rattle.laws_queues.proofs.Queues.Knows.{KnowsLen, KnowsFlight, number_of, RoleAt, LengthAt, IndexAt, ValueAt, At}
 use Rattle.laws_queues.proofs.Queues.Lengths.{len_step, is_empty_step, is_full_step}
 use Rattle.laws_queues.proofs.Queues.Pending.{pending_put, hangs_same, none_hangs}
@@ -245,9 +245,7 @@ module _ {T : Type 0} (en : Coding T) (law : IsCoding en) (kd : QueueKind) (c : 
 
   -- few turns are few positions
   pub few_turns : t.world.turns < 2 ^ 64 - 2 → (p : ℕ) → IsFreshTurn t (Next p)
-  few_turns small p flight here =
-      fresh_any t.world.coding t.world.words flight
-      (any_fresh (get_or t.world.words 0 0) flight (let low = s.holds.reached in let is = write_is in omega arith))
+  few_turns x0 x1 = grind arith
 
 module _ {T : Type 0} (en : Coding T) (law : IsCoding en) (kd : QueueKind) (c : ℕ) (t : Trace T) (s : frame.Sound (family en kd c) t) (p : ℕ) where
   abbrev pub scene_of : Party T → ℕ → Scene T kd
