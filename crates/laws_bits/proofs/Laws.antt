@@ -281,9 +281,6 @@ module _ {T : Type 0} (K : SetKind T) where
 
     -- ---- what the invariant says in the promises' words
 
-    bounds : frame.Bounds F
-    bounds = grind arith
-
     progress : (t : Trace T) → frame.Sound F t → (p : ℕ) → Progresses K.promise c code.size (span_of p t.events) (progress_in t.world p)
     progress x0 x1 x2 = grind arith
 

@@ -1,5 +1,5 @@
 -- The steps of a load.
-use Rattle.std.proofs.Common.{◌≡◌, ◌≢◌, ℕ, ◌+◌, ◌*◌, ◌^◌, ◌<◌, ◌≤◌, ◌==◌, nat_lt, Bool, true, false, Option}
+use Rattle.std.proofs.Common.{◌≡◌, ℕ, ◌+◌, ◌*◌, ◌^◌, ◌<◌, ◌≤◌, ◌==◌, nat_lt, Bool, true, false, Option}
 use Rattle.std.proofs.Common.{Some, length, get_or, take, refl, sym, ap, subst, ◌∙◌, arith, length-set}
 use Rattle.std.proofs.lemmas.Bool.Decides.{nat_tests}
 use Rattle.std.proofs.lemmas.List.{set-get_or}
@@ -10,7 +10,7 @@ use Rattle.steps.specs.declared.ask.After.TheVariants.{GoOn, Done}
 use Rattle.steps.specs.declared.atomic.LoadStage.{LoadStage}
 use Rattle.steps.specs.declared.atomic.LoadStage as loading
 use Rattle.steps.specs.declared.copied.Buffer as buffers
-use Rattle.steps.specs.Atomic.{cell_word, before_version, load_begins}
+use Rattle.steps.specs.Atomic.{cell_word, before_version}
 use Rattle.steps.specs.Queues.Ring.{word_at}
 use Rattle.model.specs.declared.event.Answer.{Answer}
 use Rattle.model.specs.declared.event.Answer as answers
@@ -45,10 +45,6 @@ module _ {T : Type 0} (scene : Scene T) (inv : Inv scene) (small : scene.core.ve
 
   abbrev DoesOf : buffers.Buffer 128 → LoadStage → Type 0
   DoesOf room stage = StepOf scene starts.TheVariants.Load (load_at room stage)
-
-  -- the loads of the version's cell begin
-  begins : (room : buffers.Buffer 128) → length room.words ≡ 128 → KnowsLoad code.size k room (load_begins code.size k.version)
-  begins x0 x1 = grind arith
 
   loads : (room : buffers.Buffer 128) → length room.words ≡ 128 → steps ≤ 0 → backs + since ≤ changes → DoesOf room loading.TheVariants.LoadsVersion
   loads x0 x1 x2 x3 = grind arith
@@ -135,11 +131,6 @@ module _ {T : Type 0} (scene : Scene T) (inv : Inv scene) (small : scene.core.ve
       → Does (checks version) false (Done (answers.TheVariants.Loaded (code.value_of k.now)))
   ends x0 x1 x2 = grind arith
 
-  goes_again : (room : buffers.Buffer 128) (version : ℕ) → length room.words ≡ 128 → version < k.version
-      → backs + since + k.version ≤ changes + version → steps ≤ 1 + code.size + backs * (1 + code.size)
-      → Does (checks version) true (GoOn (load_at room (load_begins code.size k.version)))
-  goes_again x0 x1 x2 x3 x4 x5 = grind arith
-
   abbrev checking : ℕ → LoadStage
   checking version = loading.TheVariants.ChecksVersion version
 
@@ -158,13 +149,7 @@ module _ {T : Type 0} (scene : Scene T) (inv : Inv scene) (small : scene.core.ve
           (subst (λ b. Does (checks version) b (Done (answers.TheVariants.Loaded (read_in code room)))) (sym back)
           (subst (λ x. Does (checks version) false (Done (answers.TheVariants.Loaded x)))
           (sym (value_is room long (copied same))) (ends version (omega arith) s)))
-      go false t =
-          let ne : k.version ≢ version = grind (arith, nat_tests) in
-          let less : version < k.version = (let other : version ≢ k.version = λ e. ne (sym e) in omega arith) in
-          let goes : after code (load_at room (checking version)) k.version ≡ GoOn (load_at room (load_begins code.size k.version)) = rw t refl in
-          let back : goes_back {T = T} (load_at room (checking version)) k.version ≡ true = rw t refl in
-          subst (λ a. Does (checks version) (goes_back {T = T} (load_at room (checking version)) k.version) a) (sym goes)
-          (subst (λ b. Does (checks version) b (GoOn (load_at room (load_begins code.size k.version)))) (sym back) (goes_again room version long less paid s))
+      go false t = grind arith
 
   pub load_step : (room : buffers.Buffer 128) (stage : LoadStage) → KnowsLoad code.size k room stage
       → KnowsBacks k since changes backs stage → steps ≤ load_number code.size stage backs → DoesOf room stage

@@ -40,7 +40,6 @@ use Rattle.laws_value.proofs.Core.{Core, layout, zeros}
 use Rattle.laws_value.proofs.Invariant.{Value, Represents, Scene, Inv, Shows, family, owes, holds_more}
 use Rattle.laws_value.proofs.Knows.{At, KnowsFlight, number_of, store_at}
 use Rattle.laws_value.proofs.Loads.{load_step}
-use Rattle.laws_value.proofs.Roles.{acquires, releases}
 use Rattle.laws_value.proofs.Stages.{StepOf}
 use Rattle.laws_value.proofs.Stores.{store_step}
 
@@ -57,14 +56,8 @@ module _ {T : Type 0} (scene : Scene T) (inv : Inv scene) where
       → scene.steps ≤ number_of code.size flight scene.backs
       → KnowsFlight k scene.since scene.changes scene.backs flight
       → IsFreshCall k.version (flights.TheVariants.Atomic flight) → StepOf scene start flight
-  step_moves AcquireProducer (calls.TheVariants.Acquire run) at s b fresh =
-      subst
-      (λ w. StepOf scene AcquireProducer (calls.TheVariants.Acquire (record { call = record { word = w }; given = tt; room = tt })))
-      (sym at) (acquires scene s b inv)
-  step_moves ReleaseProducer (calls.TheVariants.Release run) at s b fresh =
-      subst
-      (λ w. StepOf scene ReleaseProducer (calls.TheVariants.Release (record { call = record { word = w }; given = tt; room = tt })))
-      (sym at.0) (releases scene s b at.1 inv)
+  step_moves AcquireProducer (calls.TheVariants.Acquire run) at s b fresh = grind arith
+  step_moves ReleaseProducer (calls.TheVariants.Release run) at s b fresh = grind arith
   step_moves (Store value) (calls.TheVariants.Store run) at s b fresh =
       subst (λ v. StepOf scene (Store value) (store_at v run.call.stage)) (sym at.1) (store_step scene inv value at.0 b run.call.stage fresh at.2 s)
   step_moves Load (calls.TheVariants.Load run) at s b fresh = load_step scene inv inv.value.within run.room run.call.stage at b s
