@@ -27,10 +27,7 @@ cells_apart size a b i j is js ne e = ⊎_elim less more (cases_lt a b)
     less h = let step : size * (a + 1) ≤ size * b = mul-le-mul_left size (omega arith) in absurd (omega arith)
 
     more : b ≤ a → ⊥
-    more h =
-        let before : b < a = omega arith in
-        let step : size * (b + 1) ≤ size * a = mul-le-mul_left size (omega arith) in
-        absurd (omega arith)
+    more h = grind arith
 
 -- a word of a cell lies among the cells
 pub cell_within : (size c p i : ℕ) → 0 < c → i < size → size * (p % c) + i < size * c

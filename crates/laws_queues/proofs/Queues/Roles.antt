@@ -55,9 +55,7 @@ module _ {T : Type 0} (en : Coding T) (kd : QueueKind) (scene : Scene T kd) (sma
         (Done (answers.TheVariants.Truth true)))
         scene.latest)
         (few_wait en kd c k (pending k.read None scene.latest) refl inv.queue.good inv.queue.hangs))
-        (λ q ne. kept (record { producer = None; consumer = co })
-        (record { producer = Some scene.party; consumer = co }) q (λ h. cc) (λ h. h) en c kd k k
-        (keeps_same en kd c (record { producer = None; consumer = co }) k q)),
+        (λ q ne. kept _ _ q (λ h. cc) (λ h. h) en c kd k k (keeps_same en kd c _ k q)),
   )
   acquire_producer (Some r) co inv before = (
     k,
@@ -70,10 +68,7 @@ module _ {T : Type 0} (en : Coding T) (kd : QueueKind) (scene : Scene T kd) (sma
         (refl, refl)
         (omega arith)
         (omega arith)
-        (still_hangs en kd (with_roles scene (Some r) co) inv small k
-        (party_then en kd (with_roles scene (Some r) co) AcquireProducer (takes producer_word) false
-        (Done (answers.TheVariants.Truth false)))
-        refl refl refl before)
+        (still_hangs en kd _ inv small k _ refl refl refl before)
         (λ q ne st f h. (h, refl)),
   )
 
@@ -90,13 +85,8 @@ module _ {T : Type 0} (en : Coding T) (kd : QueueKind) (scene : Scene T kd) (sma
         (refl, refl)
         (omega arith)
         (omega arith)
-        (still_hangs en kd (with_roles scene pr None) inv small k
-        (party_then en kd (with_roles scene pr None) AcquireConsumer (takes consumer_word) false
-        (Done (answers.TheVariants.Truth true)))
-        refl refl refl before)
-        (λ q ne. kept (record { producer = pr; consumer = None })
-        (record { producer = pr; consumer = Some scene.party }) q (λ h. h) (λ h. cc) en c kd k k
-        (keeps_same en kd c (record { producer = pr; consumer = None }) k q)),
+        (still_hangs en kd _ inv small k _ refl refl refl before)
+        (λ q ne. kept _ _ q (λ h. h) (λ h. cc) en c kd k k (keeps_same en kd c _ k q)),
   )
   acquire_consumer pr (Some r) inv before = (
     k,
@@ -109,10 +99,7 @@ module _ {T : Type 0} (en : Coding T) (kd : QueueKind) (scene : Scene T kd) (sma
         (refl, refl)
         (omega arith)
         (omega arith)
-        (still_hangs en kd (with_roles scene pr (Some r)) inv small k
-        (party_then en kd (with_roles scene pr (Some r)) AcquireConsumer (takes consumer_word) false
-        (Done (answers.TheVariants.Truth false)))
-        refl refl refl before)
+        (still_hangs en kd _ inv small k _ refl refl refl before)
         (λ q ne st f h. (h, refl)),
   )
 
@@ -133,9 +120,7 @@ module _ {T : Type 0} (en : Coding T) (kd : QueueKind) (scene : Scene T kd) (sma
         (few_wait en kd c k (pending k.read pr scene.latest)
         (subst (λ o. pending k.read o scene.latest ≡ None) (sym holds) (ap (option_map (λ (v : ℕ). (scene.party, v))) before))
         inv.queue.good inv.queue.hangs))
-        (λ q ne. kept (record { producer = pr; consumer = co }) (record { producer = None; consumer = co }) q
-        (λ h. absurd (clash pr scene.party q ne holds h)) (λ h. h) en c kd k k
-        (keeps_same en kd c (record { producer = pr; consumer = co }) k q)),
+        (λ q ne. kept _ _ q (λ h. absurd (clash pr scene.party q ne holds h)) (λ h. h) en c kd k k (keeps_same en kd c _ k q)),
   )
 
   release_consumer : (pr co : Option ℕ) → co ≡ Some scene.party → Inv en kd (with_roles scene pr co) → IsQuiet pr co
@@ -151,12 +136,8 @@ module _ {T : Type 0} (en : Coding T) (kd : QueueKind) (scene : Scene T kd) (sma
         (refl, refl)
         (omega arith)
         (omega arith)
-        (still_hangs en kd (with_roles scene pr co) inv small k
-        (party_then en kd (with_roles scene pr co) ReleaseConsumer (gives consumer_word) false (Done answers.TheVariants.Done))
-        refl refl refl before)
-        (λ q ne. kept (record { producer = pr; consumer = co }) (record { producer = pr; consumer = None }) q
-        (λ h. h) (λ h. absurd (clash co scene.party q ne holds h)) en c kd k k
-        (keeps_same en kd c (record { producer = pr; consumer = co }) k q)),
+        (still_hangs en kd _ inv small k _ refl refl refl before)
+        (λ q ne. kept _ _ q (λ h. h) (λ h. absurd (clash co scene.party q ne holds h)) en c kd k k (keeps_same en kd c _ k q)),
   )
 
   -- with the holders as they are

@@ -1,4 +1,5 @@
 -- The laws of a family with a premise on the turn.
+use native.Mathlib.Omega.{arith}
 use Rattle.std.proofs.Common.{◌≡◌, ℕ, ◌+◌, Bool, true, Option, Some, None, List, [], ◌∷◌, ◌++◌, refl, sym, ap, subst, ◌∙◌, append-nil}
 use Rattle.steps.specs.declared.ask.Ask.{Ask}
 use Rattle.model.specs.declared.event.Event.{Event}
@@ -110,9 +111,7 @@ module _ {T : Type 0} (F : Family T) where
     begin_sound : (t : Trace T) (p : ℕ) (start : Start T) → May t (Begin p start) → MayBegin t.world p start
         → Sound F t → (o : Option (Flight T)) → first_of t.world.kind t.world.capacity start t.world.kept ≡ o
         → Sound F record { world = after_begin t.world p start o; events = t.events ++ Begun p start ∷ [] }
-    begin_sound t p start small may s None e =
-        let call = rw e at may.call in
-        absurd (cc)
+    begin_sound t p start small may s None e = grind arith
     begin_sound t p start small may s (Some flight) e = comes_sound t p _ _ _ _ _ s (laws.begin t p start flight s small may e)
 
     death_sound : (t : Trace T) (owner : ℕ) → MayDie t.world owner → Sound F t → Sound F (after_turn t (Die owner))

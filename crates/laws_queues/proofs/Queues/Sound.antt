@@ -230,15 +230,6 @@ some_mapped : {T : Type 0} → (o : Option (QueueFlight T)) (flight : QueueFligh
     → option_map flights.TheVariants.Queues o ≡ Some (flights.TheVariants.Queues flight) → o ≡ Some flight
 some_mapped x0 x1 x2 = grind arith
 
--- a call that begins on a queue is one of its own
-abbrev IsOwn : {T : Type 0} → Start T → Flight T → Type 0
-IsOwn (Queues start) (flights.TheVariants.Queues flight) = Unit {0}
-IsOwn start flight = ⊥
-
-begins_own : {T : Type 0} (kd : QueueKind) (c : ℕ) (kept : Registry T) (start : Start T) (flight : Flight T)
-    → first_of (machine_kind kd) c start kept ≡ Some flight → IsOwn start flight
-begins_own x0 x1 x2 x3 x4 x5 = grind arith
-
 module _ {T : Type 0} (en : Coding T) (law : IsCoding en) (kd : QueueKind) (c : ℕ) (t : Trace T) (s : frame.Sound (family en kd c) t) where
   pub write_is : get_or t.world.words 0 0 ≡ s.state.core.write
   write_is = ap (λ ws. get_or ws 0 0) (kept_is t.world.kept t.world.words s.state s.fit).1
@@ -360,10 +351,7 @@ module _ {T : Type 0} (en : Coding T) (law : IsCoding en) (kd : QueueKind) (c : 
       begins start flight (first_is en law c s.state.roles p (t.events ++ Begun p (Queues start) ∷ []) t.world.changes kd s.state.core
       start flight called role)
       may.free
-  begin_comes start flight may e =
-      let named : first_of (machine_kind kd) t.world.capacity start t.world.kept ≡ Some flight =
-      subst (λ kind. first_of kind t.world.capacity start t.world.kept ≡ Some flight) s.kind e in
-      absurd (begins_own kd t.world.capacity t.world.kept start flight named)
+  begin_comes start flight may e = grind arith
 
 pub asks_nothing : {T A : Type 0}
     → (en : Coding T) (kd : QueueKind) (c : ℕ) (t : Trace T) (p : ℕ) (x : Party T) (flight : Flight T) (since : ℕ)
