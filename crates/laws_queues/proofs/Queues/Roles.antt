@@ -2,7 +2,6 @@
 use Rattle.std.proofs.Common.{◌≡◌, ℕ, ◌^◌, ◌<◌, ◌≤◌, true, false, Option, Some, None, option_map, refl, ap, subst, sym, ◌∙◌, arith}
 use Rattle.steps.specs.declared.ask.Ask.{Ask}
 use Rattle.steps.specs.declared.ask.Op.TheVariants.{Store, Exchange}
-use Rattle.steps.specs.declared.ask.After.TheVariants.{Done}
 use Rattle.model.specs.declared.event.Answer.{Answer}
 use Rattle.model.specs.declared.event.Answer as answers
 use Rattle.model.specs.declared.families.queues.QueueStart.TheVariants.{AcquireProducer, ReleaseProducer, AcquireConsumer, ReleaseConsumer}
@@ -10,11 +9,10 @@ use Rattle.model.specs.declared.families.queues.QueueKind.{QueueKind}
 use Rattle.model.specs.Coding.{Coding}
 use Rattle.model.specs.Families.Queues.Calls.{acquire_of, release_of, producer_word, consumer_word}
 use Rattle.model.specs.Families.Queues.Steps.{pending}
-use Rattle.model.specs.Parties.{put}
 use Rattle.laws_queues.proofs.Queues.Invariant.{Scene, Inv}
 use Rattle.laws_queues.proofs.Queues.Keeping.{clash, kept, keeps_same}
 use Rattle.laws_queues.proofs.Queues.Pending.{pending_here, few_wait, none_hangs}
-use Rattle.laws_queues.proofs.Queues.Stages.{IsCalm, party_then, StepOf, still_hangs, ends}
+use Rattle.laws_queues.proofs.Queues.Stages.{IsCalm, StepOf, still_hangs, ends}
 
 abbrev takes : ℕ → Option Ask
 takes word = Some (record { word = word; op = Exchange 1 0 })
@@ -46,14 +44,7 @@ module _ {T : Type 0} (en : Coding T) (kd : QueueKind) (scene : Scene T kd) (sma
         (refl, refl)
         (omega arith)
         (omega arith)
-        (none_hangs T kd c k (pending k.read (Some scene.party)
-        (put scene.party (party_then en kd (with_roles scene None co) AcquireProducer (takes producer_word) false
-        (Done (answers.TheVariants.Truth true)))
-        scene.latest))
-        (pending_here k.read scene.party
-        (party_then en kd (with_roles scene None co) AcquireProducer (takes producer_word) false
-        (Done (answers.TheVariants.Truth true)))
-        scene.latest)
+        (none_hangs T kd c k _ (pending_here k.read scene.party _ scene.latest)
         (few_wait en kd c k (pending k.read None scene.latest) refl inv.queue.good inv.queue.hangs))
         (λ q ne. kept _ _ q (λ h. cc) (λ h. h) en c kd k k (keeps_same en kd c _ k q)),
   )
