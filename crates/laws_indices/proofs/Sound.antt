@@ -159,12 +159,11 @@ module _ {T : Type 0} (code : Coding T) (c : ℕ) (t : Trace T) (s : frame.Sound
         → ComesFrom (family code c) t s p x since code s.state.words (registries.TheVariants.Indices s.state.holders) start flight
     comes (Indices start) (flights.TheVariants.Indices flight) here =
         let moves = step_moves (scene_of x since) (inv_of x since) start flight (is_here x flight since found here.found) here.at here.steps here.knows in
-        let from = Open (Indices start) (flight_wrote {T = T} p flight) in
         record {
           state = _;
           fit = (refl, refl);
-          holds = holds_more (scene_of x since) _ _ (Some (flights.TheVariants.Indices flight)) from _ _ _ moves here.found s.holds;
-          owes = owes (scene_of x since) _ _ (Some (flights.TheVariants.Indices flight)) from _ _ _ moves here.span (inv_of x since);
+          holds = holds_more (scene_of x since) _ _ _ _ _ _ _ moves here.found s.holds;
+          owes = owes (scene_of x since) _ _ _ _ _ _ _ moves here.span (inv_of x since);
         }
     comes start flight here = absurd here.at
 
@@ -207,12 +206,8 @@ module _ {T : Type 0} (code : Coding T) (c : ℕ) (t : Trace T) (s : frame.Sound
       record {
         state = record { words = s.state.words; holders = s.state.holders; seats = seats_with s.state.seats p };
         fit = fit_seats t.world.kept t.world.words s.state (seats_with s.state.seats p) s.fit;
-        holds =
-            holds_more scene s.state.words s.state.holders None (span_of p t.events) y (Begun p (Indices start) ∷ [])
-            t.world.changes shows may.free s.holds;
-        owes =
-            owes scene s.state.words s.state.holders None (span_of p t.events) y (Begun p (Indices start) ∷ [])
-            t.world.changes shows refl (inv_of y t.world.changes);
+        holds = holds_more scene _ _ _ _ _ _ _ shows may.free s.holds;
+        owes = owes scene _ _ _ _ _ _ _ shows refl (inv_of y t.world.changes);
       }
 
   own : (start : Start T) (flight : Flight T) → first_of t.world.kind t.world.capacity start t.world.kept ≡ Some flight → IsOwn c start flight

@@ -193,8 +193,8 @@ module _ {T : Type 0} (code : Coding T) (c : ℕ) (t : Trace T) (s : frame.Sound
       record {
         state = s.state;
         fit = s.fit;
-        holds = holds_more scene s.state.holder k (span_of p t.events) y (Begun p (Atomic start) ∷ []) t.world.changes shows s.holds;
-        owes = owes scene s.state.holder k (span_of p t.events) y (Begun p (Atomic start) ∷ []) t.world.changes shows refl (inv_of y t.world.changes);
+        holds = holds_more scene _ _ _ _ _ _ shows s.holds;
+        owes = owes scene _ _ _ _ _ _ shows refl (inv_of y t.world.changes);
       }
 
   own : (start : Start T) (flight : Flight T) → first_of t.world.kind t.world.capacity start t.world.kept ≡ Some flight → IsOwn start flight

@@ -168,9 +168,7 @@ module _ {T : Type 0} (en : Coding T) (kd : QueueKind) (scene : Scene T kd) (inv
                   (holders (number_waiting c write read))
                   (rw none (omega arith))
                   (omega arith)
-                  (still_hangs en kd scene inv small k
-                  (party_then en kd scene start (Some load_of_read) false (Done (length_answer which c (number_waiting c write read))))
-                  refl refl refl before)
+                  (still_hangs en kd scene inv small k _ refl refl refl before)
                   (λ q ne st f h. (h, refl)),
             )
         go false e =

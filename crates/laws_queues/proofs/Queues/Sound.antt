@@ -311,8 +311,7 @@ module _ {T : Type 0} (en : Coding T) (law : IsCoding en) (kd : QueueKind) (c : 
         grants = (tt, tt);
         good = s.holds.good;
         hangs =
-            hangs_same T kd c k k (pending k.read pr t.world.latest) (pending k.read pr (put p y t.world.latest)) refl
-            (pending_put k.read pr p y t.world.latest first.calm before) s.holds.hangs;
+            hangs_same T kd c k k _ _ refl (pending_put k.read pr p y t.world.latest first.calm before) s.holds.hangs;
         book = append-nil (map (item kd) k.waiting);
         out = omega arith;
         producers = refl;
@@ -332,10 +331,8 @@ module _ {T : Type 0} (en : Coding T) (law : IsCoding en) (kd : QueueKind) (c : 
       record {
         state = s.state;
         fit = s.fit;
-        holds =
-            holds_more en kd scene s.state.roles k y (Begun p (Queues start) ∷ []) t.world.changes s.holds
-            (queue_part en kd scene s.state.roles k (span_of p t.events) y (Begun p (Queues start) ∷ []) t.world.changes shows);
-        owes = owes en kd scene s.state.roles k (span_of p t.events) y (Begun p (Queues start) ∷ []) t.world.changes shows refl (inv_of y t.world.changes);
+        holds = holds_more en kd scene _ _ _ _ _ s.holds (queue_part en kd scene _ _ _ _ _ _ shows);
+        owes = owes en kd scene _ _ _ _ _ _ shows refl (inv_of y t.world.changes);
       }
 
   pub begin_comes : (start : Start T) (flight : Flight T) → MayBegin t.world p start → first_of t.world.kind t.world.capacity start t.world.kept ≡ Some flight
