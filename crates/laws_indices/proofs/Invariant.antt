@@ -185,8 +185,7 @@ module _ {T : Type 0} where
         → frame.Owes (family scene.coding scene.capacity) (set_then scene words' holders') scene.party y scene.latest
         scene.events es changes'
     owes is inv =
-        frame.owes (family scene.coding scene.capacity) scene.set (set_then scene words' holders') from scene.party
-        y scene.latest scene.events es scene.changes changes' is inv.frame
+        frame.owes (family scene.coding scene.capacity) _ _ _ _ _ _ _ _ _ _ is inv.frame
         (record {
           own = s.own;
           stands = s.stands;

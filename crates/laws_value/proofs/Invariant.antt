@@ -144,9 +144,7 @@ module _ {T : Type 0} where
         → frame.Owes (family scene.coding scene.capacity) (record { holder = holder'; core = k' }) scene.party y
         scene.latest scene.events es changes'
     owes is inv =
-        frame.owes (family scene.coding scene.capacity) (value_of_scene scene)
-        (record { holder = holder'; core = k' }) from scene.party y scene.latest scene.events es scene.changes
-        changes' is inv.frame
+        frame.owes (family scene.coding scene.capacity) _ _ _ _ _ _ _ _ _ _ is inv.frame
         (record {
           own = s.own;
           stands = s.stands;
