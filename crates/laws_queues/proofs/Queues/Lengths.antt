@@ -41,7 +41,7 @@ use Rattle.model.specs.Families.Queues.Promises.{load_of_write, load_of_read}
 use Rattle.laws_queues.proofs.Queues.Core.{Core, Good}
 use Rattle.laws_queues.proofs.Queues.Knows.{layout, len_at, Hangs, Waited, KnowsLen, len_number, At}
 use Rattle.laws_queues.proofs.Queues.Invariant.{waiting_is}
-use Rattle.laws_queues.proofs.Queues.Stages.{IsCalm, party_then, Stays, StepOf, still_hangs, quiet, ends}
+use Rattle.laws_queues.proofs.Queues.Stages.{IsCalm, Stays, StepOf, still_hangs, quiet, ends}
 use Rattle.laws_queues.proofs.Queues.Pending.{nothing_waits}
 use Rattle.laws_queues.proofs.Queues.Values.{encoded, item}
 

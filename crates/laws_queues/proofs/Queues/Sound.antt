@@ -39,8 +39,8 @@ use Rattle.model.specs.Families.Loan.Opening.{is_loan}
 use Rattle.model.specs.Families.Queues.Calls.{acquire_of, release_of, first}
 use Rattle.model.specs.Families.Queues.Objects.{list_of}
 use Rattle.model.specs.Families.Queues.Opening.{cells_of, words_of_cell, lacks_role, call_of, kept_rows}
-use Rattle.model.specs.Families.Queues.Steps.{pending_at, pending}
-use Rattle.model.specs.Parties.{party_of, put, doing_of, flight_of}
+use Rattle.model.specs.Families.Queues.Steps.{pending_at}
+use Rattle.model.specs.Parties.{party_of, doing_of, flight_of}
 use Rattle.model.specs.Reading.{Open, span_of}
 use Rattle.model.specs.Rows.{first_row}
 use Rattle.model.specs.Turns.{old_of, party_at_begin, IsReached}
