@@ -281,13 +281,8 @@ module _ {T : Type 0} (K : SetKind T) where
 
     -- ---- what the invariant says in the promises' words
 
-    bounds : frame.Bounds F
-    bounds = grind arith
-
     progress : (t : Trace T) → frame.Sound F t → (p : ℕ) → Progresses K.promise c code.size (span_of p t.events) (progress_in t.world p)
-    progress t s p =
-        frame.progresses F bounds s.state p t.events t.world.changes (party_of p t.world.latest) (span_of p t.events)
-        (s.inv.calls p) (s.inv.knows p)
+    progress x0 x1 x2 = grind arith
 
   -- ---- every run
 

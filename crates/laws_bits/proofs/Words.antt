@@ -1,6 +1,6 @@
 -- What an operation does to a word, and which words change by it. The flags of a word stand in `steps`.
 use Rattle.std.proofs.Common.{◌≡◌, ◌≢◌, ℕ, zero, suc, ◌==◌, Bool, true, false, cond, Option, Some, None, List, get_or}
-use Rattle.std.proofs.Common.{set, replicate, refl, sym, ap, ◌∙◌, arith, get_or-set_other}
+use Rattle.std.proofs.Common.{set, replicate, refl, ap, ◌∙◌, arith, get_or-set_other}
 use Rattle.std.proofs.lemmas.Bool.Decides.{nat_tests}
 use Rattle.std.proofs.lemmas.List.{set-get_or}
 use Rattle.steps.specs.declared.ask.Ask.{Ask}
@@ -13,27 +13,13 @@ zeros zero i d = refl
 zeros (suc n) zero d = refl
 zeros (suc n) (suc i) d = zeros n i d
 
-abbrev one_unless : Bool → ℕ
-one_unless b = cond b 0 1
-
 -- where a word has another value afterwards, that counts as a change
 pub change_one : (words : List ℕ) (ask : Option Ask) (i : ℕ) → get_or (words_after words ask) i 0 ≢ get_or words i 0 → change_of words ask ≡ 1
 change_one words None i ne = absurd (ne refl)
 change_one words (Some ask) i ne = by_place (i == ask.word) refl
   where
-    after : List ℕ
-    after = words_after words (Some ask)
-
-    by_value : (b : Bool) → (get_or after ask.word 0 == get_or words ask.word 0) ≡ b → i ≡ ask.word → one_unless b ≡ 1
-    by_value false t same = refl
-    by_value true t same =
-        let equal : get_or after ask.word 0 ≡ get_or words ask.word 0 = grind (arith, nat_tests) in
-        absurd (ne (ap (λ n. get_or after n 0) same ∙ (equal ∙ ap (λ n. get_or words n 0) (sym same))))
-
     by_place : (b : Bool) → (i == ask.word) ≡ b → change_of words (Some ask) ≡ 1
-    by_place true t =
-        let same : i ≡ ask.word = grind (arith, nat_tests) in
-        by_value (get_or after ask.word 0 == get_or words ask.word 0) refl same
+    by_place true t = grind arith
     by_place false t =
         let other : i ≢ ask.word = grind (arith, nat_tests) in
         absurd (ne (get_or-set_other words ask.word i _ 0 other))

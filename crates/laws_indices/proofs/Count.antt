@@ -1,15 +1,10 @@
 -- The number in the head of a unique index set, beside what it counts: the indices that are held, and the calls that take
 -- one or give one back. No event and no party is in it.
 use Rattle.std.proofs.Common.{◌≡◌, ◌≢◌, ℕ, ◌+◌, ◌-◌, ◌%◌, ◌^◌, ◌<◌, ◌≤◌, ◌⊎◌, ⊎_elim, arith}
-use Rattle.steps.specs.declared.indices.head.HeadDetails.{HeadDetails}
-use Rattle.steps.specs.Indices.Head.{borrowed, locked, head_word}
+use Rattle.steps.specs.Indices.Head.{borrowed, locked}
 use Rattle.steps.specs.Indices.Unique.{head_taken, head_given_back, head_locked}
 
 -- ---- the heads that calls write
-
--- the number of a head that says this
-number_of : (d : HeadDetails) → borrowed (head_word d) ≡ d.borrowed_indices % 2 ^ 24
-number_of d = omega arith
 
 pub taken_number : (head next : ℕ) → borrowed head < locked → borrowed (head_taken head next) ≡ borrowed head + 1
 taken_number x0 x1 x2 = grind arith

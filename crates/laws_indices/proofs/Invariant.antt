@@ -1,6 +1,6 @@
 -- What holds of the machine of a unique index set between any two turns beside what the frame says of every machine, and
 -- what a turn must show to keep it.
-use Rattle.std.proofs.Common.{◌≡◌, ◌≢◌, ℕ, ◌+◌, ◌<◌, ◌≤◌, ⊎_elim, if◌then◌else◌, Bool, false, nat_lt, Option, Some}
+use Rattle.std.proofs.Common.{◌≡◌, ◌≢◌, ℕ, ◌+◌, ◌<◌, ◌≤◌, ⊎_elim, if◌then◌else◌, false, nat_lt, Option, Some}
 use Rattle.std.proofs.Common.{None, List, [], ◌++◌, fold, refl, sym, ap, subst, ◌∙◌, arith}
 use Rattle.std.proofs.lemmas.Bool.{cases_eq}
 use Rattle.std.proofs.lemmas.List.Sums.{fold-append}
@@ -185,8 +185,7 @@ module _ {T : Type 0} where
         → frame.Owes (family scene.coding scene.capacity) (set_then scene words' holders') scene.party y scene.latest
         scene.events es changes'
     owes is inv =
-        frame.owes (family scene.coding scene.capacity) scene.set (set_then scene words' holders') from scene.party
-        y scene.latest scene.events es scene.changes changes' is inv.frame
+        frame.owes (family scene.coding scene.capacity) _ _ _ _ _ _ _ _ _ _ is inv.frame
         (record {
           own = s.own;
           stands = s.stands;

@@ -1,7 +1,5 @@
 -- What the invariant says of the events, in the promises' words.
-use Rattle.std.proofs.Common.{◌≡◌, ℕ, sym, ap, subst, arith}
-use Rattle.model.specs.declared.event.Start.{Start}
-use Rattle.model.specs.declared.event.Start.TheVariants.{Indices}
+use Rattle.std.proofs.Common.{◌≡◌, sym, ap, subst, arith}
 use Rattle.model.specs.declared.turn.Kind as kinds
 use Rattle.model.specs.Coding.{Coding}
 use Rattle.model.specs.Families.Indices.Promises.{promise}
@@ -14,9 +12,6 @@ use Rattle.laws_indices.proofs.Invariant.{family}
 use Rattle.laws_indices.proofs.Sound.{reached_sound, reached_on_sound}
 
 module _ {T : Type 0} where
-  bounds : (code : Coding T) (c : ℕ) → frame.Bounds (family code c)
-  bounds x0 x1 = grind arith
-
   -- ---- what is promised
 
   kept_by : (code : Coding T) (t : Trace T) → (s : frame.Sound (family code t.world.capacity) t) → IsKeptBy promise t

@@ -1,5 +1,5 @@
 -- The steps of the calls that look at the head: how many indices are borrowed, and whether the set is locked.
-use Rattle.std.proofs.Common.{◌≡◌, ◌≢◌, ℕ, ◌+◌, ◌≤◌, Bool, true, false, Option, Some, List, refl, sym, ap, subst, ◌∙◌, arith}
+use Rattle.std.proofs.Common.{◌≡◌, ◌≢◌, ℕ, ◌+◌, ◌≤◌, true, false, Option, Some, List, refl, sym, ap, subst, ◌∙◌, arith}
 use Rattle.std.proofs.lemmas.Bool.Decides.{nat_tests}
 use Rattle.std.proofs.lemmas.List.{set-get_or}
 use Rattle.steps.specs.declared.ask.Ask.{Ask}
@@ -52,9 +52,7 @@ module _ {T : Type 0} (scene : Scene T) (inv : Inv scene) (straight : scene.back
   counts_so here = (shut, unlocked)
     where
       shut : is_locked events ≡ true → borrowed_number (head_of ws) ≡ 0
-      shut t =
-          let says : says_locked (head_of ws) ≡ true = sym inv.holds.lock ∙ t in
-          rw says refl
+      shut t = grind arith
 
       unlocked : is_locked events ≡ false → ((tally_of events).held ≤ borrowed_number (head_of ws)) × (borrowed_number (head_of ws) ≤ in_use (tally_of events))
       unlocked t =

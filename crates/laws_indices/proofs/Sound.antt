@@ -24,7 +24,6 @@ use Rattle.model.specs.Families.Indices.Calls.{first}
 use Rattle.model.specs.Families.Indices.Opening.{opening_words, call_rows, kept_rows}
 use Rattle.model.specs.Families.Indices.Promises.{GoesStraight}
 use Rattle.model.specs.Families.Indices.Reading.{tally_after}
-use Rattle.model.specs.Families.Queues.Opening.{holds}
 use Rattle.model.specs.Families.Loan.Opening.{is_loan}
 use Rattle.model.specs.Parties.{party_of, doing_of, flight_of}
 use Rattle.model.specs.Reading.{Open, span_of}
@@ -160,12 +159,11 @@ module _ {T : Type 0} (code : Coding T) (c : ℕ) (t : Trace T) (s : frame.Sound
         → ComesFrom (family code c) t s p x since code s.state.words (registries.TheVariants.Indices s.state.holders) start flight
     comes (Indices start) (flights.TheVariants.Indices flight) here =
         let moves = step_moves (scene_of x since) (inv_of x since) start flight (is_here x flight since found here.found) here.at here.steps here.knows in
-        let from = Open (Indices start) (flight_wrote {T = T} p flight) in
         record {
           state = _;
           fit = (refl, refl);
-          holds = holds_more (scene_of x since) _ _ (Some (flights.TheVariants.Indices flight)) from _ _ _ moves here.found s.holds;
-          owes = owes (scene_of x since) _ _ (Some (flights.TheVariants.Indices flight)) from _ _ _ moves here.span (inv_of x since);
+          holds = holds_more (scene_of x since) _ _ _ _ _ _ _ moves here.found s.holds;
+          owes = owes (scene_of x since) _ _ _ _ _ _ _ moves here.span (inv_of x since);
         }
     comes start flight here = absurd here.at
 
@@ -208,13 +206,12 @@ module _ {T : Type 0} (code : Coding T) (c : ℕ) (t : Trace T) (s : frame.Sound
       record {
         state = record { words = s.state.words; holders = s.state.holders; seats = seats_with s.state.seats p };
         fit = fit_seats t.world.kept t.world.words s.state (seats_with s.state.seats p) s.fit;
-        holds =
-            holds_more scene s.state.words s.state.holders None (span_of p t.events) y (Begun p (Indices start) ∷ [])
-            t.world.changes shows may.free s.holds;
-        owes =
-            owes scene s.state.words s.state.holders None (span_of p t.events) y (Begun p (Indices start) ∷ [])
-            t.world.changes shows refl (inv_of y t.world.changes);
+        holds = holds_more scene _ _ _ _ _ _ _ shows may.free s.holds;
+        owes = owes scene _ _ _ _ _ _ _ shows refl (inv_of y t.world.changes);
       }
+
+  own : (start : Start T) (flight : Flight T) → first_of t.world.kind t.world.capacity start t.world.kept ≡ Some flight → IsOwn c start flight
+  own start flight e = begins_own c t.world.kept start flight (rw (s.kind, s.capacity) at e)
 
   pub begin_comes : (start : Start T) (flight : Flight T) → MayBegin t.world p start → first_of t.world.kind t.world.capacity start t.world.kept ≡ Some flight
       → frame.Comes (family code c) t p (kept_after_begin t.world.coding t.world.capacity start p t.world.kept)
@@ -225,20 +222,11 @@ module _ {T : Type 0} (code : Coding T) (c : ℕ) (t : Trace T) (s : frame.Sound
       subst (λ kept. first_row (kept_rows {T = T} t.world.capacity start kept p) ≡ None) is.0 may.rows in
       let passed : first_row (call_rows c s.state.holders p start) ≡ None =
       subst (λ n. first_row (call_rows n s.state.holders p start) ≡ None) s.capacity rows in
-      let named : first_of {T = T} kinds.TheVariants.Indices t.world.capacity (Indices start) t.world.kept
-      ≡ Some (flights.TheVariants.Indices flight) =
-      subst (λ kind. first_of {T = T} kind t.world.capacity (Indices start) t.world.kept ≡ Some (flights.TheVariants.Indices flight))
-      s.kind e in
-      let own : first c start ≡ flight =
-      subst (λ n. first n start ≡ flight) s.capacity
-      (begins_own t.world.capacity t.world.kept (Indices start) (flights.TheVariants.Indices flight) named) in
-      begins start flight (subst (λ f. IsFirst T c s.state.words s.state.holders p t.world.changes start f) own
+      begins start flight (subst (λ f. IsFirst T c s.state.words s.state.holders p t.world.changes start f)
+      (own (Indices start) (flights.TheVariants.Indices flight) e)
       (first_is c s.state.words s.state.holders p t.world.changes start passed))
       may
-  begin_comes start flight may e =
-      let named : first_of kinds.TheVariants.Indices t.world.capacity start t.world.kept ≡ Some flight =
-      subst (λ kind. first_of kind t.world.capacity start t.world.kept ≡ Some flight) s.kind e in
-      absurd (begins_own t.world.capacity t.world.kept start flight named)
+  begin_comes start flight may e = absurd (own start flight e)
 
 module _ {T : Type 0} where
   laws : (code : Coding T) (c : ℕ) → frame.LawsOn (family code c)

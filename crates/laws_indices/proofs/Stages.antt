@@ -210,10 +210,7 @@ module _ {T : Type 0} (scene : Scene T) where
           right = tt;
           answers = tt;
           good = good;
-          tally =
-              λ taking' giving' a b. same_tally (held_below holders c) (held_below holders c)
-              (all_taking latest scene.set.seats) taking' (all_giving latest scene.set.seats) giving' refl (omega arith)
-              (omega arith);
+          tally = λ taking' giving' a b. same_tally _ _ _ _ _ _ refl (omega arith) (omega arith);
           holders = λ i. refl;
           lock = sym lock;
           straight = straight;
@@ -243,9 +240,7 @@ module _ {T : Type 0} (scene : Scene T) where
           right = (tt, tt);
           answers = (right, tt);
           good = good;
-          tally =
-              λ taking' giving' a b. told (held_below holders c) (all_taking latest scene.set.seats)
-              (all_giving latest scene.set.seats) taking' giving' a b;
+          tally = λ taking' giving' a b. told _ _ _ taking' giving' a b;
           holders = λ i. refl;
           lock = sym lock;
           straight = straight;
@@ -277,10 +272,7 @@ module _ {T : Type 0} (scene : Scene T) where
           right = (inv.holds.holders index ∙ holds, tt);
           answers = (tt, tt);
           good = good;
-          tally =
-              λ taking' giving' a b. same_tally (held_below holders c - 1) (held_below (set holders index None) c)
-              (all_taking latest scene.set.seats) taking' (all_giving latest scene.set.seats + 1) giving' (omega arith)
-              (omega arith) (omega arith);
+          tally = λ taking' giving' a b. same_tally _ _ _ _ _ _ (omega arith) (omega arith) (omega arith);
           holders = λ i. holder_set holders index None i (omega arith);
           lock = ap says_locked (sym head);
           straight = straight;
@@ -309,10 +301,7 @@ module _ {T : Type 0} (scene : Scene T) where
           right = ((below, inv.holds.holders index ∙ none, inv.holds.lock ∙ open_says (head_of words) unlocked), (tt, tt));
           answers = (tt, (tt, tt));
           good = good;
-          tally =
-              λ taking' giving' a b. same_tally (held_below holders c + 1) (held_below (set holders index (Some p)) c)
-              (all_taking latest scene.set.seats - 1) taking' (all_giving latest scene.set.seats) giving' (omega arith)
-              (omega arith) (omega arith);
+          tally = λ taking' giving' a b. same_tally _ _ _ _ _ _ (omega arith) (omega arith) (omega arith);
           holders = λ i. holder_set holders index (Some p) i (omega arith);
           lock = ap says_locked (sym head);
           straight = tt;
@@ -339,10 +328,7 @@ module _ {T : Type 0} (scene : Scene T) where
           right = ((λ i. inv.holds.holders i ∙ none i, inv.holds.lock ∙ open_says (head_of words) unlocked), (tt, tt));
           answers = (tt, (fold-append locked_after false events (Locked p ∷ []), tt));
           good = good;
-          tally =
-              λ taking' giving' a b. same_tally (held_below holders c) (held_below holders c)
-              (all_taking latest scene.set.seats) taking' (all_giving latest scene.set.seats - 1) giving' refl
-              (omega arith) (omega arith);
+          tally = λ taking' giving' a b. same_tally _ _ _ _ _ _ refl (omega arith) (omega arith);
           holders = λ i. refl;
           lock = sym (shut_says (head_of (words_after words ask)) shut);
           straight = tt;

@@ -1,25 +1,12 @@
 -- The value that the words hold, and what each operation on a word does to it. No event and no party is in it.
 -- size is the number of the words of a value.
-use Rattle.std.proofs.Common.{◌≡◌, ◌≢◌, ℕ, zero, suc, ◌+◌, ◌-◌, ◌*◌, ◌%◌, ◌<◌, ◌≤◌, ⊎_elim, Option, Some, None, List}
-use Rattle.std.proofs.Common.{[], ◌∷◌, length, get_or, set, take, replicate, refl, ◌∙◌, arith, length-set}
-use Rattle.std.proofs.Common.{get_or-set_same, get_or-set_other}
-use Rattle.std.proofs.lemmas.Bool.{cases_lt}
-use Rattle.std.proofs.Math.Nat.{mul-le-mul_left}
+use Rattle.std.proofs.Common.{◌≡◌, ◌≢◌, ℕ, zero, suc, ◌+◌, ◌-◌, ◌*◌, ◌%◌, ◌<◌, ◌≤◌, Option, Some, None, List}
+use Rattle.std.proofs.Common.{◌∷◌, length, get_or, set, take, replicate, refl, subst, ◌∙◌, arith, length-set}
+use Rattle.std.proofs.Common.{get_or-set_other}
+use Rattle.laws_queues.proofs.Queues.Core.{cells_apart, one_more}
+use Rattle.laws_queues.proofs.Ring.Pops.{same_words as as_far}
 
 -- ---- the two cells
-
--- the words of different cells are different
-cells_apart : (size a b i j : ℕ) → i < size → j < size → a ≢ b → size * a + i ≢ size * b + j
-cells_apart size a b i j is js ne e = ⊎_elim less more (cases_lt a b)
-  where
-    less : a < b → ⊥
-    less h = let step : size * (a + 1) ≤ size * b = mul-le-mul_left size (omega arith) in absurd (omega arith)
-
-    more : b ≤ a → ⊥
-    more h =
-        let before : b < a = omega arith in
-        let step : size * (b + 1) ≤ size * a = mul-le-mul_left size (omega arith) in
-        absurd (omega arith)
 
 -- a word of a cell lies among the cells
 pub cell_within : (size n i : ℕ) → i < size → size * (n % 2) + i < size * 2
@@ -27,14 +14,7 @@ cell_within x0 x1 x2 x3 = grind arith
 
 -- lists that begin with the same words
 pub same_words : (n : ℕ) (xs ys : List ℕ) → length ys ≡ n → n ≤ length xs → ((i : ℕ) → i < n → get_or xs i 0 ≡ get_or ys i 0) → take n xs ≡ ys
-same_words zero xs [] long enough same = refl
-same_words zero xs (y ∷ ys) long enough same = absurd (omega arith)
-same_words (suc n) [] ys long enough same = absurd (omega arith)
-same_words (suc n) (x ∷ xs) [] long enough same = absurd (omega arith)
-same_words (suc n) (x ∷ xs) (y ∷ ys) long enough same =
-    let first : x ≡ y = same 0 (omega arith) in
-    let rest : take n xs ≡ ys = same_words n xs ys (omega arith) (omega arith) (λ i below. same (suc i) (omega arith)) in
-    rw (first, rest) refl
+same_words n xs ys long enough same = subst (λ m. take m xs ≡ ys) long (as_far xs ys (omega arith) (λ i below. same i (omega arith)))
 
 -- the same number is read everywhere
 pub zeros : (n i d : ℕ) → get_or (replicate n d) i d ≡ d
@@ -105,20 +85,11 @@ module _ (size : ℕ) where
 
   -- the words stored so far, and one more
   pub one_filled : (k : Core) (words : List ℕ) (at : ℕ) → at < size → Good k → IsFilled k words at → IsFilled (filled k at (get_or words at 0)) words (at + 1)
-  one_filled k words at below g so_far i is = ⊎_elim before here (cases_lt i at)
-    where
-      before : i < at → get_or (set k.cells (size * (k.version % 2) + at) (get_or words at 0)) (size * (k.version % 2) + i) 0 ≡ get_or words i 0
-      before h =
-          let place : size * (k.version % 2) + i ≢ size * (k.version % 2) + at = λ e. absurd (omega arith) in
-          get_or-set_other k.cells (size * (k.version % 2) + at) (size * (k.version % 2) + i) (get_or words at 0) 0 place ∙ so_far i h
-
-      here : at ≤ i → get_or (set k.cells (size * (k.version % 2) + at) (get_or words at 0)) (size * (k.version % 2) + i) 0 ≡ get_or words i 0
-      here h =
-          let same : i ≡ at = omega arith in
-          let cells = g.cells in
-          let low = cell_within size k.version at below in
-          let within : size * (k.version % 2) + at < length k.cells = omega arith in
-          rw same (get_or-set_same k.cells (size * (k.version % 2) + at) (get_or words at 0) 0 within)
+  one_filled k words at below g so_far =
+      let cells = g.cells in
+      let low = cell_within size k.version at below in
+      one_more (λ i. size * (k.version % 2) + i) k.cells words at (get_or words at 0) (λ i h e. absurd (omega arith))
+      (omega arith) refl so_far
 
   -- 1 added to the version over a whole cell
   pub stores : (k : Core) (words : List ℕ) → length words ≡ size → Good k → IsFilled k words size → Good (stored k words)

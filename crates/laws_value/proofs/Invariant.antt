@@ -144,9 +144,7 @@ module _ {T : Type 0} where
         → frame.Owes (family scene.coding scene.capacity) (record { holder = holder'; core = k' }) scene.party y
         scene.latest scene.events es changes'
     owes is inv =
-        frame.owes (family scene.coding scene.capacity) (value_of_scene scene)
-        (record { holder = holder'; core = k' }) from scene.party y scene.latest scene.events es scene.changes
-        changes' is inv.frame
+        frame.owes (family scene.coding scene.capacity) _ _ _ _ _ _ _ _ _ _ is inv.frame
         (record {
           own = s.own;
           stands = s.stands;
@@ -166,10 +164,10 @@ module _ {T : Type 0} where
           good = s.good;
           stand =
               ap (standing (value_of_zeros code)) more
-              ∙ standing_more (value_of_zeros code) (moments scene.events) (moments es) (code.value_of scene.core.now) (code.value_of k'.now) h.stand s.goes;
+              ∙ standing_more (value_of_zeros code) (moments scene.events) (moments es) _ _ h.stand s.goes;
           legal =
               subst (IsLegal (value_of_zeros code)) (sym more)
-              (legal_more (value_of_zeros code) (moments scene.events) (moments es) (code.value_of scene.core.now) h.legal h.stand s.answers);
+              (legal_more (value_of_zeros code) (moments scene.events) (moments es) _ h.legal h.stand s.answers);
           answers = Each-append (AnswersRight code) scene.events es h.answers s.right;
           holders = fold-append holder_after None scene.events es ∙ (ap (λ o. fold holder_after o es) h.holders ∙ s.holders);
           grants = Each-append GrantsRight scene.events es h.grants s.grants;

@@ -1,9 +1,8 @@
 -- What the invariant says of the events, in the promises' words.
-use Rattle.std.proofs.Common.{◌≡◌, ℕ, zero, suc, ◌+◌, ◌-◌, ◌*◌, ◌%◌, ◌≤◌, Option, List, drop, take, refl, sym, ap, subst, ◌∙◌, arith}
+use Rattle.std.proofs.Common.{◌≡◌, ℕ, suc, ◌+◌, ◌-◌, ◌*◌, ◌%◌, ◌≤◌, Option, drop, take, sym, ap, subst, ◌∙◌, arith}
 use Rattle.std.proofs.lemmas.List.{get_or-drop, length-drop}
+use Rattle.std.proofs.Math.Nat.{mul-le-mul_left}
 use Rattle.steps.specs.Atomic.{cell_word}
-use Rattle.model.specs.declared.event.Start.{Start}
-use Rattle.model.specs.declared.event.Start.TheVariants.{Atomic}
 use Rattle.model.specs.declared.turn.Kind as kinds
 use Rattle.model.specs.Coding.{Coding, IsCoding}
 use Rattle.model.specs.Families.Atomic.Promises.{cell_in, IsValue, promise}
@@ -16,7 +15,7 @@ use Rattle.model.specs.Reading.{span_of}
 use Rattle.model.specs.Turns.{IsReached}
 use Rattle.model.specs.World.{Trace, progress_in}
 use Rattle.model.proofs.Frame as frame
-use Rattle.laws_value.proofs.Core.{Core, Good, layout, cell_within, same_words}
+use Rattle.laws_value.proofs.Core.{Core, Good, layout, same_words}
 use Rattle.laws_value.proofs.Invariant.{family}
 use Rattle.laws_queues.proofs.Queues.Sound.{IsFreshRun}
 use Rattle.laws_value.proofs.Sound.{kept_is, reached_sound, sound_on}
@@ -31,19 +30,12 @@ module _ {T : Type 0} where
 cell_is : (size : ℕ) (holder : Option ℕ) (k : Core) → Good size k → cell_in size (layout holder k) ≡ k.now
 cell_is size holder k g =
     let place : cell_word size (k.version - 1) ≡ suc (suc (size * ((k.version - 1) % 2))) = omega arith in
-    let low : size * ((k.version - 1) % 2) + size ≤ size * 2 = last_within in
+    let step : size * ((k.version - 1) % 2 + 1) ≤ size * 2 = mul-le-mul_left size (omega arith) in
     let long = length-drop (size * ((k.version - 1) % 2)) k.cells in
     let cells = g.cells in
     ap (λ n. take size (drop n (layout holder k))) place
     ∙ same_words size (drop (size * ((k.version - 1) % 2)) k.cells) k.now g.sized (omega arith)
     (λ i below. get_or-drop (size * ((k.version - 1) % 2)) k.cells i 0 ∙ g.held i below)
-  where
-    last_within : size * ((k.version - 1) % 2) + size ≤ size * 2
-    last_within = go size refl
-      where
-        go : (n : ℕ) → size ≡ n → size * ((k.version - 1) % 2) + size ≤ size * 2
-        go zero e = let none : size ≡ 0 = e in rw none (omega arith)
-        go (suc n) e = let below = cell_within size (k.version - 1) n (omega arith) in omega arith
 
 -- ---- what is promised
 

@@ -4,7 +4,6 @@ pub mod Justified
 pub mod Kept
 pub mod Knows
 pub mod Loads
-pub mod Roles
 pub mod Sound
 pub mod Stages
 pub mod Stores

@@ -1,8 +1,6 @@
 -- The steps of a load.
-use Rattle.std.proofs.Common.{◌≡◌, ◌≢◌, ℕ, ◌+◌, ◌*◌, ◌^◌, ◌<◌, ◌≤◌, ◌==◌, nat_lt, Bool, true, false, ⊎_elim, Option}
-use Rattle.std.proofs.Common.{Some, length, get_or, set, take, refl, sym, ap, subst, ◌∙◌, arith, length-set}
-use Rattle.std.proofs.Common.{get_or-set_same, get_or-set_other}
-use Rattle.std.proofs.lemmas.Bool.{cases_lt}
+use Rattle.std.proofs.Common.{◌≡◌, ℕ, ◌+◌, ◌*◌, ◌^◌, ◌<◌, ◌≤◌, ◌==◌, nat_lt, Bool, true, false, Option}
+use Rattle.std.proofs.Common.{Some, length, get_or, take, refl, sym, ap, subst, ◌∙◌, arith, length-set}
 use Rattle.std.proofs.lemmas.Bool.Decides.{nat_tests}
 use Rattle.std.proofs.lemmas.List.{set-get_or}
 use Rattle.steps.specs.declared.ask.Ask.{Ask}
@@ -12,18 +10,17 @@ use Rattle.steps.specs.declared.ask.After.TheVariants.{GoOn, Done}
 use Rattle.steps.specs.declared.atomic.LoadStage.{LoadStage}
 use Rattle.steps.specs.declared.atomic.LoadStage as loading
 use Rattle.steps.specs.declared.copied.Buffer as buffers
-use Rattle.steps.specs.Atomic.{cell_word, before_version, load_begins}
+use Rattle.steps.specs.Atomic.{cell_word, before_version}
 use Rattle.steps.specs.Queues.Ring.{word_at}
 use Rattle.model.specs.declared.event.Answer.{Answer}
 use Rattle.model.specs.declared.event.Answer as answers
-use Rattle.model.specs.declared.event.Start.TheVariants.{Atomic}
 use Rattle.model.specs.declared.families.atomic.AtomicStart as starts
 use Rattle.model.specs.declared.families.atomic.calls.AtomicFlight.{AtomicFlight}
 use Rattle.model.specs.Coding.{IsCoding}
 use Rattle.model.specs.Families.Atomic.Calls.{after, goes_back}
 use Rattle.model.specs.Families.Queues.Calls.{kept_at, read_in}
 use Rattle.model.specs.Turns.{change_of}
-use Rattle.laws_value.proofs.Core as core
+use Rattle.laws_queues.proofs.Queues.Core.{one_more}
 use Rattle.laws_value.proofs.Core.{Core, Good, layout, same_words}
 use Rattle.laws_value.proofs.Invariant.{Scene, Inv}
 use Rattle.laws_value.proofs.Knows.{KnowsLoad, KnowsBacks, IsCopied, load_at, load_number}
@@ -49,10 +46,6 @@ module _ {T : Type 0} (scene : Scene T) (inv : Inv scene) (small : scene.core.ve
   abbrev DoesOf : buffers.Buffer 128 → LoadStage → Type 0
   DoesOf room stage = StepOf scene starts.TheVariants.Load (load_at room stage)
 
-  -- the loads of the version's cell begin
-  begins : (room : buffers.Buffer 128) → length room.words ≡ 128 → KnowsLoad code.size k room (load_begins code.size k.version)
-  begins x0 x1 = grind arith
-
   loads : (room : buffers.Buffer 128) → length room.words ≡ 128 → steps ≤ 0 → backs + since ≤ changes → DoesOf room loading.TheVariants.LoadsVersion
   loads x0 x1 x2 x3 = grind arith
 
@@ -77,19 +70,9 @@ module _ {T : Type 0} (scene : Scene T) (inv : Inv scene) (small : scene.core.ve
     found_is x0 = grind arith
 
     copied_more : version ≡ k.version → IsCopied k room_then (at + 1)
-    copied_more same i is = ⊎_elim before here (cases_lt i at)
-      where
-        before : i < at → get_or (set room.words at found) i 0 ≡ get_or k.now i 0
-        before h =
-            let other : i ≢ at = λ e. absurd (omega arith) in
-            get_or-set_other room.words at i found 0 other ∙ copied same i h
-
-        here : at ≤ i → get_or (set room.words at found) i 0 ≡ get_or k.now i 0
-        here h =
-            let last : i ≡ at = omega arith in
-            let few = coded.few in
-            let within : at < length room.words = omega arith in
-            rw last (get_or-set_same room.words at found 0 within ∙ found_is same)
+    copied_more same =
+        let few = coded.few in
+        one_more (λ n. n) room.words k.now at found (λ n h e. absurd (omega arith)) (omega arith) (found_is same) (copied same)
 
     -- a word is loaded, and the call goes on so
     loaded_word : (stage : LoadStage) → KnowsLoad code.size k room_then stage
@@ -148,11 +131,6 @@ module _ {T : Type 0} (scene : Scene T) (inv : Inv scene) (small : scene.core.ve
       → Does (checks version) false (Done (answers.TheVariants.Loaded (code.value_of k.now)))
   ends x0 x1 x2 = grind arith
 
-  goes_again : (room : buffers.Buffer 128) (version : ℕ) → length room.words ≡ 128 → version < k.version
-      → backs + since + k.version ≤ changes + version → steps ≤ 1 + code.size + backs * (1 + code.size)
-      → Does (checks version) true (GoOn (load_at room (load_begins code.size k.version)))
-  goes_again x0 x1 x2 x3 x4 x5 = grind arith
-
   abbrev checking : ℕ → LoadStage
   checking version = loading.TheVariants.ChecksVersion version
 
@@ -171,13 +149,7 @@ module _ {T : Type 0} (scene : Scene T) (inv : Inv scene) (small : scene.core.ve
           (subst (λ b. Does (checks version) b (Done (answers.TheVariants.Loaded (read_in code room)))) (sym back)
           (subst (λ x. Does (checks version) false (Done (answers.TheVariants.Loaded x)))
           (sym (value_is room long (copied same))) (ends version (omega arith) s)))
-      go false t =
-          let ne : k.version ≢ version = grind (arith, nat_tests) in
-          let less : version < k.version = (let other : version ≢ k.version = λ e. ne (sym e) in omega arith) in
-          let goes : after code (load_at room (checking version)) k.version ≡ GoOn (load_at room (load_begins code.size k.version)) = rw t refl in
-          let back : goes_back {T = T} (load_at room (checking version)) k.version ≡ true = rw t refl in
-          subst (λ a. Does (checks version) (goes_back {T = T} (load_at room (checking version)) k.version) a) (sym goes)
-          (subst (λ b. Does (checks version) b (GoOn (load_at room (load_begins code.size k.version)))) (sym back) (goes_again room version long less paid s))
+      go false t = grind arith
 
   pub load_step : (room : buffers.Buffer 128) (stage : LoadStage) → KnowsLoad code.size k room stage
       → KnowsBacks k since changes backs stage → steps ≤ load_number code.size stage backs → DoesOf room stage

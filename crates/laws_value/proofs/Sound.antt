@@ -23,7 +23,6 @@ use Rattle.model.specs.Families.{first_of, want_of, ask_of, is_question, kept_af
 use Rattle.model.specs.Families.Atomic.Calls.{first, want}
 use Rattle.model.specs.Families.Atomic.Opening.{lacks_role, kept_rows}
 use Rattle.model.specs.Families.Loan.Opening.{is_loan}
-use Rattle.model.specs.Families.Queues.Opening.{holds}
 use Rattle.model.specs.Parties.{party_of}
 use Rattle.model.specs.Reading.{Open, span_of}
 use Rattle.model.specs.Rows.{first_row}
@@ -33,15 +32,14 @@ use Rattle.model.proofs.Frame as frame
 use Rattle.model.proofs.Readings.{Each-nil}
 use Rattle.model.proofs.Rows.{row_passed, MayBegin}
 use Rattle.model.proofs.Scenes.{asked, StandsThere, stands_there, ComesFrom, comes_from}
-use Rattle.laws_queues.proofs.Queues.Knows.{IsFreshCall, any_fresh}
+use Rattle.laws_queues.proofs.Queues.Knows.{IsFreshCall}
 use Rattle.laws_queues.proofs.Queues.Runs.{LawsAt, run_sound}
-use Rattle.laws_queues.proofs.Queues.Sound.{IsFreshTurn, IsFreshRun, fresh_any}
+use Rattle.laws_queues.proofs.Queues.Sound.{IsFreshTurn, IsFreshRun}
 use Rattle.laws_value.specs.Stored.{stored}
 use Rattle.laws_value.proofs.Core.{Core, layout, zeros}
 use Rattle.laws_value.proofs.Invariant.{Value, Represents, Scene, Inv, Shows, family, owes, holds_more}
 use Rattle.laws_value.proofs.Knows.{At, KnowsFlight, number_of, store_at}
 use Rattle.laws_value.proofs.Loads.{load_step}
-use Rattle.laws_value.proofs.Roles.{acquires, releases}
 use Rattle.laws_value.proofs.Stages.{StepOf}
 use Rattle.laws_value.proofs.Stores.{store_step}
 
@@ -58,14 +56,8 @@ module _ {T : Type 0} (scene : Scene T) (inv : Inv scene) where
       → scene.steps ≤ number_of code.size flight scene.backs
       → KnowsFlight k scene.since scene.changes scene.backs flight
       → IsFreshCall k.version (flights.TheVariants.Atomic flight) → StepOf scene start flight
-  step_moves AcquireProducer (calls.TheVariants.Acquire run) at s b fresh =
-      subst
-      (λ w. StepOf scene AcquireProducer (calls.TheVariants.Acquire (record { call = record { word = w }; given = tt; room = tt })))
-      (sym at) (acquires scene s b inv)
-  step_moves ReleaseProducer (calls.TheVariants.Release run) at s b fresh =
-      subst
-      (λ w. StepOf scene ReleaseProducer (calls.TheVariants.Release (record { call = record { word = w }; given = tt; room = tt })))
-      (sym at.0) (releases scene s b at.1 inv)
+  step_moves AcquireProducer (calls.TheVariants.Acquire run) at s b fresh = grind arith
+  step_moves ReleaseProducer (calls.TheVariants.Release run) at s b fresh = grind arith
   step_moves (Store value) (calls.TheVariants.Store run) at s b fresh =
       subst (λ v. StepOf scene (Store value) (store_at v run.call.stage)) (sym at.1) (store_step scene inv value at.0 b run.call.stage fresh at.2 s)
   step_moves Load (calls.TheVariants.Load run) at s b fresh = load_step scene inv inv.value.within run.room run.call.stage at b s
@@ -107,9 +99,7 @@ module _ {T : Type 0} (code : Coding T) (c : ℕ) (t : Trace T) (s : frame.Sound
 
   -- few turns are few versions
   few_turns : t.world.turns < 2 ^ 64 - 2 → (p : ℕ) → IsFreshTurn t (Next p)
-  few_turns small p flight here =
-      fresh_any t.world.coding t.world.words flight
-      (any_fresh (get_or t.world.words 0 0) flight (let low = s.holds.reached in let is = version_is in omega arith))
+  few_turns x0 x1 = grind arith
 
 -- ---- the laws of the family
 
@@ -203,9 +193,12 @@ module _ {T : Type 0} (code : Coding T) (c : ℕ) (t : Trace T) (s : frame.Sound
       record {
         state = s.state;
         fit = s.fit;
-        holds = holds_more scene s.state.holder k (span_of p t.events) y (Begun p (Atomic start) ∷ []) t.world.changes shows s.holds;
-        owes = owes scene s.state.holder k (span_of p t.events) y (Begun p (Atomic start) ∷ []) t.world.changes shows refl (inv_of y t.world.changes);
+        holds = holds_more scene _ _ _ _ _ _ shows s.holds;
+        owes = owes scene _ _ _ _ _ _ shows refl (inv_of y t.world.changes);
       }
+
+  own : (start : Start T) (flight : Flight T) → first_of t.world.kind t.world.capacity start t.world.kept ≡ Some flight → IsOwn start flight
+  own start flight e = begins_own t.world.capacity t.world.kept start flight (rw s.kind at e)
 
   pub begin_comes : (start : Start T) (flight : Flight T) → MayBegin t.world p start → first_of t.world.kind t.world.capacity start t.world.kept ≡ Some flight
       → frame.Comes (family code c) t p (kept_after_begin t.world.coding t.world.capacity start p t.world.kept)
@@ -215,17 +208,11 @@ module _ {T : Type 0} (code : Coding T) (c : ℕ) (t : Trace T) (s : frame.Sound
       let rows : first_row (kept_rows start (registries.TheVariants.Atomic s.state.holder) p) ≡ None =
       subst (λ kept. first_row (kept_rows start kept p) ≡ None) is.0 may.rows in
       let role = (row_passed (lacks_role s.state.holder p start) NoRole None rows).0 in
-      let named : first_of kinds.TheVariants.Atomic t.world.capacity (Atomic start) t.world.kept
-      ≡ Some (flights.TheVariants.Atomic flight) =
-      subst (λ kind. first_of kind t.world.capacity (Atomic start) t.world.kept ≡ Some (flights.TheVariants.Atomic flight)) s.kind e in
       begins start flight (subst (λ f. IsFirst code s.state.holder s.state.core p t.world.changes start f)
-      (begins_own t.world.capacity t.world.kept (Atomic start) (flights.TheVariants.Atomic flight) named)
+      (own (Atomic start) (flights.TheVariants.Atomic flight) e)
       (first_is code s.state.holder s.state.core p t.world.changes start role))
       s may
-  begin_comes start flight may e =
-      let named : first_of kinds.TheVariants.Atomic t.world.capacity start t.world.kept ≡ Some flight =
-      subst (λ kind. first_of kind t.world.capacity start t.world.kept ≡ Some flight) s.kind e in
-      absurd (begins_own t.world.capacity t.world.kept start flight named)
+  begin_comes start flight may e = absurd (own start flight e)
 
 module _ {T : Type 0} where
   pub fresh_laws : (code : Coding T) (c : ℕ) → LawsAt (family code c) IsFreshTurn

@@ -1,5 +1,5 @@
 -- What a step of a call of the single value has to show.
-use Rattle.std.proofs.Common.{◌≡◌, ◌≢◌, ℕ, ◌+◌, ◌≤◌, Bool, false, Option, Some, List, [], ◌∷◌, ◌++◌, fold, sym, ◌∙◌, arith}
+use Rattle.std.proofs.Common.{◌≡◌, ◌≢◌, ℕ, ◌+◌, ◌≤◌, Bool, false, Option, List, [], ◌∷◌, ◌++◌, fold, arith}
 use Rattle.steps.specs.declared.ask.Ask.{Ask}
 use Rattle.steps.specs.declared.ask.After.{After}
 use Rattle.steps.specs.declared.ask.After.TheVariants.{GoOn, Done}
@@ -27,10 +27,6 @@ use Rattle.model.specs.Turns.{one_if, old_of, words_after, change_of, step_count
 use Rattle.laws_value.proofs.Core.{Core, Good, layout}
 use Rattle.laws_value.proofs.Invariant.{Scene, Inv, Shows, family}
 use Rattle.laws_value.proofs.Knows.{At, KnowsFlight}
-
--- a role has one holder
-pub clash : (o : Option ℕ) (p q : ℕ) → q ≢ p → o ≡ Some p → o ≡ Some q → ⊥
-clash o p q ne a b = let same : Some p ≡ Some q = sym a ∙ b in ne (cc)
 
 module _ {T : Type 0} where
   -- a call of the value as one of any family

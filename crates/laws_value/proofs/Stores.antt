@@ -19,12 +19,13 @@ use Rattle.model.specs.declared.families.atomic.calls.AtomicFlight.{AtomicFlight
 use Rattle.model.specs.Coding.{IsCoding}
 use Rattle.model.specs.Families.Atomic.Calls.{after}
 use Rattle.model.specs.Turns.{change_of}
+use Rattle.laws_queues.proofs.Queues.Keeping.{clash}
 use Rattle.laws_queues.proofs.Queues.Knows.{IsFreshStore}
 use Rattle.laws_value.proofs.Core as core
 use Rattle.laws_value.proofs.Core.{Core, Good, IsFilled, layout, free, filled, fills, one_filled}
 use Rattle.laws_value.proofs.Invariant.{Scene, Inv}
 use Rattle.laws_value.proofs.Knows.{KnowsStore, store_at, store_number, load_stays, load_passed, kept}
-use Rattle.laws_value.proofs.Stages.{clash, Comes, StepOf, quiet}
+use Rattle.laws_value.proofs.Stages.{Comes, StepOf, quiet}
 
 -- the word of a cell as a call asks for it, which wraps
 pub asked_place : (size n at : ℕ) → size ≤ 128 → at < size → word_at (cell_word size n) at ≡ 2 + (size * (n % 2) + at)

@@ -26,7 +26,7 @@ use Rattle.model.specs.Turns.{one_if, words_after}
 use Rattle.model.proofs.Moments.{held_now}
 use Rattle.laws_bits.proofs.Bits.Invariant.{Holds, bit_set}
 use Rattle.laws_bits.proofs.Bits.Knows.{SetStands, KnowsSet, set_at, set_number}
-use Rattle.laws_bits.proofs.Bits.Steps.{same_bits, ends, pays_by, as_long, by_parts}
+use Rattle.laws_bits.proofs.Bits.Steps.{same_bits, ends, pays_by, as_long}
 use Rattle.laws_bits.proofs.Family.{SetState, StepShows, ShowsStep}
 use Rattle.laws_bits.proofs.Words.{load_leaves, failed_leaves, done_writes}
 
@@ -145,9 +145,7 @@ module _ {T : Type 0} (code : Coding T) (c : ℕ) (s : SetState T) (events : Lis
       parts : (back : Bool) (then : After BitsFlight (Answer T)) (fx : List (Event T))
           → goes_back (set_at bit stage) word ≡ back → after (set_at bit stage) word ≡ then
           → effects_of p (set_at bit stage) word ≡ fx → Does (Some (exchanging found)) back then fx → DoesOf stage
-      parts back then fx is_back goes tells shows =
-          by_parts code c s events turns p changes since steps backs [] (starts.TheVariants.Set bit) (set_at bit stage)
-          back then fx is_back goes tells shows
+      parts back then fx is_back goes tells shows = grind arith
 
       go : (t : Bool) → (word == found) ≡ t → (u : Bool) → has_flag word bit ≡ u → DoesOf stage
       go true t u e =

@@ -1,6 +1,6 @@
 -- What each step of a reset of all counts shows: it swaps the next count with 0.
 use Rattle.std.proofs.Common.{◌≡◌, ◌≢◌, ℕ, ◌+◌, ◌*◌, ◌^◌, ◌<◌, ◌≤◌, ◌==◌, nat_lt, Bool, true, false, cond, Option}
-use Rattle.std.proofs.Common.{Some, None, List, [], ◌∷◌, ◌++◌, fold, length, get_or, set, refl, sym, ap, subst, ◌∙◌}
+use Rattle.std.proofs.Common.{Some, List, [], ◌∷◌, ◌++◌, fold, length, get_or, set, refl, sym, ap, subst, ◌∙◌}
 use Rattle.std.proofs.Common.{append-nil, arith, length-set, get_or-set_same, get_or-set_other}
 use Rattle.std.proofs.lemmas.Bool.Decides.{nat_tests}
 use Rattle.steps.specs.declared.ask.Ask.{Ask}
@@ -231,10 +231,6 @@ module _ {T : Type 0} (code : Coding T) (c : ℕ) (s : SetState T) (events : Lis
       swaps_last last true t = let none : count ≡ 0 = grind (arith, nat_tests) in rw t (ends_with_none last none)
       swaps_last last false t = let some : 1 ≤ count = grind (arith, nat_tests) in rw t (ends_with_some last some)
 
-    -- without a further word
-    asks_nothing : word ≡ c → Does None done []
-    asks_nothing x0 = grind arith
-
     -- the step, whatever is left
     pub reset_step : word ≤ c
         → Does (ask_of (want (take_at room word end)))
@@ -257,7 +253,4 @@ module _ {T : Type 0} (code : Coding T) (c : ℕ) (s : SetState T) (events : Lis
             let sized = holds.sized in
             let within : word < length ws = omega arith in
             rw t (rw u (swaps_last within (omega arith) (count == 0) refl))
-        go false t u e =
-            let past : end ≤ word = grind (arith, nat_tests) in
-            let none : nat_lt (word + 1) end ≡ false = grind (arith, nat_tests) in
-            rw t (rw none (asks_nothing (omega arith)))
+        go false t u e = grind arith

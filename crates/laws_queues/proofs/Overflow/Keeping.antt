@@ -22,9 +22,7 @@ publish_keeps_pop c k v room overflow_pops.TheVariants.FindsNone h = h
 publish_keeps_pop c k v room overflow_pops.TheVariants.LoadsRead h = h
 publish_keeps_pop c k v room (overflow_pops.TheVariants.LoadsWrite read) h =
     (h.0, h.1, λ moved. let waits = h.2 moved in omega arith)
-publish_keeps_pop c k v room (overflow_pops.TheVariants.LoadsCell read) h =
-    let waits = h.2 in
-    (h.0, h.1, omega arith)
+publish_keeps_pop c k v room (overflow_pops.TheVariants.LoadsCell read) h = grind arith
 publish_keeps_pop c k v room (overflow_pops.TheVariants.MovesRead read) h =
     let waits = h.2 in
     (h.0, h.1, omega arith, λ same. let first = h.3 same in (first.0 ++ v ∷ [], ap (λ xs. xs ++ v ∷ []) first.1))

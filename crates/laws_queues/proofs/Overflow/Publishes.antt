@@ -100,10 +100,7 @@ module _ {T : Type 0} (en : Coding T) (scene : Scene T kinds.TheVariants.Overflo
             right = (tt, (tt, (tt, tt)));
             lengths = (tt, (tt, (tt, tt)));
             good = good_publish;
-            hangs =
-                none_hangs T kinds.TheVariants.Overflow c after_publish
-                (pending k.read ro.producer (put p (after_it next_write (Done PoppedNone)) latest))
-                (pending_after k.read p ro.producer holds (after_it next_write (Done PoppedNone)) latest) (omega arith);
+            hangs = none_hangs T kinds.TheVariants.Overflow c after_publish _ (pending_after k.read p ro.producer holds _ latest) (omega arith);
             out = omega arith;
             book = joined;
             goes = list.0;
@@ -195,9 +192,7 @@ module _ {T : Type 0} (en : Coding T) (scene : Scene T kinds.TheVariants.Overflo
             lengths = (tt, (tt, tt));
             good = good_publish;
             hangs =
-                none_hangs T kinds.TheVariants.Overflow c after_publish
-                (pending k.read ro.producer (put p (after_it next_write (GoOn (at (overflow_pushes.TheVariants.MovesRead read)))) latest))
-                calm (omega arith);
+                none_hangs T kinds.TheVariants.Overflow c after_publish _ calm (omega arith);
             out = omega arith;
             book = joined;
             goes = list.0;

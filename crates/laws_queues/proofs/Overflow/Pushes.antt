@@ -31,7 +31,7 @@ use Rattle.model.specs.Coding.{Coding}
 use Rattle.model.specs.Families.Queues.Objects.{answer_of_item}
 use Rattle.model.specs.Families.Queues.Calls.{write_word, read_word, after, words_of_index}
 use Rattle.model.specs.Families.Queues.Steps.{pending_at, pending, effect_of}
-use Rattle.model.specs.Parties.{party_of, put, doing_of, flight_of}
+use Rattle.model.specs.Parties.{party_of, doing_of, flight_of}
 use Rattle.model.specs.Reading.{Open, span_of}
 use Rattle.model.specs.Turns.{words_after, change_of}
 use Rattle.laws_queues.proofs.Queues.Invariant.{Scene, Inv}
@@ -209,9 +209,8 @@ module _ {T : Type 0} (en : Coding T) (scene : Scene T kinds.TheVariants.Overflo
           lengths = (tt, (tt, tt));
           good = takes 1 words_of_index (c + 1) k (get_or k.cells (k.read % (c + 1)) 0) rest first g;
           hangs =
-              none_hangs T kinds.TheVariants.Overflow c (taken 1 words_of_index (c + 1) k rest)
-              (pending (k.read + 1) ro.producer (put p (after_it ask after) latest))
-              (pending_after (k.read + 1) p ro.producer holds (after_it ask after) latest) (omega arith);
+              none_hangs T kinds.TheVariants.Overflow c (taken 1 words_of_index (c + 1) k rest) _
+              (pending_after (k.read + 1) p ro.producer holds _ latest) (omega arith);
           out = omega arith;
           book = append-nil (map Index k.waiting) ∙ ap (map Index) first;
           goes = list.0;

@@ -7,10 +7,8 @@ use Rattle.steps.specs.declared.routine.Running.{Running}
 use Rattle.model.specs.declared.families.queues.calls.OverflowCall as overflows
 use Rattle.model.specs.declared.families.queues.calls.QueueFlight.TheVariants.{Overflow}
 use Rattle.model.specs.declared.event.Event.{Event}
-use Rattle.model.specs.declared.party.Doing.{Doing}
 use Rattle.model.specs.declared.party.Doing.TheVariants.{Going}
 use Rattle.model.specs.declared.party.Party.{Party}
-use Rattle.model.specs.declared.event.Start.{Start}
 use Rattle.model.specs.declared.families.Flight.{Flight}
 use Rattle.model.specs.declared.families.Flight as flights
 use Rattle.model.specs.declared.families.queues.Roles.{Roles}

@@ -1,7 +1,6 @@
 -- No call of a queue asks a question.
 use native.Mathlib.Omega.{arith}
 use Rattle.std.proofs.Common.{◌≡◌, false}
-use Rattle.steps.specs.declared.queues.lengths.LenStage.{LenStage}
 use Rattle.model.specs.declared.families.queues.calls.QueueFlight.{QueueFlight}
 use Rattle.model.specs.Coding.{Coding}
 use Rattle.model.specs.Families.{is_question}

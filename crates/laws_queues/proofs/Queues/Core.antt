@@ -27,14 +27,23 @@ cells_apart size a b i j is js ne e = ⊎_elim less more (cases_lt a b)
     less h = let step : size * (a + 1) ≤ size * b = mul-le-mul_left size (omega arith) in absurd (omega arith)
 
     more : b ≤ a → ⊥
-    more h =
-        let before : b < a = omega arith in
-        let step : size * (b + 1) ≤ size * a = mul-le-mul_left size (omega arith) in
-        absurd (omega arith)
+    more h = grind arith
 
 -- a word of a cell lies among the cells
 pub cell_within : (size c p i : ℕ) → 0 < c → i < size → size * (p % c) + i < size * c
 cell_within x0 x1 x2 x3 x4 x5 = grind arith
+
+-- words that agree with others as far as a place, and one more
+pub one_more : (place : ℕ → ℕ) (xs ys : List ℕ) (at word : ℕ) → ((i : ℕ) → i < at → place i ≢ place at) → place at < length xs
+    → word ≡ get_or ys at 0 → ((i : ℕ) → i < at → get_or xs (place i) 0 ≡ get_or ys i 0) → (i : ℕ) → i < at + 1
+    → get_or (set xs (place at) word) (place i) 0 ≡ get_or ys i 0
+one_more place xs ys at word apart within is so_far i below = ⊎_elim before here (cases_lt i at)
+  where
+    before : i < at → get_or (set xs (place at) word) (place i) 0 ≡ get_or ys i 0
+    before h = get_or-set_other xs (place at) (place i) word 0 (apart i h) ∙ so_far i h
+
+    here : at ≤ i → get_or (set xs (place at) word) (place i) 0 ≡ get_or ys i 0
+    here h = let same : i ≡ at = omega arith in rw same (get_or-set_same xs (place at) word 0 within ∙ is)
 
 -- ---- the words
 
@@ -102,20 +111,11 @@ module _ {V : Type 0} (size : ℕ) (words_of : V → List ℕ) (c : ℕ) where
   -- the words stored so far, and one more
   pub one_filled : (k : Core V) (v : V) (at : ℕ) → length k.waiting < c → at < size → Good k → Holds k.cells k.write v at
       → Holds (filled k at (get_or (words_of v) at 0)).cells k.write v (at + 1)
-  one_filled k v at room below g so_far i is = ⊎_elim before here (cases_lt i at)
-    where
-      before : i < at → get_or (set k.cells (size * (k.write % c) + at) (get_or (words_of v) at 0)) (size * (k.write % c) + i) 0 ≡ get_or (words_of v) i 0
-      before h =
-          let place : size * (k.write % c) + i ≢ size * (k.write % c) + at = λ e. absurd (omega arith) in
-          get_or-set_other k.cells (size * (k.write % c) + at) (size * (k.write % c) + i) (get_or (words_of v) at 0) 0 place ∙ so_far i h
-
-      here : at ≤ i → get_or (set k.cells (size * (k.write % c) + at) (get_or (words_of v) at 0)) (size * (k.write % c) + i) 0 ≡ get_or (words_of v) i 0
-      here h =
-          let same : i ≡ at = omega arith in
-          let cells = g.cells in
-          let low = cell_within size c k.write at (omega arith) below in
-          let within : size * (k.write % c) + at < length k.cells = omega arith in
-          rw same (get_or-set_same k.cells (size * (k.write % c) + at) (get_or (words_of v) at 0) 0 within)
+  one_filled k v at room below g so_far =
+      let cells = g.cells in
+      let low = cell_within size c k.write at (omega arith) below in
+      one_more (λ i. size * (k.write % c) + i) k.cells (words_of v) at (get_or (words_of v) at 0)
+      (λ i h e. absurd (omega arith)) (omega arith) refl so_far
 
   -- what is read at a place of a longer list
   get_more : (xs : List V) (x : V) (i : ℕ) (v : V) → slice_get (xs ++ x ∷ []) i ≡ Some v → (slice_get xs i ≡ Some v) ⊎ ((i ≡ length xs) × (x ≡ v))

@@ -249,8 +249,7 @@ module _ {T : Type 0} (en : Coding T) where
     pub owes : span_of scene.party scene.events ≡ from → Inv kd scene
         → frame.Owes (family kd scene.capacity) (record { roles = ro'; core = k' }) scene.party y scene.latest scene.events es changes'
     owes is inv =
-        frame.owes (family kd scene.capacity) (queue_in scene) (record { roles = ro'; core = k' }) from scene.party
-        y scene.latest scene.events es scene.changes changes' is inv.frame
+        frame.owes (family kd scene.capacity) _ _ _ _ _ _ _ _ _ _ is inv.frame
         (record {
           own = s.own;
           stands = s.stands;

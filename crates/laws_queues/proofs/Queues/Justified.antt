@@ -1,7 +1,7 @@
 -- What a turn writes down: what its step did to the queue, then the acts, then the end. A push that answers false, and a
 -- pop that answers None, did so in its own turn, as it loaded the other position; without capacity, an overflowing queue's
 -- pop loads none. A push that is taken, and a pop that answers a value, acts as its position goes on.
-use Rattle.std.proofs.Common.{◌≡◌, ℕ, ◌+◌, ◌-◌, ◌^◌, ◌<◌, ◌≤◌, ◌==◌, Bool, true, false, cond, inr, Option, Some, None}
+use Rattle.std.proofs.Common.{◌≡◌, ℕ, ◌-◌, ◌^◌, ◌<◌, ◌≤◌, ◌==◌, Bool, true, false, cond, inr, Option, Some, None}
 use Rattle.std.proofs.Common.{List, [], ◌∷◌, ◌++◌, get_or, refl, sym, ap, subst, ◌∙◌, arith}
 use Rattle.std.proofs.lemmas.Bool.Decides.{nat_tests}
 use Rattle.std.specs.List.{AllByRecursion}
@@ -10,14 +10,12 @@ use Rattle.steps.specs.declared.ask.Op.TheVariants.{Exchange}
 use Rattle.steps.specs.declared.ask.After.{After}
 use Rattle.steps.specs.declared.ask.After.TheVariants.{GoOn, Done}
 use Rattle.steps.specs.declared.copied.OneWord.{OneWord}
-use Rattle.steps.specs.declared.queues.overflow.Push as overflow_push
 use Rattle.steps.specs.declared.queues.overflow.Pop as overflow_pop
 use Rattle.steps.specs.declared.queues.overflow.PushStage as overflow_pushes
 use Rattle.steps.specs.declared.queues.overflow.PopStage as overflow_pops
-use Rattle.steps.specs.declared.queues.overflow.PushEnd.{PushEnd}
 use Rattle.steps.specs.declared.copied.Buffer as cells
 use Rattle.steps.specs.Queues.Ring.{after_position}
-use Rattle.steps.specs.Queues.Overflow.{cell_word, push_answer, pop_answer}
+use Rattle.steps.specs.Queues.Overflow.{cell_word, pop_answer}
 use Rattle.steps.specs.Routine.{went_on}
 use Rattle.model.specs.declared.event.Answer.{Answer}
 use Rattle.model.specs.declared.event.Answer as answers
@@ -32,7 +30,7 @@ use Rattle.model.specs.declared.families.Flight as flights
 use Rattle.model.specs.declared.families.Registry.{Registry}
 use Rattle.model.specs.declared.families.Registry as registries
 use Rattle.model.specs.declared.families.queues.QueueStart.{QueueStart}
-use Rattle.model.specs.declared.families.queues.QueueStart.TheVariants.{PushIndex, Push, Pop}
+use Rattle.model.specs.declared.families.queues.QueueStart.TheVariants.{PushIndex, Pop}
 use Rattle.model.specs.declared.families.queues.Roles.{Roles}
 use Rattle.model.specs.declared.families.queues.calls.OverflowCall as overflows
 use Rattle.model.specs.declared.families.queues.calls.QueueFlight.{QueueFlight}
@@ -50,9 +48,8 @@ use Rattle.model.specs.Coding.{Coding, IsCoding}
 use Rattle.model.specs.Families.{ask_of, beside_of, step_of, goes_of}
 use Rattle.model.specs.Families.Queues.Book.{AnswersRight}
 use Rattle.model.specs.Families.Queues.Calls.{read_word, want, after, popped}
-use Rattle.model.specs.Families.Queues.Opening.{holds}
-use Rattle.model.specs.Families.Queues.Promises.{load_of_write, finding_none, AddsOne, HandsBack, promise}
-use Rattle.model.specs.Families.Queues.Steps.{pending_at, pending, beside, takes_effect, effect_of, acts_if_done, effects_of}
+use Rattle.model.specs.Families.Queues.Promises.{load_of_write, finding_none, AddsOne, promise}
+use Rattle.model.specs.Families.Queues.Steps.{pending_at, beside, takes_effect, effect_of, acts_if_done, effects_of}
 use Rattle.model.specs.Parties.{party_of, doing_of, flight_of}
 use Rattle.model.specs.Promises.{IsTurnBy}
 use Rattle.model.specs.Promises.Turns.{ask_in, IsParty, IsEffectOf, IsAct, ActsRight}
@@ -70,7 +67,7 @@ use Rattle.laws_queues.proofs.Queues.Knows.{all_fresh, layout, IndexAt, ValueAt,
 use Rattle.laws_queues.proofs.Queues.Sound.{kept_is, step_moves, scene_of, inv_of, asks_nothing, reached_sound}
 use Rattle.laws_queues.proofs.Queues.Kept.{kept, promised_by}
 use Rattle.laws_queues.proofs.Queues.Stages.{told_after, any_call}
-use Rattle.laws_queues.proofs.Queues.Values.{Val, encoded, item}
+use Rattle.laws_queues.proofs.Queues.Values.{Val, item}
 use Rattle.laws_queues.proofs.Ring.Kinds.{Ring, of_indices, of_values, kind_of, push}
 
 -- where a pop finds nothing
@@ -109,10 +106,6 @@ module _ {T : Type 0} where
 
   did_effects : (turn : Turn T) (p : ℕ) (effect : Effect T) → IsParty turn p → AllByRecursion (IsEffectOf turn) (did p effect)
   did_effects x0 x1 x2 x3 = grind arith
-
-  joined : (P : Event T → Type 0) (xs ys : List (Event T)) → AllByRecursion P xs → AllByRecursion P ys → AllByRecursion P (xs ++ ys)
-  joined P [] ys h r = r
-  joined P (x ∷ xs) ys h r = (h.0, joined P xs ys h.1 r)
 
   all_act : (p : ℕ) (start : QueueStart T) (effect : Effect T) (outcome : Option (Answer T)) → AllByRecursion IsAct (acts_of p start effect outcome)
   all_act x0 x1 x2 x3 = grind arith
@@ -169,21 +162,8 @@ module _ {T : Type 0} (own : QueueKind) (t : Trace T) (turn : Turn T) (p : ℕ) 
     abbrev Acting : QueueStart T → QueueFlight T → ℕ → Type 0
     Acting start flight old = Justified (acts_of p start (effect_of en words waits flight old) (answer_in (after en flight old)))
 
-    module _ (r : Ring) where
-      abbrev coded : Coding (Val T (kind_of r))
-      coded = encoded en (kind_of r)
-
     -- a push of an overflowing queue
     module _ (k : Core ℕ) (place : Positions k.write k.read) (v : ℕ) (room : OneWord) where
-      abbrev answered : After overflow_push.Push PushEnd → Option (Answer T)
-      answered after =
-          answer_in {C = QueueFlight T}
-          (as_call (λ r. Overflow (overflows.TheVariants.Push r)) popped
-          (went_on (λ end given room. push_answer given room.0 end) v room after))
-
-      hands_back : (capacity : ℕ) → 0 < capacity → Adds read_word → HandsBack capacity t.world.words asked
-      hands_back x0 x1 x2 = grind arith
-
       overflow_push_right : (stage : overflow_pushes.PushStage) (old : ℕ) → KnowsOverflowPush c k v stage
           → asked ≡ ask_of (want en (Overflow (overflow_push_at c v room stage)))
           → old ≡ old_of (k.write ∷ k.read ∷ place.rest) asked
@@ -303,14 +283,7 @@ waiter_is : {T : Type 0} (roles : Roles) (words : List ℕ) (latest : List (ℕ 
     → flight_of (doing_of (party_of p latest)) ≡ Some (flights.TheVariants.Queues flight) → (q w : ℕ)
     → beside roles words latest p ≡ Some (q, w) → q ≡ p
     → pending_at (get_or words 1 0) (Some (flights.TheVariants.Queues flight)) ≡ Some w
-waiter_is {T} roles words latest p flight found q w e same = go (holds roles.consumer p) e
-  where
-    position : ℕ
-    position = get_or words 1 0
-
-    go : (b : Bool) → cond b (pending position roles.producer latest) None ≡ Some (q, w)
-        → pending_at position (Some (flights.TheVariants.Queues flight)) ≡ Some w
-    go x0 x1 = grind arith
+waiter_is x0 x1 x2 x3 x4 x5 x6 x7 x8 x9 = grind arith
 
 module _ {T : Type 0} (en : Coding T) (law : IsCoding en) (kd : QueueKind) (c : ℕ) (t : Trace T) (p : ℕ)
     (s : frame.Sound (family en kd c) t) (small : t.world.turns < 2 ^ 64 - 2) (x : Party T) (since : ℕ) where

@@ -19,7 +19,7 @@ use Rattle.model.specs.declared.families.queues.QueueKind as kinds
 use Rattle.model.specs.Coding.{Coding, one_word}
 use Rattle.laws_queues.proofs.Queues.Core.{Core}
 use Rattle.laws_queues.proofs.Queues.Values.{Val}
-use Rattle.laws_queues.proofs.Ring.Knows.{KnowsPush, KnowsPop, PushAt, PopAt}
+use Rattle.laws_queues.proofs.Ring.Knows.{KnowsPush, KnowsPop}
 use Rattle.laws_queues.proofs.Overflow.Knows.{KnowsOverflowPush, KnowsOverflowPop, overflow_wrote, OverflowAt}
 use Rattle.laws_queues.proofs.Queues.Knows.{has_written, RoleAt, IndexAt, ValueAt, At}
 
@@ -51,13 +51,6 @@ keeps_same en kinds.TheVariants.Queue c ro k q = record { push = λ mine v stage
 module _ (ro ro' : Roles) (q : ℕ) (producer : ro.producer ≡ Some q → ro'.producer ≡ Some q) (consumer : ro.consumer ≡ Some q → ro'.consumer ≡ Some q) where
   role_kept : {T : Type 0} → (start : QueueStart T) (call : RoleCall) → RoleAt ro q start call → RoleAt ro' q start call
   role_kept x0 x1 x2 = grind arith
-
-  module _ {V R : Type 0} (en : Coding V) (words_in : R → List ℕ) (c : ℕ) (k k' : Core V) (keeps : RingKeeps en c ro k k' q) where
-    push_kept : (v : V) (call : rings.RingCall V R) → PushAt en words_in c ro k q v call → PushAt en words_in c ro' k' q v call
-    push_kept x0 x1 x2 = grind arith
-
-    pop_kept : (call : rings.RingCall V R) → PopAt en words_in c ro k q call → PopAt en words_in c ro' k' q call
-    pop_kept x0 x1 = grind arith
 
   module _ {T : Type 0} (en : Coding T) (c : ℕ) where
     index_kept : (k k' : Core ℕ) → RingKeeps one_word c ro k k' q → (start : QueueStart T) (call : rings.RingCall ℕ OneWord)

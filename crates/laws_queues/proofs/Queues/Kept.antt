@@ -4,17 +4,9 @@ use native.Mathlib.Nat.{mul-le-mul_left}
 use Rattle.std.proofs.Common.{None, ◌≡◌, ℕ, suc, ◌+◌, ◌-◌, ◌%◌, ◌*◌, ◌<◌, ◌≤◌, Some, List, [], ◌∷◌, length, get_or}
 use Rattle.std.proofs.Common.{map, slice_get, take, drop, refl, sym, ap, subst, ◌∙◌, arith, length-append, length-drop}
 use Rattle.std.proofs.lemmas.List.{length-map, take-map}
-use Rattle.steps.specs.declared.queues.lengths.LenStage.{LenStage}
 use Rattle.steps.specs.Queues.Ring.{cell_word}
-use Rattle.model.specs.declared.families.queues.calls.LengthOf.{LengthOf}
-use Rattle.model.specs.declared.families.queues.calls.QueueFlight.{QueueFlight}
-use Rattle.model.specs.declared.families.queues.calls.QueueFlight.TheVariants.{Values, Overflow}
 use Rattle.model.specs.declared.event.Item.{Item}
 use Rattle.model.specs.declared.event.Item.TheVariants.{Index, Value}
-use Rattle.model.specs.declared.families.queues.QueueStart.{QueueStart}
-use Rattle.model.specs.declared.event.Start.{Start}
-use Rattle.model.specs.declared.event.Start.TheVariants.{Queues}
-use Rattle.model.specs.declared.families.Flight.{Flight}
 use Rattle.model.specs.declared.families.queues.Roles.{Roles}
 use Rattle.model.specs.declared.families.queues.QueueKind.{QueueKind}
 use Rattle.model.specs.declared.families.queues.QueueKind.TheVariants.{IndexQueue}
@@ -34,7 +26,7 @@ use Rattle.model.specs.World.{Trace}
 use Rattle.laws_queues.proofs.Queues.Core.{Core, Good, take_all, at_below, word_at}
 use Rattle.laws_queues.proofs.Queues.Knows.{free, layout, listed}
 use Rattle.model.proofs.Frame as frame
-use Rattle.laws_queues.proofs.Queues.Invariant.{Queue, machine_kind, family, waiting_is}
+use Rattle.laws_queues.proofs.Queues.Invariant.{machine_kind, family, waiting_is}
 use Rattle.laws_queues.proofs.Queues.Stages.{cell_place}
 use Rattle.laws_queues.proofs.Queues.Values.{Val, encoded, item}
 use Rattle.laws_queues.proofs.Ring.Pops.{same_words}

@@ -137,18 +137,8 @@ module _ {T : Type 0} where
 
     len_keeps : (since backs : ℕ) (stage : LenStage) → KnowsLen c k p events since changes backs stage
         → KnowsLen c k' p (events ++ es) since changes' backs stage
-    len_keeps since backs lens.TheVariants.LoadsWrite h =
-        let w = up.write in
-        let r = up.read in
-        let more = up.paid in
-        omega arith
-    len_keeps since backs (lens.TheVariants.LoadsRead write) h =
-        let w = up.write in
-        let r = up.read in
-        let more = up.paid in
-        let a = h.0 in
-        let paid = h.2 in
-        (omega arith, omega arith, omega arith)
+    len_keeps since backs lens.TheVariants.LoadsWrite h = grind arith
+    len_keeps since backs (lens.TheVariants.LoadsRead write) h = grind arith
     len_keeps since backs (lens.TheVariants.LoadsWriteAgain write read) h = (
       paid_keeps since backs write read h.0,
       λ same.

@@ -41,7 +41,7 @@ use Rattle.model.specs.Families.Queues.Promises.{load_of_write, load_of_read}
 use Rattle.laws_queues.proofs.Queues.Core.{Core, Good}
 use Rattle.laws_queues.proofs.Queues.Knows.{layout, len_at, Hangs, Waited, KnowsLen, len_number, At}
 use Rattle.laws_queues.proofs.Queues.Invariant.{waiting_is}
-use Rattle.laws_queues.proofs.Queues.Stages.{IsCalm, party_then, Stays, StepOf, still_hangs, quiet, ends}
+use Rattle.laws_queues.proofs.Queues.Stages.{IsCalm, Stays, StepOf, still_hangs, quiet, ends}
 use Rattle.laws_queues.proofs.Queues.Pending.{nothing_waits}
 use Rattle.laws_queues.proofs.Queues.Values.{encoded, item}
 
@@ -168,9 +168,7 @@ module _ {T : Type 0} (en : Coding T) (kd : QueueKind) (scene : Scene T kd) (inv
                   (holders (number_waiting c write read))
                   (rw none (omega arith))
                   (omega arith)
-                  (still_hangs en kd scene inv small k
-                  (party_then en kd scene start (Some load_of_read) false (Done (length_answer which c (number_waiting c write read))))
-                  refl refl refl before)
+                  (still_hangs en kd scene inv small k _ refl refl refl before)
                   (λ q ne st f h. (h, refl)),
             )
         go false e =

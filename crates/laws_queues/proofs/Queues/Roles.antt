@@ -2,7 +2,6 @@
 use Rattle.std.proofs.Common.{◌≡◌, ℕ, ◌^◌, ◌<◌, ◌≤◌, true, false, Option, Some, None, option_map, refl, ap, subst, sym, ◌∙◌, arith}
 use Rattle.steps.specs.declared.ask.Ask.{Ask}
 use Rattle.steps.specs.declared.ask.Op.TheVariants.{Store, Exchange}
-use Rattle.steps.specs.declared.ask.After.TheVariants.{Done}
 use Rattle.model.specs.declared.event.Answer.{Answer}
 use Rattle.model.specs.declared.event.Answer as answers
 use Rattle.model.specs.declared.families.queues.QueueStart.TheVariants.{AcquireProducer, ReleaseProducer, AcquireConsumer, ReleaseConsumer}
@@ -10,11 +9,10 @@ use Rattle.model.specs.declared.families.queues.QueueKind.{QueueKind}
 use Rattle.model.specs.Coding.{Coding}
 use Rattle.model.specs.Families.Queues.Calls.{acquire_of, release_of, producer_word, consumer_word}
 use Rattle.model.specs.Families.Queues.Steps.{pending}
-use Rattle.model.specs.Parties.{put}
 use Rattle.laws_queues.proofs.Queues.Invariant.{Scene, Inv}
 use Rattle.laws_queues.proofs.Queues.Keeping.{clash, kept, keeps_same}
 use Rattle.laws_queues.proofs.Queues.Pending.{pending_here, few_wait, none_hangs}
-use Rattle.laws_queues.proofs.Queues.Stages.{IsCalm, party_then, StepOf, still_hangs, ends}
+use Rattle.laws_queues.proofs.Queues.Stages.{IsCalm, StepOf, still_hangs, ends}
 
 abbrev takes : ℕ → Option Ask
 takes word = Some (record { word = word; op = Exchange 1 0 })
@@ -46,18 +44,9 @@ module _ {T : Type 0} (en : Coding T) (kd : QueueKind) (scene : Scene T kd) (sma
         (refl, refl)
         (omega arith)
         (omega arith)
-        (none_hangs T kd c k (pending k.read (Some scene.party)
-        (put scene.party (party_then en kd (with_roles scene None co) AcquireProducer (takes producer_word) false
-        (Done (answers.TheVariants.Truth true)))
-        scene.latest))
-        (pending_here k.read scene.party
-        (party_then en kd (with_roles scene None co) AcquireProducer (takes producer_word) false
-        (Done (answers.TheVariants.Truth true)))
-        scene.latest)
+        (none_hangs T kd c k _ (pending_here k.read scene.party _ scene.latest)
         (few_wait en kd c k (pending k.read None scene.latest) refl inv.queue.good inv.queue.hangs))
-        (λ q ne. kept (record { producer = None; consumer = co })
-        (record { producer = Some scene.party; consumer = co }) q (λ h. cc) (λ h. h) en c kd k k
-        (keeps_same en kd c (record { producer = None; consumer = co }) k q)),
+        (λ q ne. kept _ _ q (λ h. cc) (λ h. h) en c kd k k (keeps_same en kd c _ k q)),
   )
   acquire_producer (Some r) co inv before = (
     k,
@@ -70,10 +59,7 @@ module _ {T : Type 0} (en : Coding T) (kd : QueueKind) (scene : Scene T kd) (sma
         (refl, refl)
         (omega arith)
         (omega arith)
-        (still_hangs en kd (with_roles scene (Some r) co) inv small k
-        (party_then en kd (with_roles scene (Some r) co) AcquireProducer (takes producer_word) false
-        (Done (answers.TheVariants.Truth false)))
-        refl refl refl before)
+        (still_hangs en kd _ inv small k _ refl refl refl before)
         (λ q ne st f h. (h, refl)),
   )
 
@@ -90,13 +76,8 @@ module _ {T : Type 0} (en : Coding T) (kd : QueueKind) (scene : Scene T kd) (sma
         (refl, refl)
         (omega arith)
         (omega arith)
-        (still_hangs en kd (with_roles scene pr None) inv small k
-        (party_then en kd (with_roles scene pr None) AcquireConsumer (takes consumer_word) false
-        (Done (answers.TheVariants.Truth true)))
-        refl refl refl before)
-        (λ q ne. kept (record { producer = pr; consumer = None })
-        (record { producer = pr; consumer = Some scene.party }) q (λ h. h) (λ h. cc) en c kd k k
-        (keeps_same en kd c (record { producer = pr; consumer = None }) k q)),
+        (still_hangs en kd _ inv small k _ refl refl refl before)
+        (λ q ne. kept _ _ q (λ h. h) (λ h. cc) en c kd k k (keeps_same en kd c _ k q)),
   )
   acquire_consumer pr (Some r) inv before = (
     k,
@@ -109,10 +90,7 @@ module _ {T : Type 0} (en : Coding T) (kd : QueueKind) (scene : Scene T kd) (sma
         (refl, refl)
         (omega arith)
         (omega arith)
-        (still_hangs en kd (with_roles scene pr (Some r)) inv small k
-        (party_then en kd (with_roles scene pr (Some r)) AcquireConsumer (takes consumer_word) false
-        (Done (answers.TheVariants.Truth false)))
-        refl refl refl before)
+        (still_hangs en kd _ inv small k _ refl refl refl before)
         (λ q ne st f h. (h, refl)),
   )
 
@@ -133,9 +111,7 @@ module _ {T : Type 0} (en : Coding T) (kd : QueueKind) (scene : Scene T kd) (sma
         (few_wait en kd c k (pending k.read pr scene.latest)
         (subst (λ o. pending k.read o scene.latest ≡ None) (sym holds) (ap (option_map (λ (v : ℕ). (scene.party, v))) before))
         inv.queue.good inv.queue.hangs))
-        (λ q ne. kept (record { producer = pr; consumer = co }) (record { producer = None; consumer = co }) q
-        (λ h. absurd (clash pr scene.party q ne holds h)) (λ h. h) en c kd k k
-        (keeps_same en kd c (record { producer = pr; consumer = co }) k q)),
+        (λ q ne. kept _ _ q (λ h. absurd (clash pr scene.party q ne holds h)) (λ h. h) en c kd k k (keeps_same en kd c _ k q)),
   )
 
   release_consumer : (pr co : Option ℕ) → co ≡ Some scene.party → Inv en kd (with_roles scene pr co) → IsQuiet pr co
@@ -151,12 +127,8 @@ module _ {T : Type 0} (en : Coding T) (kd : QueueKind) (scene : Scene T kd) (sma
         (refl, refl)
         (omega arith)
         (omega arith)
-        (still_hangs en kd (with_roles scene pr co) inv small k
-        (party_then en kd (with_roles scene pr co) ReleaseConsumer (gives consumer_word) false (Done answers.TheVariants.Done))
-        refl refl refl before)
-        (λ q ne. kept (record { producer = pr; consumer = co }) (record { producer = pr; consumer = None }) q
-        (λ h. h) (λ h. absurd (clash co scene.party q ne holds h)) en c kd k k
-        (keeps_same en kd c (record { producer = pr; consumer = co }) k q)),
+        (still_hangs en kd _ inv small k _ refl refl refl before)
+        (λ q ne. kept _ _ q (λ h. h) (λ h. absurd (clash co scene.party q ne holds h)) en c kd k k (keeps_same en kd c _ k q)),
   )
 
   -- with the holders as they are

@@ -1,23 +1,26 @@
 -- The laws of a family with a premise on the turn.
+use native.Mathlib.Omega.{arith}
 use Rattle.std.proofs.Common.{◌≡◌, ℕ, ◌+◌, Bool, true, Option, Some, None, List, [], ◌∷◌, ◌++◌, refl, sym, ap, subst, ◌∙◌, append-nil}
 use Rattle.steps.specs.declared.ask.Ask.{Ask}
+use Rattle.model.specs.declared.event.Event.{Event}
 use Rattle.model.specs.declared.event.Event.TheVariants.{Begun, Died}
 use Rattle.model.specs.declared.event.Start.{Start}
 use Rattle.model.specs.declared.families.Flight.{Flight}
+use Rattle.model.specs.declared.families.Registry.{Registry}
 use Rattle.model.specs.declared.party.Doing.{Doing}
 use Rattle.model.specs.declared.party.Doing.TheVariants.{Going, Over}
 use Rattle.model.specs.declared.party.Party.{Party}
 use Rattle.model.specs.declared.turn.Turn.{Turn}
 use Rattle.model.specs.declared.turn.Turn.TheVariants.{Begin, Next, Decide, Die}
 use Rattle.model.specs.Families.{first_of, want_of, ask_of, is_question, going_rows, kept_after_begin}
-use Rattle.model.specs.Parties.{party_of, doing_of, flight_of}
+use Rattle.model.specs.Parties.{party_of, put, doing_of, flight_of}
 use Rattle.model.specs.Promises.Spans.{StandsRight}
 use Rattle.model.specs.Reading.{span_of}
 use Rattle.model.specs.Refusals.{call_refusal, is_due}
 use Rattle.model.specs.Rows.{first_row}
-use Rattle.model.specs.Turns.{old_of, change_of, step_count, number_of, ask_of_doing, party_at_begin, after_begin}
-use Rattle.model.specs.Turns.{party_after, after_step, step_in, after_answer, after_next, after_decision, after_turn}
-use Rattle.model.specs.Turns.{events_of_step, events_of_answer, events_of_next, events_of_decision}
+use Rattle.model.specs.Turns.{old_of, number_of, ask_of_doing, party_at_begin, after_begin}
+use Rattle.model.specs.Turns.{after_answer, after_next, after_decision, after_turn}
+use Rattle.model.specs.Turns.{events_of_answer, events_of_next, events_of_decision}
 use Rattle.model.specs.World.{Trace, flight_in}
 use Rattle.model.proofs.Readings.{Each-append, span_of-death}
 use Rattle.model.proofs.Rows.{may_begin, may_die, must_be_due, next_passes, decision_passes, MayBegin, MayDie}
@@ -48,15 +51,15 @@ module _ {T : Type 0} (F : Family T) where
     pub death : (t : Trace T) (owner : ℕ) (s : Sound F t) → MayDie t.world owner → frame.ComesByDeath F t s owner
 
   module _ (May : Trace T → Turn T → Type 0) (laws : LawsAt May) where
-    step_sound : (t : Trace T) (p : ℕ) (x : Party T) (flight : Flight T) (since : ℕ) (ask : Option Ask) (answer : ℕ)
-        → Sound F t → frame.ComesByStep F t p x flight since ask answer
+    -- what a turn of a party comes to
+    comes_sound : (t : Trace T) (p : ℕ) (kept : Registry T) (words : List ℕ) (y : Party T) (es : List (Event T)) (changes : ℕ)
+        → Sound F t → frame.Comes F t p kept words y es changes
         → Sound F record {
-          world = after_step t.world p x since ask (step_in t.world p x flight answer);
-          events = t.events ++ events_of_step p x.start (step_in t.world p x flight answer);
+          world =
+              record t.world { kept = kept; words = words; latest = put p y t.world.latest; changes = changes; turns = t.world.turns + 1 };
+          events = t.events ++ es;
         }
-    step_sound t p x flight since ask answer s comes =
-        let w = t.world in
-        let y = party_after x since w.changes (step_count ask) (change_of w.words ask) (step_in w p x flight answer) in
+    comes_sound t p kept words y es changes s comes =
         record {
           coding = s.coding;
           kind = s.kind;
@@ -64,34 +67,34 @@ module _ {T : Type 0} (F : Family T) where
           state = comes.state;
           fit = comes.fit;
           holds = comes.holds;
-          inv =
-              frame.advance F s.state comes.state p y w.latest t.events
-              (events_of_step p x.start (step_in w p x flight answer)) w.changes (w.changes + change_of w.words ask)
-              s.inv comes.owes;
+          inv = frame.advance F s.state comes.state p y t.world.latest t.events es t.world.changes changes s.inv comes.owes;
         }
 
     same : (t : Trace T) → Sound F t → Sound F record { world = t.world; events = t.events ++ [] }
     same t s = subst (λ es. Sound F record { world = t.world; events = es }) (sym (append-nil t.events)) s
+
+    -- a call that goes on from this answer; one that is done stays
+    answered : (t : Trace T) (p : ℕ) (x : Party T) (ask : Option Ask) (answer : ℕ) (doing : Doing T) → Sound F t
+        → ((flight : Flight T) (since : ℕ) → doing ≡ Going flight since → frame.ComesByStep F t p x flight since ask answer)
+        → Sound F record { world = after_answer t.world p x ask answer doing; events = t.events ++ events_of_answer t.world p x answer doing }
+    answered t p x ask answer (Going flight since) s comes = comes_sound t p _ _ _ _ _ s (comes flight since refl)
+    answered t p x ask answer (Over others) s comes = same t s
+
+    under : (t : Trace T) (p : ℕ) (x : Party T) (flight : Flight T) (since : ℕ) → party_of p t.world.latest ≡ Some x
+        → x.doing ≡ Going flight since → flight_in t.world p ≡ Some flight
+    under t p x flight since e d = ap (λ o. flight_of (doing_of o)) e ∙ ap (λ d. flight_of (Some d)) d
 
     next_sound : (t : Trace T) (p : ℕ) → May t (Next p)
         → first_row (going_rows t.world.coding t.world.kept (flight_in t.world p) None) ≡ None → Sound F t
         → (o : Option (Party T)) → party_of p t.world.latest ≡ o
         → Sound F record { world = after_next t.world p o; events = t.events ++ events_of_next t.world p o }
     next_sound t p may rows s None e = same t s
-    next_sound t p may rows s (Some x) e = go x.doing refl
-      where
-        go : (doing : Doing T) → x.doing ≡ doing → Sound F record {
-          world =
-              after_answer t.world p x (ask_of_doing t.world.coding doing) (old_of t.world.words (ask_of_doing t.world.coding doing)) doing;
-          events = t.events ++ events_of_answer t.world p x (old_of t.world.words (ask_of_doing t.world.coding doing)) doing;
-        }
-        go (Over others) d = same t s
-        go (Going flight since) d =
-            let here : flight_in t.world p ≡ Some flight = ap (λ o. flight_of (doing_of o)) e ∙ ap (λ d. flight_of (Some d)) d in
-            let passed : first_row (going_rows t.world.coding t.world.kept (Some flight) None) ≡ None =
-            subst (λ o. first_row (going_rows t.world.coding t.world.kept o None) ≡ None) here rows in
-            step_sound t p x flight since (ask_of (want_of t.world.coding flight)) (old_of t.world.words (ask_of (want_of t.world.coding flight))) s
-            (laws.step t p x flight since s may passed e d)
+    next_sound t p may rows s (Some x) e =
+        let ask : Doing T → Option Ask = ask_of_doing t.world.coding in
+        answered t p x (ask x.doing) (old_of t.world.words (ask x.doing)) x.doing s (λ flight since d.
+        subst (λ a. frame.ComesByStep F t p x flight since a (old_of t.world.words a)) (sym (ap ask d))
+        (laws.step t p x flight since s may
+        (subst (λ o. first_row (going_rows t.world.coding t.world.kept o None) ≡ None) (under t p x flight since e d) rows) e d))
 
     decision_sound : (t : Trace T) (p : ℕ) (said : Bool) → May t (Decide p said)
         → first_row (going_rows t.world.coding t.world.kept (flight_in t.world p) (Some said)) ≡ None
@@ -99,40 +102,17 @@ module _ {T : Type 0} (F : Family T) where
         → party_of p t.world.latest ≡ o
         → Sound F record { world = after_decision t.world p said o; events = t.events ++ events_of_decision t.world p said o }
     decision_sound t p said may rows due s None e = same t s
-    decision_sound t p said may rows due s (Some x) e = go x.doing refl
-      where
-        go : (doing : Doing T) → x.doing ≡ doing → Sound F record {
-          world = after_answer t.world p x None (number_of said) doing;
-          events = t.events ++ events_of_answer t.world p x (number_of said) doing;
-        }
-        go (Over others) d = same t s
-        go (Going flight since) d =
-            let here : flight_in t.world p ≡ Some flight = ap (λ o. flight_of (doing_of o)) e ∙ ap (λ d. flight_of (Some d)) d in
-            let asks : is_question (want_of t.world.coding flight) ≡ true = rw here at due in
-            let passed : first_row (going_rows t.world.coding t.world.kept (Some flight) (Some said)) ≡ None =
-            subst (λ o. first_row (going_rows t.world.coding t.world.kept o (Some said)) ≡ None) here rows in
-            step_sound t p x flight since None (number_of said) s (laws.decision t p x flight since said s may passed e d asks)
+    decision_sound t p said may rows due s (Some x) e =
+        answered t p x None (number_of said) x.doing s (λ flight since d.
+        laws.decision t p x flight since said s may
+        (subst (λ o. first_row (going_rows t.world.coding t.world.kept o (Some said)) ≡ None) (under t p x flight since e d) rows) e d
+        (subst (λ o. is_due t.world.coding o ≡ true) (under t p x flight since e d) due))
 
     begin_sound : (t : Trace T) (p : ℕ) (start : Start T) → May t (Begin p start) → MayBegin t.world p start
         → Sound F t → (o : Option (Flight T)) → first_of t.world.kind t.world.capacity start t.world.kept ≡ o
         → Sound F record { world = after_begin t.world p start o; events = t.events ++ Begun p start ∷ [] }
-    begin_sound t p start small may s None e =
-        let call = rw e at may.call in
-        absurd (cc)
-    begin_sound t p start small may s (Some flight) e =
-        let w = t.world in
-        let comes = laws.begin t p start flight s small may e in
-        record {
-          coding = s.coding;
-          kind = s.kind;
-          capacity = s.capacity;
-          state = comes.state;
-          fit = comes.fit;
-          holds = comes.holds;
-          inv =
-              frame.advance F s.state comes.state p (party_at_begin start flight w.changes) w.latest t.events
-              (Begun p start ∷ []) w.changes w.changes s.inv comes.owes;
-        }
+    begin_sound t p start small may s None e = grind arith
+    begin_sound t p start small may s (Some flight) e = comes_sound t p _ _ _ _ _ s (laws.begin t p start flight s small may e)
 
     death_sound : (t : Trace T) (owner : ℕ) → MayDie t.world owner → Sound F t → Sound F (after_turn t (Die owner))
     death_sound t owner may s =

@@ -39,8 +39,8 @@ use Rattle.model.specs.Families.Loan.Opening.{is_loan}
 use Rattle.model.specs.Families.Queues.Calls.{acquire_of, release_of, first}
 use Rattle.model.specs.Families.Queues.Objects.{list_of}
 use Rattle.model.specs.Families.Queues.Opening.{cells_of, words_of_cell, lacks_role, call_of, kept_rows}
-use Rattle.model.specs.Families.Queues.Steps.{pending_at, pending}
-use Rattle.model.specs.Parties.{party_of, put, doing_of, flight_of}
+use Rattle.model.specs.Families.Queues.Steps.{pending_at}
+use Rattle.model.specs.Parties.{party_of, doing_of, flight_of}
 use Rattle.model.specs.Reading.{Open, span_of}
 use Rattle.model.specs.Rows.{first_row}
 use Rattle.model.specs.Turns.{old_of, party_at_begin, IsReached}
@@ -58,7 +58,7 @@ use Rattle.laws_queues.proofs.Queues.Begins.{IsFirst, first_is}
 pub use Rattle.laws_queues.proofs.Queues.Fresh.{IsFreshTurn, IsFreshRun, fresh_there, fresh_any, fresh_more, fresh_opening}
 use Rattle.laws_queues.proofs.Queues.Core.{Core}
 use Rattle.laws_queues.proofs.Queues.Invariant.{Queue, Represents, machine_kind, Scene, Inv, Shows, family, holds_more, owes, queue_part}
-use Rattle.laws_queues.proofs.Queues.Knows.{IsFreshAt, any_fresh, layout, len_at, in_one, in_cell, listed, has_written}
+use Rattle.laws_queues.proofs.Queues.Knows.{IsFreshAt, layout, len_at, in_one, in_cell, listed, has_written}
 use Rattle.laws_queues.proofs.Queues.Knows.{KnowsLen, KnowsFlight, number_of, RoleAt, LengthAt, IndexAt, ValueAt, At}
 use Rattle.laws_queues.proofs.Queues.Lengths.{len_step, is_empty_step, is_full_step}
 use Rattle.laws_queues.proofs.Queues.Pending.{pending_put, hangs_same, none_hangs}
@@ -230,24 +230,13 @@ some_mapped : {T : Type 0} → (o : Option (QueueFlight T)) (flight : QueueFligh
     → option_map flights.TheVariants.Queues o ≡ Some (flights.TheVariants.Queues flight) → o ≡ Some flight
 some_mapped x0 x1 x2 = grind arith
 
--- a call that begins on a queue is one of its own
-abbrev IsOwn : {T : Type 0} → Start T → Flight T → Type 0
-IsOwn (Queues start) (flights.TheVariants.Queues flight) = Unit {0}
-IsOwn start flight = ⊥
-
-begins_own : {T : Type 0} (kd : QueueKind) (c : ℕ) (kept : Registry T) (start : Start T) (flight : Flight T)
-    → first_of (machine_kind kd) c start kept ≡ Some flight → IsOwn start flight
-begins_own x0 x1 x2 x3 x4 x5 = grind arith
-
 module _ {T : Type 0} (en : Coding T) (law : IsCoding en) (kd : QueueKind) (c : ℕ) (t : Trace T) (s : frame.Sound (family en kd c) t) where
   pub write_is : get_or t.world.words 0 0 ≡ s.state.core.write
   write_is = ap (λ ws. get_or ws 0 0) (kept_is t.world.kept t.world.words s.state s.fit).1
 
   -- few turns are few positions
   pub few_turns : t.world.turns < 2 ^ 64 - 2 → (p : ℕ) → IsFreshTurn t (Next p)
-  few_turns small p flight here =
-      fresh_any t.world.coding t.world.words flight
-      (any_fresh (get_or t.world.words 0 0) flight (let low = s.holds.reached in let is = write_is in omega arith))
+  few_turns x0 x1 = grind arith
 
 module _ {T : Type 0} (en : Coding T) (law : IsCoding en) (kd : QueueKind) (c : ℕ) (t : Trace T) (s : frame.Sound (family en kd c) t) (p : ℕ) where
   abbrev pub scene_of : Party T → ℕ → Scene T kd
@@ -322,8 +311,7 @@ module _ {T : Type 0} (en : Coding T) (law : IsCoding en) (kd : QueueKind) (c : 
         grants = (tt, tt);
         good = s.holds.good;
         hangs =
-            hangs_same T kd c k k (pending k.read pr t.world.latest) (pending k.read pr (put p y t.world.latest)) refl
-            (pending_put k.read pr p y t.world.latest first.calm before) s.holds.hangs;
+            hangs_same T kd c k k _ _ refl (pending_put k.read pr p y t.world.latest first.calm before) s.holds.hangs;
         book = append-nil (map (item kd) k.waiting);
         out = omega arith;
         producers = refl;
@@ -343,10 +331,8 @@ module _ {T : Type 0} (en : Coding T) (law : IsCoding en) (kd : QueueKind) (c : 
       record {
         state = s.state;
         fit = s.fit;
-        holds =
-            holds_more en kd scene s.state.roles k y (Begun p (Queues start) ∷ []) t.world.changes s.holds
-            (queue_part en kd scene s.state.roles k (span_of p t.events) y (Begun p (Queues start) ∷ []) t.world.changes shows);
-        owes = owes en kd scene s.state.roles k (span_of p t.events) y (Begun p (Queues start) ∷ []) t.world.changes shows refl (inv_of y t.world.changes);
+        holds = holds_more en kd scene _ _ _ _ _ s.holds (queue_part en kd scene _ _ _ _ _ _ shows);
+        owes = owes en kd scene _ _ _ _ _ _ shows refl (inv_of y t.world.changes);
       }
 
   pub begin_comes : (start : Start T) (flight : Flight T) → MayBegin t.world p start → first_of t.world.kind t.world.capacity start t.world.kept ≡ Some flight
@@ -362,10 +348,7 @@ module _ {T : Type 0} (en : Coding T) (law : IsCoding en) (kd : QueueKind) (c : 
       begins start flight (first_is en law c s.state.roles p (t.events ++ Begun p (Queues start) ∷ []) t.world.changes kd s.state.core
       start flight called role)
       may.free
-  begin_comes start flight may e =
-      let named : first_of (machine_kind kd) t.world.capacity start t.world.kept ≡ Some flight =
-      subst (λ kind. first_of kind t.world.capacity start t.world.kept ≡ Some flight) s.kind e in
-      absurd (begins_own kd t.world.capacity t.world.kept start flight named)
+  begin_comes start flight may e = grind arith
 
 pub asks_nothing : {T A : Type 0}
     → (en : Coding T) (kd : QueueKind) (c : ℕ) (t : Trace T) (p : ℕ) (x : Party T) (flight : Flight T) (since : ℕ)

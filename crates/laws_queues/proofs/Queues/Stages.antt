@@ -132,8 +132,7 @@ module _ {T : Type 0} (en : Coding T) (kd : QueueKind) (scene : Scene T kd) wher
         → pending_at k.read (flight_of (Some y.doing)) ≡ None → IsCalm k.read
         → Hangs T kd c k' (pending k'.read ro.producer (put p y scene.latest))
     still_hangs k' y same read after before =
-        hangs_same T kd c k k' (pending k.read ro.producer scene.latest) (pending k'.read ro.producer (put p y scene.latest)) same
-        (ap (λ n. pending n ro.producer (put p y scene.latest)) read ∙ pending_put k.read ro.producer p y scene.latest after before)
+        hangs_same T kd c k k' _ _ same (ap (λ n. pending n ro.producer (put p y scene.latest)) read ∙ pending_put k.read ro.producer p y scene.latest after before)
         inv.queue.hangs
 
     -- the call goes on, and the positions and what waits stay
@@ -237,15 +236,12 @@ module _ {T : Type 0} (en : Coding T) (kd : QueueKind) (scene : Scene T kd) wher
   alone inv wrote start ask back after effect seen step = (
     step.0,
     step.1,
-    queue_part en kd scene (roles_after p start (answer_in after) ro) step.0 (Open (Queues start) wrote)
-        (party_then start ask back after) (told_after p start effect after) (changes_then ask) step.2,
-    owes en kd scene (roles_after p start (answer_in after) ro) step.0 (Open (Queues start) wrote)
-        (party_then start ask back after) (told_after p start effect after) (changes_then ask) step.2 seen inv,
+    queue_part en kd scene _ _ _ _ _ _ step.2,
+    owes en kd scene _ _ _ _ _ _ step.2 seen inv,
   )
 
   pub of_step : Inv en kd scene → (start : QueueStart T) (flight : QueueFlight T)
       → span_of p scene.events ≡ Open (Queues start) (has_written c k p flight) → StepOf start flight
       → MovesOf start flight
   of_step inv start flight seen step =
-      alone inv (has_written c k p flight) start (ask_of (want en flight)) (goes_back flight (old_for flight))
-      (after en flight (old_for flight)) (effect_for flight) seen step
+      alone inv _ _ _ _ _ _ seen step

@@ -1,9 +1,7 @@
 -- The steps of a pop of a bounded queue.
-use Rattle.std.proofs.Common.{◌≡◌, ◌≢◌, ℕ, suc, ◌+◌, ◌*◌, ◌%◌, ◌^◌, ◌<◌, ◌≤◌, ◌==◌, nat_lt, Bool, true, false, ◌||◌}
+use Rattle.std.proofs.Common.{◌≡◌, ℕ, suc, ◌+◌, ◌*◌, ◌%◌, ◌^◌, ◌<◌, ◌≤◌, ◌==◌, nat_lt, Bool, true, false, ◌||◌}
 use Rattle.std.proofs.Common.{⊎_elim, Option, Some, List, [], ◌∷◌, ◌++◌, length, get_or, set, take, map, drop}
-use Rattle.std.proofs.Common.{slice_get, refl, sym, ap, subst, ◌∙◌, append-nil, arith, length-set, get_or-set_same}
-use Rattle.std.proofs.Common.{get_or-set_other}
-use Rattle.std.proofs.lemmas.Bool.{cases_lt}
+use Rattle.std.proofs.Common.{slice_get, refl, sym, ap, subst, ◌∙◌, append-nil, arith, length-set}
 use Rattle.std.proofs.lemmas.Bool.Decides.{nat_tests}
 use Rattle.std.proofs.lemmas.List.{nil_from_length, set-get_or}
 use Rattle.steps.specs.declared.ask.Ask.{Ask}
@@ -32,7 +30,7 @@ use Rattle.model.specs.Families.Queues.Promises.{load_of_write, load_of_read}
 use Rattle.model.specs.Families.Queues.Reading.{published, handed_out}
 use Rattle.model.specs.Reading.{Open}
 use Rattle.model.specs.Turns.{old_of, words_after, change_of, step_count}
-use Rattle.laws_queues.proofs.Queues.Core.{Core, Good, taken, takes, front, word_at}
+use Rattle.laws_queues.proofs.Queues.Core.{Core, Good, one_more, taken, takes, front, word_at}
 use Rattle.laws_queues.proofs.Queues.Invariant.{Scene, Inv, waiting_is}
 use Rattle.laws_queues.proofs.Queues.Keeping.{clash, kept}
 use Rattle.laws_queues.proofs.Queues.Knows.{free, layout}
@@ -55,22 +53,6 @@ same_words (x ∷ xs) (y ∷ ys) long each =
     let first : x ≡ y = each 0 (omega arith) in
     let rest : take (length ys) xs ≡ ys = same_words xs ys (omega arith) (λ i below. each (suc i) (omega arith)) in
     rw (first, rest) refl
-
--- one word more is as in the other list
-one_more : (xs ys : List ℕ) (at word : ℕ) → at < length xs → word ≡ get_or ys at 0
-    → ((i : ℕ) → i < at → get_or xs i 0 ≡ get_or ys i 0) → (i : ℕ) → i < at + 1
-    → get_or (set xs at word) i 0 ≡ get_or ys i 0
-one_more xs ys at word within is so_far i below = ⊎_elim before here (cases_lt i at)
-  where
-    before : i < at → get_or (set xs at word) i 0 ≡ get_or ys i 0
-    before h =
-        let other : i ≢ at = λ e. absurd (omega arith) in
-        get_or-set_other xs at i word 0 other ∙ so_far i h
-
-    here : at ≤ i → get_or (set xs at word) i 0 ≡ get_or ys i 0
-    here h =
-        let same : i ≡ at = omega arith in
-        rw same (get_or-set_same xs at word 0 within ∙ is)
 
 -- the value in a room whose first words are those of a value
 module _ {V : Type 0} (en : Coding V) (law : IsCoding en) where
@@ -258,7 +240,9 @@ module _ {T : Type 0} (en : Coding T) (r : Ring) (law : IsCoding en) (scene : Sc
       wide = let same : length (words_in r next) ≡ length (words_in r room) = ap length put ∙ length-set (words_in r room) i old in omega arith
 
       each : (j : ℕ) → j < i + 1 → get_or (words_in r next) j 0 ≡ get_or (words_of v) j 0
-      each j low = ap (λ xs. get_or xs j 0) put ∙ one_more (words_in r room) (words_of v) i old (omega arith) old_is known.7 j low
+      each j low =
+          ap (λ xs. get_or xs j 0) put
+          ∙ one_more (λ n. n) (words_in r room) (words_of v) i old (λ n h e. absurd (omega arith)) (omega arith) old_is known.7 j low
 
       same : words_after (layout ro k) ask ≡ layout ro k
       same = set-get_or (layout ro k) (cell_asked size c k.read i) 0

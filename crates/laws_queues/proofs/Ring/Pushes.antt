@@ -130,10 +130,6 @@ module _ {T : Type 0} (en : Coding T) (r : Ring) (law : IsCoding en) (scene : Sc
       subst (λ a. Does (Some load_of_write) a Quiet) (sym goes)
       (goes_on (Some load_of_write) (pushes.TheVariants.LoadsRead k.write) k refl refl refl g refl (refl, fresh) (omega arith) (λ q ne st f h. (h, refl)))
 
-  -- how far the read position is behind, as the push computes it
-  behind : distance k.write k.read ≡ length k.waiting
-  behind = let reached = inv.queue.reached in let write = g.write in omega arith
-
   full : (c == 0 || distance k.write k.read == c) ≡ true → length k.waiting ≡ c
   full x0 = grind arith
 
