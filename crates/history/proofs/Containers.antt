@@ -31,7 +31,7 @@ use Rattle.model.specs.Families.Container.Opening.{names_owner}
 use Rattle.model.specs.Families.Container.Reading.{Act, acts_of}
 use Rattle.model.specs.Families.Container.Steps.{effects, questions}
 use Rattle.model.specs.Families.Indices.Robust.Dead.{has_died}
-use Rattle.model.specs.Families.Indices.Robust.Reading.{Deed, deeds_of}
+use Rattle.model.specs.Families.Indices.Robust.Reading.{SetAct, set_acts_of}
 use Rattle.model.specs.Rows.{first_row}
 use Rattle.model.specs.Turns.{step_in, after_turn}
 use Rattle.model.specs.World.{World, Trace}
@@ -153,14 +153,14 @@ module _ {T : Type 0} (code : Coding T) (capacity : ℕ) where
   -- ---- what a step comes to
 
   no_rows : (t : Trace T) → IsOn t
-      → (c z : ℕ) (all : List Deed) (done : List (Act T)) (start : Start T) (flight : Flight T)
+      → (c z : ℕ) (all : List SetAct) (done : List (Act T)) (start : Start T) (flight : Flight T)
       → FlightAt c z all done start flight
       → first_row (going_rows t.world.coding t.world.kept (Some flight) None) ≡ None
   no_rows t r c z all done (Container start) (flights.TheVariants.Container flight) at =
       step_is_free by_word t.world.coding t.world.capacity t (container_sound t r) (all_live t r) flight
   no_rows t r c z all done start flight at = absurd at
 
-  writes_there : (y : Coding T) (words ws : List ℕ) (beside : Option (ℕ × ℕ)) (c z p old : ℕ) (all : List Deed) (done : List (Act T)) (kept : Registry T)
+  writes_there : (y : Coding T) (words ws : List ℕ) (beside : Option (ℕ × ℕ)) (c z p old : ℕ) (all : List SetAct) (done : List (Act T)) (kept : Registry T)
       (s : ContainerNow T) (start : Start T) (flight : Flight T) → Represents kept ws s → FlightAt c z all done start flight
       → (step_of y words beside p start flight old kept).wrote ≡ kept_effects y kept p flight old
   writes_there y words ws beside c z p old all done (registries.TheVariants.Container dead states) s (Container start)
@@ -169,7 +169,7 @@ module _ {T : Type 0} (code : Coding T) (capacity : ℕ) where
   writes_there y words ws beside c z p old all done kept s (Container start) (flights.TheVariants.Container flight) fit at = absurd fit
   writes_there y words ws beside c z p old all done kept s start flight fit at = absurd at
 
-  goes_there : (y : Coding T) (words ws : List ℕ) (beside : Option (ℕ × ℕ)) (c z p old : ℕ) (all : List Deed) (done : List (Act T)) (kept : Registry T)
+  goes_there : (y : Coding T) (words ws : List ℕ) (beside : Option (ℕ × ℕ)) (c z p old : ℕ) (all : List SetAct) (done : List (Act T)) (kept : Registry T)
       (s : ContainerNow T) (start : Start T) (flight : Flight T) → Represents kept ws s → FlightAt c z all done start flight
       → (step_of y words beside p start flight old kept).after ≡ goes_of y p flight old kept
   goes_there y words ws beside c z p old all done (registries.TheVariants.Container dead states) s (Container start)
@@ -185,7 +185,7 @@ module _ {T : Type 0} (code : Coding T) (capacity : ℕ) where
       let s = container_sound t r in
       let here = stands w p start flight at in
       let there = stands_there (family_by by_word w.coding w.capacity) t s p here.x here.since flight here.found here.doing in
-      let all : List Deed = deeds_of p s.state.events in
+      let all : List SetAct = set_acts_of p s.state.events in
       let done : List (Act T) = acts_of p s.state.events in
       let mine : FlightAt w.capacity w.coding.size all done here.x.start flight = there.at in
       record {

@@ -14,7 +14,7 @@ use Rattle.model.specs.Coding.{Coding}
 use Rattle.model.specs.Families.{first_of, begin_rows, step_of, beside_of, after_of, going_rows}
 use Rattle.model.specs.Families.Indices.Robust.Dead.{has_died}
 use Rattle.model.specs.Families.Indices.Robust.Opening.{call_rows, kept_rows}
-use Rattle.model.specs.Families.Indices.Robust.Reading.{Deed, deeds_of}
+use Rattle.model.specs.Families.Indices.Robust.Reading.{SetAct, set_acts_of}
 use Rattle.model.specs.Families.Indices.Robust.Steps.{effects}
 use Rattle.model.specs.Reading.{whose}
 use Rattle.model.specs.Rows.{first_row}
@@ -82,20 +82,20 @@ module _ {T : Type 0} (code : Coding T) (capacity : ℕ) where
   pub robust_size : (t : Trace T) → IsRobust t → length t.world.words ≡ cells_and_counter capacity
   robust_size t r = reached_open_wide t r.of_kind r.reached ∙ ap (λ n. n + 1) r.sized
 
-  no_rows : (t : Trace T) → IsRobust t → (c : ℕ) (all : List Deed) (start : Start T) (flight : Flight T) → FlightAt c all start flight
+  no_rows : (t : Trace T) → IsRobust t → (c : ℕ) (all : List SetAct) (start : Start T) (flight : Flight T) → FlightAt c all start flight
       → first_row (going_rows t.world.coding t.world.kept (Some flight) None) ≡ None
   no_rows t r c all (Robust start) (flights.TheVariants.Robust flight) at = step_is_free t.world.coding t.world.capacity t (robust_sound t r)
       (all_live t r) flight
   no_rows t r c all start flight at = absurd at
 
-  writes_there : (z : Coding T) (words ws : List ℕ) (beside : Option (ℕ × ℕ)) (c p old : ℕ) (all : List Deed) (kept : Registry T) (s : RobustSet T)
+  writes_there : (z : Coding T) (words ws : List ℕ) (beside : Option (ℕ × ℕ)) (c p old : ℕ) (all : List SetAct) (kept : Registry T) (s : RobustSet T)
       (start : Start T) (flight : Flight T) → Represents kept ws s → FlightAt c all start flight
       → (step_of z words beside p start flight old kept).wrote ≡ robust_effects p flight old
   writes_there z words ws beside c p old all (registries.TheVariants.Owners dead) s (Robust start) (flights.TheVariants.Robust flight) fit at = refl
   writes_there z words ws beside c p old all kept s (Robust start) (flights.TheVariants.Robust flight) fit at = absurd fit
   writes_there z words ws beside c p old all kept s start flight fit at = absurd at
 
-  goes_there : (z : Coding T) (words ws : List ℕ) (beside : Option (ℕ × ℕ)) (c p old : ℕ) (all : List Deed) (kept : Registry T) (s : RobustSet T)
+  goes_there : (z : Coding T) (words ws : List ℕ) (beside : Option (ℕ × ℕ)) (c p old : ℕ) (all : List SetAct) (kept : Registry T) (s : RobustSet T)
       (start : Start T) (flight : Flight T) → Represents kept ws s → FlightAt c all start flight
       → (step_of z words beside p start flight old kept).after ≡ after_of z flight old
   goes_there z words ws beside c p old all (registries.TheVariants.Owners dead) s (Robust start) (flights.TheVariants.Robust flight) fit at = refl
@@ -109,7 +109,7 @@ module _ {T : Type 0} (code : Coding T) (capacity : ℕ) where
       let s = robust_sound t r in
       let here = stands w p start flight at in
       let there = stands_there (family_by Word w.coding w.capacity) t s p here.x here.since flight here.found here.doing in
-      let done : List Deed = deeds_of p s.state.events in
+      let done : List SetAct = set_acts_of p s.state.events in
       let mine : FlightAt w.capacity done here.x.start flight = there.at in
       record {
         may = no_rows t r w.capacity done here.x.start flight mine;

@@ -26,7 +26,7 @@ use Rattle.model.specs.declared.families.container.calls.ContainerFlight as call
 use Rattle.model.specs.declared.party.Party.{Party}
 use Rattle.model.specs.Families.Container.Calls.{added}
 use Rattle.model.specs.Families.Container.Reading.{Act, Places, Hides, places, contents_after, contents_of, announced_after, announced_of}
-use Rattle.model.specs.Families.Indices.Robust.Reading.{Deed, filled_after, holder_after}
+use Rattle.model.specs.Families.Indices.Robust.Reading.{SetAct, filled_after, holder_after}
 use Rattle.model.specs.Families.Queues.Calls.{as_it_is}
 use Rattle.model.specs.Parties.{put}
 use Rattle.model.specs.Step.{as_call}
@@ -221,7 +221,7 @@ module _ {T : Type 0} (scene : Scene T) (inv : Inv scene) (value : T) (owner : �
               (hides scene inv start (at_stage (adds.TheVariants.Hides i count)) tt here y (words_after ws hide_it)
               i below new refl now_odd (λ holds q ne o theirs fresh. nobody_else holds q ne o theirs) well_formed)
               ((granted.1, none), tt) (omega arith)
-              (refl, refl, fits, ((below, ap (λ (d : List Deed). d ++ []) granted.1), inr (ap (λ d. d ++ Hides i ∷ []) none), omega arith)) (
+              (refl, refl, fits, ((below, ap (λ (d : List SetAct). d ++ []) granted.1), inr (ap (λ d. d ++ Hides i ∷ []) none), omega arith)) (
                 owns_hidden hide_it y,
                 record {
                   few = omega arith;
@@ -333,7 +333,7 @@ module _ {T : Type 0} (scene : Scene T) (inv : Inv scene) (value : T) (owner : �
               (places_it scene inv start (at_stage (adds.TheVariants.AddsCount i)) tt here y (words_after ws add_it)
               i below new refl value owner acts mine (λ holds. w.has holds (acts.stays holds.kept)) well_formed)
               ((refl, granted.1, hidden), tt) (omega arith)
-              (refl, refl, fits, (below, ap (λ (d : List Deed). d ++ []) granted.1)) (
+              (refl, refl, fits, (below, ap (λ (d : List SetAct). d ++ []) granted.1)) (
                 owns_placed add_it y,
                 (λ holds. ap (λ a. places a) (acts_more scene start here.span es (refl, tt) (λ start w. refl)) ∙ placed_once (done scene) i value hidden),
                 (λ holds lives. (

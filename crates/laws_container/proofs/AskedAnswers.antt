@@ -31,7 +31,7 @@ use Rattle.model.specs.Families.Container.Reading.{acts_of}
 use Rattle.model.specs.Families.Container.States.{state_of}
 use Rattle.model.specs.Families.Container.Steps.{effects, questions}
 use Rattle.model.specs.Families.Indices.Robust.Promises.{IsIn}
-use Rattle.model.specs.Families.Indices.Robust.Reading.{deeds_of}
+use Rattle.model.specs.Families.Indices.Robust.Reading.{set_acts_of}
 use Rattle.model.specs.Families.Queues.Calls.{read_in}
 use Rattle.model.specs.Step.{answer_in}
 use Rattle.model.specs.Turns.{number_of, ending_of, events_of, after_turn}
@@ -99,7 +99,7 @@ module _ {T : Type 0} (shown : Shown T) (terms : Terms) (code : Coding T) (t : T
     -- a call of this name waits for the decision
     pub record Waiting (said : Bool) (start : ContainerStart T) : Type 0 where
       pub flight : ContainerFlight T
-      pub at : At c code.size (deeds_of p t.events) (acts_of p t.events) start flight
+      pub at : At c code.size (set_acts_of p t.events) (acts_of p t.events) start flight
       pub due : is_question (want code flight) ≡ true
       pub asked : HasAsked flight
       pub wrote : Wrote said start flight (number_of said)
@@ -122,7 +122,7 @@ module _ {T : Type 0} (shown : Shown T) (terms : Terms) (code : Coding T) (t : T
       stage_hears given same capacity room stage due asked e = grind arith
 
       hears : (flight : ContainerFlight T)
-          → At c code.size (deeds_of p t.events) (acts_of p t.events) (starts.TheVariants.Recover owner mode) flight
+          → At c code.size (set_acts_of p t.events) (acts_of p t.events) (starts.TheVariants.Recover owner mode) flight
           → Hears flight
       hears (Recover run) at = stage_hears run.given (ap (λ (o : DeadOwner). o.owner) at.1) run.call.capacity run.room run.call.stage
       hears flight at = absurd at
@@ -148,7 +148,7 @@ module _ {T : Type 0} (shown : Shown T) (terms : Terms) (code : Coding T) (t : T
       stage_stays given capacity room (recovers.TheVariants.AddsChange lock) due e = absurd (cc)
 
       stays : (flight : ContainerFlight T)
-          → At c code.size (deeds_of p t.events) (acts_of p t.events) (starts.TheVariants.Recover owner mode) flight
+          → At c code.size (set_acts_of p t.events) (acts_of p t.events) (starts.TheVariants.Recover owner mode) flight
           → Stays flight
       stays (Recover run) at = stage_stays run.given run.call.capacity run.room run.call.stage
       stays flight at = absurd at
@@ -181,7 +181,7 @@ module _ {T : Type 0} (shown : Shown T) (terms : Terms) (code : Coding T) (t : T
             counts = counts_up_to shown terms code t s may (Decide p false) r well_formed so_far p owner found k (read_in code room) ends refl asked;
           }
 
-      stops : (flight : ContainerFlight T) → At c code.size (deeds_of p t.events) (acts_of p t.events) (starts.TheVariants.Find owner) flight → Stops flight
+      stops : (flight : ContainerFlight T) → At c code.size (set_acts_of p t.events) (acts_of p t.events) (starts.TheVariants.Find owner) flight → Stops flight
       stops (Find run) at = stage_stops run.call.capacity run.given run.room run.call.stage
       stops flight at = absurd at
 

@@ -18,7 +18,7 @@ use Rattle.model.specs.Families.Container.Calls.{after}
 use Rattle.model.specs.Families.Container.Reading.{acts_of}
 use Rattle.model.specs.Families.Container.States.{state_of}
 use Rattle.model.specs.Families.Container.Steps.{effects, questions}
-use Rattle.model.specs.Families.Indices.Robust.Reading.{deeds_of}
+use Rattle.model.specs.Families.Indices.Robust.Reading.{set_acts_of}
 use Rattle.model.specs.Step.{answer_in}
 use Rattle.model.specs.Turns.{ending_of, events_of, after_turn}
 use Rattle.model.specs.World.{Trace}
@@ -61,7 +61,7 @@ module _ {T : Type 0} (shown : Shown T) (terms : Terms) (code : Coding T) (t : T
   last = Finished p (Container (starts.Find owner)) (Number number)
 
   silent_there : (q old : ℕ) (flight : ContainerFlight T)
-      → At c code.size (deeds_of q t.events) (acts_of q t.events) (starts.Find owner) flight
+      → At c code.size (set_acts_of q t.events) (acts_of q t.events) (starts.Find owner) flight
       → Silent code q (state_of q s.state.states) (Number number) flight old
   silent_there q old (Find run) at = stage_silent code q (state_of q s.state.states) (Number number) run.call.capacity run.given run.room run.call.stage old
   silent_there q old flight at = absurd at
@@ -83,7 +83,7 @@ module _ {T : Type 0} (shown : Shown T) (terms : Terms) (code : Coding T) (t : T
           ends_last turn q p did (Container g.start) (Container (starts.Find owner)) outcome (Number number) wrote
           (all_effects turn q g.mine code state g.flight g.answer) whole in
           let name = container_is g.start (starts.Find owner) end.name in
-          let at = subst (λ a. At c code.size (deeds_of q t.events) (acts_of q t.events) a g.flight) name g.at in
+          let at = subst (λ a. At c code.size (set_acts_of q t.events) (acts_of q t.events) a g.flight) name g.at in
           let nothing : did ≡ [] = silent_there q g.answer g.flight at end.done in
           only_one (Finished q (Container g.start) (Number number)) last wrote
           (sym (ap (λ es. es ++ ending_of q (Container g.start) outcome) nothing ∙ ap (λ o. ending_of q (Container g.start) o) end.done) ∙ whole)

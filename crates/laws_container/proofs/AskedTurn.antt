@@ -30,7 +30,7 @@ use Rattle.model.specs.Families.Container.Questions.{question_in, question_at, W
 use Rattle.model.specs.Families.Container.Reading.{acts_of}
 use Rattle.model.specs.Families.Container.States.{state_of}
 use Rattle.model.specs.Families.Container.Steps.{effects, questions}
-use Rattle.model.specs.Families.Indices.Robust.Reading.{deeds_of}
+use Rattle.model.specs.Families.Indices.Robust.Reading.{set_acts_of}
 use Rattle.model.specs.Parties.{party_of, doing_of, flight_of}
 use Rattle.model.specs.Promises.Turns.{IsParty}
 use Rattle.model.specs.Reading.{Open, span_of}
@@ -94,7 +94,7 @@ module _ {T : Type 0} (shown : Shown T) (terms : Terms) (code : Coding T) (c : �
     pub backs : ℕ
     pub asked : question_at t q ≡ question_in code (Some (flights.TheVariants.Container flight))
     pub span : span_of q t.events ≡ Open (Container start) (wrote_of q t.events)
-    pub at : At c code.size (deeds_of q t.events) (acts_of q t.events) start flight
+    pub at : At c code.size (set_acts_of q t.events) (acts_of q t.events) start flight
     pub knows : Knows code c flight (view terms s.state.words s.state.states t.world.latest t.events q since t.world.changes backs)
     pub wrote : events_of t.world turn
         ≡ (effects code q (state_of q s.state.states) flight answer ++ questions q flight answer)

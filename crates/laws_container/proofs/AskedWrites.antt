@@ -17,7 +17,7 @@ use Rattle.model.specs.Families.Container.Questions.{question_at, WritesRight}
 use Rattle.model.specs.Families.Container.Reading.{acts_of}
 use Rattle.model.specs.Families.Container.States.{state_of}
 use Rattle.model.specs.Families.Container.Steps.{effects, questions}
-use Rattle.model.specs.Families.Indices.Robust.Reading.{deeds_of}
+use Rattle.model.specs.Families.Indices.Robust.Reading.{set_acts_of}
 use Rattle.model.specs.Reading.{Open, span_of}
 use Rattle.model.specs.Turns.{ending_of, events_of, after_turn}
 use Rattle.model.specs.World.{Trace}
@@ -49,7 +49,7 @@ module _ {T : Type 0} (code : Coding T) (c : ℕ) (t : Trace T) (turn : Turn T) 
   any_call_right : (state : Option (ContainerState T)) (v : View T) → v.events ≡ t.events → v.party ≡ q
       → (start : ContainerStart T) (flight : ContainerFlight T) (old : ℕ)
       → span_of q t.events ≡ Open (Container start) (wrote_of q t.events)
-      → At c code.size (deeds_of q t.events) (acts_of q t.events) start flight → Knows code c flight v
+      → At c code.size (set_acts_of q t.events) (acts_of q t.events) start flight → Knows code c flight v
       → question_at (after_turn t turn) q ≡ made code flight old → ByYes flight old
       → All (effects code q state flight old ++ questions q flight old)
   any_call_right state v same mine start flight old span at k asks told = grind arith

@@ -21,7 +21,7 @@ use Rattle.model.specs.Families.Container.Promises.{StandsWellFormed, WasShown}
 use Rattle.model.specs.Families.Container.Reading.{Sees, contents_after, contents_of, announced_after, announced_of, acts, acts_of}
 use Rattle.model.specs.Families.Container.States.{state_of, with_state, fresh}
 use Rattle.model.specs.Families.Indices.Robust.Promises.{IsFilledWith}
-use Rattle.model.specs.Families.Indices.Robust.Reading.{Yes, deeds, deeds_of, dead_after, settled_of, wrote_in, IsOneOf}
+use Rattle.model.specs.Families.Indices.Robust.Reading.{Yes, set_acts, set_acts_of, dead_after, settled_of, wrote_in, IsOneOf}
 use Rattle.model.specs.Parties.{party_of, put, doing_of, flight_of}
 use Rattle.model.specs.Reading.{Open, span_of}
 use Rattle.model.specs.Shape.{IsShut}
@@ -168,8 +168,8 @@ module _ {T : Type 0} (scene : Scene T)
   span_begun : (start : ContainerStart T) → span_of p (events ++ begun start) ≡ Open (Container start) []
   span_begun start = span_of-own p events (begun start) (refl, tt)
 
-  no_deeds : (start : ContainerStart T) → deeds_of p (events ++ begun start) ≡ []
-  no_deeds start = ap (λ a. deeds (wrote_in a)) (span_begun start)
+  no_set_acts : (start : ContainerStart T) → set_acts_of p (events ++ begun start) ≡ []
+  no_set_acts start = ap (λ a. set_acts (wrote_in a)) (span_begun start)
 
   no_acts : (start : ContainerStart T) → acts_of p (events ++ begun start) ≡ []
   no_acts start = ap (λ a. acts (wrote_in a)) (span_begun start)
@@ -261,8 +261,8 @@ module _ {T : Type 0} (scene : Scene T)
           paid start,
           dead,
           λ honest i. ⊎_elim
-              (λ (told : IsOneOf (Yes i owner) (deeds_of p (events ++ begun start))). none_of (Yes i owner)
-              (deeds_of p (events ++ begun start)) told.before told.after (no_deeds start) told.is)
+              (λ (told : IsOneOf (Yes i owner) (set_acts_of p (events ++ begun start))). none_of (Yes i owner)
+              (set_acts_of p (events ++ begun start)) told.before told.after (no_set_acts start) told.is)
               (λ (seen : WasShown p i (events ++ begun start)). none_of (Sees i) (acts_of p (events ++ begun start))
               seen.before seen.after (no_acts start) seen.is),
         ),

@@ -26,7 +26,7 @@ use Rattle.model.specs.Families.Container.Bounds.{most_steps}
 use Rattle.model.specs.Families.Container.Calls.{place_of}
 use Rattle.model.specs.Families.Container.Promises.{most}
 use Rattle.model.specs.Families.Container.Reading.{Act}
-use Rattle.model.specs.Families.Indices.Robust.Reading.{Deed}
+use Rattle.model.specs.Families.Indices.Robust.Reading.{SetAct}
 use Rattle.model.proofs.Frame as frame
 use Rattle.laws_robust.proofs.Counting.{times_below}
 use Rattle.laws_robust.proofs.Kept.{count_most, lock_most}
@@ -39,7 +39,7 @@ use Rattle.laws_container.proofs.Standing.{RecoverAt, LookAt, At}
 
 -- ---- how many steps a call has taken
 
-module _ {T : Type 0} (c z : ℕ) (all : List Deed) (done : List (Act T)) where
+module _ {T : Type 0} (c z : ℕ) (all : List SetAct) (done : List (Act T)) where
   add_most : (owner : ℕ) (stage : AddStage) (backs : ℕ) → AddAt c z all done owner stage → add_number c z stage backs ≤ c + 7 + z + backs * (c + 1)
   add_most owner stage backs at = grind arith
 

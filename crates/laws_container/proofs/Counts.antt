@@ -25,7 +25,7 @@ use Rattle.model.specs.Families.Container.Promises.{IsLength}
 use Rattle.model.specs.Families.Container.Reading.{Act, announced_after}
 use Rattle.model.specs.Families.Container.Spans.{HasDone}
 use Rattle.model.specs.Families.Indices.Robust.Promises.{IsFilled}
-use Rattle.model.specs.Families.Indices.Robust.Reading.{Deed, settled_after, filled_of}
+use Rattle.model.specs.Families.Indices.Robust.Reading.{SetAct, settled_after, filled_of}
 use Rattle.model.specs.Families.Queues.Calls.{as_it_is}
 use Rattle.model.specs.Step.{as_call}
 use Rattle.model.specs.Turns.{old_of, words_after, step_count}
@@ -63,10 +63,10 @@ module _ (T : Type 0) where
   no_replace counts.TheVariants.Len = tt
   no_replace counts.TheVariants.IsEmpty = tt
 
-  at_count : (which : CountOf) (c z : ℕ) (deeds : List Deed) (acts : List (Act T)) (count : Counting)
-      → CountAt c count → deeds ≡ [] → At c z deeds acts (counts_as which) (count_at which c count)
-  at_count counts.TheVariants.Len c z deeds acts count at none = (refl, refl, at, none)
-  at_count counts.TheVariants.IsEmpty c z deeds acts count at none = (refl, refl, at, none)
+  at_count : (which : CountOf) (c z : ℕ) (set_acts : List SetAct) (acts : List (Act T)) (count : Counting)
+      → CountAt c count → set_acts ≡ [] → At c z set_acts acts (counts_as which) (count_at which c count)
+  at_count counts.TheVariants.Len c z set_acts acts count at none = (refl, refl, at, none)
+  at_count counts.TheVariants.IsEmpty c z set_acts acts count at none = (refl, refl, at, none)
 
   few_count : (which : CountOf) (c z n backs : ℕ) → n ≤ c + 2 + backs * (c + 2) → n ≤ most_steps c z (counts_as {T = T} which) backs
   few_count counts.TheVariants.Len c z n backs few = few
@@ -78,10 +78,10 @@ module _ (T : Type 0) where
   answers_count by worn counts.TheVariants.Len c p number events h = h
   answers_count by worn counts.TheVariants.IsEmpty c p number events h = record { number = number; is = refl; length = h }
 
-  does_count : (which : CountOf) (number : ℕ) (deeds : List Deed) (acts : List (Act T)) → deeds ≡ []
-      → HasDone (counts_as {T = T} which) (counted which number) deeds acts
-  does_count counts.TheVariants.Len number deeds acts none = none
-  does_count counts.TheVariants.IsEmpty number deeds acts none = none
+  does_count : (which : CountOf) (number : ℕ) (set_acts : List SetAct) (acts : List (Act T)) → set_acts ≡ []
+      → HasDone (counts_as {T = T} which) (counted which number) set_acts acts
+  does_count counts.TheVariants.Len number set_acts acts none = none
+  does_count counts.TheVariants.IsEmpty number set_acts acts none = none
 
   settles_not : (which : CountOf) (p number i : ℕ) (o : Option ℕ)
       → settled_after {T = T} i o (Finished p (Container (counts_as which)) (counted which number)) ≡ o

@@ -24,9 +24,9 @@ use Rattle.model.specs.declared.families.container.ContainerStart.{ContainerStar
 use Rattle.model.specs.declared.families.container.ContainerStart.TheVariants.{Find}
 use Rattle.model.specs.declared.families.container.calls.ContainerFlight.{ContainerFlight}
 use Rattle.model.specs.declared.families.container.calls.ContainerFlight as calls
-use Rattle.model.specs.Families.Container.Reading.{Copies, Has, acts_of, contents_of}
+use Rattle.model.specs.Families.Container.Reading.{Copies, acts_of, contents_of}
 use Rattle.model.specs.Families.Indices.Robust.Promises.{IsFilledWith}
-use Rattle.model.specs.Families.Indices.Robust.Reading.{Deed}
+use Rattle.model.specs.Families.Indices.Robust.Reading.{SetAct, IsOneOf}
 use Rattle.model.specs.Families.Queues.Calls.{as_it_is, read_in}
 use Rattle.model.specs.Step.{as_call}
 use Rattle.model.specs.Turns.{words_after}
@@ -113,7 +113,7 @@ module _ {T : Type 0} (scene : Scene T) (inv : Inv scene) (owner : ℕ) (fits : 
           refl,
           fits,
           (
-            ap (λ (d : List Deed). d ++ []) stands.0,
+            ap (λ (d : List SetAct). d ++ []) stands.0,
             stands.1.0,
             seen_more (k + 1) (done scene) (Copies k value) (below_more k (k + 1) _ (omega arith) stands.1.1) (omega arith, tt),
           ),
@@ -136,12 +136,12 @@ module _ {T : Type 0} (scene : Scene T) (inv : Inv scene) (owner : ℕ) (fits : 
                     copied = λ i less chosen through.
                         ⊎_elim (λ e. (
                           value,
-                          subst (λ n. Has (Copies n value) (acts_of p (events ++ copying))) (sym e)
-                              (subst (Has (Copies k value)) (sym acts_then) (has_last (Copies k value) (done scene))),
+                          subst (λ n. IsOneOf (Copies n value) (acts_of p (events ++ copying))) (sym e)
+                              (subst (IsOneOf (Copies k value)) (sym acts_then) (has_last (Copies k value) (done scene))),
                         ))
                         (λ ne.
                         let had = g.copied i (omega arith) chosen (through_less p (λ part. is_some (contents_of i part) ≡ true) events copying tt through) in
-                        (had.0, subst (Has (Copies i had.0)) (sym acts_then) (has_more (Copies i had.0) (done scene) (Copies k value ∷ []) had.1)))
+                        (had.0, subst (IsOneOf (Copies i had.0)) (sym acts_then) (has_more (Copies i had.0) (done scene) (Copies k value ∷ []) had.1)))
                         (cases_eq i k);
                   },
             ),

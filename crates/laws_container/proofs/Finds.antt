@@ -28,7 +28,8 @@ use Rattle.model.specs.declared.families.container.calls.ContainerFlight.{Contai
 use Rattle.model.specs.declared.families.container.calls.ContainerFlight as calls
 use Rattle.model.specs.declared.party.Party.{Party}
 use Rattle.model.specs.Coding.{Coding}
-use Rattle.model.specs.Families.Container.Reading.{Act, Has, index_seen, seen_in, contents_of}
+use Rattle.model.specs.Families.Indices.Robust.Reading.{IsOneOf}
+use Rattle.model.specs.Families.Container.Reading.{Act, index_seen, seen_in, contents_of}
 use Rattle.model.specs.Families.Indices.Robust.Promises.{cell_of, count_below, IsFilledWith, IsCount}
 use Rattle.model.specs.Families.Queues.Calls.{as_it_is, kept_at}
 use Rattle.model.specs.Parties.{put}
@@ -38,7 +39,7 @@ use Rattle.model.proofs.Moments.{held_now}
 use Rattle.laws_robust.proofs.Core.{cell}
 use Rattle.laws_robust.proofs.Counting.{times_below, count_next, count_within, chosen_with, with_here}
 use Rattle.laws_robust.proofs.Counting.{with_there, count_with, still_once, still_through}
-use Rattle.laws_robust.proofs.Deeds.{all_so}
+use Rattle.laws_robust.proofs.SetActs.{all_so}
 use Rattle.laws_robust.proofs.Effects.{both_ways, filled_by}
 use Rattle.laws_robust.proofs.Past.{through_now}
 use Rattle.laws_robust.proofs.Stages.{loads_same}
@@ -72,10 +73,10 @@ module _ {T : Type 0} where
       let more = flat_map-append index_seen all (one ∷ []) in
       subst (AreBelow n) (sym (more ∙ ap (λ xs. seen_in all ++ xs) (append-nil (index_seen one)))) (all_both (λ i. i < n) (seen_in all) (index_seen one) h k)
 
-  pub has_more : (one : Act T) (acts more : List (Act T)) → Has one acts → Has one (acts ++ more)
+  pub has_more : (one : Act T) (acts more : List (Act T)) → IsOneOf one acts → IsOneOf one (acts ++ more)
   has_more one xs more h = record { before = h.before; after = h.after ++ more; is = ap (λ xs. xs ++ more) h.is ∙ append_assoc h.before (one ∷ h.after) more }
 
-  pub has_last : (one : Act T) (all : List (Act T)) → Has one (all ++ one ∷ [])
+  pub has_last : (one : Act T) (all : List (Act T)) → IsOneOf one (all ++ one ∷ [])
   has_last one all = record { before = all; after = []; is = refl }
 
   -- under an even number nothing stands

@@ -10,7 +10,7 @@ use Rattle.model.specs.Coding.{Coding}
 use Rattle.model.specs.Families.Container.Reading.{contents_of}
 use Rattle.model.specs.Families.Container.Removals.{EmptySinceFreed, HidesRight}
 use Rattle.model.specs.Families.Container.Promises.{PlacesRight}
-use Rattle.model.specs.Families.Indices.Robust.Reading.{Frees, filled_of, settled_of, deeds_of, IsOneOf}
+use Rattle.model.specs.Families.Indices.Robust.Reading.{Frees, filled_of, settled_of, set_acts_of, IsOneOf}
 use Rattle.model.specs.Moments.{SinceBegin}
 use Rattle.laws_robust.specs.Gone.{is_gone}
 use Rattle.laws_container.proofs.Turns.{Now, WellFormed, count_in}
@@ -41,7 +41,7 @@ module _ {T : Type 0} (code : Coding T) (c : ℕ) where
   -- at each index that it has freed nothing has stood since, but those that are exempt
   abbrev pub HasHidden : ℕ → ℕ → (ℕ → Type 0) → Now T → Type 0
   HasHidden p owner But m =
-      WellFormed m → (i : ℕ) → IsOneOf (Frees i owner) (deeds_of p m.events)
+      WellFormed m → (i : ℕ) → IsOneOf (Frees i owner) (set_acts_of p m.events)
       → EmptySinceFreed p owner i m.events ⊎ But i
 
 -- no index is exempt

@@ -5,7 +5,7 @@ use Rattle.model.specs.declared.party.Party.{Party}
 use Rattle.model.specs.Coding.{Coding}
 use Rattle.model.specs.Families.Container.Reading.{contents_of}
 use Rattle.model.specs.Families.Container.Removals.{EmptySinceFreed}
-use Rattle.model.specs.Families.Indices.Robust.Reading.{Frees, settled_of, deeds_of, IsOneOf}
+use Rattle.model.specs.Families.Indices.Robust.Reading.{Frees, settled_of, set_acts_of, IsOneOf}
 use Rattle.model.specs.Moments.{SinceBegin}
 use Rattle.model.proofs.Moments.{held_now, held_later}
 use Rattle.laws_robust.specs.Gone.{is_gone, IsCalm}
@@ -23,10 +23,10 @@ module _ {T : Type 0} where
   nothing_is (Some value) e = absurd (cc)
 
   -- at this moment nothing stands at an index that has been freed
-  pub empty_now : (p owner i index : ℕ) (events : List (Event T)) → IsOneOf (Frees i owner) (deeds_of p events)
+  pub empty_now : (p owner i index : ℕ) (events : List (Event T)) → IsOneOf (Frees i owner) (set_acts_of p events)
       → i ≡ index → contents_of index events ≡ None → EmptySinceFreed p owner i events
   empty_now p owner i index events freed is none =
-      held_now p (λ part. IsOneOf (Frees i owner) (deeds_of p part) × (contents_of i part ≡ None)) events (freed, ap (λ n. contents_of n events) is ∙ none)
+      held_now p (λ part. IsOneOf (Frees i owner) (set_acts_of p part) × (contents_of i part ≡ None)) events (freed, ap (λ n. contents_of n events) is ∙ none)
 
 module _ {T : Type 0} (code : Coding T) (c q owner index count : ℕ) (m : Now T) (words' : List ℕ)
     (latest' : List (ℕ × Party T)) (es : List (Event T)) (goes : Goes m.words words' m.events es)
@@ -60,7 +60,7 @@ module _ {T : Type 0} (code : Coding T) (c q owner index count : ℕ) (m : Now T
       (h (passes.well_formed well_formed) had)
 
   -- what stood there stands, or is hidden now
-  stands_on : WellFormed m' → (i : ℕ) → IsOneOf (Frees i owner) (deeds_of q (m.events ++ es))
+  stands_on : WellFormed m' → (i : ℕ) → IsOneOf (Frees i owner) (set_acts_of q (m.events ++ es))
       → StillStands code c index count m i → (b : Bool) → is_some (contents_of index (m.events ++ es)) ≡ b
       → EmptySinceFreed q owner i (m.events ++ es) ⊎ StillStands code c index count m' i
   stands_on well_formed i freed s true t = inr (s.0, passes.stood well_formed index below s.2 t ∙ s.1, t)
@@ -70,7 +70,7 @@ module _ {T : Type 0} (code : Coding T) (c q owner index count : ℕ) (m : Now T
   hidden_stands h well_formed i freed =
       ⊎_elim (λ gone. inl (held_later q _ m.events es spares.none gone))
       (λ s. stands_on well_formed i freed s (is_some (contents_of index (m.events ++ es))) refl)
-      (h (passes.well_formed well_formed) i (subst (IsOneOf (Frees i owner)) spares.deeds freed))
+      (h (passes.well_formed well_formed) i (subst (IsOneOf (Frees i owner)) spares.set_acts freed))
 
 module _ {T : Type 0} (code : Coding T) (c q owner : ℕ) (But : ℕ → Type 0) (m : Now T) (words' : List ℕ)
     (latest' : List (ℕ × Party T)) (es : List (Event T)) (spares : Spares m.terms.by q m.events es)
@@ -79,4 +79,4 @@ module _ {T : Type 0} (code : Coding T) (c q owner : ℕ) (But : ℕ → Type 0)
       → HasHidden code c q owner But (record { terms = m.terms; words = words'; latest = latest'; events = m.events ++ es })
   hidden_later h well_formed i freed =
       ⊎_elim (λ gone. inl (held_later q _ m.events es spares.none gone)) (λ but. inr but)
-      (h (passes.well_formed well_formed) i (subst (IsOneOf (Frees i owner)) spares.deeds freed))
+      (h (passes.well_formed well_formed) i (subst (IsOneOf (Frees i owner)) spares.set_acts freed))

@@ -10,20 +10,20 @@ use Rattle.model.specs.declared.party.Party.{Party}
 use Rattle.model.specs.Coding.{Coding}
 use Rattle.model.specs.Families.Container.Reading.{contents_after, contents_of}
 use Rattle.model.specs.Families.Container.Removals.{EmptySinceFreed}
-use Rattle.model.specs.Families.Indices.Robust.Reading.{Frees, filled_of, deeds, deeds_of, IsOneOf}
+use Rattle.model.specs.Families.Indices.Robust.Reading.{Frees, filled_of, set_acts, set_acts_of, IsOneOf}
 use Rattle.model.specs.Moments.{BeginsNone}
 use Rattle.model.specs.Parties.{put}
 use Rattle.model.specs.Reading.{Open, span_of}
 use Rattle.model.proofs.Moments.{held_later}
 use Rattle.model.proofs.Readings.{AreOwn}
-use Rattle.laws_robust.proofs.Deeds.{was_one}
+use Rattle.laws_robust.proofs.SetActs.{was_one}
 use Rattle.laws_robust.proofs.Effects.{at_same}
 use Rattle.laws_container.proofs.Contents.{IsWhole, Stands}
 use Rattle.laws_container.proofs.Core.{count_at}
 use Rattle.laws_container.proofs.HiddenKnows.{Covered, RecoverCovers, StillStands, HasHidden, no_index}
 use Rattle.laws_container.proofs.HiddenLater.{empty_now}
 use Rattle.laws_container.proofs.Invariant.{Scene, Inv, before, after, moment, wrote_of}
-use Rattle.laws_container.proofs.Stages.{NoReplace, Lengthens, all, deeds_more, was_well_formed, was_well_formed_calmly}
+use Rattle.laws_container.proofs.Stages.{NoReplace, Lengthens, all, set_acts_more, was_well_formed, was_well_formed_calmly}
 use Rattle.laws_container.proofs.Turns.{Now, WellFormed, count_in}
 
 -- ---- what is exempt no more
@@ -62,18 +62,18 @@ module _ {T : Type 0} (scene : Scene T) (start : ContainerStart T) (none : NoRep
   -- that frees nothing
   module _ (words' : List ℕ) (y : Party T) (es : List (Event T)) (own : AreOwn p es) (fresh : BeginsNone p es)
       (longer : Lengthens es)
-      (frees_none : (i : ℕ) → IsOneOf (Frees i owner) (all scene ++ deeds es) → IsOneOf (Frees i owner) (all scene)) where
+      (frees_none : (i : ℕ) → IsOneOf (Frees i owner) (all scene ++ set_acts es) → IsOneOf (Frees i owner) (all scene)) where
     abbrev then_is : Now T
     then_is = after scene words' y es
 
     hidden_so : (But But' : ℕ → Type 0)
-        → (WellFormed then_is → (i : ℕ) → IsOneOf (Frees i owner) (deeds_of p (events ++ es)) → But i
+        → (WellFormed then_is → (i : ℕ) → IsOneOf (Frees i owner) (set_acts_of p (events ++ es)) → But i
         → EmptySinceFreed p owner i (events ++ es) ⊎ But' i)
         → HasHidden code c p owner But (before scene) → HasHidden code c p owner But' then_is
     hidden_so But But' stays h well_formed i freed =
         ⊎_elim (λ gone. inl (held_later p _ events es fresh gone)) (λ but. stays well_formed i freed but)
         (h (was_well_formed scene start none span words' y es own well_formed) i
-        (frees_none i (subst (IsOneOf (Frees i owner)) (deeds_more scene start span es own longer) freed)))
+        (frees_none i (subst (IsOneOf (Frees i owner)) (set_acts_more scene start span es own longer) freed)))
 
     pub hidden_on : HasHidden code c p owner no_index (before scene) → HasHidden code c p owner no_index then_is
     hidden_on h = hidden_so no_index no_index (λ well_formed i freed but. absurd but) h
@@ -122,13 +122,13 @@ module _ {T : Type 0} (scene : Scene T) (start : ContainerStart T) (none : NoRep
     abbrev freed_is : Now T
     freed_is = after scene words' y free
 
-    deeds_then : deeds_of p (events ++ free) ≡ all scene ++ Frees index owner ∷ []
-    deeds_then = deeds_more scene start span free (refl, tt) (λ start w. refl)
+    set_acts_then : set_acts_of p (events ++ free) ≡ all scene ++ Frees index owner ∷ []
+    set_acts_then = set_acts_more scene start span free (refl, tt) (λ start w. refl)
 
     same_contents : contents_of index (events ++ free) ≡ contents_of index events
     same_contents = fold-append (contents_after index) None events free
 
-    freed_now : (i : ℕ) → IsOneOf (Frees i owner) (deeds_of p (events ++ free)) → i ≡ index
+    freed_now : (i : ℕ) → IsOneOf (Frees i owner) (set_acts_of p (events ++ free)) → i ≡ index
         → Covered code c index count (before scene) → (o : Option T) → contents_of index events ≡ o
         → Stands code c scene.words index o
         → EmptySinceFreed p owner i (events ++ free) ⊎ StillStands code c index count freed_is i
@@ -146,4 +146,4 @@ module _ {T : Type 0} (scene : Scene T) (start : ContainerStart T) (none : NoRep
         (λ e. let is : index ≡ i = cc in
         freed_now i freed (sym is) (covered earlier well_formed) (contents_of index events) refl
         (inv.elements.whole earlier index below))
-        (was_one (Frees i owner) (Frees index owner) (all scene) (subst (IsOneOf (Frees i owner)) deeds_then freed))
+        (was_one (Frees i owner) (Frees index owner) (all scene) (subst (IsOneOf (Frees i owner)) set_acts_then freed))

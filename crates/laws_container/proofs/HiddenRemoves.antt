@@ -26,7 +26,7 @@ use Rattle.model.specs.Families.Container.Calls.{place_of}
 use Rattle.model.specs.Families.Container.Reading.{Act}
 use Rattle.model.specs.Families.Container.Spans.{HasDone}
 use Rattle.model.specs.Families.Indices.Robust.Promises.{IsUnlocked, FilledSinceFreed}
-use Rattle.model.specs.Families.Indices.Robust.Reading.{Deed, Frees, Locks, IsOneOf}
+use Rattle.model.specs.Families.Indices.Robust.Reading.{SetAct, Frees, Locks, IsOneOf}
 use Rattle.model.specs.Moments.{BeginsNone}
 use Rattle.model.specs.Turns.{words_after}
 use Rattle.model.proofs.Moments.{held_later}
@@ -56,7 +56,7 @@ total_is c z index owner Default backs T = omega arith
 total_is c z index owner LockIfLastIndex backs T = omega arith
 
 -- it has freed its index
-removed_frees : (T : Type 0) (index owner : ℕ) (mode : ReleaseMode) (state : ReleaseState) (made : List Deed)
+removed_frees : (T : Type 0) (index owner : ℕ) (mode : ReleaseMode) (state : ReleaseState) (made : List SetAct)
     → HasDone {T = T} (Remove index owner mode) (answers.State state) made [] → IsOneOf (Frees index owner) made
 removed_frees T index owner Default states.TheVariants.Locked made h = absurd h
 removed_frees T index owner Default states.TheVariants.Unlocked made h =
@@ -68,7 +68,7 @@ removed_frees T index owner LockIfLastIndex states.TheVariants.Unlocked made h =
     subst (IsOneOf (Frees index owner)) (sym h) (record { before = []; after = []; is = refl })
 
 -- whatever it has done to elements
-removed_done : {T : Type 0} (index owner : ℕ) (mode : ReleaseMode) (state : ReleaseState) (made : List Deed) (done : List (Act T))
+removed_done : {T : Type 0} (index owner : ℕ) (mode : ReleaseMode) (state : ReleaseState) (made : List SetAct) (done : List (Act T))
     → HasDone {T = T} (Remove index owner mode) (answers.State state) made []
     → HasDone {T = T} (Remove index owner mode) (answers.State state) made done
 removed_done index owner mode state made acts h = grind arith

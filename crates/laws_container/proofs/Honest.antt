@@ -30,7 +30,7 @@ use Rattle.model.specs.Families.Container.Reading.{Act}
 use Rattle.model.specs.Families.Container.Spans.{may_stand}
 use Rattle.model.specs.Families.Container.States.{state_of}
 use Rattle.model.specs.Families.Container.Steps.{effects, questions}
-use Rattle.model.specs.Families.Indices.Robust.Reading.{Deed}
+use Rattle.model.specs.Families.Indices.Robust.Reading.{SetAct}
 use Rattle.model.specs.Parties.{party_of, doing_of, flight_of}
 use Rattle.model.specs.Promises.Spans.{Stands, StandsRight}
 use Rattle.model.specs.Promises.Turns.{IsEffectOf}
@@ -64,7 +64,7 @@ module _ {T : Type 0} (events : List (Event T)) where
   IsForLiving (Remove index owner mode) = is_gone Word owner events ≡ false
   IsForLiving start = Unit {0}
 
-  module _ (code : Coding T) (c z : ℕ) (all : List Deed) (done : List (Act T)) where
+  module _ (code : Coding T) (c z : ℕ) (all : List SetAct) (done : List (Act T)) where
     living_by : (start : ContainerStart T) (flight : ContainerFlight T) → At c z all done start flight → acts_for_gone Word events flight ≡ false
         → IsForLiving start
     living_by start flight at alive = grind arith

@@ -19,7 +19,7 @@ use Rattle.model.specs.Families.Container.Looks.{is_looking}
 use Rattle.model.specs.Families.Container.Promises.{ContainsRight, promise}
 use Rattle.model.specs.Families.Container.Reading.{Act, acts, contents_of, announced_of, acts_of}
 use Rattle.model.specs.Families.Container.States.{state_of, fresh}
-use Rattle.model.specs.Families.Indices.Robust.Reading.{Deed, is_dead, deeds, wrote_in, deeds_of}
+use Rattle.model.specs.Families.Indices.Robust.Reading.{SetAct, is_dead, set_acts, wrote_in, set_acts_of}
 use Rattle.model.specs.Parties.{party_of, put, doing_of, flight_of}
 use Rattle.model.specs.Promises.Spans.{Stands}
 use Rattle.model.specs.Reading.{Each, Span, own_after, span_of}
@@ -130,7 +130,7 @@ module _ {T : Type 0} where
   number c z (flights.TheVariants.Container flight) backs = number_of c z flight backs
   number c z flight backs = 0
 
-  abbrev pub FlightAt : ℕ → ℕ → List Deed → List (Act T) → Start T → Flight T → Type 0
+  abbrev pub FlightAt : ℕ → ℕ → List SetAct → List (Act T) → Start T → Flight T → Type 0
   FlightAt c z all done (any_starts.TheVariants.Container start) (flights.TheVariants.Container flight) =
       At c z all done start flight
   FlightAt c z all done start flight = ⊥
@@ -165,7 +165,7 @@ module _ {T : Type 0} where
         Holds = λ s latest events turns. Holds terms code c s latest events turns;
         written = λ s p flight. wrote_of p s.events;
         number = λ wrote. number c code.size;
-        At = λ s p start flight. FlightAt c code.size (deeds_of p s.events) (acts_of p s.events) start flight;
+        At = λ s p start flight. FlightAt c code.size (set_acts_of p s.events) (acts_of p s.events) start flight;
         Knows = λ s p events since changes backs flight. Knowing code c flight (view terms s.words s.states s.latest events p since changes backs);
       }
 
@@ -321,8 +321,8 @@ module _ {T : Type 0} (scene : Scene T) where
   any_knows words' states' y es changes' does seen q ne since backs flight h = absurd h
 
   pub at_written : (c z : ℕ) (w w' : List (Event T)) (start : Start T) (flight : Flight T) → w' ≡ w
-      → FlightAt c z (deeds w) (acts w) start flight → FlightAt c z (deeds w') (acts w') start flight
-  at_written c z w w' start flight same h = subst (λ x. FlightAt c z (deeds x) (acts x) start flight) (sym same) h
+      → FlightAt c z (set_acts w) (acts w) start flight → FlightAt c z (set_acts w') (acts w') start flight
+  at_written c z w w' start flight same h = subst (λ x. FlightAt c z (set_acts x) (acts x) start flight) (sym same) h
 
   module _ (words' : List ℕ) (states' : List (ℕ × ContainerState T)) (from : Span T) (y : Party T)
       (es : List (Event T)) (changes' : ℕ) (s : Shows words' states' from y es changes') (old : ContainerNow T)

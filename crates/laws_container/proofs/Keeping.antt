@@ -23,11 +23,11 @@ use Rattle.model.specs.declared.event.Event.TheVariants.{Locked}
 use Rattle.model.specs.declared.party.Party.{Party}
 use Rattle.model.specs.Coding.{Coding}
 use Rattle.model.specs.Families.Container.Promises.{StandsWellFormed}
-use Rattle.model.specs.Families.Container.Reading.{MayReplace, Copies, Has, HasLatest, acts, acts_of, places, contents_of}
+use Rattle.model.specs.Families.Container.Reading.{MayReplace, Copies, acts, acts_of, places, contents_of}
 use Rattle.model.specs.Families.Container.States.{state_of}
 use Rattle.model.specs.Families.Indices.Reading.{locked_after, is_locked}
 use Rattle.model.specs.Families.Indices.Robust.Promises.{IsFilledWith, IsUnlocked, FilledSinceFreed}
-use Rattle.model.specs.Families.Indices.Robust.Reading.{deeds_of, wrote_in}
+use Rattle.model.specs.Families.Indices.Robust.Reading.{set_acts_of, wrote_in, IsLatest, IsOneOf}
 use Rattle.model.specs.Families.Queues.Calls.{read_in}
 use Rattle.model.specs.Moments.{HeldSometime}
 use Rattle.model.specs.Parties.{party_of}
@@ -142,8 +142,8 @@ module _ {T : Type 0} (code : Coding T) (c : ℕ) (v : View T) (turn : OthersTur
   pub acts_same : acts_of q (events ++ es) ≡ acts_of q events
   acts_same = ap (λ s. acts (wrote_in s)) span
 
-  pub deeds_same : deeds_of q (events ++ es) ≡ deeds_of q events
-  deeds_same = spares.deeds
+  pub set_acts_same : set_acts_of q (events ++ es) ≡ set_acts_of q events
+  set_acts_same = spares.set_acts
 
   -- ---- a writer
 
@@ -287,7 +287,7 @@ module _ {T : Type 0} (code : Coding T) (c : ℕ) (v : View T) (turn : OthersTur
       grind arith
 
   pub has_copied : (index : ℕ) (room : buffers.Buffer 128) → HasCopied code c index room v → HasCopied code c index room later
-  has_copied index room h = subst (HasLatest (Copies index (read_in code room))) (sym acts_same) h
+  has_copied index room h = subst (IsLatest (Copies index (read_in code room))) (sym acts_same) h
 
   through_before : (i : ℕ) → StoodThere q i (events ++ es) → StoodThere q i events
   through_before i through = through_less q (λ part. is_some (contents_of i part) ≡ true) events es spares.none through
@@ -304,7 +304,7 @@ module _ {T : Type 0} (code : Coding T) (c : ℕ) (v : View T) (turn : OthersTur
             };
         copied = λ i less chosen through.
             let had = h.copied i less chosen (through_before i through) in
-            (had.0, subst (Has _) (sym acts_same) had.1);
+            (had.0, subst (IsOneOf _) (sym acts_same) had.1);
       }
 
   finds_on : (owner bound k number : ℕ) → Finds code c owner bound k number v → Finds code c owner bound k number later

@@ -14,9 +14,9 @@ use Rattle.model.specs.declared.families.container.calls.ContainerFlight.{Contai
 use Rattle.model.specs.declared.families.container.calls.ContainerFlight.TheVariants.{Add, Remove, Replace, Find, Recover, Look, Count, IsLocked}
 use Rattle.model.specs.Coding.{Coding}
 use Rattle.model.specs.Families.Container.Promises.{WasShown}
-use Rattle.model.specs.Families.Container.Reading.{Sees, Has}
+use Rattle.model.specs.Families.Container.Reading.{Sees}
 use Rattle.model.specs.Families.Indices.Robust.Promises.{IsFilledWith, IsUnlocked, StillToFree}
-use Rattle.model.specs.Families.Indices.Robust.Reading.{filled_of, Frees, Asks, Yes, deeds_of, IsOneOf}
+use Rattle.model.specs.Families.Indices.Robust.Reading.{filled_of, Frees, Asks, Yes, set_acts_of, IsOneOf}
 use Rattle.laws_robust.specs.Gone.{IsHonestBy}
 use Rattle.laws_robust.proofs.Gone.{gone_more, honest_less, stays_lost}
 use Rattle.laws_robust.proofs.Knows.{held_paid, still_scanned}
@@ -35,7 +35,7 @@ use Rattle.laws_container.proofs.KeptLocks.{NoIndex, FilledBut, filled_then, eac
 use Rattle.laws_container.proofs.Sights.{rests_later, course_later}
 use Rattle.laws_container.proofs.Turns.{Now}
 use Rattle.laws_container.proofs.Keeping as keeping
-use Rattle.laws_container.proofs.Keeping.{OthersTurn, acts_same, add_knows, check_paid, copying, count_below, deeds_same}
+use Rattle.laws_container.proofs.Keeping.{OthersTurn, acts_same, add_knows, check_paid, copying, count_below, set_acts_same}
 use Rattle.laws_container.proofs.Keeping.{find_knows, found, has_copied, has_left, once, paid, remove_knows}
 use Rattle.laws_container.proofs.Keeping.{replaces_know, set_knows, shut_later, worn}
 
@@ -66,17 +66,17 @@ module _ {T : Type 0} (code : Coding T) (c : ℕ) (v : View T) (turn : OthersTur
   -- ---- a recovery
 
   -- what it was told or shown by now, it was before
-  told_before : (i owner : ℕ) → IsOneOf (Yes i owner) (deeds_of q (events ++ es)) ⊎ WasShown q i (events ++ es)
-      → IsOneOf (Yes i owner) (deeds_of q events) ⊎ WasShown q i events
+  told_before : (i owner : ℕ) → IsOneOf (Yes i owner) (set_acts_of q (events ++ es)) ⊎ WasShown q i (events ++ es)
+      → IsOneOf (Yes i owner) (set_acts_of q events) ⊎ WasShown q i events
   told_before i owner told =
-      ⊎_elim (λ yes. inl (subst (IsOneOf (Yes i owner)) (deeds_same code c v turn) yes))
-      (λ shown. inr (subst (Has (Sees i)) (acts_same code c v turn) shown)) told
+      ⊎_elim (λ yes. inl (subst (IsOneOf (Yes i owner)) (set_acts_same code c v turn) yes))
+      (λ shown. inr (subst (IsOneOf (Sees i)) (acts_same code c v turn) shown)) told
 
-  asked_later : (i owner : ℕ) → IsOneOf (Asks i owner) (deeds_of q events) ⊎ WasShown q i events
-      → IsOneOf (Asks i owner) (deeds_of q (events ++ es)) ⊎ WasShown q i (events ++ es)
+  asked_later : (i owner : ℕ) → IsOneOf (Asks i owner) (set_acts_of q events) ⊎ WasShown q i events
+      → IsOneOf (Asks i owner) (set_acts_of q (events ++ es)) ⊎ WasShown q i (events ++ es)
   asked_later i owner asked =
-      ⊎_elim (λ asks. inl (subst (IsOneOf (Asks i owner)) (sym (deeds_same code c v turn)) asks))
-      (λ shown. inr (subst (Has (Sees i)) (sym (acts_same code c v turn)) shown)) asked
+      ⊎_elim (λ asks. inl (subst (IsOneOf (Asks i owner)) (sym (set_acts_same code c v turn)) asks))
+      (λ shown. inr (subst (IsOneOf (Sees i)) (sym (acts_same code c v turn)) shown)) asked
 
   asked_below : (owner k : ℕ) → AskedBelow code c owner k v → AskedBelow code c owner k later
   asked_below owner k h i below through =
@@ -125,16 +125,16 @@ module _ {T : Type 0} (code : Coding T) (c : ℕ) (v : View T) (turn : OthersTur
   recover_says owner mode states.TheVariants.Locked h = shut_later events es h
   recover_says owner mode states.TheVariants.Unlocked h = (
     still_gone owner h.0,
-    unlocked_later q owner events es spares.none (deeds_same code c v turn) h.1,
+    unlocked_later q owner events es spares.none (set_acts_same code c v turn) h.1,
     recovered owner h.0 h.2,
-    each_later q owner (Worn v) (Worn later) (worn code c v turn) mode events es spares.none (deeds_same code c v turn) h.3,
+    each_later q owner (Worn v) (Worn later) (worn code c v turn) mode events es spares.none (set_acts_same code c v turn) h.3,
   )
 
   fills : (owner : ℕ) (mode : ReleaseMode) (But : ℕ → Type 0) → FilledBut (Worn v) mode q owner But events
       → FilledBut (Worn later) mode q owner But (events ++ es)
   fills owner mode But h =
       filled_then q owner (Worn v) (Worn later) (worn code c v turn) mode But But events es spares.none
-      (λ i was. inl (subst (IsOneOf (Frees i owner)) (deeds_same code c v turn) was))
+      (λ i was. inl (subst (IsOneOf (Frees i owner)) (set_acts_same code c v turn) was))
       (λ i e. e) (shut_later events es) h
 
   recover_fills : (owner : ℕ) (mode : ReleaseMode) (stage : RecoverStage) → RecoverFills code c owner mode stage v → RecoverFills code c owner mode stage later
@@ -149,7 +149,7 @@ module _ {T : Type 0} (code : Coding T) (c : ℕ) (v : View T) (turn : OthersTur
   recover_fills owner mode (recovers.TheVariants.Raises index raise) h = fills owner mode (λ i. i ≡ index) h
   recover_fills owner mode (recovers.TheVariants.Locks index lock) h = (
     fills owner mode (λ i. i ≡ index) h.0,
-    says_later q owner c events es spares.none (deeds_same code c v turn) lock h.1,
+    says_later q owner c events es spares.none (set_acts_same code c v turn) lock h.1,
   )
   recover_fills owner mode recovers.TheVariants.LoadsCounterAgain h = fills owner mode NoIndex h
   recover_fills owner mode (recovers.TheVariants.AddsChange state) h = tt

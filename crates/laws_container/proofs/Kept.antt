@@ -12,11 +12,11 @@ use Rattle.model.specs.Coding.{Coding}
 use Rattle.model.specs.Families.Container.Looks.{state_in, shows, WasCopied, ShowsCopies}
 use Rattle.model.specs.Families.Container.Promises.{HasElements, IsContained, IsContainer, KeepsDead, promise}
 use Rattle.model.specs.Families.Container.Questions.{AsksCopies, question_in}
-use Rattle.model.specs.Families.Container.Reading.{Copies, HasLatest, acts_of}
+use Rattle.model.specs.Families.Container.Reading.{Copies, acts_of}
 use Rattle.model.specs.Families.Container.States.{state_of}
 use Rattle.model.specs.Families.Indices.Reading.{is_locked}
 use Rattle.model.specs.Families.Indices.Robust.Promises.{cell_of}
-use Rattle.model.specs.Families.Indices.Robust.Reading.{filled_of}
+use Rattle.model.specs.Families.Indices.Robust.Reading.{filled_of, IsLatest}
 use Rattle.model.specs.Parties.{party_of, doing_of, flight_of}
 use Rattle.model.specs.Promises.{IsKeptBy, IsKept}
 use Rattle.model.specs.Promises.Bounds.{Progresses}
@@ -67,7 +67,7 @@ module _ {T : Type 0} (terms : Terms) (code : Coding T) (t : Trace T) (s : frame
   asked_by : (p index : ℕ) (value : T) (o : Option (Party T))
       → frame.KnowsParty (family_by terms code c) s.state p t.events t.world.changes o
       → question_in code (flight_of (doing_of o)) ≡ Some (index, value)
-      → HasLatest (Copies index value) (acts_of p t.events)
+      → IsLatest (Copies index value) (acts_of p t.events)
   asked_by p index value o k e = grind arith
 
   pub questions : AsksCopies t

@@ -11,8 +11,8 @@ use Rattle.model.specs.declared.event.Start.{Start}
 use Rattle.model.specs.declared.event.Start.TheVariants.{Container}
 use Rattle.model.specs.declared.families.container.ContainerStart.TheVariants.{GetState}
 use Rattle.model.specs.Families.Container.Looks.{shows}
-use Rattle.model.specs.Families.Container.Reading.{Act, Copies, act, acts, acts_of, Has}
-use Rattle.model.specs.Families.Indices.Robust.Reading.{wrote_in}
+use Rattle.model.specs.Families.Container.Reading.{Act, Copies, act, acts, acts_of}
+use Rattle.model.specs.Families.Indices.Robust.Reading.{wrote_in, IsOneOf}
 use Rattle.model.specs.Reading.{Span, Never, Open, Ended, own_after, span_of}
 use Rattle.model.specs.Turns.{ending_of}
 use Rattle.model.proofs.Readings.{AreOwn, span_of-own}
@@ -30,7 +30,7 @@ module _ {T : Type 0} where
 
   -- the party's latest call has copied this
   abbrev pub HasCopied : ℕ → ℕ → T → List (Event T) → Type 0
-  HasCopied p i value events = Has (Copies i value) (acts_of p events)
+  HasCopied p i value events = IsOneOf (Copies i value) (acts_of p events)
 
   -- what a get_state shows, but for the index that it copies
   abbrev pub ShowsOwn : ℕ → ContainerState T → ℕ → List (Event T) → Type 0
@@ -76,7 +76,7 @@ module _ {T : Type 0} where
 
   -- ---- a step of the call's own
 
-  has_more : (one : Act T) (all more : List (Act T)) → Has one all → Has one (all ++ more)
+  has_more : (one : Act T) (all more : List (Act T)) → IsOneOf one all → IsOneOf one (all ++ more)
   has_more one all more h = record { before = h.before; after = h.after ++ more; is = ap (λ xs. xs ++ more) h.is ∙ append_assoc h.before (one ∷ h.after) more }
 
   module _ (p : ℕ) (events : List (Event T)) (start : Start T) (w : List (Event T)) (here : span_of p events ≡ Open start w) where

@@ -10,7 +10,7 @@ use Rattle.model.specs.declared.event.Event.{Event}
 use Rattle.model.specs.Families.Container.Recoveries.{UnlockedAtLast}
 use Rattle.model.specs.Families.Indices.Reading.{is_locked}
 use Rattle.model.specs.Families.Indices.Robust.Promises.{IsFilled, IsUnlocked, FilledSinceFreed}
-use Rattle.model.specs.Families.Indices.Robust.Reading.{Frees, deeds_of, IsOneOf}
+use Rattle.model.specs.Families.Indices.Robust.Reading.{Frees, set_acts_of, IsOneOf}
 use Rattle.model.specs.Moments.{BeginsNone, HeldSometime}
 use Rattle.model.proofs.Moments.{held_later, held_so}
 use Rattle.model.proofs.Readings.{no_more}
@@ -24,12 +24,12 @@ module _ {T : Type 0} where
   -- some index was filled at a moment of the call after all that it did to the set
   pub record FilledAtLast (p : ℕ) (events : List (Event T)) : Type 0 where
     pub other : ℕ
-    pub once : HeldSometime p (λ part. IsFilled other part × (deeds_of p part ≡ deeds_of p events)) events
+    pub once : HeldSometime p (λ part. IsFilled other part × (set_acts_of p part ≡ set_acts_of p events)) events
 
   -- so it was after each index that it has freed, but these, or the container is locked, or its counter worn
   abbrev pub FilledBut : Type 0 → ReleaseMode → ℕ → ℕ → (ℕ → Type 0) → List (Event T) → Type 0
   FilledBut worn LockIfLastIndex p owner But events =
-      (i : ℕ) → IsOneOf (Frees i owner) (deeds_of p events)
+      (i : ℕ) → IsOneOf (Frees i owner) (set_acts_of p events)
       → (FilledSinceFreed p owner i events ⊎ ((is_locked events ≡ true) ⊎ worn)) ⊎ But i
   FilledBut worn Default p owner But events = Unit {0}
 
@@ -41,7 +41,7 @@ module _ {T : Type 0} where
     -- once more events are there
     pub filled_then : (worn worn' : Type 0) → (worn → worn')
         → (mode : ReleaseMode) (Was But : ℕ → Type 0) (events es : List (Event T)) → BeginsNone p es
-        → ((i : ℕ) → IsOneOf (Frees i owner) (deeds_of p (events ++ es)) → IsOneOf (Frees i owner) (deeds_of p events) ⊎ But i)
+        → ((i : ℕ) → IsOneOf (Frees i owner) (set_acts_of p (events ++ es)) → IsOneOf (Frees i owner) (set_acts_of p events) ⊎ But i)
         → ((i : ℕ) → Was i → But i)
         → (is_locked events ≡ true → is_locked (events ++ es) ≡ true) → FilledBut worn mode p owner Was events → FilledBut worn' mode p owner But (events ++ es)
     filled_then worn worn' on Default Was But events es none split more shut h = tt
@@ -59,12 +59,12 @@ module _ {T : Type 0} where
         → FilledBut worn' mode p owner But (events ++ [])
     filled_calm worn worn' on mode But events h =
         filled_then worn worn' on mode But But events [] tt
-        (λ i was. inl (subst (λ es. IsOneOf (Frees i owner) (deeds_of p es)) (append-nil events) was)) (λ i e. e)
+        (λ i was. inl (subst (λ es. IsOneOf (Frees i owner) (set_acts_of p es)) (append-nil events) was)) (λ i e. e)
         (λ shut. subst (λ es. is_locked es ≡ true) (sym (append-nil events)) shut) h
 
     -- it has freed nothing
     pub filled_none : (worn : Type 0) (mode : ReleaseMode) (But : ℕ → Type 0) (events : List (Event T))
-        → deeds_of p events ≡ [] → FilledBut worn mode p owner But events
+        → set_acts_of p events ≡ [] → FilledBut worn mode p owner But events
     filled_none worn Default But events none = tt
     filled_none worn LockIfLastIndex But events none = λ i was. absurd (no_more was.before (Frees i owner) was.after (sym none ∙ was.is))
 
@@ -87,7 +87,7 @@ module _ {T : Type 0} where
     filled_each worn mode events free h = grind arith
 
     pub each_later : (worn worn' : Type 0) → (worn → worn') → (mode : ReleaseMode) (events es : List (Event T))
-        → BeginsNone p es → deeds_of p (events ++ es) ≡ deeds_of p events → FilledSinceEachBy worn mode p owner events
+        → BeginsNone p es → set_acts_of p (events ++ es) ≡ set_acts_of p events → FilledSinceEachBy worn mode p owner events
         → FilledSinceEachBy worn' mode p owner (events ++ es)
     each_later worn worn' on Default events es none same h = tt
     each_later worn worn' on LockIfLastIndex events es none same h = λ i was.
@@ -95,29 +95,29 @@ module _ {T : Type 0} where
         (h i (subst (IsOneOf (Frees i owner)) same was))
 
     pub unlocked_later : (events es : List (Event T)) → BeginsNone p es
-        → deeds_of p (events ++ es) ≡ deeds_of p events → UnlockedAtLast p events → UnlockedAtLast p (events ++ es)
+        → set_acts_of p (events ++ es) ≡ set_acts_of p events → UnlockedAtLast p events → UnlockedAtLast p (events ++ es)
     unlocked_later events es none same h =
-        held_so p (λ part. IsUnlocked part × (deeds_of p part ≡ deeds_of p events))
-        (λ part. IsUnlocked part × (deeds_of p part ≡ deeds_of p (events ++ es))) (events ++ es)
+        held_so p (λ part. IsUnlocked part × (set_acts_of p part ≡ set_acts_of p events))
+        (λ part. IsUnlocked part × (set_acts_of p part ≡ set_acts_of p (events ++ es))) (events ++ es)
         (λ part was. (was.0, was.1 ∙ sym same))
-        (held_later p (λ part. IsUnlocked part × (deeds_of p part ≡ deeds_of p events)) events es none h)
+        (held_later p (λ part. IsUnlocked part × (set_acts_of p part ≡ set_acts_of p events)) events es none h)
 
     -- ---- a lock
 
-    last_later : (events es : List (Event T)) → BeginsNone p es → deeds_of p (events ++ es) ≡ deeds_of p events
+    last_later : (events es : List (Event T)) → BeginsNone p es → set_acts_of p (events ++ es) ≡ set_acts_of p events
         → FilledAtLast p events → FilledAtLast p (events ++ es)
     last_later events es none same h =
         record {
           other = h.other;
           once =
-              held_so p (λ part. IsFilled h.other part × (deeds_of p part ≡ deeds_of p events))
-              (λ part. IsFilled h.other part × (deeds_of p part ≡ deeds_of p (events ++ es))) (events ++ es)
+              held_so p (λ part. IsFilled h.other part × (set_acts_of p part ≡ set_acts_of p events))
+              (λ part. IsFilled h.other part × (set_acts_of p part ≡ set_acts_of p (events ++ es))) (events ++ es)
               (λ part k. (k.0, k.1 ∙ sym same))
-              (held_later p (λ part. IsFilled h.other part × (deeds_of p part ≡ deeds_of p events)) events es none h.once);
+              (held_later p (λ part. IsFilled h.other part × (set_acts_of p part ≡ set_acts_of p events)) events es none h.once);
         }
 
     pub says_later : (c : ℕ) (events es : List (Event T)) → BeginsNone p es
-        → deeds_of p (events ++ es) ≡ deeds_of p events → (lock : Lock) → LockSays c (FoundFilled p events) lock
+        → set_acts_of p (events ++ es) ≡ set_acts_of p events → (lock : Lock) → LockSays c (FoundFilled p events) lock
         → LockSays c (FoundFilled p (events ++ es)) lock
     says_later c events es none same (locks.TheVariants.Counts counts.TheVariants.LoadsCounter) h = tt
     says_later c events es none same (locks.TheVariants.Counts (counts.TheVariants.LoadsCell number index filled)) h =

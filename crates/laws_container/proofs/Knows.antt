@@ -29,12 +29,12 @@ use Rattle.model.specs.declared.families.container.calls.ContainerFlight.TheVari
 use Rattle.model.specs.declared.party.Party.{Party}
 use Rattle.model.specs.Coding.{Coding}
 use Rattle.model.specs.Families.Container.Promises.{WasShown}
-use Rattle.model.specs.Families.Container.Reading.{Copies, Has, HasLatest, acts_of, places, contents_of}
+use Rattle.model.specs.Families.Container.Reading.{Copies, acts_of, places, contents_of}
 use Rattle.model.specs.Families.Container.Recoveries.{UnlockedAtLast}
 use Rattle.model.specs.Families.Container.States.{state_of}
 use Rattle.model.specs.Families.Indices.Reading.{is_locked}
 use Rattle.model.specs.Families.Indices.Robust.Promises.{IsFilledWith, IsUnlocked, IsCount, HeldThroughout, FilledSinceFreed, StillToFree}
-use Rattle.model.specs.Families.Indices.Robust.Reading.{Asks, Yes, filled_of, deeds_of, IsOneOf}
+use Rattle.model.specs.Families.Indices.Robust.Reading.{Asks, Yes, filled_of, set_acts_of, IsOneOf, IsLatest}
 use Rattle.model.specs.Families.Queues.Calls.{read_in}
 use Rattle.model.specs.Moments.{HeldSometime}
 use Rattle.model.specs.Parties.{party_of}
@@ -244,7 +244,7 @@ module _ {T : Type 0} (code : Coding T) (c : ℕ) where
   -- the copy is made, as the last that it has done to an element
   abbrev pub HasCopied : ℕ → buffers.Buffer 128 → View T → Type 0
   HasCopied index room v =
-      HasLatest (Copies index (read_in code room)) (acts_of v.party v.events)
+      IsLatest (Copies index (read_in code room)) (acts_of v.party v.events)
 
   -- a failed check is paid by a change of another party
   abbrev pub CheckPaid : ℕ → ℕ → View T → Type 0
@@ -257,7 +257,7 @@ module _ {T : Type 0} (code : Coding T) (c : ℕ) where
   pub record HasFoundBelow (owner bound k number : ℕ) (v : View T) : Type 0 where
     pub count : IsCount v.party (IsFilledWith owner) bound number v.events
     pub copied : (index : ℕ) → index < k → count.chosen index ≡ true → StoodThere v.party index v.events
-        → (value : T) × Has (Copies index value) (acts_of v.party v.events)
+        → (value : T) × IsOneOf (Copies index value) (acts_of v.party v.events)
 
   abbrev pub Finds : ℕ → ℕ → ℕ → ℕ → View T → Type 0
   Finds owner bound k number v =
@@ -289,13 +289,13 @@ module _ {T : Type 0} (code : Coding T) (c : ℕ) where
   abbrev pub AskedBelow : ℕ → ℕ → View T → Type 0
   AskedBelow owner k v =
       (i : ℕ) → i < k → HeldThroughout v.party (StillToFree v.party owner i) v.events
-      → IsOneOf (Asks i owner) (deeds_of v.party v.events) ⊎ WasShown v.party i v.events
+      → IsOneOf (Asks i owner) (set_acts_of v.party v.events) ⊎ WasShown v.party i v.events
 
   -- in an honest run no index that it was told to free, or was shown, has its owner, but the one that it frees now
   abbrev pub GoneBut : ℕ → (ℕ → Type 0) → View T → Type 0
   GoneBut owner Now v =
       IsHonestBy v.terms.by v.events
-      → (i : ℕ) → IsOneOf (Yes i owner) (deeds_of v.party v.events) ⊎ WasShown v.party i v.events
+      → (i : ℕ) → IsOneOf (Yes i owner) (set_acts_of v.party v.events) ⊎ WasShown v.party i v.events
       → (filled_of i v.events ≢ Some owner) ⊎ Now i
 
   abbrev pub Gone : ℕ → View T → Type 0

@@ -27,7 +27,7 @@ use Rattle.model.specs.Families.Container.Looks.{shows, WasCopied}
 use Rattle.model.specs.Families.Container.Reading.{Act, Copies, index_seen, seen_in, acts, contents_of}
 use Rattle.model.specs.Families.Container.States.{state_of}
 use Rattle.model.specs.Families.Container.Steps.{look_effects, copy_in}
-use Rattle.model.specs.Families.Indices.Robust.Reading.{deeds}
+use Rattle.model.specs.Families.Indices.Robust.Reading.{set_acts}
 use Rattle.model.specs.Turns.{old_of, words_after, step_count}
 use Rattle.laws_robust.proofs.Effects.{some_none}
 use Rattle.laws_robust.proofs.Stages.{loads, exchanges, loads_same, fails_same, exchange_sets}
@@ -109,7 +109,7 @@ module _ {T : Type 0} (scene : Scene T) (inv : Inv scene) where
 
   pub record Walker (s : ContainerState T) (ask : Option Ask) (Lead : Bool → List (Event T) → ContainerState T → After (Look T) Bool → Type 0) : Type 0 where
     pub goes : (next : LookStage) (back : Bool) (what : Option (ℕ × T)) (s' : ContainerState T) → IsRight what → words_after ws ask ≡ ws
-        → LookAt c code.size (all scene ++ deeds (copies_of p what)) (done scene ++ acts (copies_of p what)) next
+        → LookAt c code.size (all scene ++ set_acts (copies_of p what)) (done scene ++ acts (copies_of p what)) next
         → steps + step_count ask ≤ look_number code.size next (backs_then scene back)
         → ((words' : List ℕ) (states' : List (ℕ × ContainerState T)) (latest' : List (ℕ × Party T)) (es' : List (Event T))
         → Comes (record { terms = scene.terms; words = words'; latest = latest'; events = es' }) what
@@ -144,7 +144,7 @@ module _ {T : Type 0} (scene : Scene T) (inv : Inv scene) where
           (same : words_after ws ask ≡ ws)
           (paid : backs_then scene back + since_then scene ask ≤ changes_then scene ask)
           (index : ℕ) (below : index < c) where
-        none_more : (what : Option (ℕ × T)) → all scene ++ deeds (copies_of p what) ≡ []
+        none_more : (what : Option (ℕ × T)) → all scene ++ set_acts (copies_of p what) ≡ []
         none_more None = ap (λ d. d ++ []) none
         none_more (Some copy) = ap (λ d. d ++ []) none
 

@@ -33,7 +33,7 @@ use Rattle.model.specs.Families.Container.Reading.{Act, acts, seen_in, contents_
 use Rattle.model.specs.Families.Container.Spans.{may_stand, HasDone}
 use Rattle.model.specs.Families.Container.States.{state_of, set_state, settled}
 use Rattle.model.specs.Families.Container.Steps.{look_effects_of}
-use Rattle.model.specs.Families.Indices.Robust.Reading.{Deed, deed, deeds}
+use Rattle.model.specs.Families.Indices.Robust.Reading.{SetAct, set_act, set_acts}
 use Rattle.model.specs.Moments.{BeginsNone}
 use Rattle.model.specs.Parties.{put, flight_of}
 use Rattle.model.specs.Reading.{Open}
@@ -109,7 +109,7 @@ module _ (T : Type 0) where
   silent_end kinds.TheVariants.GetState = tt
   silent_end kinds.TheVariants.UpdateState = tt
 
-  at_look : (which : LookOf) (c z : ℕ) (made : List Deed) (did : List (Act T)) (stage : LookStage)
+  at_look : (which : LookOf) (c z : ℕ) (made : List SetAct) (did : List (Act T)) (stage : LookStage)
       → LookAt c z made did stage → At c z made did (looks_as which) (look_at which c stage)
   at_look kinds.TheVariants.GetState c z made did stage at = (refl, refl, at)
   at_look kinds.TheVariants.UpdateState c z made did stage at = (refl, refl, at)
@@ -129,7 +129,7 @@ module _ (T : Type 0) where
   places_look kinds.TheVariants.GetState p s changed events = tt
   places_look kinds.TheVariants.UpdateState p s changed events = tt
 
-  does_look : (which : LookOf) (s : ContainerState T) (changed : Bool) (made : List Deed) (acts : List (Act T))
+  does_look : (which : LookOf) (s : ContainerState T) (changed : Bool) (made : List SetAct) (acts : List (Act T))
       → made ≡ [] → HasDone (looks_as which) (looked which s changed) made acts
   does_look kinds.TheVariants.GetState s changed made acts none = none
   does_look kinds.TheVariants.UpdateState s changed made acts none = none
@@ -216,7 +216,7 @@ module _ {T : Type 0} (scene : Scene T) (inv : Inv scene) (which : LookOf) (stag
 
   module _ (ask : Option Ask) where
     goes_with : (next : LookStage) (back : Bool) (what : Option (ℕ × T)) (st : ContainerState T) → IsRight scene inv what → words_after ws ask ≡ ws
-        → LookAt c code.size (all scene ++ deeds (copies_of p what)) (done scene ++ acts (copies_of p what)) next
+        → LookAt c code.size (all scene ++ set_acts (copies_of p what)) (done scene ++ acts (copies_of p what)) next
         → steps + step_count ask ≤ look_number code.size next (backs_then scene back)
         → ((words' : List ℕ) (states' : List (ℕ × ContainerState T)) (latest' : List (ℕ × Party T)) (es' : List (Event T))
         → Comes scene inv (record { terms = scene.terms; words = words'; latest = latest'; events = es' }) what
@@ -298,11 +298,11 @@ module _ {T : Type 0} (scene : Scene T) (inv : Inv scene) (which : LookOf) (stag
         (λ idle. rests_settled code c m' p st
         (course m' (comes words' same y (Some copy) finish (tt, (silent_end T which, tt)) (refl, (refl, tt)) tt contents
         (on_now (Some copy) (Some answer))))))
-        (copy_stands T which p copy.0 copy.1 (wrote_of p events) right.0, ((refl, does_look T which st true _ _ (deeds_one copy none)), tt))
+        (copy_stands T which p copy.0 copy.1 (wrote_of p events) right.0, ((refl, does_look T which st true _ _ (set_acts_one copy none)), tt))
         (few_look T which c code.size _ (backs_then scene back) few) (omega arith)
       where
-        deeds_one : (copy : ℕ × T) → all scene ≡ [] → deeds (wrote_of p events ++ Copied p copy.0 copy.1 ∷ []) ≡ []
-        deeds_one copy none = flat_map-append deed (wrote_of p events) (Copied p copy.0 copy.1 ∷ []) ∙ ap (λ (d : List Deed). d ++ []) none
+        set_acts_one : (copy : ℕ × T) → all scene ≡ [] → set_acts (wrote_of p events ++ Copied p copy.0 copy.1 ∷ []) ≡ []
+        set_acts_one copy none = flat_map-append set_act (wrote_of p events) (Copied p copy.0 copy.1 ∷ []) ∙ ap (λ (d : List SetAct). d ++ []) none
 
     stays_with : words_after ws ask ≡ ws → all scene ≡ [] → steps + step_count ask ≤ 1
         → backs_then scene false + since_then scene ask ≤ changes_then scene ask → Rests code c m p s

@@ -34,7 +34,7 @@ use Rattle.model.specs.Families.Container.Promises.{LeavesState}
 use Rattle.model.specs.Families.Container.Reading.{Act}
 use Rattle.model.specs.Families.Container.States.{state_of}
 use Rattle.model.specs.Families.Container.Steps.{effects, questions}
-use Rattle.model.specs.Families.Indices.Robust.Reading.{Deed}
+use Rattle.model.specs.Families.Indices.Robust.Reading.{SetAct}
 use Rattle.model.specs.Parties.{party_of, put, doing_of, flight_of}
 use Rattle.model.specs.Promises.Turns.{IsParty, IsEffectOf}
 use Rattle.model.specs.Reading.{span_of}
@@ -103,13 +103,13 @@ module _ {T : Type 0} where
 
   -- ---- the call that stands there is a look
 
-  record IsLookFlight (c z : ℕ) (made : List Deed) (did : List (Act T)) (a : ContainerStart T) (flight : ContainerFlight T) : Type 0 where
+  record IsLookFlight (c z : ℕ) (made : List SetAct) (did : List (Act T)) (a : ContainerStart T) (flight : ContainerFlight T) : Type 0 where
     pub which : LookOf
     pub stage : LookStage
     pub name : a ≡ looks_as which
     pub is : flight ≡ look_at which c stage
 
-  look_flight : (c z : ℕ) (made : List Deed) (did : List (Act T)) (a : ContainerStart T) (flight : ContainerFlight T)
+  look_flight : (c z : ℕ) (made : List SetAct) (did : List (Act T)) (a : ContainerStart T) (flight : ContainerFlight T)
       → IsLook a → At c z made did a flight → IsLookFlight c z made did a flight
   look_flight c z made did starts.TheVariants.GetState (calls.TheVariants.Look which call) look at =
       record {
@@ -129,7 +129,7 @@ module _ {T : Type 0} where
   look_flight c z made did starts.TheVariants.UpdateState flight look at = absurd at
   look_flight c z made did a flight look at = absurd look
 
-  look_stands : (which : LookOf) (c z : ℕ) (made : List Deed) (did : List (Act T)) (stage : LookStage)
+  look_stands : (which : LookOf) (c z : ℕ) (made : List SetAct) (did : List (Act T)) (stage : LookStage)
       → At c z made did (looks_as which) (look_at which c stage) → LookAt c z made did stage
   look_stands kinds.TheVariants.GetState c z made did stage at = at.2
   look_stands kinds.TheVariants.UpdateState c z made did stage at = at.2

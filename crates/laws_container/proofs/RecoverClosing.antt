@@ -27,7 +27,7 @@ use Rattle.model.specs.declared.families.container.ContainerStart.TheVariants.{R
 use Rattle.model.specs.Families.Container.Recoveries.{UnlockedAtLast}
 use Rattle.model.specs.Families.Indices.Reading.{is_locked}
 use Rattle.model.specs.Families.Indices.Robust.Promises.{IsUnlocked, StillToFree}
-use Rattle.model.specs.Families.Indices.Robust.Reading.{filled_of, deeds_of}
+use Rattle.model.specs.Families.Indices.Robust.Reading.{filled_of, set_acts_of}
 use Rattle.model.specs.Turns.{words_after}
 use Rattle.model.proofs.Moments.{held_now}
 use Rattle.laws_robust.specs.Gone.{is_gone}
@@ -129,7 +129,7 @@ module _ {T : Type 0} (scene : Scene T) (inv : Inv scene) (owner : ℕ) (mode : 
         go false t =
             let open_now : counter_of ws ≢ locked = grind (arith, nat_tests) in
             let free : is_locked events ≡ false = unlocked (of_set scene) (inv_of_set scene inv) open_now in
-            let now : UnlockedAtLast p events = held_now p (λ part. IsUnlocked part × (deeds_of p part ≡ deeds_of p events)) events (free, refl) in
+            let now : UnlockedAtLast p events = held_now p (λ part. IsUnlocked part × (set_acts_of p part ≡ set_acts_of p events)) events (free, refl) in
             calm_on scene inv owner mode fits room recovers.TheVariants.LoadsCounterAgain here long load_again
             (loads_same ws 0) false paid_again room (recovers.TheVariants.AddsChange states.TheVariants.Unlocked)
             (omega arith) tt (

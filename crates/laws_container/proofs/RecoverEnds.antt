@@ -27,7 +27,7 @@ use Rattle.model.specs.Parties.{flight_of}
 use Rattle.model.specs.Turns.{words_after, step_count}
 use Rattle.laws_robust.specs.Gone.{is_gone}
 use Rattle.laws_robust.proofs.Core.{cell}
-use Rattle.laws_robust.proofs.Deeds.{was_one, by_latest}
+use Rattle.laws_robust.proofs.SetActs.{was_one, by_latest}
 use Rattle.laws_robust.proofs.Effects.{at_same, some_none, one_owner, both_ways, filled_by}
 use Rattle.laws_robust.proofs.Effects as set_effects
 use Rattle.laws_robust.proofs.Frees as set_frees

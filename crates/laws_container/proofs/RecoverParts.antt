@@ -25,9 +25,9 @@ use Rattle.model.specs.declared.families.container.calls.ContainerFlight.{Contai
 use Rattle.model.specs.declared.families.container.calls.ContainerFlight as calls
 use Rattle.model.specs.declared.party.Party.{Party}
 use Rattle.model.specs.Families.Container.Promises.{WasShown, promise}
-use Rattle.model.specs.Families.Container.Reading.{Sees, Has, acts, acts_of}
+use Rattle.model.specs.Families.Container.Reading.{Sees, acts, acts_of}
 use Rattle.model.specs.Families.Indices.Robust.Promises.{HeldThroughout, StillToFree}
-use Rattle.model.specs.Families.Indices.Robust.Reading.{Frees, Asks, Yes, deeds, deeds_of, filled_of, IsOneOf}
+use Rattle.model.specs.Families.Indices.Robust.Reading.{Frees, Asks, Yes, set_acts, set_acts_of, filled_of, IsOneOf}
 use Rattle.model.specs.Families.Queues.Calls.{as_it_is}
 use Rattle.model.specs.Moments.{BeginsNone}
 use Rattle.model.specs.Parties.{put, flight_of}
@@ -50,7 +50,7 @@ use Rattle.laws_container.proofs.Recoveries.{one_of_none, has_of_none}
 use Rattle.laws_container.proofs.Recoveries as knowing
 use Rattle.laws_container.proofs.Silent.{Silent, silently}
 use Rattle.laws_container.proofs.Stages.{IsHere, Lengthens, none_lengthens, all, done, sees_now, then_sees, ShowsThen}
-use Rattle.laws_container.proofs.Stages.{party_then, since_then, changes_then, backs_then, deeds_more, acts_more}
+use Rattle.laws_container.proofs.Stages.{party_then, since_then, changes_then, backs_then, set_acts_more, acts_more}
 use Rattle.laws_container.proofs.Stages.{goes_on, was_well_formed, does_with}
 use Rattle.laws_container.proofs.Standing.{recover_at, recover_number, for_back, for_index, IsInCourse, RecoverAt}
 use Rattle.laws_container.proofs.Steps.{calm_none, right_none}
@@ -133,7 +133,7 @@ module _ {T : Type 0} (scene : Scene T) (inv : Inv scene) (owner : ℕ) (mode : 
         → Lengthens es → Does scene (words_after ws ask) scene.states (then_at room' next ask back) es
         → AllFollow (Stands promise c) (Open (Container (Recover owner mode)) (wrote_of p events)) es
         → steps + step_count ask ≤ recover_number c z mode next (backs_then scene back)
-        → RecoverAt c z (all scene ++ deeds es) (done scene ++ acts es) owner mode next
+        → RecoverAt c z (all scene ++ set_acts es) (done scene ++ acts es) owner mode next
         → Knows code c (recover_at c owner mode room' next) (then_sees scene ask back scene.states (then_at room' next ask back) es)
         → ShowsThen scene start ask back scene.states es (GoOn (recover_at c owner mode room' next))
     go_on room' next ask back es longer does stands few at known =
@@ -145,8 +145,8 @@ module _ {T : Type 0} (scene : Scene T) (inv : Inv scene) (owner : ℕ) (mode : 
         (fresh : BeginsNone p es) (longer : Lengthens es) (goes : Goes ws (words_after ws ask) events es) where
       abbrev pub Told : (ℕ → Type 0) → Type 0
       Told New =
-          (i : ℕ) → IsOneOf (Yes i owner) (deeds_of p events ++ deeds es) ⊎ Has (Sees i) (acts_of p events ++ acts es)
-          → (IsOneOf (Yes i owner) (deeds_of p events) ⊎ WasShown p i events) ⊎ New i
+          (i : ℕ) → IsOneOf (Yes i owner) (set_acts_of p events ++ set_acts es) ⊎ IsOneOf (Sees i) (acts_of p events ++ acts es)
+          → (IsOneOf (Yes i owner) (set_acts_of p events) ⊎ WasShown p i events) ⊎ New i
 
       pub recs : (k k' : ℕ) (Was Now New But But' : ℕ → Type 0) → Recovers code c owner k Was But (sees_now scene)
           → AskedBelow code c owner k' (then_sees scene ask back scene.states y es) → Told New
@@ -157,45 +157,45 @@ module _ {T : Type 0} (scene : Scene T) (inv : Inv scene) (owner : ℕ) (mode : 
       recs k k' Was Now New But But' h asked told was new hidden =
           knowing.recovers_then code c owner (sees_now scene) (words_after ws ask) scene.states (put p y latest)
           (since_then scene ask) (changes_then scene ask) (backs_then scene back) es fresh
-          (deeds_more scene start here.span es own longer) (acts_more scene start here.span es own longer) goes
+          (set_acts_more scene start here.span es own longer) (acts_more scene start here.span es own longer) goes
           k k' Was Now New But But' h asked told was new hidden
 
       -- of its locks
       pub fills_on : (Was But : ℕ → Type 0)
-          → ((i : ℕ) → IsOneOf (Frees i owner) (deeds_of p events ++ deeds es) → IsOneOf (Frees i owner) (deeds_of p events) ⊎ But i)
+          → ((i : ℕ) → IsOneOf (Frees i owner) (set_acts_of p events ++ set_acts es) → IsOneOf (Frees i owner) (set_acts_of p events) ⊎ But i)
           → ((i : ℕ) → Was i → But i) → FilledBut (IsWorn scene.terms.by ws) mode p owner Was events
           → FilledBut (IsWorn scene.terms.by (words_after ws ask)) mode p owner But (events ++ es)
       fills_on Was But split more h =
           filled_then p owner (IsWorn scene.terms.by ws) (IsWorn scene.terms.by (words_after ws ask))
           (worn_on scene.terms.by ws (words_after ws ask) goes.stuck) mode Was But events es fresh
-          (λ i was. split i (subst (IsOneOf (Frees i owner)) (deeds_more scene start here.span es own longer) was))
+          (λ i was. split i (subst (IsOneOf (Frees i owner)) (set_acts_more scene start here.span es own longer) was))
           more (shut_later events es) h
 
       pub asked_on : (k : ℕ) → AskedBelow code c owner k (sees_now scene) → AskedBelow code c owner k (then_sees scene ask back scene.states y es)
       asked_on k h =
           knowing.asked_then code c owner (sees_now scene) (words_after ws ask) scene.states (put p y latest)
           (since_then scene ask) (changes_then scene ask) (backs_then scene back) es fresh
-          (deeds_more scene start here.span es own longer) (acts_more scene start here.span es own longer) goes k h
+          (set_acts_more scene start here.span es own longer) (acts_more scene start here.span es own longer) goes k h
 
       pub asked_more : (k : ℕ) → AskedBelow code c owner k (sees_now scene)
           → (HeldThroughout p (StillToFree p owner k) (events ++ es)
-          → IsOneOf (Asks k owner) (deeds_of p (events ++ es)) ⊎ WasShown p k (events ++ es))
+          → IsOneOf (Asks k owner) (set_acts_of p (events ++ es)) ⊎ WasShown p k (events ++ es))
           → AskedBelow code c owner (k + 1) (then_sees scene ask back scene.states y es)
       asked_more k h now =
           knowing.asked_next code c owner (sees_now scene) (words_after ws ask) scene.states (put p y latest)
           (since_then scene ask) (changes_then scene ask) (backs_then scene back) es fresh
-          (deeds_more scene start here.span es own longer) (acts_more scene start here.span es own longer) goes k h
+          (set_acts_more scene start here.span es own longer) (acts_more scene start here.span es own longer) goes k h
           now
 
     -- by events that tell and show nothing
-    pub told_none : (i : ℕ) → IsOneOf (Yes i owner) (deeds_of p events ++ []) ⊎ Has (Sees i) (acts_of p events ++ [])
-        → (IsOneOf (Yes i owner) (deeds_of p events) ⊎ WasShown p i events) ⊎ none i
+    pub told_none : (i : ℕ) → IsOneOf (Yes i owner) (set_acts_of p events ++ []) ⊎ IsOneOf (Sees i) (acts_of p events ++ [])
+        → (IsOneOf (Yes i owner) (set_acts_of p events) ⊎ WasShown p i events) ⊎ none i
     told_none i said =
-        inl (⊎_elim (λ yes. inl (one_of_none (Yes i owner) (deeds_of p events) yes))
+        inl (⊎_elim (λ yes. inl (one_of_none (Yes i owner) (set_acts_of p events) yes))
         (λ shown. inr (has_of_none (Sees i) (acts_of p events) shown)) said)
 
-    none_freed : (i : ℕ) → IsOneOf (Frees i owner) (deeds_of p events ++ []) → IsOneOf (Frees i owner) (deeds_of p events)
-    none_freed i was = one_of_none (Frees i owner) (deeds_of p events) was
+    none_freed : (i : ℕ) → IsOneOf (Frees i owner) (set_acts_of p events ++ []) → IsOneOf (Frees i owner) (set_acts_of p events)
+    none_freed i was = one_of_none (Frees i owner) (set_acts_of p events) was
 
     -- what it has freed is hidden still, over a step that writes nothing
     pub hidden_still : (ask : Option Ask) (y : Party T) → HasHidden code c p owner none (before scene)
@@ -208,7 +208,7 @@ module _ {T : Type 0} (scene : Scene T) (inv : Inv scene) (owner : ℕ) (mode : 
         (stands : AllFollow (Stands promise c) (Open (Container (Recover owner mode)) (wrote_of p events)) es)
         (does : (y : Party T) → owes (flight_of (Some y.doing)) ≡ true → Does scene (words_after ws ask) scene.states y es)
         (index : ℕ) (few : Few ask back 1 (index + 1)) (below : index < c)
-        (course : (i : ℕ) → i < c → IsInCourse c z (all scene ++ deeds es) (done scene ++ acts es) owner i (index + 1))
+        (course : (i : ℕ) → i < c → IsInCourse c z (all scene ++ set_acts es) (done scene ++ acts es) owner i (index + 1))
         (paid : backs_then scene back + since_then scene ask ≤ changes_then scene ask)
         (rec : (y : Party T) → Recovers code c owner (index + 1) none none (then_sees scene ask back scene.states y es))
         (fill : FilledBut (IsWorn scene.terms.by (words_after ws ask)) mode p owner NoIndex (events ++ es)) where

@@ -22,9 +22,9 @@ use Rattle.model.specs.declared.event.Event.TheVariants.{Shown}
 use Rattle.model.specs.declared.families.container.ContainerStart.TheVariants.{Recover}
 use Rattle.model.specs.declared.party.Party.{Party}
 use Rattle.model.specs.Families.Container.Promises.{WasShown}
-use Rattle.model.specs.Families.Container.Reading.{Act, Sees, Has, acts_of, seen_in, contents_of}
+use Rattle.model.specs.Families.Container.Reading.{Act, Sees, acts_of, seen_in, contents_of}
 use Rattle.model.specs.Families.Indices.Robust.Promises.{cell_of, IsFilledWith, IsUnlocked, HeldThroughout, StillToFree}
-use Rattle.model.specs.Families.Indices.Robust.Reading.{Deed, Frees, Asks, Yes, deeds_of, IsOneOf, asked_in}
+use Rattle.model.specs.Families.Indices.Robust.Reading.{SetAct, Frees, Asks, Yes, set_acts_of, IsOneOf, asked_in}
 use Rattle.model.specs.Turns.{words_after, step_count}
 use Rattle.model.proofs.Moments.{held_now, held_later}
 use Rattle.model.proofs.Readings.{no_more}
@@ -117,7 +117,7 @@ module _ {T : Type 0} (scene : Scene T) (inv : Inv scene) (owner : ℕ) (mode : 
 
     calm_recs_more : (y : Party T) (k : ℕ) → Recovers code c owner k none none (sees_now scene)
         → (HeldThroughout p (StillToFree p owner k) (events ++ [])
-        → IsOneOf (Asks k owner) (deeds_of p (events ++ [])) ⊎ WasShown p k (events ++ []))
+        → IsOneOf (Asks k owner) (set_acts_of p (events ++ [])) ⊎ WasShown p k (events ++ []))
         → Recovers code c owner (k + 1) none none (then_sees scene ask back scene.states y [])
     calm_recs_more y k h now =
         let goes = (silent_set scene inv (words_after ws ask) same y [] tt tt).goes in
@@ -192,7 +192,7 @@ module _ {T : Type 0} (scene : Scene T) (inv : Inv scene) (owner : ℕ) (mode : 
             (record {
               within = omega arith;
               seen = subst (λ (d : List (Act T)). AreBelow 0 (seen_in (d ++ []))) (sym at.1) tt;
-              asked = subst (λ (d : List Deed). AreBelow 0 (asked_in (d ++ []))) (sym at.0) tt;
+              asked = subst (λ (d : List SetAct). AreBelow 0 (asked_in (d ++ []))) (sym at.0) tt;
               freed = λ i was. let h = one_of_none (Frees i owner) (all scene) was in absurd (no_more h.before (Frees i owner) h.after (sym at.0 ∙ h.is));
             }) (
               long,
@@ -240,9 +240,9 @@ module _ {T : Type 0} (scene : Scene T) (inv : Inv scene) (owner : ℕ) (mode : 
 
     -- an index of another owner is none to free
     not_to_free : cell ws index ≢ owner → HeldThroughout p (StillToFree p owner index) (events ++ [])
-        → IsOneOf (Asks index owner) (deeds_of p (events ++ [])) ⊎ WasShown p index (events ++ [])
+        → IsOneOf (Asks index owner) (set_acts_of p (events ++ [])) ⊎ WasShown p index (events ++ [])
     not_to_free other through =
-        subst (λ es. IsOneOf (Asks index owner) (deeds_of p es) ⊎ WasShown p index es) (sym (append-nil events))
+        subst (λ es. IsOneOf (Asks index owner) (set_acts_of p es) ⊎ WasShown p index es) (sym (append-nil events))
         (⊎_elim (λ filled. absurd (other (inv.good.cells index course.within ∙ ap cell_of filled))) (λ freed. course.freed index freed)
         (through_now p (StillToFree p owner index) events (subst (λ es. HeldThroughout p (StillToFree p owner index) es) (append-nil events) through)))
 
@@ -334,7 +334,7 @@ module _ {T : Type 0} (scene : Scene T) (inv : Inv scene) (owner : ℕ) (mode : 
                 index (index + 1) none (λ i. i ≡ index) (λ i. i ≡ index) none none rec
                 (asked_more scene inv owner mode fits room stage here ask back y showing (refl, tt) tt
                 (λ start w. refl) goes index rec.asked
-                (λ through. inr (subst (Has (Sees index)) (sym acts_then) (has_last (Sees index) (done scene)))))
+                (λ through. inr (subst (IsOneOf (Sees index)) (sym acts_then) (has_last (Sees index) (done scene)))))
                 (λ i said. ⊎_elim (λ yes. inl (inl (one_of_none (Yes i owner) (all scene) yes)))
                 (λ seen. ⊎_elim (λ had. inl (inr had)) (λ e. let is : index ≡ i = cc in inr (sym is))
                 (was_act (Sees i) (Sees index) (done scene) seen))

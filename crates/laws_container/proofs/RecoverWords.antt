@@ -25,14 +25,14 @@ use Rattle.model.specs.declared.families.container.ContainerStart.{ContainerStar
 use Rattle.model.specs.declared.families.container.ContainerStart.TheVariants.{Recover}
 use Rattle.model.specs.Families.Container.Reading.{Copies, Sees, act, acts, acts_of}
 use Rattle.model.specs.Families.Indices.Robust.Promises.{IsFilledWith, IsUnlocked}
-use Rattle.model.specs.Families.Indices.Robust.Reading.{Frees, Asks, Yes, deed, deeds, deeds_of, filled_after, IsOneOf, asked_in}
+use Rattle.model.specs.Families.Indices.Robust.Reading.{Frees, Asks, Yes, set_act, set_acts, set_acts_of, filled_after, IsOneOf, asked_in}
 use Rattle.model.specs.Families.Queues.Calls.{read_in, kept_at}
 use Rattle.model.specs.Reading.{Open, own_after}
 use Rattle.model.specs.Turns.{words_after}
 use Rattle.model.proofs.Moments.{held_later}
 use Rattle.laws_robust.proofs.Gone.{gone_more}
 use Rattle.laws_robust.proofs.Invariant.{IsWorn}
-use Rattle.laws_robust.proofs.Deeds.{was_one, last_one}
+use Rattle.laws_robust.proofs.SetActs.{was_one, last_one}
 use Rattle.laws_robust.proofs.Stages.{loads_same, exchanges, exchange_sets, fails_same}
 use Rattle.laws_robust.proofs.Stages as set_stages
 use Rattle.laws_container.proofs.Copies.{copying_more, copied_value}
@@ -47,7 +47,7 @@ use Rattle.laws_container.proofs.RecoverParts.{go_on, recs, fills_on, asked_on, 
 use Rattle.laws_container.proofs.Recoveries.{one_more_of, has_of_none, was_act, course_then}
 use Rattle.laws_container.proofs.Silent.{silent_set}
 use Rattle.laws_container.proofs.Stages.{IsHere, all, done, sees_now, then_sees, ShowsThen, StepOf, AnswerOf, Leads}
-use Rattle.laws_container.proofs.Stages.{backs_then, since_then, changes_then, deeds_more, acts_more}
+use Rattle.laws_container.proofs.Stages.{backs_then, since_then, changes_then, set_acts_more, acts_more}
 use Rattle.laws_container.proofs.Stages.{was_well_formed}
 use Rattle.laws_container.proofs.Standing.{recover_at, for_back, for_index, AreBelow, RecoverAt}
 use Rattle.laws_container.proofs.Turns.{count_in, datum_in}
@@ -197,14 +197,14 @@ module _ {T : Type 0} (scene : Scene T) (inv : Inv scene) (owner : ℕ) (mode : 
         then_at scene inv owner mode fits room (recovers.TheVariants.ChecksCount index count) here room
         (recovers.TheVariants.Asks index count) check_it false in
         let goes = (silent_set scene inv (words_after ws check_it) same y asking (tt, (tt, tt)) (refl, (refl, tt))).goes in
-        let deeds_then : deeds_of p (events ++ asking) ≡ all scene ++ Asks index owner ∷ [] =
-        deeds_more scene (Recover owner mode) here.span asking (refl, (refl, tt)) asking_longer in
+        let set_acts_then : set_acts_of p (events ++ asking) ≡ all scene ++ Asks index owner ∷ [] =
+        set_acts_more scene (Recover owner mode) here.span asking (refl, (refl, tt)) asking_longer in
         let acts_then : acts_of p (events ++ asking) ≡ done scene ++ Copies index value ∷ [] =
         acts_more scene (Recover owner mode) here.span asking (refl, (refl, tt)) asking_longer in
         let copy_acts : acts (wrote_of p events ++ Copied p index value ∷ []) ≡ done scene ++ Copies index value ∷ [] =
         flat_map-append act (wrote_of p events) (Copied p index value ∷ []) in
-        let copy_deeds : deeds (wrote_of p events ++ Copied p index value ∷ []) ≡ all scene =
-        flat_map-append deed (wrote_of p events) (Copied p index value ∷ []) ∙ append-nil (all scene) in
+        let copy_set_acts : set_acts (wrote_of p events ++ Copied p index value ∷ []) ≡ all scene =
+        flat_map-append set_act (wrote_of p events) (Copied p index value ∷ []) ∙ append-nil (all scene) in
         go_on scene inv owner mode fits room (recovers.TheVariants.ChecksCount index count) here room
         (recovers.TheVariants.Asks index count) check_it false asking asking_longer
         (reads_does scene inv owner mode fits room (recovers.TheVariants.ChecksCount index count) here
@@ -237,7 +237,7 @@ module _ {T : Type 0} (scene : Scene T) (inv : Inv scene) (owner : ℕ) (mode : 
             (
               refl,
               record { value = value; latest = record { before = done scene; is = copy_acts } },
-              subst (λ d. AreBelow index (asked_in d)) (sym copy_deeds) stands.0.asked,
+              subst (λ d. AreBelow index (asked_in d)) (sym copy_set_acts) stands.0.asked,
             ),
             tt,
           ),
@@ -255,7 +255,7 @@ module _ {T : Type 0} (scene : Scene T) (inv : Inv scene) (owner : ℕ) (mode : 
                 asking (refl, (refl, tt)) tt asking_longer goes index (index + 1) none none none none none k.1
                 (asked_more scene inv owner mode fits room (recovers.TheVariants.ChecksCount index count) here
                 check_it false y asking (refl, (refl, tt)) tt asking_longer goes index k.1.asked
-                (λ through. inl (subst (IsOneOf (Asks index owner)) (sym deeds_then) (last_one (Asks index owner) (all scene)))))
+                (λ through. inl (subst (IsOneOf (Asks index owner)) (sym set_acts_then) (last_one (Asks index owner) (all scene)))))
                 (λ i said. inl
                 (⊎_elim (λ yes. ⊎_elim (λ had. inl had) (λ e. absurd (cc)) (was_one (Yes i owner) (Asks index owner) (all scene) yes))
                 (λ seen. ⊎_elim (λ had. inr had) (λ e. absurd (cc)) (was_act (Sees i) (Copies index value) (done scene) seen))

@@ -8,9 +8,9 @@ use Rattle.model.specs.declared.event.Event.{Event}
 use Rattle.model.specs.declared.party.Party.{Party}
 use Rattle.model.specs.Coding.{Coding}
 use Rattle.model.specs.Families.Container.Promises.{WasShown}
-use Rattle.model.specs.Families.Container.Reading.{Act, Sees, Has, HasLatest, acts, acts_of, index_seen, seen_in}
+use Rattle.model.specs.Families.Container.Reading.{Act, Sees, acts, acts_of, index_seen, seen_in}
 use Rattle.model.specs.Families.Indices.Robust.Promises.{IsUnlocked, HeldThroughout, StillToFree}
-use Rattle.model.specs.Families.Indices.Robust.Reading.{Deed, Frees, Asks, Yes, index_asked, asked_in, deeds, deeds_of, filled_of, IsOneOf}
+use Rattle.model.specs.Families.Indices.Robust.Reading.{SetAct, Frees, Asks, Yes, index_asked, asked_in, set_acts, set_acts_of, filled_of, IsOneOf, IsLatest}
 use Rattle.model.specs.Moments.{BeginsNone}
 use Rattle.model.proofs.Moments.{held_later}
 use Rattle.model.proofs.Readings.{SplitAt, Last, Earlier, split_last}
@@ -24,31 +24,31 @@ use Rattle.laws_container.proofs.Standing.{AreBelow, AskedOrShown, IsInCourse}
 
 -- ---- what it has done
 
-pub one_more_of : (one : Deed) (all more : List Deed) → IsOneOf one all → IsOneOf one (all ++ more)
+pub one_more_of : (one : SetAct) (all more : List SetAct) → IsOneOf one all → IsOneOf one (all ++ more)
 one_more_of one all more h =
     record { before = h.before; after = h.after ++ more; is = ap (λ xs. xs ++ more) h.is ∙ append_assoc h.before (one ∷ h.after) more }
 
 -- nothing was done besides
-pub one_of_none : (one : Deed) (all : List Deed) → IsOneOf one (all ++ []) → IsOneOf one all
+pub one_of_none : (one : SetAct) (all : List SetAct) → IsOneOf one (all ++ []) → IsOneOf one all
 one_of_none one all h = subst (IsOneOf one) (append-nil all) h
 
 module _ {T : Type 0} where
-  pub has_of_none : (one : Act T) (all : List (Act T)) → Has one (all ++ []) → Has one all
-  has_of_none one all h = subst (Has one) (append-nil all) h
+  pub has_of_none : (one : Act T) (all : List (Act T)) → IsOneOf one (all ++ []) → IsOneOf one all
+  has_of_none one all h = subst (IsOneOf one) (append-nil all) h
 
   -- one of them is one of the earlier ones, or the last
-  pub was_act : (one last : Act T) (all : List (Act T)) → Has one (all ++ last ∷ []) → Has one all ⊎ (last ≡ one)
+  pub was_act : (one last : Act T) (all : List (Act T)) → IsOneOf one (all ++ last ∷ []) → IsOneOf one all ⊎ (last ≡ one)
   was_act one last all h = go (split_last all last h.before one h.after h.is)
     where
-      go : SplitAt all last h.before one h.after → Has one all ⊎ (last ≡ one)
+      go : SplitAt all last h.before one h.after → IsOneOf one all ⊎ (last ≡ one)
       go (Last p q) = inr q
       go (Earlier rest p) = inl (record { before = h.before; after = rest; is = p })
 
-  pub has_latest : (one : Act T) (all : List (Act T)) → HasLatest one all → Has one all
+  pub has_latest : (one : Act T) (all : List (Act T)) → IsLatest one all → IsOneOf one all
   has_latest one all h = record { before = h.before; after = []; is = h.is }
 
   -- it is in its course still
-  pub course_then : (c z : ℕ) (all ds : List Deed) (done fresh : List (Act T)) (owner i b i' b' : ℕ)
+  pub course_then : (c z : ℕ) (all ds : List SetAct) (done fresh : List (Act T)) (owner i b i' b' : ℕ)
       → IsInCourse c z all done owner i b → i' < c → b ≤ b' → AreBelow b' (seen_in fresh) → AreBelow b' (asked_in ds)
       → ((j : ℕ) → IsOneOf (Frees j owner) (all ++ ds) → IsOneOf (Frees j owner) all ⊎ AskedOrShown c z all done owner j)
       → IsInCourse c z (all ++ ds) (done ++ fresh) owner i' b'
@@ -72,7 +72,7 @@ module _ {T : Type 0} where
 module _ {T : Type 0} (code : Coding T) (c owner : ℕ) (v : View T) (words' : List ℕ)
     (states' : List (ℕ × ContainerState T)) (latest' : List (ℕ × Party T)) (since' changes' backs' : ℕ)
     (es : List (Event T)) (none : BeginsNone v.party es)
-    (deeds_more : deeds_of v.party (v.events ++ es) ≡ deeds_of v.party v.events ++ deeds es)
+    (set_acts_more : set_acts_of v.party (v.events ++ es) ≡ set_acts_of v.party v.events ++ set_acts es)
     (acts_more : acts_of v.party (v.events ++ es) ≡ acts_of v.party v.events ++ acts es)
     (goes : Goes v.words words' v.events es) where
   abbrev p : ℕ
@@ -98,22 +98,22 @@ module _ {T : Type 0} (code : Coding T) (c owner : ℕ) (v : View T) (words' : L
   -- what it was told or shown by now, it was earlier, or just now
   abbrev pub SplitsTold : (ℕ → Type 0) → Type 0
   SplitsTold New =
-      (i : ℕ) → IsOneOf (Yes i owner) (deeds_of v.party v.events ++ deeds es) ⊎ Has (Sees i) (acts_of v.party v.events ++ acts es)
-      → (IsOneOf (Yes i owner) (deeds_of v.party v.events) ⊎ WasShown v.party i v.events) ⊎ New i
+      (i : ℕ) → IsOneOf (Yes i owner) (set_acts_of v.party v.events ++ set_acts es) ⊎ IsOneOf (Sees i) (acts_of v.party v.events ++ acts es)
+      → (IsOneOf (Yes i owner) (set_acts_of v.party v.events) ⊎ WasShown v.party i v.events) ⊎ New i
 
   pub asked_then : (k : ℕ) → AskedBelow code c owner k v → AskedBelow code c owner k then_view
   asked_then k h i below through =
-      ⊎_elim (λ a. inl (subst (IsOneOf (Asks i owner)) (sym deeds_more) (one_more_of (Asks i owner) (deeds_of p events) (deeds es) a)))
-      (λ s. inr (subst (Has (Sees i)) (sym acts_more) (has_more (Sees i) (acts_of p events) (acts es) s)))
+      ⊎_elim (λ a. inl (subst (IsOneOf (Asks i owner)) (sym set_acts_more) (one_more_of (Asks i owner) (set_acts_of p events) (set_acts es) a)))
+      (λ s. inr (subst (IsOneOf (Sees i)) (sym acts_more) (has_more (Sees i) (acts_of p events) (acts es) s)))
       (h i below (through_less p (StillToFree p owner i) events es none through))
 
   -- it has come to one index more, which it need not free, or has asked about, or was shown
   pub asked_next : (k : ℕ) → AskedBelow code c owner k v
       → (HeldThroughout v.party (StillToFree v.party owner k) (v.events ++ es)
-      → IsOneOf (Asks k owner) (deeds_of v.party (v.events ++ es)) ⊎ WasShown v.party k (v.events ++ es))
+      → IsOneOf (Asks k owner) (set_acts_of v.party (v.events ++ es)) ⊎ WasShown v.party k (v.events ++ es))
       → AskedBelow code c owner (k + 1) then_view
   asked_next k h here i below through =
-      ⊎_elim (λ e. subst (λ n. IsOneOf (Asks n owner) (deeds_of p (events ++ es)) ⊎ WasShown p n (events ++ es)) (sym e)
+      ⊎_elim (λ e. subst (λ n. IsOneOf (Asks n owner) (set_acts_of p (events ++ es)) ⊎ WasShown p n (events ++ es)) (sym e)
       (here (subst (λ n. HeldThroughout p (StillToFree p owner n) (events ++ es)) e through)))
       (λ ne. asked_then k h i (omega arith) through) (cases_eq i k)
 
@@ -125,7 +125,7 @@ module _ {T : Type 0} (code : Coding T) (c owner : ℕ) (v : View T) (words' : L
       (λ earlier. ⊎_elim (λ lost. inl (λ e. lost (stays_lost v.terms.by events es goes.fills i owner honest dead e)))
       (λ exempt. was i exempt) (h (honest_less v.terms.by events es honest) i earlier))
       (λ fresh. new i fresh)
-      (told i (⊎_elim (λ yes. inl (subst (IsOneOf (Yes i owner)) deeds_more yes)) (λ shown. inr (subst (Has (Sees i)) acts_more shown)) said))
+      (told i (⊎_elim (λ yes. inl (subst (IsOneOf (Yes i owner)) set_acts_more yes)) (λ shown. inr (subst (IsOneOf (Sees i)) acts_more shown)) said))
 
   pub recovers_then : (k k' : ℕ) (Was Now New But But' : ℕ → Type 0) → Recovers code c owner k Was But v
       → AskedBelow code c owner k' then_view → SplitsTold New

@@ -27,7 +27,7 @@ use Rattle.model.specs.Families.Container.Promises.{promise}
 use Rattle.model.specs.Families.Container.Reading.{Sees}
 use Rattle.model.specs.Families.Indices.Reading.{locked_after}
 use Rattle.model.specs.Families.Indices.Robust.Promises.{IsFilled}
-use Rattle.model.specs.Families.Indices.Robust.Reading.{Frees, Yes, Locks, holder_of, deeds_of}
+use Rattle.model.specs.Families.Indices.Robust.Reading.{Frees, Yes, Locks, holder_of, set_acts_of}
 use Rattle.model.specs.Families.Indices.Robust.Spans.{HasJustFreed}
 use Rattle.model.specs.Families.Indices.Robust.Steps.{locked_by}
 use Rattle.model.specs.Promises.Spans.{Stands}
@@ -38,7 +38,7 @@ use Rattle.model.proofs.Readings.{AllFollow}
 use Rattle.laws_robust.specs.Gone.{IsCalm}
 use Rattle.laws_robust.proofs.Core.{counter_of}
 use Rattle.laws_robust.proofs.Counting.{times_below}
-use Rattle.laws_robust.proofs.Deeds.{was_one}
+use Rattle.laws_robust.proofs.SetActs.{was_one}
 use Rattle.laws_robust.proofs.Effects.{is_shut}
 use Rattle.laws_robust.proofs.Effects as set_effects
 use Rattle.laws_robust.proofs.Invariant.{IsWorn}
@@ -202,7 +202,7 @@ module _ {T : Type 0} (scene : Scene T) (inv : Inv scene) (owner : ℕ) (mode : 
           filled_next =
               λ j filled o low is h some. record {
                 other = j;
-                once = held_now p (λ part. IsFilled j part × (deeds_of p part ≡ deeds_of p events)) events (ap is_some is, refl);
+                once = held_now p (λ part. IsFilled j part × (set_acts_of p part ≡ set_acts_of p events)) events (ap is_some is, refl);
               };
         }
 

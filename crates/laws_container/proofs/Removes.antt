@@ -41,7 +41,7 @@ use Rattle.model.specs.Families.Container.Reading.{Act, contents_after}
 use Rattle.model.specs.Families.Container.Spans.{HasDone}
 use Rattle.model.specs.Families.Indices.Reading.{locked_after, is_locked}
 use Rattle.model.specs.Families.Indices.Robust.Promises.{IsUnlocked, LivesToRelease, MayGiveBack}
-use Rattle.model.specs.Families.Indices.Robust.Reading.{Deed, Frees, Locks, deeds, filled_of, holder_of, settled_of, IsOneOf}
+use Rattle.model.specs.Families.Indices.Robust.Reading.{SetAct, Frees, Locks, set_acts, filled_of, holder_of, settled_of, IsOneOf}
 use Rattle.model.specs.Families.Queues.Calls.{as_it_is}
 use Rattle.model.specs.Moments.{SinceBegin}
 use Rattle.model.specs.Parties.{put}
@@ -54,7 +54,7 @@ use Rattle.model.proofs.Readings.{AllFollow, no_more}
 use Rattle.laws_robust.specs.Gone.{GoneBy, Word, is_gone, GivesBackRight, IsHonest, IsCalm}
 use Rattle.laws_robust.proofs.Gone.{lives_freed}
 use Rattle.laws_robust.proofs.Core.{counter_of}
-use Rattle.laws_robust.proofs.Deeds.{was_one}
+use Rattle.laws_robust.proofs.SetActs.{was_one}
 use Rattle.laws_robust.proofs.Effects as set_effects
 use Rattle.laws_robust.proofs.HeldRelease.{Caller, Ends, held_step}
 use Rattle.laws_robust.proofs.Invariant as set_invariant
@@ -84,11 +84,11 @@ use Rattle.laws_container.proofs.Writing.{even_is, odd_is}
 
 -- ---- what its answers say, by the mode
 
-pub refused_done : (T : Type 0) (index owner : ℕ) (mode : ReleaseMode) (deeds : List Deed) (acts : List (Act T))
-    → deeds ≡ []
-    → HasDone {T = T} (Remove index owner mode) (answers.NotRemoved ContainerHandleNotOwnedByContainer) deeds acts
-refused_done T index owner Default deeds acts h = h
-refused_done T index owner LockIfLastIndex deeds acts h = h
+pub refused_done : (T : Type 0) (index owner : ℕ) (mode : ReleaseMode) (set_acts : List SetAct) (acts : List (Act T))
+    → set_acts ≡ []
+    → HasDone {T = T} (Remove index owner mode) (answers.NotRemoved ContainerHandleNotOwnedByContainer) set_acts acts
+refused_done T index owner Default set_acts acts h = h
+refused_done T index owner LockIfLastIndex set_acts acts h = h
 
 pub refused_right : {T : Type 0} (by : GoneBy) (worn : Type 0) (c p index owner : ℕ) (mode : ReleaseMode) (events : List (Event T))
     → (c ≤ index) ⊎ (filled_of index events ≢ Some owner)

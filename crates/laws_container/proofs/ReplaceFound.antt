@@ -30,7 +30,7 @@ use Rattle.model.specs.Families.Container.Calls.{place_of, replaced}
 use Rattle.model.specs.Families.Container.Promises.{StandsWellFormed}
 use Rattle.model.specs.Families.Container.Reading.{Hides, places, contents_after, contents_of, announced_after, announced_of}
 use Rattle.model.specs.Families.Indices.Robust.Promises.{IsFilledWith}
-use Rattle.model.specs.Families.Indices.Robust.Reading.{Deed, settled_after}
+use Rattle.model.specs.Families.Indices.Robust.Reading.{SetAct, settled_after}
 use Rattle.model.specs.Families.Queues.Calls.{as_it_is}
 use Rattle.model.specs.Moments.{BeginsNone}
 use Rattle.model.specs.Parties.{put}
@@ -230,7 +230,7 @@ module _ {T : Type 0} (scene : Scene T) (inv : Inv scene) (index : ℕ) (value :
                 refl,
                 (given_is scene inv index value owner fits acts below none_done),
                 fits,
-                (below, ap (λ (d : List Deed). d ++ []) none_done, inr (ap (λ d. d ++ Hides i ∷ []) nothing), omega arith),
+                (below, ap (λ (d : List SetAct). d ++ []) none_done, inr (ap (λ d. d ++ Hides i ∷ []) nothing), omega arith),
               ) (
                 knows_then es (refl, tt) tt (λ start w. refl) (λ o. refl) (λ o. refl)
                     (replaces.TheVariants.Hides count) (replaces.TheVariants.Stores 0) here hide_it,
@@ -342,7 +342,7 @@ module _ {T : Type 0} (scene : Scene T) (inv : Inv scene) (index : ℕ) (value :
               (words_after ws (Some add_it)) i below new refl value owner acts mine
               (λ holds. w.has holds (acts.stays holds.kept)) well_formed)
               ((refl, refl, hidden), tt) (omega arith)
-              (refl, (given_is scene inv index value owner fits acts below none_done), fits, (below, ap (λ (d : List Deed). d ++ []) none_done)) (
+              (refl, (given_is scene inv index value owner fits acts below none_done), fits, (below, ap (λ (d : List SetAct). d ++ []) none_done)) (
                 knows_then es (refl, tt) tt (λ start w. refl) (λ o. refl) (λ o. refl) replaces.TheVariants.AddsCount
                     replaces.TheVariants.AddsChange here add_it,
                 (λ holds. ap (λ a. places a) (acts_more scene start here.span es (refl, tt) (λ start w. refl)) ∙ placed_once (done scene) i value hidden),

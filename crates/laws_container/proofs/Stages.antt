@@ -28,7 +28,7 @@ use Rattle.model.specs.Families.Container.Promises.{StandsWellFormed, promise}
 use Rattle.model.specs.Families.Container.Reading.{Act, act, acts, acts_of}
 use Rattle.model.specs.Families.Container.States.{state_of}
 use Rattle.model.specs.Families.Container.Steps.{effects, questions}
-use Rattle.model.specs.Families.Indices.Robust.Reading.{Deed, deed, deeds, wrote_in, deeds_of}
+use Rattle.model.specs.Families.Indices.Robust.Reading.{SetAct, set_act, set_acts, wrote_in, set_acts_of}
 use Rattle.model.specs.Parties.{party_of, put, doing_of, flight_of}
 use Rattle.model.specs.Promises.Spans.{Stands}
 use Rattle.model.specs.Reading.{Open, own_after, span_of}
@@ -88,8 +88,8 @@ module _ {T : Type 0} (scene : Scene T) where
   abbrev pub wrote : List (Event T)
   wrote = wrote_of p events
 
-  abbrev pub all : List Deed
-  all = deeds_of p events
+  abbrev pub all : List SetAct
+  all = set_acts_of p events
 
   abbrev pub done : List (Act T)
   done = acts_of p events
@@ -160,8 +160,8 @@ module _ {T : Type 0} (scene : Scene T) where
     wrote_more : wrote_of p (events ++ es) ≡ wrote_of p events ++ es
     wrote_more = ap wrote_in (span_of-own p events es own ∙ (ap (λ s. fold own_after s es) span ∙ longer start (wrote_of p events)))
 
-    pub deeds_more : deeds_of p (events ++ es) ≡ deeds_of p events ++ deeds es
-    deeds_more = ap deeds wrote_more ∙ flat_map-append deed (wrote_of p events) es
+    pub set_acts_more : set_acts_of p (events ++ es) ≡ set_acts_of p events ++ set_acts es
+    set_acts_more = ap set_acts wrote_more ∙ flat_map-append set_act (wrote_of p events) es
 
     pub acts_more : acts_of p (events ++ es) ≡ acts_of p events ++ acts es
     acts_more = ap acts wrote_more ∙ flat_map-append act (wrote_of p events) es
@@ -175,7 +175,7 @@ module _ {T : Type 0} (scene : Scene T) where
       → Does scene (words_after ws ask) states' (party_then start ask back (GoOn flight)) did
       → AllFollow (Stands promise c) (Open (Container start) (wrote_of p events)) did
       → steps + step_count ask ≤ standing.number_of c code.size flight (backs_then back)
-      → At c code.size (deeds_of p events ++ deeds did) (acts_of p events ++ acts did) start flight
+      → At c code.size (set_acts_of p events ++ set_acts did) (acts_of p events ++ acts did) start flight
       → Knows code c flight (then_sees ask back states' (party_then start ask back (GoOn flight)) did)
       → ShowsThen start ask back states' did (GoOn flight)
   goes_on start flight ask back states' did span longer does stands few at known =
@@ -186,8 +186,8 @@ module _ {T : Type 0} (scene : Scene T) where
             record {
               span = longer start (wrote_of p events) ∙ ap (λ es. Open (Container start) es) (sym (wrote_more start span did does.set.own longer));
               steps = few;
-              at = subst (λ d. At c code.size d (acts_of p (events ++ did)) start flight) (sym (deeds_more start span did does.set.own longer))
-                  (subst (λ a. At c code.size (deeds_of p events ++ deeds did) a start flight) (sym (acts_more start span did does.set.own longer)) at);
+              at = subst (λ d. At c code.size d (acts_of p (events ++ did)) start flight) (sym (set_acts_more start span did does.set.own longer))
+                  (subst (λ a. At c code.size (set_acts_of p events ++ set_acts did) a start flight) (sym (acts_more start span did does.set.own longer)) at);
             };
         knows = known;
         seen = is_seen ws ask changes;
@@ -225,15 +225,15 @@ module _ {T : Type 0} (scene : Scene T) where
       → span_of p events ≡ Open (Container start) (wrote_of p events)
       → Does scene (words_after ws ask) states' (party_then start ask back (GoOn flight)) []
       → steps + step_count ask ≤ standing.number_of c code.size flight (backs_then back)
-      → At c code.size (deeds_of p events) (acts_of p events) start flight
+      → At c code.size (set_acts_of p events) (acts_of p events) start flight
       → Knows code c flight
       (view scene.terms (words_after ws ask) states' (put p (party_then start ask back (GoOn flight)) latest) events
       p (since_then ask) (changes_then ask) (backs_then back))
       → ShowsThen start ask back states' [] (GoOn flight)
   goes_calmly start flight ask back states' span does few at known =
       goes_on start flight ask back states' [] span none_lengthens does tt few
-      (subst (λ d. At c code.size d (acts_of p events ++ []) start flight) (sym (append-nil (deeds_of p events)))
-      (subst (λ a. At c code.size (deeds_of p events) a start flight) (sym (append-nil (acts_of p events))) at))
+      (subst (λ d. At c code.size d (acts_of p events ++ []) start flight) (sym (append-nil (set_acts_of p events)))
+      (subst (λ a. At c code.size (set_acts_of p events) a start flight) (sym (append-nil (acts_of p events))) at))
       (subst (λ es. Knows code c flight
       (view scene.terms (words_after ws ask) states' (put p (party_then start ask back (GoOn flight)) latest) es p
       (since_then ask) (changes_then ask) (backs_then back)))

@@ -29,10 +29,10 @@ use Rattle.model.specs.declared.families.container.calls.LookOf.{LookOf}
 use Rattle.model.specs.declared.families.container.calls.LookOf as kinds
 use Rattle.model.specs.declared.families.indices.robust.RobustStart as set_starts
 use Rattle.model.specs.Families.Container.Calls.{place_of}
-use Rattle.model.specs.Families.Container.Reading.{Act, Hides, Sees, seen_in, Has, HasLatest}
+use Rattle.model.specs.Families.Container.Reading.{Act, Hides, Sees, seen_in}
 use Rattle.model.specs.Families.Container.Spans.{HasDone}
 use Rattle.model.specs.Families.Indices.Robust.Bounds as set_bounds
-use Rattle.model.specs.Families.Indices.Robust.Reading.{Deed, Fills, Grants, Frees, Asks, Yes, IsOneOf, IsLatest, asked_in}
+use Rattle.model.specs.Families.Indices.Robust.Reading.{SetAct, Fills, Grants, Frees, Asks, Yes, IsOneOf, IsLatest, asked_in}
 use Rattle.model.specs.Families.Indices.Robust.Spans.{HasJustFreed}
 use Rattle.laws_robust.proofs.Standing.{raise_number, count_number, lock_number, acquire_number, release_number, AcquireAt, CountAt, LockAt, ReleaseAt}
 
@@ -195,7 +195,7 @@ number_of c z (IsLocked run) backs = 0
 abbrev pub AreBelow : ℕ → List ℕ → Type 0
 AreBelow bound indices = AllByRecursion (λ i. i < bound) indices
 
-module _ {T : Type 0} (c z : ℕ) (all : List Deed) (done : List (Act T)) where
+module _ {T : Type 0} (c z : ℕ) (all : List SetAct) (done : List (Act T)) where
   -- it may have hidden what an earlier owner left
   abbrev pub MayHaveHidden : ℕ → Type 0
   MayHaveHidden index = (done ≡ []) ⊎ (done ≡ Hides index ∷ [])
@@ -253,7 +253,7 @@ module _ {T : Type 0} (c z : ℕ) (all : List Deed) (done : List (Act T)) where
 
   -- it was asked about, or shown to be nothing
   abbrev pub AskedOrShown : ℕ → ℕ → Type 0
-  AskedOrShown owner index = IsOneOf (Asks index owner) all ⊎ Has (Sees index) done
+  AskedOrShown owner index = IsOneOf (Asks index owner) all ⊎ IsOneOf (Sees index) done
 
   -- a recovery has come to indices below this one, and has asked about each that it has freed, or was shown it
   pub record IsInCourse (owner index bound : ℕ) : Type 0 where
@@ -275,7 +275,7 @@ module _ {T : Type 0} (c z : ℕ) (all : List Deed) (done : List (Act T)) where
   RecoverAt owner mode (recovers.TheVariants.EmptiesCell index count) =
       IsInCourse owner index (index + 1)
       × ((IsLatest (Yes index owner) all × IsOneOf (Asks index owner) all)
-      ⊎ HasLatest (Sees index) done)
+      ⊎ IsLatest (Sees index) done)
   RecoverAt owner mode (recovers.TheVariants.Hides index count) =
       IsInCourse owner index (index + 1) × (count % 2 ≡ 1) × IsLatest (Frees index owner) all
   RecoverAt owner mode (recovers.TheVariants.Raises index raise) =

@@ -15,7 +15,7 @@ use Rattle.model.specs.declared.families.container.calls.ContainerFlight as flig
 use Rattle.model.specs.Families.Container.Promises.{WasShown, AnswersRight}
 use Rattle.model.specs.Families.Container.Recoveries.{UnlockedAtLast}
 use Rattle.model.specs.Families.Indices.Robust.Promises.{IsFilled, IsFilledWith, IsUnlocked, HeldThroughout, FilledSinceFreed, StillToFree}
-use Rattle.model.specs.Families.Indices.Robust.Reading.{filled_of, Frees, Asks, Yes, deeds_of, IsOneOf}
+use Rattle.model.specs.Families.Indices.Robust.Reading.{filled_of, Frees, Asks, Yes, set_acts_of, IsOneOf}
 use Rattle.model.specs.Moments.{HeldSometime}
 use Rattle.model.specs.Reading.{Span, Open, span_of}
 use Rattle.laws_robust.specs.Gone.{GoneBy, is_gone, IsHonestBy}
@@ -36,7 +36,7 @@ module _ {T : Type 0} where
   abbrev pub FreedBy : GoneBy → ℕ → ℕ → ℕ → List (Event T) → Span T → Type 0
   FreedBy by p index owner before (Open (Container (Recover o mode)) wrote) =
       (owner ≡ o) × (is_gone by owner before ≡ true)
-      × (IsOneOf (Yes index owner) (deeds_of p before) ⊎ WasShown p index before)
+      × (IsOneOf (Yes index owner) (set_acts_of p before) ⊎ WasShown p index before)
   FreedBy by p index owner before span = Unit {0}
 
   abbrev pub RecoversBy : GoneBy → List (Event T) → Event T → Type 0
@@ -47,17 +47,17 @@ module _ {T : Type 0} where
   -- was shown it; and in an honest run none that it was told to free, or was shown, has that owner.
   pub record HasRecoveredBy (by : GoneBy) (p owner : ℕ) (events : List (Event T)) : Type 0 where
     pub gone : IsHonestBy by events → (index : ℕ)
-        → IsOneOf (Yes index owner) (deeds_of p events) ⊎ WasShown p index events
+        → IsOneOf (Yes index owner) (set_acts_of p events) ⊎ WasShown p index events
         → filled_of index events ≢ Some owner
     pub asked : (index : ℕ) → HeldThroughout p (StillToFree p owner index) events
-        → IsOneOf (Asks index owner) (deeds_of p events) ⊎ WasShown p index events
+        → IsOneOf (Asks index owner) (set_acts_of p events) ⊎ WasShown p index events
 
   -- ---- answers
 
   -- in the mode that locks, some index was filled after each that it freed
   abbrev pub FilledSinceEachBy : Type 0 → ReleaseMode → ℕ → ℕ → List (Event T) → Type 0
   FilledSinceEachBy worn LockIfLastIndex p owner events =
-      (index : ℕ) → IsOneOf (Frees index owner) (deeds_of p events)
+      (index : ℕ) → IsOneOf (Frees index owner) (set_acts_of p events)
       → worn ⊎ FilledSinceFreed p owner index events
   FilledSinceEachBy worn Default p owner events = Unit {0}
 

@@ -32,7 +32,7 @@ use Rattle.model.specs.Families.Indices.Bounds.{most_steps}
 use Rattle.model.specs.Families.Indices.Calls.{want, after, goes_back}
 use Rattle.model.specs.Families.Indices.Promises.{GoesStraight}
 use Rattle.model.specs.Families.Indices.Reading.{Tally, tally_after, locked_after}
-use Rattle.model.specs.Families.Indices.Spans.{deeds, done_by}
+use Rattle.model.specs.Families.Indices.Spans.{set_acts, done_by}
 use Rattle.model.specs.Families.Indices.Steps.{frees, effects, holders_after}
 use Rattle.model.specs.Parties.{party_of, doing_of, flight_of}
 use Rattle.model.specs.Reading.{Open}
@@ -228,7 +228,7 @@ module _ {T : Type 0} (scene : Scene T) where
         → ((busy' : ℕ) → busy' + counts flight ≡ busy + 0 → Good c (words_after words ask) holders busy')
         → ((h t g t' g' : ℕ) → t' + takes flight ≡ t + 0 → g' + gives flight ≡ g + 0
         → tally_after (record { held = h; taking = t; giving = g }) (Finished p (Indices start) answer) ≡ record { held = h; taking = t'; giving = g' })
-        → done_by start answer ≡ Some (deeds (flight_wrote {T = T} p flight))
+        → done_by start answer ≡ Some (set_acts (flight_wrote {T = T} p flight))
         → AnswersFew c events (Finished p (Indices start) answer)
         → says_locked (head_of (words_after words ask)) ≡ says_locked (head_of words)
         → GoesStraight {T = T} (Indices start) (backs_then back)

@@ -19,7 +19,7 @@ use Rattle.model.specs.declared.event.Event.TheVariants.{Filled, Granted}
 use Rattle.model.specs.declared.families.indices.robust.RobustStart.TheVariants.{Acquire}
 use Rattle.model.specs.declared.families.indices.robust.calls.RobustFlight as flights
 use Rattle.model.specs.Families.Indices.Robust.Calls.{acquire_answer}
-use Rattle.model.specs.Families.Indices.Robust.Reading.{Fills, Grants, deed, deeds, is_dead}
+use Rattle.model.specs.Families.Indices.Robust.Reading.{Fills, Grants, set_act, set_acts, is_dead}
 use Rattle.model.specs.Families.Queues.Calls.{as_it_is}
 use Rattle.model.specs.Step.{as_call}
 use Rattle.model.specs.Turns.{words_after}
@@ -67,8 +67,8 @@ module _ {T : Type 0} (scene : Scene T) (inv : Inv scene) (owner : ℕ) (fits : 
             ((refl, none), tt) (tt, tt) (omega arith) (refl, refl, fits, (below, ap (λ d. d ++ Fills i owner ∷ []) none)) known;
         fails = refuses;
         grants = λ i ask back below done mine raised paid few.
-            let all_done : deeds (wrote_of p events ++ Granted p i owner ∷ []) ≡ Fills i owner ∷ Grants i owner ∷ [] =
-            flat_map-append deed (wrote_of p events) (Granted p i owner ∷ []) ∙ ap (λ d. d ++ Grants i owner ∷ []) done in
+            let all_done : set_acts (wrote_of p events ++ Granted p i owner ∷ []) ≡ Fills i owner ∷ Grants i owner ∷ [] =
+            flat_map-append set_act (wrote_of p events) (Granted p i owner ∷ []) ∙ ap (λ d. d ++ Grants i owner ∷ []) done in
             ends scene (Acquire owner) (Index i) ask back (Granted p i owner ∷ []) here (λ start w. refl)
             (grants scene inv (words_after ws ask) i owner mine alive raised)
             ((refl, done), ((refl, all_done), tt)) (tt, (tt, tt)) (omega arith) paid;

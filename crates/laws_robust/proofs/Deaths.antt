@@ -9,7 +9,7 @@ use Rattle.model.specs.declared.families.Flight as flights
 use Rattle.model.specs.Families.Indices.Reading.{locked_after, is_locked}
 use Rattle.model.specs.Families.Indices.Robust.Dead.{has_died, dead_with}
 use Rattle.model.specs.Families.Indices.Robust.Promises.{cell_of, SetDoes, HoldsRight}
-use Rattle.model.specs.Families.Indices.Robust.Reading.{deeds, filled_after, filled_of, holder_after, holder_of}
+use Rattle.model.specs.Families.Indices.Robust.Reading.{set_acts, filled_after, filled_of, holder_after, holder_of}
 use Rattle.model.specs.Families.Indices.Robust.Reading.{settled_after, settled_of, dead_after, is_dead, wrote_in}
 use Rattle.model.proofs.Dead.{died_now, died_before}
 use Rattle.model.proofs.Readings.{Each-append, span_of-death}
@@ -82,7 +82,7 @@ module _ {T : Type 0} (by : GoneBy) (c : ℕ) (words dead : List ℕ) (events : 
   death_spares q =
       record {
         none = tt;
-        deeds = ap (λ s. deeds (wrote_in s)) (span_of-death q events o);
+        set_acts = ap (λ s. set_acts (wrote_in s)) (span_of-death q events o);
         owned = λ calm i owner lives h. record { right = same_right i ∙ h.right; filled = same_filled i ∙ h.filled };
         unheld = λ calm i owner lives h none. same_holder i ∙ none;
         held = λ calm i owner lives h here. same_holder i ∙ here;

@@ -12,7 +12,7 @@ use Rattle.model.specs.declared.event.Start.{Start}
 use Rattle.model.specs.Families.Container.Reading.{NoneTakes}
 use Rattle.model.specs.Families.Indices.Reading.{locked_after, is_locked}
 use Rattle.model.specs.Families.Indices.Robust.Promises.{cell_of, SetDoes, IsWellFormed, HoldsRight, IsUnlocked}
-use Rattle.model.specs.Families.Indices.Robust.Reading.{deeds, filled_after, filled_of, holder_after, holder_of}
+use Rattle.model.specs.Families.Indices.Robust.Reading.{set_acts, filled_after, filled_of, holder_after, holder_of}
 use Rattle.model.specs.Families.Indices.Robust.Reading.{settled_after, settled_of, dead_after, is_dead, wrote_in}
 use Rattle.model.specs.Moments.{HeldSometime}
 use Rattle.model.proofs.Moments.{others_begin_none}
@@ -162,7 +162,7 @@ module _ {T : Type 0} (scene : Scene T) where
           spares = λ q ne.
               record {
                 none = others_begin_none q p es ne own;
-                deeds = ap (λ s. deeds (wrote_in s)) (span_of-other p q events es ne own);
+                set_acts = ap (λ s. set_acts (wrote_in s)) (span_of-other p q events es ne own);
                 owned = λ calm i owner alive h. record { right = hands.right calm q ne i owner h ∙ h.right; filled = same_filled i ∙ h.filled };
                 unheld = λ calm i owner alive h none. hands.holder calm q ne i owner h ∙ none;
                 held = λ calm i owner alive h here. hands.holder calm q ne i owner h ∙ here;
@@ -356,7 +356,7 @@ module _ {T : Type 0} (scene : Scene T) where
             spares = λ q ne.
                 record {
                   none = tt;
-                  deeds = ap (λ s. deeds (wrote_in s)) (span_of-other p q events fill ne (refl, tt));
+                  set_acts = ap (λ s. set_acts (wrote_in s)) (span_of-other p q events fill ne (refl, tt));
                   owned = λ calm j o lives h. fill_by q j o h;
                   unheld = λ calm j o lives h unheld. fill_holder j ∙ unheld;
                   held = λ calm j o lives h here. fill_holder j ∙ here;

@@ -19,7 +19,7 @@ use Rattle.model.specs.Families.Indices.Robust.Calls.{first}
 use Rattle.model.specs.Families.Indices.Robust.Dead.{has_died}
 use Rattle.model.specs.Families.Indices.Robust.Opening.{is_owner, names_owner, call_rows}
 use Rattle.model.specs.Families.Indices.Robust.Promises.{IsFilledWith}
-use Rattle.model.specs.Families.Indices.Robust.Reading.{Deed, Yes, settled_of, deeds_of, IsOneOf}
+use Rattle.model.specs.Families.Indices.Robust.Reading.{SetAct, Yes, settled_of, set_acts_of, IsOneOf}
 use Rattle.model.specs.Rows.{first_row}
 use Rattle.model.proofs.Readings.{no_more}
 use Rattle.model.proofs.Rows.{row_passed}
@@ -38,7 +38,7 @@ pub record IsFirst (T : Type 0) (by : GoneBy) (c : ℕ) (words : List ℕ) (even
   pub at : At c [] start flight
   pub knows : Knows c flight (view by words (events ++ Begun p (Robust start) ∷ []) p changes changes 0)
 
-none_of : {A : Type 0} (one : Deed) (done : List Deed) → done ≡ [] → IsOneOf one done → A
+none_of : {A : Type 0} (one : SetAct) (done : List SetAct) → done ≡ [] → IsOneOf one done → A
 none_of one done none h = absurd (no_more h.before one h.after (sym none ∙ h.is))
 
 is_below : (owner : ℕ) → is_owner owner ≡ true → owner < empty
@@ -47,7 +47,7 @@ is_below owner t = grind (arith, nat_tests)
 module _ {T : Type 0} (by : GoneBy) (c : ℕ) (words : List ℕ) (events : List (Event T)) (p changes : ℕ)
     (some : 1 ≤ c) (owned : IsCalm by events → AreOwned events) where
   pub first_is : (start : RobustStart) → names_owner start ≡ true → (dead : List ℕ)
-      → first_row (call_rows c dead start) ≡ None → deeds_of p (events ++ Begun p (Robust start) ∷ []) ≡ []
+      → first_row (call_rows c dead start) ≡ None → set_acts_of p (events ++ Begun p (Robust start) ∷ []) ≡ []
       → IsFirst T by c words events p changes start (first c start)
   first_is (starts.TheVariants.Acquire owner) named dead r none =
       record { at = (refl, refl, is_below owner named, refl); knows = record { paid = omega arith; scanned = tt; owns = tt; says = tt; gone = tt } }
@@ -91,7 +91,7 @@ module _ {T : Type 0} (by : GoneBy) (c : ℕ) (words : List ℕ) (events : List 
           owns = tt;
           says = tt;
           gone = λ i owner told. none_of (Yes i owner)
-              (deeds_of p (events ++ Begun p (Robust (starts.TheVariants.Recover mode)) ∷ [])) none told;
+              (set_acts_of p (events ++ Begun p (Robust (starts.TheVariants.Recover mode)) ∷ [])) none told;
         };
       }
   first_is starts.TheVariants.BorrowedIndices named dead r none =

@@ -8,7 +8,7 @@ use Rattle.model.specs.declared.event.Event.{Event}
 use Rattle.model.specs.declared.event.Event.TheVariants.{FreedOf}
 use Rattle.model.specs.Families.Indices.Reading.{locked_after, is_locked}
 use Rattle.model.specs.Families.Indices.Robust.Promises.{cell_of, SetDoes, HoldsRight, LivesToRelease}
-use Rattle.model.specs.Families.Indices.Robust.Reading.{deeds, filled_after, filled_of, holder_after, holder_of}
+use Rattle.model.specs.Families.Indices.Robust.Reading.{set_acts, filled_after, filled_of, holder_after, holder_of}
 use Rattle.model.specs.Families.Indices.Robust.Reading.{settled_after, settled_of, dead_after, is_dead, wrote_in}
 use Rattle.model.specs.Reading.{span_of}
 use Rattle.model.proofs.Readings.{Each-append, span_of-other}
@@ -116,7 +116,7 @@ module _ {T : Type 0} (scene : Scene T) (inv : Inv scene) where
           spares = λ q ne.
               record {
                 none = tt;
-                deeds = ap (λ s. deeds (wrote_in s)) (span_of-other p q events es ne (refl, tt));
+                set_acts = ap (λ s. set_acts (wrote_in s)) (span_of-other p q events es ne (refl, tt));
                 owned = λ calm j o alive h. owned_then calm q ne j o alive h;
                 unheld = λ calm j o alive h none. unheld_then j none;
                 held = λ calm j o alive h here. let none = mine calm q ne o alive in let is = holder_then j in grind arith;

@@ -27,7 +27,7 @@ use Rattle.model.specs.declared.families.indices.robust.RobustStart.TheVariants.
 use Rattle.model.specs.Families.Indices.Reading.{is_locked}
 use Rattle.model.specs.Families.Indices.Robust.Bounds.{most_steps}
 use Rattle.model.specs.Families.Indices.Robust.Promises.{cell_of, IsFilled, FilledSinceFreed, LivesToRelease}
-use Rattle.model.specs.Families.Indices.Robust.Reading.{holder_of, Frees, filled_of, settled_of, deeds_of, IsOneOf}
+use Rattle.model.specs.Families.Indices.Robust.Reading.{holder_of, Frees, filled_of, settled_of, set_acts_of, IsOneOf}
 use Rattle.model.specs.Families.Indices.Robust.Steps.{locked_by, release_effects}
 use Rattle.model.specs.Families.{ask_of}
 use Rattle.model.specs.Moments.{SinceBegin}
@@ -211,7 +211,7 @@ module _ {T : Type 0} (scene : Scene T) (inv : Inv scene) (index owner : ℕ) (m
                 record {
                   other = j;
                   once =
-                      held_now p (λ part. IsOneOf (Frees index owner) (deeds_of p part) × IsFilled j part) events
+                      held_now p (λ part. IsOneOf (Frees index owner) (set_acts_of p part) × IsFilled j part) events
                       (record { before = []; after = []; is = done }, ap is_some is);
                 };
           }

@@ -15,7 +15,7 @@ use Rattle.model.specs.Coding.{Coding}
 use Rattle.model.specs.Families.Indices.Reading.{is_locked}
 use Rattle.model.specs.Families.Indices.Robust.Dead.{has_died}
 use Rattle.model.specs.Families.Indices.Robust.Promises.{cell_of, SetDoes, HoldsRight, promise}
-use Rattle.model.specs.Families.Indices.Robust.Reading.{Deed, deeds, filled_of, is_dead, wrote_in, deeds_of}
+use Rattle.model.specs.Families.Indices.Robust.Reading.{SetAct, set_acts, filled_of, is_dead, wrote_in, set_acts_of}
 use Rattle.model.specs.Parties.{party_of, put}
 use Rattle.model.specs.Promises.Spans.{Stands}
 use Rattle.model.specs.Reading.{Each, Span, own_after, span_of}
@@ -113,7 +113,7 @@ module _ {T : Type 0} where
   number c (flights.TheVariants.Robust flight) backs = number_of c flight backs
   number c flight backs = 0
 
-  abbrev pub FlightAt : ℕ → List Deed → Start T → Flight T → Type 0
+  abbrev pub FlightAt : ℕ → List SetAct → Start T → Flight T → Type 0
   FlightAt c all (any_starts.TheVariants.Robust start) (flights.TheVariants.Robust flight) = At c all start flight
   FlightAt c all start flight = ⊥
 
@@ -137,7 +137,7 @@ module _ {T : Type 0} where
         Holds = λ s latest events turns. Holds by c s latest events turns;
         written = λ s p flight. wrote_of p s.events;
         number = λ wrote. number c;
-        At = λ s p start flight. FlightAt c (deeds_of p s.events) start flight;
+        At = λ s p start flight. FlightAt c (set_acts_of p s.events) start flight;
         Knows = λ s p events since changes backs flight. Knowing c flight (view by s.words events p since changes backs);
       }
 
@@ -191,8 +191,8 @@ module _ {T : Type 0} where
 
   -- a call stands there by what its party has written
   pub at_written : (c : ℕ) (w w' : List (Event T)) (start : Start T) (flight : Flight T) → w' ≡ w
-      → FlightAt c (deeds w) start flight → FlightAt c (deeds w') start flight
-  at_written c w w' start flight same h = subst (λ x. FlightAt c (deeds x) start flight) (sym same) h
+      → FlightAt c (set_acts w) start flight → FlightAt c (set_acts w') start flight
+  at_written c w w' start flight same h = subst (λ x. FlightAt c (set_acts x) start flight) (sym same) h
 
   module _ (scene : Scene T) (words' : List ℕ) (from : Span T) (y : Party T) (es : List (Event T)) (changes' : ℕ) (s : Shows scene words' from y es changes')
       (h : Holds scene.by scene.capacity scene.set scene.latest scene.events scene.turns)

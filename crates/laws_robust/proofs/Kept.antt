@@ -19,7 +19,7 @@ use Rattle.model.specs.declared.turn.Kind as kinds
 use Rattle.model.specs.Coding.{Coding}
 use Rattle.model.specs.Families.Indices.Robust.Bounds.{most_steps}
 use Rattle.model.specs.Families.Indices.Robust.Promises.{KeepsDead, IsRobustSet, promise}
-use Rattle.model.specs.Families.Indices.Robust.Reading.{Deed}
+use Rattle.model.specs.Families.Indices.Robust.Reading.{SetAct}
 use Rattle.model.specs.Parties.{party_of}
 use Rattle.model.specs.Promises.{IsKeptBy, IsKept}
 use Rattle.model.specs.Promises.Families.{promise_of}
@@ -47,25 +47,25 @@ pub lock_most : (c : ℕ) (lock : Lock) → LockAt c lock → lock_number c lock
 lock_most c (locks.TheVariants.Counts count) at = let few = count_most c count at in omega arith
 lock_most c (locks.TheVariants.ExchangesCounter counter) at = omega arith
 
-pub acquire_most : (c owner : ℕ) (all : List Deed) (stage : AcquireStage) (backs : ℕ) → AcquireAt c owner all stage
+pub acquire_most : (c owner : ℕ) (all : List SetAct) (stage : AcquireStage) (backs : ℕ) → AcquireAt c owner all stage
     → acquire_number c stage backs ≤ c + 3 + backs * (c + 1)
 acquire_most c owner all stage backs at = grind arith
 
-pub release_most : (c index owner : ℕ) (mode : ReleaseMode) (all : List Deed) (stage : ReleaseStage) (backs : ℕ) → ReleaseAt c index owner mode all stage
+pub release_most : (c index owner : ℕ) (mode : ReleaseMode) (all : List SetAct) (stage : ReleaseStage) (backs : ℕ) → ReleaseAt c index owner mode all stage
     → release_number c mode stage backs ≤ most_steps c (starts.TheVariants.Release index owner mode) backs
 release_most c index owner mode all stage backs at = grind arith
 
-find_most : (c : ℕ) (all : List Deed) (stage : FindStage) → FindAt c all stage → find_number stage ≤ c
+find_most : (c : ℕ) (all : List SetAct) (stage : FindStage) → FindAt c all stage → find_number stage ≤ c
 find_most c all (finds.TheVariants.LoadsCell index found) at = let below = at.0 in omega arith
 find_most c all (finds.TheVariants.Asks index found) at = let below = at.0 in omega arith
 
-recover_at_most : (c : ℕ) (mode : ReleaseMode) (all : List Deed) (stage : RecoverStage) (backs : ℕ) → 4 ≤ for_index c mode
+recover_at_most : (c : ℕ) (mode : ReleaseMode) (all : List SetAct) (stage : RecoverStage) (backs : ℕ) → 4 ≤ for_index c mode
     → ((lock : Lock) → mode ≡ LockIfLastIndex → LockAt c lock → lock_number c lock + 5 ≤ for_index c mode)
     → RecoverAt c mode all stage
     → recover_number c mode stage backs ≤ 2 + c * for_index c mode + backs * for_back c mode
 recover_at_most c mode all stage backs wide lock at = grind arith
 
-recover_most : (c : ℕ) (mode : ReleaseMode) (all : List Deed) (stage : RecoverStage) (backs : ℕ)
+recover_most : (c : ℕ) (mode : ReleaseMode) (all : List SetAct) (stage : RecoverStage) (backs : ℕ)
     → RecoverAt c mode all stage
     → recover_number c mode stage backs ≤ most_steps c (starts.TheVariants.Recover mode) backs
 recover_most c Default all stage backs at =
@@ -74,7 +74,7 @@ recover_most c Default all stage backs at =
 recover_most c LockIfLastIndex all stage backs at =
     recover_at_most c LockIfLastIndex all stage backs (omega arith) (λ lock mode lock_at. let few = lock_most c lock lock_at in omega arith) at
 
-steps_most : (c : ℕ) (all : List Deed) (backs : ℕ) (start : RobustStart) (flight : RobustFlight)
+steps_most : (c : ℕ) (all : List SetAct) (backs : ℕ) (start : RobustStart) (flight : RobustFlight)
     → At c all start flight → number_of c flight backs ≤ most_steps c start backs
 steps_most c all backs (starts.TheVariants.Acquire owner) (Acquire run) at = acquire_most c owner all run.call.stage backs at.3
 steps_most c all backs (starts.TheVariants.Release index owner mode) (Release run) at =

@@ -23,7 +23,7 @@ use Rattle.model.specs.declared.families.indices.robust.calls.RobustFlight.TheVa
 use Rattle.model.specs.Families.Container.Reading.{NoneTakes}
 use Rattle.model.specs.Families.Indices.Robust.Promises.{IsFilled, IsFilledWith, IsUnlocked, IsCount, HeldThroughout}
 use Rattle.model.specs.Families.Indices.Robust.Promises.{FilledSinceFreed, StillToFree, IsWellFormed}
-use Rattle.model.specs.Families.Indices.Robust.Reading.{Asks, Yes, filled_of, holder_of, settled_of, is_dead, deeds_of, IsOneOf}
+use Rattle.model.specs.Families.Indices.Robust.Reading.{Asks, Yes, filled_of, holder_of, settled_of, is_dead, set_acts_of, IsOneOf}
 use Rattle.model.specs.Moments.{BeginsNone, HeldSometime, SinceBegin}
 use Rattle.model.proofs.Moments.{held_later}
 use Rattle.laws_robust.proofs.Core.{counter_of}
@@ -249,7 +249,7 @@ module _ {T : Type 0} where
   abbrev pub AskedBelow : ℕ → View T → Type 0
   AskedBelow k v =
       (i owner : ℕ) → i < k → HeldThroughout v.party (StillToFree v.party owner i) v.events
-      → IsOneOf (Asks i owner) (deeds_of v.party v.events)
+      → IsOneOf (Asks i owner) (set_acts_of v.party v.events)
 
   abbrev pub RecoverSays : ℕ → RecoverStage → View T → Type 0
   RecoverSays c recovers.TheVariants.LoadsCounter v = Unit {0}
@@ -274,7 +274,7 @@ module _ {T : Type 0} where
   -- the owner is gone, and no index that it was told to free has that owner, but the one that it frees now
   abbrev pub GoneBut : (ℕ → ℕ → Type 0) → View T → Type 0
   GoneBut Now v =
-      (i owner : ℕ) → IsOneOf (Yes i owner) (deeds_of v.party v.events)
+      (i owner : ℕ) → IsOneOf (Yes i owner) (set_acts_of v.party v.events)
       → (is_gone v.by owner v.events ≡ true)
       × (IsHonestBy v.by v.events → (filled_of i v.events ≢ Some owner) ⊎ Now i owner)
 
@@ -306,7 +306,7 @@ module _ {T : Type 0} where
   -- to this party, which does not take it
   pub record Spares (by : GoneBy) (q : ℕ) (events es : List (Event T)) : Type 0 where
     pub none : BeginsNone q es
-    pub deeds : deeds_of q (events ++ es) ≡ deeds_of q events
+    pub set_acts : set_acts_of q (events ++ es) ≡ set_acts_of q events
     pub owned : IsCalm by (events ++ es) → (i owner : ℕ) → is_gone by owner events ≡ false → IsBy q i owner events → IsBy q i owner (events ++ es)
     pub unheld : IsCalm by (events ++ es) → (i owner : ℕ) → is_gone by owner events ≡ false → IsBy q i owner events
         → holder_of i events ≡ None → holder_of i (events ++ es) ≡ None
@@ -384,7 +384,7 @@ module _ {T : Type 0} where
 
     asked_later : (k : ℕ) → AskedBelow k before → AskedBelow k later
     asked_later k h i owner below through =
-        subst (IsOneOf (Asks i owner)) (sym spares.deeds) (h i owner below (through_less q (StillToFree q owner i) events es spares.none through))
+        subst (IsOneOf (Asks i owner)) (sym spares.set_acts) (h i owner below (through_less q (StillToFree q owner i) events es spares.none through))
 
     recover_says : (c : ℕ) (stage : RecoverStage) → RecoverSays c stage before → RecoverSays c stage later
     recover_says c recovers.TheVariants.LoadsCounter h = tt
@@ -408,7 +408,7 @@ module _ {T : Type 0} where
     -- whoever fills an index is not gone, so an index that an owner who is gone has lost stays lost to him
     gone_later : (Now : ℕ → ℕ → Type 0) → GoneBut Now before → GoneBut Now later
     gone_later Now h i owner told =
-        let k = h i owner (subst (IsOneOf (Yes i owner)) spares.deeds told) in (
+        let k = h i owner (subst (IsOneOf (Yes i owner)) spares.set_acts told) in (
           gone_more by owner events es k.0,
           λ honest. ⊎_elim (λ gone. inl (λ e. gone (stays_lost by events es goes.fills i owner honest k.0 e)))
               (λ now. inr now) (k.1 (honest_less by events es honest)),

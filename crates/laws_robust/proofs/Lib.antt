@@ -4,7 +4,7 @@ pub mod Begins
 pub mod Core
 pub mod Counting
 pub mod Deaths
-pub mod Deeds
+pub mod SetActs
 pub mod Effects
 pub mod Finds
 pub mod Firsts

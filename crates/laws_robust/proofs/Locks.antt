@@ -7,7 +7,7 @@ use Rattle.model.specs.declared.event.Event.{Event}
 use Rattle.model.specs.declared.event.Event.TheVariants.{Locked}
 use Rattle.model.specs.Families.Indices.Reading.{locked_after, is_locked}
 use Rattle.model.specs.Families.Indices.Robust.Promises.{cell_of, SetDoes, HoldsRight}
-use Rattle.model.specs.Families.Indices.Robust.Reading.{deeds, filled_after, filled_of, holder_after, holder_of}
+use Rattle.model.specs.Families.Indices.Robust.Reading.{set_acts, filled_after, filled_of, holder_after, holder_of}
 use Rattle.model.specs.Families.Indices.Robust.Reading.{settled_after, settled_of, dead_after, is_dead, wrote_in}
 use Rattle.model.proofs.Moments.{others_begin_none}
 use Rattle.model.proofs.Readings.{AreRight, AreOwn, Each-append, span_of-other}
@@ -98,7 +98,7 @@ module _ {T : Type 0} (scene : Scene T) (inv : Inv scene) where
           spares = λ q ne.
               record {
                 none = others_begin_none q p es ne (refl, own);
-                deeds = ap (λ s. deeds (wrote_in s)) (span_of-other p q events es ne (refl, own));
+                set_acts = ap (λ s. set_acts (wrote_in s)) (span_of-other p q events es ne (refl, own));
                 owned = λ calm i owner alive h. record { right = same_right i ∙ h.right; filled = same_filled i ∙ h.filled };
                 unheld = λ calm i owner alive h unheld. same_holder i ∙ unheld;
                 held = λ calm i owner alive h here. same_holder i ∙ here;

@@ -26,7 +26,7 @@ use Rattle.model.specs.declared.event.Event.TheVariants.{FreedOf, Told}
 use Rattle.model.specs.declared.families.indices.robust.RobustStart.TheVariants.{Recover}
 use Rattle.model.specs.declared.families.indices.robust.calls.RobustFlight as flights
 use Rattle.model.specs.Families.Indices.Robust.Promises.{cell_of, StillToFree, LivesToRelease}
-use Rattle.model.specs.Families.Indices.Robust.Reading.{Deed, Frees, Asks, Yes, filled_after, filled_of, deeds_of, IsOneOf}
+use Rattle.model.specs.Families.Indices.Robust.Reading.{SetAct, Frees, Asks, Yes, filled_after, filled_of, set_acts_of, IsOneOf}
 use Rattle.model.specs.Families.Indices.Robust.Spans.{HasJustFreed}
 use Rattle.model.specs.Families.Queues.Calls.{as_it_is}
 use Rattle.model.specs.Step.{as_call}
@@ -34,7 +34,7 @@ use Rattle.model.specs.Turns.{words_after, step_count}
 use Rattle.laws_robust.specs.Gone.{is_gone, MayBeTold, HasRecoveredBy}
 use Rattle.laws_robust.proofs.Core.{counter_of, cell}
 use Rattle.laws_robust.proofs.Counting.{times_below}
-use Rattle.laws_robust.proofs.Deeds.{still_one, by_latest, asks_more, FreedWereAsked, freed_more}
+use Rattle.laws_robust.proofs.SetActs.{still_one, by_latest, asks_more, FreedWereAsked, freed_more}
 use Rattle.laws_robust.proofs.Effects.{Stays, at_same, some_none, one_owner, both_ways, quiet_told}
 use Rattle.laws_robust.proofs.Effects.{quietly, unlocked, is_shut, stays_same, stays_raised, filled_by}
 use Rattle.laws_robust.proofs.Frees.{frees}
@@ -45,7 +45,7 @@ use Rattle.laws_robust.proofs.Standing.{at_least_one, at_least_four, recover_at,
 use Rattle.laws_robust.proofs.Parts.{raise_ask, raise_step, none_beyond}
 use Rattle.laws_robust.proofs.Past.{through_now}
 use Rattle.laws_robust.proofs.Stages.{IsHere, now, sees, backs_then, loads, exchanges}
-use Rattle.laws_robust.proofs.Stages.{loads_same, fails_same, exchange_sets, deeds_more, StepOf, AnswerOf, Leads}
+use Rattle.laws_robust.proofs.Stages.{loads_same, fails_same, exchange_sets, set_acts_more, StepOf, AnswerOf, Leads}
 use Rattle.laws_robust.proofs.Stages.{goes_on, goes_quietly}
 use Rattle.laws_robust.proofs.Recovers.{asked_then, comes_quietly, ends_so, g, gone_then, open_then}
 
@@ -55,8 +55,8 @@ module _ {T : Type 0} (scene : Scene T) (inv : Inv scene) (mode : ReleaseMode) (
   abbrev ws : List ℕ
   ws = scene.set.words
 
-  abbrev done : List Deed
-  done = deeds_of p events
+  abbrev done : List SetAct
+  done = set_acts_of p events
 
   abbrev call_at : RecoverStage → calls.Recover
   call_at stage = record { capacity = c; stage = stage }
@@ -87,8 +87,8 @@ module _ {T : Type 0} (scene : Scene T) (inv : Inv scene) (mode : ReleaseMode) (
       tells_does : Does scene ws telling
       tells_does = quietly scene inv ws telling (stays_same scene inv ws refl).leaves (quiet_told p index owner) (refl, tt) (tt, tt) (tt, tt)
 
-      tells_deeds : deeds_of p (events ++ telling) ≡ done ++ Yes index owner ∷ []
-      tells_deeds = deeds_more scene (Recover mode) here telling tells_does.own (λ start w. refl)
+      tells_set_acts : set_acts_of p (events ++ telling) ≡ done ++ Yes index owner ∷ []
+      tells_set_acts = set_acts_more scene (Recover mode) here telling tells_does.own (λ start w. refl)
 
       frees_this : (i o : ℕ) → Yes index owner ≡ Yes i o → (is_gone by o (events ++ telling) ≡ true) × ((i ≡ index) × (o ≡ owner))
       frees_this i o e =
@@ -120,11 +120,11 @@ module _ {T : Type 0} (scene : Scene T) (inv : Inv scene) (mode : ReleaseMode) (
             scanned = tt;
             owns = tt;
             says = (
-              (open_then scene inv mode here) (Yes index owner) telling ws tt tells_deeds tells_does k.says.0,
-              (asked_then scene inv mode here) (Yes index owner) telling ws tt tells_deeds tells_does (index + 1) k.says.1,
+              (open_then scene inv mode here) (Yes index owner) telling ws tt tells_set_acts tells_does k.says.0,
+              (asked_then scene inv mode here) (Yes index owner) telling ws tt tells_set_acts tells_does (index + 1) k.says.1,
             );
             gone =
-                (gone_then scene inv mode here) (Yes index owner) telling ws tt tells_deeds tells_does (λ i o. ⊥)
+                (gone_then scene inv mode here) (Yes index owner) telling ws tt tells_set_acts tells_does (λ i o. ⊥)
                 (λ i o. (i ≡ index) × (o ≡ owner)) k.gone (λ i o never. absurd never) frees_this;
           })
 
@@ -186,8 +186,8 @@ module _ {T : Type 0} (scene : Scene T) (inv : Inv scene) (mode : ReleaseMode) (
           both_ways (is_gone by o events) stays (subst (λ n. is_gone by n events ≡ true) same owner_gone))
           (exchange_sets ws (cell_word index) owner empty is)
 
-      frees_deeds : deeds_of p (events ++ freeing) ≡ done ++ Frees index owner ∷ []
-      frees_deeds = deeds_more scene (Recover mode) here freeing frees_does.own (λ start w. refl)
+      frees_set_acts : set_acts_of p (events ++ freeing) ≡ done ++ Frees index owner ∷ []
+      frees_set_acts = set_acts_more scene (Recover mode) here freeing frees_does.own (λ start w. refl)
 
       freed_here : (i o : ℕ) → (i ≡ index) × (o ≡ owner) → filled_of i (events ++ freeing) ≢ Some o
       freed_here i o exempt e =
@@ -222,11 +222,11 @@ module _ {T : Type 0} (scene : Scene T) (inv : Inv scene) (mode : ReleaseMode) (
             scanned = tt;
             owns = tt;
             says = (
-              (open_then scene inv mode here) (Frees index owner) freeing (words_after ws exchange) tt frees_deeds frees_does k.says.0,
-              (asked_then scene inv mode here) (Frees index owner) freeing (words_after ws exchange) tt frees_deeds frees_does (index + 1) k.says.1,
+              (open_then scene inv mode here) (Frees index owner) freeing (words_after ws exchange) tt frees_set_acts frees_does k.says.0,
+              (asked_then scene inv mode here) (Frees index owner) freeing (words_after ws exchange) tt frees_set_acts frees_does (index + 1) k.says.1,
             );
             gone =
-                (gone_then scene inv mode here) (Frees index owner) freeing (words_after ws exchange) tt frees_deeds frees_does
+                (gone_then scene inv mode here) (Frees index owner) freeing (words_after ws exchange) tt frees_set_acts frees_does
                 (λ i o. (i ≡ index) × (o ≡ owner)) (λ i o. ⊥) k.gone (λ i o exempt. inl (freed_here i o exempt))
                 (λ i o e. absurd (cc));
           })

@@ -22,7 +22,7 @@ use Rattle.model.specs.declared.event.Start.TheVariants.{Robust}
 use Rattle.model.specs.declared.families.indices.robust.RobustStart.TheVariants.{Recover}
 use Rattle.model.specs.declared.families.indices.robust.calls.RobustFlight as flights
 use Rattle.model.specs.Families.Indices.Robust.Promises.{promise}
-use Rattle.model.specs.Families.Indices.Robust.Reading.{Deed, Locks, holder_of, deeds_of}
+use Rattle.model.specs.Families.Indices.Robust.Reading.{SetAct, Locks, holder_of, set_acts_of}
 use Rattle.model.specs.Families.Indices.Robust.Spans.{HasJustFreed}
 use Rattle.model.specs.Families.Indices.Robust.Steps.{locked_by}
 use Rattle.model.specs.Families.Queues.Calls.{as_it_is}
@@ -33,7 +33,7 @@ use Rattle.model.specs.Turns.{old_of, words_after, step_count}
 use Rattle.model.proofs.Readings.{AllFollow}
 use Rattle.laws_robust.specs.Gone.{IsCalm, MayBeTold}
 use Rattle.laws_robust.proofs.Core.{counter_of}
-use Rattle.laws_robust.proofs.Deeds.{asks_more, freed_more}
+use Rattle.laws_robust.proofs.SetActs.{asks_more, freed_more}
 use Rattle.laws_robust.proofs.Effects.{quiet_none, stays_same}
 use Rattle.laws_robust.proofs.Invariant.{Scene, Inv, Does, wrote_of}
 use Rattle.laws_robust.proofs.Knows.{Knows, IsPaid}
@@ -43,7 +43,7 @@ use Rattle.laws_robust.proofs.Parts.{lock_ask, lock_step, IsSaid}
 use Rattle.laws_robust.proofs.Recovers.{nothing_said, comes_quietly, comes_loudly, open_then, asked_then, gone_then}
 use Rattle.laws_robust.proofs.Recovers.{loads_counter, loads_cell}
 use Rattle.laws_robust.proofs.RecoverFrees.{decided, empties_cell, loads_again, raises_step}
-use Rattle.laws_robust.proofs.Stages.{IsHere, all, now, sees, backs_then, deeds_more, StepOf, AnswerOf, Leads, goes_quietly}
+use Rattle.laws_robust.proofs.Stages.{IsHere, all, now, sees, backs_then, set_acts_more, StepOf, AnswerOf, Leads, goes_quietly}
 
 module _ {T : Type 0} (scene : Scene T) (inv : Inv scene) (mode : ReleaseMode) (here : IsHere scene (Recover mode)) where
   open scene use {capacity as c, party as p, steps as steps, backs as backs, events as events}
@@ -51,8 +51,8 @@ module _ {T : Type 0} (scene : Scene T) (inv : Inv scene) (mode : ReleaseMode) (
   abbrev ws : List ℕ
   ws = scene.set.words
 
-  abbrev done : List Deed
-  done = deeds_of p events
+  abbrev done : List SetAct
+  done = set_acts_of p events
 
   abbrev call_at : RecoverStage → calls.Recover
   call_at stage = record { capacity = c; stage = stage }
@@ -92,8 +92,8 @@ module _ {T : Type 0} (scene : Scene T) (inv : Inv scene) (mode : ReleaseMode) (
       locks_does : Does scene (words_after ws ask) locking
       locks_does = locks scene inv (words_after ws ask) [] quiet_none tt tt tt none less new
 
-      locks_deeds : deeds_of p (events ++ locking) ≡ done ++ Locks ∷ []
-      locks_deeds = deeds_more scene (Recover mode) here locking locks_does.own (λ start w. refl)
+      locks_set_acts : set_acts_of p (events ++ locking) ≡ done ++ Locks ∷ []
+      locks_set_acts = set_acts_more scene (Recover mode) here locking locks_does.own (λ start w. refl)
 
       stands_there : AllFollow (Stands promise c) (Open (Robust (Recover mode)) (wrote_of p events)) locking
       stands_there = subst (λ m. AllFollow (Stands promise c) (Open (Robust (Recover m)) (wrote_of p events)) locking) (sym may_lock) (just, tt)
@@ -103,9 +103,9 @@ module _ {T : Type 0} (scene : Scene T) (inv : Inv scene) (mode : ReleaseMode) (
           comes_loudly scene inv mode here index course.within (recovers.TheVariants.Locks index lock) ask false few
           locking (λ start w. refl) locks_does stands_there (tt, tt) paid
           (asks_more (index + 1) Locks done course.asked tt) (freed_more Locks done course.freed (λ i o e. absurd (cc)))
-          (open_then scene inv mode here Locks locking (words_after ws ask) tt locks_deeds locks_does k.says.0)
-          (asked_then scene inv mode here Locks locking (words_after ws ask) tt locks_deeds locks_does (index + 1) k.says.1)
-          (gone_then scene inv mode here Locks locking (words_after ws ask) tt locks_deeds locks_does (λ i o. ⊥)
+          (open_then scene inv mode here Locks locking (words_after ws ask) tt locks_set_acts locks_does k.says.0)
+          (asked_then scene inv mode here Locks locking (words_after ws ask) tt locks_set_acts locks_does (index + 1) k.says.1)
+          (gone_then scene inv mode here Locks locking (words_after ws ask) tt locks_set_acts locks_does (λ i o. ⊥)
           (λ i o. ⊥) k.gone (λ i o never. absurd never) (λ i o e. absurd (cc)))
 
     locks_step : locks_to (Some (lock_ask lock)) (lock_goes_back lock (old_of ws (Some (lock_ask lock))))

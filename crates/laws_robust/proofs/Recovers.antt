@@ -29,7 +29,7 @@ use Rattle.model.specs.declared.families.indices.robust.RobustStart.TheVariants.
 use Rattle.model.specs.declared.families.indices.robust.calls.RobustFlight as flights
 use Rattle.model.specs.Families.Indices.Robust.Bounds.{most_steps}
 use Rattle.model.specs.Families.Indices.Robust.Promises.{promise, IsUnlocked, HeldThroughout, StillToFree}
-use Rattle.model.specs.Families.Indices.Robust.Reading.{Deed, Frees, Asks, Yes, deeds, asked_in, filled_after, filled_of, deeds_of, IsOneOf}
+use Rattle.model.specs.Families.Indices.Robust.Reading.{SetAct, Frees, Asks, Yes, set_acts, asked_in, filled_after, filled_of, set_acts_of, IsOneOf}
 use Rattle.model.specs.Families.Queues.Calls.{as_it_is}
 use Rattle.model.specs.Moments.{BeginsNone, HeldSometime}
 use Rattle.model.specs.Promises.Spans.{Stands}
@@ -40,7 +40,7 @@ use Rattle.model.proofs.Moments.{held_now, held_later}
 use Rattle.model.proofs.Readings.{no_more, AllFollow, AreRight}
 use Rattle.laws_robust.specs.Gone.{is_gone, IsHonestBy, AsksBy, AnswersBy}
 use Rattle.laws_robust.proofs.Core.{counter_of, cell}
-use Rattle.laws_robust.proofs.Deeds.{still_one, last_one, was_one, all_so, asks_more, FreedWereAsked, freed_more}
+use Rattle.laws_robust.proofs.SetActs.{still_one, last_one, was_one, all_so, asks_more, FreedWereAsked, freed_more}
 use Rattle.laws_robust.proofs.Effects.{Stays, some_none, one_owner, quiet_asked}
 use Rattle.laws_robust.proofs.Effects.{quietly, unlocked, is_shut, stays_same, filled_none}
 use Rattle.laws_robust.proofs.Effects.{filled_some}
@@ -50,7 +50,7 @@ use Rattle.laws_robust.proofs.Knows.{Knows, IsPaid, WasOpen, AskedBelow, GoneBut
 use Rattle.laws_robust.proofs.Standing.{at_least_four, recover_at, for_back, for_index, IsInCourse}
 use Rattle.laws_robust.proofs.Past.{through_less, through_now}
 use Rattle.laws_robust.proofs.Stages.{IsHere, Lengthens, now, sees, then_sees, backs_then, loads}
-use Rattle.laws_robust.proofs.Stages.{loads_same, deeds_more, StepOf, Leads}
+use Rattle.laws_robust.proofs.Stages.{loads_same, set_acts_more, StepOf, Leads}
 use Rattle.laws_robust.proofs.Stages.{goes_on, goes_quietly, ends_quietly}
 
 most_is : (c backs : ℕ) (mode : ReleaseMode) → most_steps c (Recover mode) backs ≡ 2 + c * for_index c mode + backs * for_back c mode
@@ -66,8 +66,8 @@ module _ {T : Type 0} (scene : Scene T) (inv : Inv scene) (mode : ReleaseMode) (
   abbrev ws : List ℕ
   ws = scene.set.words
 
-  abbrev done : List Deed
-  done = deeds_of p events
+  abbrev done : List SetAct
+  done = set_acts_of p events
 
   pub g : Good by c ws scene.set.dead events scene.turns
   g = inv.good
@@ -123,8 +123,8 @@ module _ {T : Type 0} (scene : Scene T) (inv : Inv scene) (mode : ReleaseMode) (
     module _ (did : List (Event T)) (longer : Lengthens (did ++ [])) (does : Does scene (words_after ws ask) (did ++ []))
         (stands : AllFollow (Stands promise c) (Open (Robust (Recover mode)) (wrote_of p events)) (did ++ []))
         (asks : AreRight (AsksBy by) events (did ++ [])) (paid : IsPaid (sees scene ask back))
-        (asked : AllByRecursion (λ i. i < index + 1) (asked_in (done ++ deeds (did ++ []))))
-        (freed : FreedWereAsked (done ++ deeds (did ++ [])))
+        (asked : AllByRecursion (λ i. i < index + 1) (asked_in (done ++ set_acts (did ++ []))))
+        (freed : FreedWereAsked (done ++ set_acts (did ++ [])))
         (open_once : WasOpen (then_sees scene ask back (did ++ [])))
         (says : AskedBelow (index + 1) (then_sees scene ask back (did ++ []))) (gone : GoneBut (λ i o. ⊥) (then_sees scene ask back (did ++ []))) where
       pub comes_loudly : Lead ask back did (recover_comes_to (call_at stage) (index + 1))
@@ -151,22 +151,22 @@ module _ {T : Type 0} (scene : Scene T) (inv : Inv scene) (mode : ReleaseMode) (
 
   -- ---- what it knows once it has done one thing more
 
-  module _ (d : Deed) (es : List (Event T)) (words' : List ℕ) (begins : BeginsNone p es)
-      (more : deeds_of p (events ++ es) ≡ done ++ d ∷ []) (does : Does scene words' es) where
+  module _ (d : SetAct) (es : List (Event T)) (words' : List ℕ) (begins : BeginsNone p es)
+      (more : set_acts_of p (events ++ es) ≡ done ++ d ∷ []) (does : Does scene words' es) where
     pub open_then : WasOpen (now scene) → HeldSometime p IsUnlocked (events ++ es)
     open_then h = held_later p IsUnlocked events es begins h
 
-    still_one_then : (one : Deed) → IsOneOf one done → IsOneOf one (deeds_of p (events ++ es))
+    still_one_then : (one : SetAct) → IsOneOf one done → IsOneOf one (set_acts_of p (events ++ es))
     still_one_then one h = subst (IsOneOf one) (sym more) (still_one one d done h)
 
     pub asked_then : (k : ℕ) → AskedBelow k (now scene) → (i owner : ℕ) → i < k
-        → HeldThroughout p (StillToFree p owner i) (events ++ es) → IsOneOf (Asks i owner) (deeds_of p (events ++ es))
+        → HeldThroughout p (StillToFree p owner i) (events ++ es) → IsOneOf (Asks i owner) (set_acts_of p (events ++ es))
     asked_then k h i owner below through = still_one_then (Asks i owner) (h i owner below (through_less p (StillToFree p owner i) events es begins through))
 
     pub gone_then : (Was Now : ℕ → ℕ → Type 0) → GoneBut Was (now scene)
         → ((i owner : ℕ) → Was i owner → (filled_of i (events ++ es) ≢ Some owner) ⊎ Now i owner)
         → ((i owner : ℕ) → d ≡ Yes i owner → (is_gone by owner (events ++ es) ≡ true) × Now i owner)
-        → (i owner : ℕ) → IsOneOf (Yes i owner) (deeds_of p (events ++ es))
+        → (i owner : ℕ) → IsOneOf (Yes i owner) (set_acts_of p (events ++ es))
         → (is_gone by owner (events ++ es) ≡ true)
         × (IsHonestBy by (events ++ es) → (filled_of i (events ++ es) ≢ Some owner) ⊎ Now i owner)
     gone_then Was Now h was new i owner told =
@@ -266,34 +266,34 @@ module _ {T : Type 0} (scene : Scene T) (inv : Inv scene) (mode : ReleaseMode) (
           (stays_same scene inv _ (loads_same ws (cell_word index))).leaves (quiet_asked p index (cell ws index))
           (refl, tt) (tt, tt) (tt, tt)
 
-      asks_deeds : deeds_of p (events ++ asking) ≡ done ++ Asks index (cell ws index) ∷ []
-      asks_deeds = deeds_more scene (Recover mode) here asking asks_does.own (λ start w. refl)
+      asks_set_acts : set_acts_of p (events ++ asking) ≡ done ++ Asks index (cell ws index) ∷ []
+      asks_set_acts = set_acts_more scene (Recover mode) here asking asks_does.own (λ start w. refl)
 
       asks_freed : FreedWereAsked (done ++ Asks index (cell ws index) ∷ [])
       asks_freed = freed_more (Asks index (cell ws index)) done course.freed (λ i owner e. absurd (cc))
 
       asks_says : AskedBelow (index + 1) (then_sees scene load false asking)
       asks_says i owner below through =
-          ⊎_elim (λ before. asked_then (Asks index (cell ws index)) asking (words_after ws load) tt asks_deeds asks_does index k.says.1 i owner before through)
+          ⊎_elim (λ before. asked_then (Asks index (cell ws index)) asking (words_after ws load) tt asks_set_acts asks_does index k.says.1 i owner before through)
           (λ last.
           let same : i ≡ index = omega arith in
           ⊎_elim (λ filled. filled_here i owner same filled)
-          (λ freed. subst (IsOneOf (Asks i owner)) (sym asks_deeds)
-          (asks_freed i owner (subst (IsOneOf (Frees i owner)) asks_deeds freed)))
+          (λ freed. subst (IsOneOf (Asks i owner)) (sym asks_set_acts)
+          (asks_freed i owner (subst (IsOneOf (Frees i owner)) asks_set_acts freed)))
           (through_now p (StillToFree p owner i) (events ++ asking) through))
           (cases_lt i index)
         where
           filled_here : (i owner : ℕ) → i ≡ index
               → filled_of i (events ++ Asked p index (cell ws index) ∷ []) ≡ Some owner
-              → IsOneOf (Asks i owner) (deeds_of p (events ++ Asked p index (cell ws index) ∷ []))
+              → IsOneOf (Asks i owner) (set_acts_of p (events ++ Asked p index (cell ws index) ∷ []))
           filled_here i owner same filled =
               let was : filled_of index events ≡ Some owner =
               subst (λ j. filled_of j events ≡ Some owner) same
               (sym (fold-append (filled_after i) None events (Asked p index (cell ws index) ∷ [])) ∙ filled) in
               let is : cell ws index ≡ owner = one_owner (filled_of index events) (cell ws index) owner is_filled.1 was in
-              subst (λ j. IsOneOf (Asks j owner) (deeds_of p (events ++ Asked p index (cell ws index) ∷ []))) (sym same)
-              (subst (λ o. IsOneOf (Asks index o) (deeds_of p (events ++ Asked p index (cell ws index) ∷ []))) is
-              (subst (IsOneOf (Asks index (cell ws index))) (sym asks_deeds) (last_one (Asks index (cell ws index)) done)))
+              subst (λ j. IsOneOf (Asks j owner) (set_acts_of p (events ++ Asked p index (cell ws index) ∷ []))) (sym same)
+              (subst (λ o. IsOneOf (Asks index o) (set_acts_of p (events ++ Asked p index (cell ws index) ∷ []))) is
+              (subst (IsOneOf (Asks index (cell ws index))) (sym asks_set_acts) (last_one (Asks index (cell ws index)) done)))
 
       asks_about : Lead load false asking (GoOn (at_recover (call_at (recovers.TheVariants.LoadsCell index)) (recovers.TheVariants.Asks index (cell ws index))))
       asks_about =
@@ -317,9 +317,9 @@ module _ {T : Type 0} (scene : Scene T) (inv : Inv scene) (mode : ReleaseMode) (
             paid = omega arith;
             scanned = tt;
             owns = tt;
-            says = (open_then (Asks index (cell ws index)) asking (words_after ws load) tt asks_deeds asks_does k.says.0, asks_says);
+            says = (open_then (Asks index (cell ws index)) asking (words_after ws load) tt asks_set_acts asks_does k.says.0, asks_says);
             gone =
-                gone_then (Asks index (cell ws index)) asking (words_after ws load) tt asks_deeds asks_does (λ i o. ⊥)
+                gone_then (Asks index (cell ws index)) asking (words_after ws load) tt asks_set_acts asks_does (λ i o. ⊥)
                 (λ i o. ⊥) k.gone (λ i o never. absurd never) (λ i o e. absurd (cc));
           })
 

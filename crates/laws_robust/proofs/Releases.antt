@@ -30,7 +30,7 @@ use Rattle.model.specs.Families.Indices.Reading.{locked_after, is_locked}
 use Rattle.model.specs.Families.Indices.Robust.Bounds.{most_steps}
 use Rattle.model.specs.Families.Indices.Robust.Calls.{release_answer}
 use Rattle.model.specs.Families.Indices.Robust.Promises.{MayGiveBack, LivesToRelease}
-use Rattle.model.specs.Families.Indices.Robust.Reading.{Deed, Frees, Locks, deed, deeds, filled_of, holder_of, settled_of, is_dead}
+use Rattle.model.specs.Families.Indices.Robust.Reading.{SetAct, Frees, Locks, set_act, set_acts, filled_of, holder_of, settled_of, is_dead}
 use Rattle.model.specs.Families.Indices.Robust.Spans.{HasDone}
 use Rattle.model.specs.Families.Queues.Calls.{as_it_is}
 use Rattle.model.specs.Moments.{SinceBegin}
@@ -48,7 +48,7 @@ use Rattle.laws_robust.proofs.Standing.{release_at, release_number, ReleaseAt}
 use Rattle.laws_robust.proofs.Locks.{locks}
 use Rattle.laws_robust.proofs.Stages.{IsHere, all, now, sees, backs_then, StepOf, Leads, goes_on, ends, goes_quietly, ends_quietly}
 
-not_owned_done : (T : Type 0) (index owner : ℕ) (mode : ReleaseMode) (failure : RobustUniqueIndexSetReleaseError) (done : List Deed)
+not_owned_done : (T : Type 0) (index owner : ℕ) (mode : ReleaseMode) (failure : RobustUniqueIndexSetReleaseError) (done : List SetAct)
     → done ≡ [] → HasDone {T = T} (Release index owner mode) (NotOwned failure) done
 not_owned_done T index owner Default failure done none = none
 not_owned_done T index owner LockIfLastIndex failure done none = none
@@ -109,8 +109,8 @@ module _ {T : Type 0} (scene : Scene T) (inv : Inv scene) (index owner : ℕ) (f
         ends_quietly scene inv (Release index owner LockIfLastIndex) (State states.TheVariants.Unlocked) ask back is
         stays (λ j o. refl) (λ j r. refl) why done (omega arith) paid
 
-    all_done : all scene ≡ Frees index owner ∷ [] → deeds (wrote_of p events ++ Locked p ∷ []) ≡ Frees index owner ∷ Locks ∷ []
-    all_done done = flat_map-append deed (wrote_of p events) (Locked p ∷ []) ∙ ap (λ d. d ++ Locks ∷ []) done
+    all_done : all scene ≡ Frees index owner ∷ [] → set_acts (wrote_of p events ++ Locked p ∷ []) ≡ Frees index owner ∷ Locks ∷ []
+    all_done done = flat_map-append set_act (wrote_of p events) (Locked p ∷ []) ∙ ap (λ d. d ++ Locks ∷ []) done
 
     now_locked : is_locked (events ++ Locked p ∷ []) ≡ true
     now_locked = fold-append locked_after false events (Locked p ∷ [])

@@ -38,7 +38,7 @@ use Rattle.model.specs.Families as families
 use Rattle.model.specs.Families.Indices.Robust.Calls.{want}
 use Rattle.model.specs.Families.Indices.Robust.Dead.{has_died, dead_with, acts_for_dead, frees_living}
 use Rattle.model.specs.Families.Indices.Robust.Opening.{opening_words, call_rows, kept_rows}
-use Rattle.model.specs.Families.Indices.Robust.Reading.{deeds, is_dead, wrote_in}
+use Rattle.model.specs.Families.Indices.Robust.Reading.{set_acts, is_dead, wrote_in}
 use Rattle.model.specs.Families.Loan.Opening.{is_loan}
 use Rattle.model.specs.Parties.{party_of}
 use Rattle.model.specs.Reading.{Open, span_of}
@@ -386,7 +386,7 @@ module _ {T : Type 0} (by : GoneBy) (code : Coding T) (c : ℕ) (t : Trace T) (s
         begins_now start flight
         (subst (λ f. IsFirst T by c s.state.words t.events p t.world.changes start f) own.0
         (first_is by c s.state.words t.events p t.world.changes g.some g.owned start own.1 s.state.dead passed
-        (ap (λ a. deeds (wrote_in a)) (span_begun start))))
+        (ap (λ a. set_acts (wrote_in a)) (span_begun start))))
         (span_begun start) may
     begin_comes start flight may e =
         let named : first_of kinds.TheVariants.Robust t.world.capacity start t.world.kept ≡ Some flight =

@@ -26,7 +26,7 @@ use Rattle.model.specs.Families.{ask_of}
 use Rattle.model.specs.Families.Indices.Robust.Bounds.{most_steps}
 use Rattle.model.specs.Families.Indices.Robust.Calls.{want, after, goes_back}
 use Rattle.model.specs.Families.Indices.Robust.Promises.{promise}
-use Rattle.model.specs.Families.Indices.Robust.Reading.{Deed, deed, deeds, settled_after, wrote_in, deeds_of}
+use Rattle.model.specs.Families.Indices.Robust.Reading.{SetAct, set_act, set_acts, settled_after, wrote_in, set_acts_of}
 use Rattle.model.specs.Families.Indices.Robust.Spans.{HasDone}
 use Rattle.model.specs.Families.Indices.Robust.Steps.{effects}
 use Rattle.model.specs.Promises.Spans.{Stands}
@@ -98,8 +98,8 @@ module _ {T : Type 0} (scene : Scene T) where
   abbrev pub wrote : List (Event T)
   wrote = wrote_of p events
 
-  abbrev pub all : List Deed
-  all = deeds_of p events
+  abbrev pub all : List SetAct
+  all = set_acts_of p events
 
   -- the party has a call of this name under way
   abbrev pub IsHere : RobustStart → Type 0
@@ -178,8 +178,8 @@ module _ {T : Type 0} (scene : Scene T) where
     wrote_more : wrote_of p (events ++ es) ≡ wrote_of p events ++ es
     wrote_more = ap wrote_in (span_of-own p events es own ∙ (ap (λ s. fold own_after s es) here ∙ longer start (wrote_of p events)))
 
-    pub deeds_more : deeds_of p (events ++ es) ≡ deeds_of p events ++ deeds es
-    deeds_more = ap deeds wrote_more ∙ flat_map-append deed (wrote_of p events) es
+    pub set_acts_more : set_acts_of p (events ++ es) ≡ set_acts_of p events ++ set_acts es
+    set_acts_more = ap set_acts wrote_more ∙ flat_map-append set_act (wrote_of p events) es
 
   -- ---- the call goes on, or is done
 
@@ -189,7 +189,7 @@ module _ {T : Type 0} (scene : Scene T) where
       → AllFollow (Stands promise c) (Open (Robust start) (wrote_of p events)) (did ++ [])
       → AreRight (AsksBy by) events (did ++ [])
       → steps + step_count ask ≤ standing.number_of c flight (backs_then back)
-      → At c (deeds_of p events ++ deeds (did ++ [])) start flight
+      → At c (set_acts_of p events ++ set_acts (did ++ [])) start flight
       → Knows c flight (then_sees ask back (did ++ []))
       → Leads start ask back did (GoOn flight)
   goes_on start flight ask back did here longer does stands asks few at known =
@@ -201,7 +201,7 @@ module _ {T : Type 0} (scene : Scene T) where
             record {
               span = longer start (wrote_of p events) ∙ ap (λ es. Open (Robust start) es) (sym (wrote_more start here (did ++ []) does.own longer));
               steps = few;
-              at = subst (λ d. At c d start flight) (sym (deeds_more start here (did ++ []) does.own longer)) at;
+              at = subst (λ d. At c d start flight) (sym (set_acts_more start here (did ++ []) does.own longer)) at;
             };
         knows = known;
         seen = is_seen ws ask changes;
@@ -239,12 +239,12 @@ module _ {T : Type 0} (scene : Scene T) where
     pub goes_quietly :
         (start : RobustStart) (flight : RobustFlight) (ask : Option Ask) (back : Bool) → IsHere start → Stays scene (words_after ws ask)
         → steps + step_count ask ≤ standing.number_of c flight (backs_then back)
-        → At c (deeds_of p events) start flight
+        → At c (set_acts_of p events) start flight
         → Knows c flight (view by (words_after ws ask) events p (since_then ask) (changes_then ask) (backs_then back))
         → Leads start ask back [] (GoOn flight)
     goes_quietly start flight ask back here stays few at known =
         goes_on start flight ask back [] here none_lengthens (quietly scene inv (words_after ws ask) [] stays.leaves quiet_none tt tt tt) tt tt few
-        (subst (λ d. At c d start flight) (sym (append-nil (deeds_of p events))) at)
+        (subst (λ d. At c d start flight) (sym (append-nil (set_acts_of p events))) at)
         (subst (λ es. Knows c flight (view by (words_after ws ask) es p (since_then ask) (changes_then ask) (backs_then back))) (sym (append-nil events)) known)
 
     pub ends_quietly :
@@ -252,7 +252,7 @@ module _ {T : Type 0} (scene : Scene T) where
         → ((i : ℕ) (o : Option ℕ) → settled_after i o (Finished p (Robust start) answer) ≡ o)
         → ((i : ℕ) (r : Right) → right_after i r (Finished p (Robust start) answer) ≡ r)
         → AnswersBy by (IsWorn by (words_after ws ask)) c events (Finished p (Robust start) answer)
-        → HasDone start answer (deeds_of p events)
+        → HasDone start answer (set_acts_of p events)
         → steps + step_count ask ≤ most_steps c start (backs_then back)
         → IsPaid (then_sees ask back (Finished p (Robust start) answer ∷ []))
         → Leads start ask back [] (Done answer)

@@ -22,7 +22,7 @@ use Rattle.model.specs.declared.families.indices.robust.RobustStart.{RobustStart
 use Rattle.model.specs.declared.families.indices.robust.RobustStart as starts
 use Rattle.model.specs.declared.families.indices.robust.calls.RobustFlight.{RobustFlight}
 use Rattle.model.specs.declared.families.indices.robust.calls.RobustFlight.TheVariants.{Acquire, Release, Find, Recover, BorrowedIndices, IsLocked}
-use Rattle.model.specs.Families.Indices.Robust.Reading.{Deed, Fills, Frees, Asks, Yes, IsOneOf, IsLatest, asked_in}
+use Rattle.model.specs.Families.Indices.Robust.Reading.{SetAct, Fills, Frees, Asks, Yes, IsOneOf, IsLatest, asked_in}
 use Rattle.model.specs.Families.Indices.Robust.Spans.{HasJustFreed}
 
 -- ---- the calls by their stages
@@ -131,7 +131,7 @@ number_of c (IsLocked run) backs = 0
 
 -- ---- where they stand, and what they have done
 
-abbrev pub AcquireAt : ℕ → ℕ → List Deed → AcquireStage → Type 0
+abbrev pub AcquireAt : ℕ → ℕ → List SetAct → AcquireStage → Type 0
 AcquireAt c owner all acquires.TheVariants.LoadsCounter = all ≡ []
 AcquireAt c owner all (acquires.TheVariants.FillsCell counter index) = (index < c) × (all ≡ [])
 AcquireAt c owner all (acquires.TheVariants.ChecksCounter counter) = all ≡ []
@@ -147,23 +147,23 @@ abbrev pub LockAt : ℕ → Lock → Type 0
 LockAt c (locks.TheVariants.Counts count) = CountAt c count
 LockAt c (locks.TheVariants.ExchangesCounter counter) = Unit {0}
 
-abbrev pub ReleaseAt : ℕ → ℕ → ℕ → ReleaseMode → List Deed → ReleaseStage → Type 0
+abbrev pub ReleaseAt : ℕ → ℕ → ℕ → ReleaseMode → List SetAct → ReleaseStage → Type 0
 ReleaseAt c index owner mode all releases.TheVariants.EmptiesCell = all ≡ []
 ReleaseAt c index owner mode all (releases.TheVariants.Raises raise) = all ≡ Frees index owner ∷ []
 ReleaseAt c index owner mode all (releases.TheVariants.Locks lock) =
     (mode ≡ LockIfLastIndex) × LockAt c lock × (all ≡ Frees index owner ∷ [])
 
-abbrev pub FindAt : ℕ → List Deed → FindStage → Type 0
+abbrev pub FindAt : ℕ → List SetAct → FindStage → Type 0
 FindAt c all (finds.TheVariants.LoadsCell index found) = (index < c) × (all ≡ [])
 FindAt c all (finds.TheVariants.Asks index found) = (index < c) × (all ≡ [])
 
 -- a recovery at an index of the set has asked about lower ones than this, and about each that it has freed
-pub record IsInCourse (c index bound : ℕ) (all : List Deed) : Type 0 where
+pub record IsInCourse (c index bound : ℕ) (all : List SetAct) : Type 0 where
   pub within : index < c
   pub asked : AllByRecursion (λ i. i < bound) (asked_in all)
   pub freed : (i owner : ℕ) → IsOneOf (Frees i owner) all → IsOneOf (Asks i owner) all
 
-abbrev pub RecoverAt : ℕ → ReleaseMode → List Deed → RecoverStage → Type 0
+abbrev pub RecoverAt : ℕ → ReleaseMode → List SetAct → RecoverStage → Type 0
 RecoverAt c mode all recovers.TheVariants.LoadsCounter = all ≡ []
 RecoverAt c mode all (recovers.TheVariants.LoadsCell index) = IsInCourse c index index all
 RecoverAt c mode all (recovers.TheVariants.Asks index owner) =
@@ -179,7 +179,7 @@ RecoverAt c mode all recovers.TheVariants.LoadsCounterAgain =
     (i owner : ℕ) → IsOneOf (Frees i owner) all → IsOneOf (Asks i owner) all
 
 -- where a call of this name stands in a set of this capacity, where it has done all this
-abbrev pub At : ℕ → List Deed → RobustStart → RobustFlight → Type 0
+abbrev pub At : ℕ → List SetAct → RobustStart → RobustFlight → Type 0
 At c all (starts.TheVariants.Acquire owner) (Acquire run) =
     (run.call.capacity ≡ c) × (run.given ≡ owner) × (owner < empty)
     × AcquireAt c owner all run.call.stage

@@ -13,7 +13,7 @@ use Rattle.model.specs.declared.families.container.ContainerStart as containers
 use Rattle.model.specs.declared.families.indices.robust.RobustStart.TheVariants.{Acquire, Release, Recover}
 use Rattle.model.specs.Families.Indices.Robust.Promises.{AsksRight, IsFilled, IsUnlocked, HeldThroughout}
 use Rattle.model.specs.Families.Indices.Robust.Promises.{FilledSinceFreed, StillToFree, AnswersRight, IsWellFormed}
-use Rattle.model.specs.Families.Indices.Robust.Reading.{Asks, Yes, filled_of, is_dead, deeds_of, IsOneOf}
+use Rattle.model.specs.Families.Indices.Robust.Reading.{Asks, Yes, filled_of, is_dead, set_acts_of, IsOneOf}
 use Rattle.model.specs.Moments.{HeldSometime}
 use Rattle.model.specs.Reading.{Each, Span, Open, span_of}
 
@@ -80,8 +80,8 @@ module _ {T : Type 0} where
   -- in an honest run none that it was told to free has that owner.
   pub record HasRecoveredBy (by : GoneBy) (p : ℕ) (events : List (Event T)) : Type 0 where
     pub asked : (index owner : ℕ) → HeldThroughout p (StillToFree p owner index) events
-        → IsOneOf (Asks index owner) (deeds_of p events)
-    pub gone : IsHonestBy by events → (index owner : ℕ) → IsOneOf (Yes index owner) (deeds_of p events)
+        → IsOneOf (Asks index owner) (set_acts_of p events)
+    pub gone : IsHonestBy by events → (index owner : ℕ) → IsOneOf (Yes index owner) (set_acts_of p events)
         → filled_of index events ≢ Some owner
 
   -- What an answer says; where the counter may be worn, at its end by now, an acquire that was granted no index and a lock

@@ -37,7 +37,7 @@ use Rattle.model.specs.declared.families.container.ContainerStart.{ContainerStar
 use Rattle.model.specs.declared.families.container.ContainerStart as starts
 use Rattle.model.specs.declared.families.container.calls.ContainerFlight.{ContainerFlight}
 use Rattle.model.specs.Families.{ask_of}
-use Rattle.model.specs.Families.Indices.Robust.Reading.{Deed}
+use Rattle.model.specs.Families.Indices.Robust.Reading.{SetAct}
 use Rattle.model.specs.Turns.{words_after}
 use Rattle.laws_robust.proofs.Stages.{loads, exchanges, loads_same}
 use Rattle.laws_robust.proofs.Standing.{AcquireAt}
@@ -75,7 +75,7 @@ module _ (c : ℕ) (ws : List ℕ) where
   lock_calm (locks.TheVariants.Counts count) = count_calm count
   lock_calm (locks.TheVariants.ExchangesCounter counter) = calm_apart (exchanges 0 counter locked) (λ e. absurd (omega arith))
 
-  pub acquire_calm : (all : List Deed) (owner : ℕ) (stage : AcquireStage) → AcquireAt c owner all stage → IsCalm (ask_of (acquire_asks stage owner))
+  pub acquire_calm : (all : List SetAct) (owner : ℕ) (stage : AcquireStage) → AcquireAt c owner all stage → IsCalm (ask_of (acquire_asks stage owner))
   acquire_calm all owner acquires.TheVariants.LoadsCounter at = calm_load 0
   acquire_calm all owner (acquires.TheVariants.FillsCell counter index) at = let below = at.0 in
       calm_apart (exchanges (cell_word index) empty owner) (λ e. absurd (omega arith))

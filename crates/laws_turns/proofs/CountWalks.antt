@@ -60,7 +60,7 @@ use Rattle.model.specs.Coding.{Coding}
 use Rattle.model.specs.Families.{ask_of, is_question}
 use Rattle.model.specs.Families.Container.Calls.{want, after, place_of, added, removed, replaced}
 use Rattle.model.specs.Families.Container.Reading.{Act}
-use Rattle.model.specs.Families.Indices.Robust.Reading.{Deed}
+use Rattle.model.specs.Families.Indices.Robust.Reading.{SetAct}
 use Rattle.model.specs.Families.Queues.Calls.{as_it_is, kept_at}
 use Rattle.model.specs.Step.{as_call, answer_in}
 use Rattle.model.specs.Turns.{words_after}
@@ -119,7 +119,7 @@ module _ {T : Type 0} (code : Coding T) (c : ℕ) (ws : List ℕ) (state : Optio
     add_ends (adds.TheVariants.AddsCount index) old other = refl
     add_ends (adds.TheVariants.AddsChange index) old other = absurd (other index refl)
 
-    module _ (all : List Deed) (done : List (Act T)) where
+    module _ (all : List SetAct) (done : List (Act T)) where
       add_calm : (stage : AddStage) → AddAt c code.size all done owner stage
           → ((index : ℕ) → stage ≢ adds.TheVariants.AddsChange index)
           → IsCalm c ws (ask_of (want code (add_at c value owner stage)))
@@ -183,7 +183,7 @@ module _ {T : Type 0} (code : Coding T) (c : ℕ) (ws : List ℕ) (state : Optio
         go false = refl
     released_ends stage count (Done (Err failure)) = refl
 
-    remove_counts : (all : List Deed) (done : List (Act T))
+    remove_counts : (all : List SetAct) (done : List (Act T))
         (raised : change_at c (words_after ws (Some (adds_one (change_word c)))) ≡ change_at c ws + 1)
         (stage : RemoveStage)
         → RemoveAt c code.size all done index owner mode stage → (old : ℕ)
@@ -313,7 +313,7 @@ module _ {T : Type 0} (code : Coding T) (c : ℕ) (ws : List ℕ) (state : Optio
     recover_quiet recovers.TheVariants.LoadsCounterAgain old other = λ kept. refl
     recover_quiet (recovers.TheVariants.AddsChange lock) old other = absurd (other lock refl)
 
-    recover_counts : (all : List Deed) (done : List (Act T))
+    recover_counts : (all : List SetAct) (done : List (Act T))
         (raised : change_at c (words_after ws (Some (adds_one (change_word c)))) ≡ change_at c ws + 1)
         (stage : RecoverStage)
         → RecoverAt c code.size all done owner mode stage → (old : ℕ)
@@ -370,7 +370,7 @@ module _ {T : Type 0} (code : Coding T) (c : ℕ) (ws : List ℕ) (state : Optio
 
   -- ---- any call
 
-  module _ (all : List Deed) (done : List (Act T)) where
+  module _ (all : List SetAct) (done : List (Act T)) where
     pub step_counts : (start : ContainerStart T) (flight : ContainerFlight T) → At c code.size all done start flight
         → change_at c (words_after ws (Some (adds_one (change_word c)))) ≡ change_at c ws + 1 → (old : ℕ)
         → StepCounts start flight old
@@ -421,7 +421,7 @@ module _ {T : Type 0} (code : Coding T) (c : ℕ) (ws : List ℕ) (state : Optio
 -- ---- a decision
 
 module _ {T : Type 0} (code : Coding T) (state : Option (ContainerState T)) (p answer : ℕ) where
-  pub decision_counts : (start : ContainerStart T) (flight : ContainerFlight T) (c z : ℕ) (all : List Deed) (done : List (Act T))
+  pub decision_counts : (start : ContainerStart T) (flight : ContainerFlight T) (c z : ℕ) (all : List SetAct) (done : List (Act T))
       → At c z all done start flight → is_question (want code flight) ≡ true
       → ends_count p start (answer_in (after code state flight answer)) ≡ 0
   decision_counts (starts.TheVariants.Add value owner) (calls.TheVariants.Add run) c z all done at due =

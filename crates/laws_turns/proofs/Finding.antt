@@ -27,7 +27,7 @@ use Rattle.model.specs.Coding.{Coding}
 use Rattle.model.specs.Families.{goes_of, want_of, ask_of}
 use Rattle.model.specs.Families.Indices.Robust.Calls.{want, after}
 use Rattle.model.specs.Families.Indices.Robust.Promises.{IsIn, asked_of, cell_of}
-use Rattle.model.specs.Families.Indices.Robust.Reading.{Deed, filled_of, deeds_of}
+use Rattle.model.specs.Families.Indices.Robust.Reading.{SetAct, filled_of, set_acts_of}
 use Rattle.model.specs.Promises.Turns.{ask_of_flight, ask_in, GoesOn}
 use Rattle.model.specs.Families.Queues.Calls.{as_it_is}
 use Rattle.model.specs.Step.{as_call}
@@ -102,7 +102,7 @@ module _ {T : Type 0} (t : Trace T) (is : t.world.kind ≡ kinds.TheVariants.Rob
         ask_of (want flight) ≡ Some (loads_cell index)
         → asks_then code flight (old_of t.world.words (ask_of (want flight))) ≡ index_if owner index (filled_of index t.events)
 
-    stage_asks : (all : List Deed) → owner < empty → (stage : FindStage) → FindAt c all stage → Asks (find_at c owner stage)
+    stage_asks : (all : List SetAct) → owner < empty → (stage : FindStage) → FindAt c all stage → Asks (find_at c owner stage)
     stage_asks all fits (finds.TheVariants.LoadsCell i found) at e =
         let word : cell_word i ≡ cell_word index = ap (λ (a : Ask). a.word) (some_ask (loads_cell i) (loads_cell index) e) in
         let same : i ≡ index = omega arith in
@@ -113,7 +113,7 @@ module _ {T : Type 0} (t : Trace T) (is : t.world.kind ≡ kinds.TheVariants.Rob
         ∙ cell_asks code c owner i found fits (filled_of i t.events))
     stage_asks all fits (finds.TheVariants.Asks i found) at e = absurd (cc)
 
-    find_asks : (all : List Deed) (flight : RobustFlight) → At c all (starts.TheVariants.Find owner) flight → Asks flight
+    find_asks : (all : List SetAct) (flight : RobustFlight) → At c all (starts.TheVariants.Find owner) flight → Asks flight
     find_asks all (calls.TheVariants.Find run) at =
         subst Asks (sym (ap (λ n. find_at n run.given run.call.stage) at.0 ∙ ap (λ o. find_at c o run.call.stage) at.1))
         (stage_asks all at.2 run.call.stage at.3)
@@ -133,8 +133,8 @@ module _ {T : Type 0} (t : Trace T) (is : t.world.kind ≡ kinds.TheVariants.Rob
         → StandsThere (family t.world.coding t.world.capacity) t s p x since start flight → Left flight
     by_name x since (Robust start) (flights.TheVariants.Robust flight) h =
         let name = (subst (IsOpenFor (Robust (starts.TheVariants.Find owner)) (λ wrote. Unit {0})) h.span under).0 in
-        find_asks index owner (deeds_of p s.state.events) flight
-        (subst (λ a. At c (deeds_of p s.state.events) a flight) (robust_is start (starts.TheVariants.Find owner) name) h.at)
+        find_asks index owner (set_acts_of p s.state.events) flight
+        (subst (λ a. At c (set_acts_of p s.state.events) a flight) (robust_is start (starts.TheVariants.Find owner) name) h.at)
     by_name x since start flight h = absurd h.at
 
     by_flight : (o : Option (Flight T)) → flight_in t.world p ≡ o → ask_of_flight code o ≡ Some (loads_cell index)

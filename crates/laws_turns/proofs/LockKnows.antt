@@ -9,7 +9,7 @@ use Rattle.model.specs.declared.families.Flight.{Flight}
 use Rattle.model.specs.declared.families.Flight as flights
 use Rattle.model.specs.declared.families.indices.robust.calls.RobustFlight.{RobustFlight}
 use Rattle.model.specs.declared.families.indices.robust.calls.RobustFlight as calls
-use Rattle.model.specs.Families.Indices.Robust.Reading.{Frees, deeds_of, IsOneOf}
+use Rattle.model.specs.Families.Indices.Robust.Reading.{Frees, set_acts_of, IsOneOf}
 use Rattle.model.specs.Moments.{BeginsNone}
 use Rattle.laws_robust.proofs.Knows.{LockSays}
 use Rattle.laws_container.proofs.Keeping.{shut_later}
@@ -41,7 +41,7 @@ module _ {T : Type 0} where
   -- ---- once events are there in which it frees nothing
 
   module _ (p : ℕ) (events es : List (Event T)) (none : BeginsNone p es)
-      (frees : (i owner : ℕ) → IsOneOf (Frees i owner) (deeds_of p (events ++ es)) → IsOneOf (Frees i owner) (deeds_of p events)) where
+      (frees : (i owner : ℕ) → IsOneOf (Frees i owner) (set_acts_of p (events ++ es)) → IsOneOf (Frees i owner) (set_acts_of p events)) where
     pub settled_then : (mode : ReleaseMode) → Settled mode p events → Settled mode p (events ++ es)
     settled_then mode h owner =
         filled_then p owner ⊥ ⊥ (λ worn. worn) mode NoIndex NoIndex events es none
@@ -49,7 +49,7 @@ module _ {T : Type 0} where
 
   -- ---- once another party has moved
 
-  module _ (c p : ℕ) (events es : List (Event T)) (none : BeginsNone p es) (same : deeds_of p (events ++ es) ≡ deeds_of p events) where
+  module _ (c p : ℕ) (events es : List (Event T)) (none : BeginsNone p es) (same : set_acts_of p (events ++ es) ≡ set_acts_of p events) where
     still : (mode : ReleaseMode) → Settled mode p events → Settled mode p (events ++ es)
     still mode h = settled_then p events es none (λ i owner was. subst (IsOneOf (Frees i owner)) same was) mode h
 

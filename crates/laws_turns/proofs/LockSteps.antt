@@ -28,7 +28,7 @@ use Rattle.model.specs.declared.families.indices.robust.RobustStart.TheVariants.
 use Rattle.model.specs.Families.{ask_of}
 use Rattle.model.specs.Families.Indices.Reading.{locked_after}
 use Rattle.model.specs.Families.Indices.Robust.Promises.{IsFilled}
-use Rattle.model.specs.Families.Indices.Robust.Reading.{Deed, Frees, deeds, deeds_of, IsOneOf}
+use Rattle.model.specs.Families.Indices.Robust.Reading.{SetAct, Frees, set_acts, set_acts_of, IsOneOf}
 use Rattle.model.specs.Families.Indices.Robust.Steps.{locked_by, recover_effects}
 use Rattle.model.specs.Moments.{BeginsNone}
 use Rattle.model.specs.Turns.{old_of, words_after}
@@ -36,12 +36,12 @@ use Rattle.model.proofs.Moments.{held_now}
 use Rattle.model.proofs.Readings.{AreOwn}
 use Rattle.laws_robust.specs.Gone.{Death}
 use Rattle.laws_robust.proofs.Core.{counter_of}
-use Rattle.laws_robust.proofs.Deeds.{was_one}
+use Rattle.laws_robust.proofs.SetActs.{was_one}
 use Rattle.laws_robust.proofs.Effects.{is_shut, unlocked}
 use Rattle.laws_robust.proofs.Invariant.{IsWorn, Scene, Inv}
 use Rattle.laws_robust.proofs.Knows.{LockSays, Knows}
 use Rattle.laws_robust.proofs.Parts.{lock_ask, lock_step, IsSaid}
-use Rattle.laws_robust.proofs.Stages.{IsHere, Lengthens, all, now, deeds_more}
+use Rattle.laws_robust.proofs.Stages.{IsHere, Lengthens, all, now, set_acts_more}
 use Rattle.laws_robust.proofs.Standing.{recover_at, RecoverAt, LockAt}
 use Rattle.laws_container.proofs.KeptLocks.{NoIndex, FoundFilled, filled_locked, filled_last, filled_each}
 use Rattle.laws_turns.specs.Recoveries.{FilledSinceEach}
@@ -81,15 +81,15 @@ module _ {T : Type 0} (scene : Scene T) (inv : Inv scene) (mode : ReleaseMode) (
   calm h = subst (Settled mode p) (sym (append-nil events)) h
 
   -- it does one thing, and frees nothing by it
-  once : (e : Event T) (d : Deed) → AreOwn p (e ∷ []) → BeginsNone p (e ∷ []) → Lengthens (e ∷ [])
-      → deeds (e ∷ []) ≡ d ∷ [] → ((i owner : ℕ) → d ≢ Frees i owner) → Settled mode p events
+  once : (e : Event T) (d : SetAct) → AreOwn p (e ∷ []) → BeginsNone p (e ∷ []) → Lengthens (e ∷ [])
+      → set_acts (e ∷ []) ≡ d ∷ [] → ((i owner : ℕ) → d ≢ Frees i owner) → Settled mode p events
       → Settled mode p (events ++ e ∷ [])
   once e d own none longer is other h =
       settled_then p events (e ∷ []) none
       (λ i owner was. ⊎_elim (λ had. had) (λ now. absurd (other i owner now))
-      (was_one (Frees i owner) d (deeds_of p events)
+      (was_one (Frees i owner) d (set_acts_of p events)
       (subst (IsOneOf (Frees i owner))
-      (deeds_more scene (Recover mode) here (e ∷ []) own longer ∙ ap (λ ds. deeds_of p events ++ ds) is) was)))
+      (set_acts_more scene (Recover mode) here (e ∷ []) own longer ∙ ap (λ ds. set_acts_of p events ++ ds) is) was)))
       mode h
 
   -- ---- the lock
@@ -108,7 +108,7 @@ module _ {T : Type 0} (scene : Scene T) (inv : Inv scene) (mode : ReleaseMode) (
           filled_next =
               λ j filled o low is h some. record {
                 other = j;
-                once = held_now p (λ part. IsFilled j part × (deeds_of p part ≡ deeds_of p events)) events (ap is_some is, refl);
+                once = held_now p (λ part. IsFilled j part × (set_acts_of p part ≡ set_acts_of p events)) events (ap is_some is, refl);
               };
         }
 

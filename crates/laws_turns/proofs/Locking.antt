@@ -23,7 +23,7 @@ use Rattle.model.specs.declared.turn.Turn.{Turn}
 use Rattle.model.specs.declared.turn.Turn.TheVariants.{Begin, Next, Decide, Die}
 use Rattle.model.specs.Families.{want_of, ask_of, is_question, goes_of, beside_of, step_of}
 use Rattle.model.specs.Families.Indices.Robust.Calls.{want, after}
-use Rattle.model.specs.Families.Indices.Robust.Reading.{Frees, deeds_of, deeds, wrote_in}
+use Rattle.model.specs.Families.Indices.Robust.Reading.{Frees, set_acts_of, set_acts, wrote_in}
 use Rattle.model.specs.Families.Indices.Robust.Steps.{effects}
 use Rattle.model.specs.Moments.{BeginsNone}
 use Rattle.model.specs.Parties.{party_of}
@@ -78,7 +78,7 @@ module _ {T : Type 0} (t : Trace T) (is : t.world.kind ≡ kinds.TheVariants.Rob
   -- ---- the other parties
 
   module _ (turn : Turn T) (es : List (Event T)) where
-    other_known : (q : ℕ) → ¬ IsParty turn q → BeginsNone q es → deeds_of q (t.events ++ es) ≡ deeds_of q t.events
+    other_known : (q : ℕ) → ¬ IsParty turn q → BeginsNone q es → set_acts_of q (t.events ++ es) ≡ set_acts_of q t.events
         → FlightKnows c q (flight_in (world_after t.world turn) q) (t.events ++ es)
     other_known q ne none same =
         subst (λ o. FlightKnows c q o (t.events ++ es)) (sym (others_stay t.world turn q ne))
@@ -89,7 +89,7 @@ module _ {T : Type 0} (t : Trace T) (is : t.world.kind ≡ kinds.TheVariants.Rob
         (here : FlightKnows c p (flight_in (world_after t.world turn) p) (t.events ++ es)) where
       known_by : (q : ℕ) → FlightKnows c q (flight_in (world_after t.world turn) q) (t.events ++ es)
       known_by q = ⊎_elim (λ same. subst (λ n. FlightKnows c n (flight_in (world_after t.world turn) n) (t.events ++ es)) (sym same) here)
-          (λ ne. other_known q (λ its. ne (mine q its)) (others_begin_none q p es ne own) (ap (λ a. deeds (wrote_in a)) (span_of-other p q t.events es ne own)))
+          (λ ne. other_known q (λ its. ne (mine q its)) (others_begin_none q p es ne own) (ap (λ a. set_acts (wrote_in a)) (span_of-other p q t.events es ne own)))
           (cases_eq q p)
 
   -- ---- a turn of a call under way
@@ -209,8 +209,8 @@ module _ {T : Type 0} (t : Trace T) (is : t.world.kind ≡ kinds.TheVariants.Rob
     s_new : frame.Sound (family new.world.coding new.world.capacity) new
     s_new = reached_sound new is_new (reached_more t (Begin p start) free r)
 
-    none_yet : deeds_of p new.events ≡ []
-    none_yet = ap (λ a. deeds (wrote_in a)) (span_of-own p t.events (Begun p start ∷ []) (refl, tt))
+    none_yet : set_acts_of p new.events ≡ []
+    none_yet = ap (λ a. set_acts (wrote_in a)) (span_of-own p t.events (Begun p start ∷ []) (refl, tt))
 
     first_stage : (mode : ReleaseMode) (stage : RecoverStage) (k : ℕ) → RecoverAt k mode [] stage → StageKnows c mode p stage new.events
     first_stage mode recovers.TheVariants.LoadsCounter k at = λ owner. filled_none p owner ⊥ mode NoIndex new.events none_yet
@@ -231,7 +231,7 @@ module _ {T : Type 0} (t : Trace T) (is : t.world.kind ≡ kinds.TheVariants.Rob
         → StandsThere (family new.world.coding new.world.capacity) new s_new p x since a flight
         → FlightKnows c p (Some flight) new.events
     first_flight x since (Robust a) (flights.TheVariants.Robust call) stands =
-        first_call new.world.capacity a call (subst (λ ds. At new.world.capacity ds a call) (ap (deeds_of p) s_new.holds.same ∙ none_yet) stands.at)
+        first_call new.world.capacity a call (subst (λ ds. At new.world.capacity ds a call) (ap (set_acts_of p) s_new.holds.same ∙ none_yet) stands.at)
     first_flight x since a flight stands = absurd stands.at
 
     begun : (o : Option (Flight T)) → flight_in new.world p ≡ o → FlightKnows c p o new.events
@@ -251,7 +251,7 @@ module _ {T : Type 0} (t : Trace T) (is : t.world.kind ≡ kinds.TheVariants.Rob
   pub death_kept : (owner : ℕ) → Extra (after_turn t (Die owner))
   death_kept owner =
       record {
-        known = λ q. other_known (Die owner) (Died owner ∷ []) q (λ none. none) tt (ap (λ a. deeds (wrote_in a)) (span_of-death q t.events owner));
+        known = λ q. other_known (Die owner) (Died owner ∷ []) q (λ none. none) tt (ap (λ a. set_acts (wrote_in a)) (span_of-death q t.events owner));
         right = Each-append LocksRight t.events (Died owner ∷ []) h.right (tt, tt);
       }
 

@@ -32,7 +32,7 @@ use Rattle.model.specs.Coding.{Coding}
 use Rattle.model.specs.Families.Container.Calls.{after, added, removed, replaced, counted, looked, look_shows, look_came, settled_if}
 use Rattle.model.specs.Families.Container.Reading.{Act}
 use Rattle.model.specs.Families.Container.Steps.{effects, questions}
-use Rattle.model.specs.Families.Indices.Robust.Reading.{Deed}
+use Rattle.model.specs.Families.Indices.Robust.Reading.{SetAct}
 use Rattle.model.specs.Families.Queues.Calls.{as_it_is, kept_at}
 use Rattle.model.specs.Promises.Turns.{IsParty, IsEffectOf}
 use Rattle.model.specs.Step.{as_call, answer_in}
@@ -128,7 +128,7 @@ module _ {T : Type 0} (code : Coding T) (p : ℕ) (events : List (Event T)) (sta
               (ends_right (answer_in (any_call (after code state flight answer))));
         }
 
-  pub others_leave : (c z : ℕ) (all : List Deed) (done : List (Act T)) (start : ContainerStart T)
+  pub others_leave : (c z : ℕ) (all : List SetAct) (done : List (Act T)) (start : ContainerStart T)
       (flight : ContainerFlight T) (answer : ℕ)
       → At c z all done start flight → IsNoLook start → Within (seen_by p events) (seen_number state)
       → Leaves state start flight answer

@@ -14,7 +14,7 @@ use Rattle.model.specs.declared.event.Event.TheVariants.{Begun, Died, Acted, Fin
 use Rattle.model.specs.Families.Container.Keeping.{is_look_of}
 use Rattle.model.specs.Families.Container.Reading.{Act}
 use Rattle.model.specs.Families.Container.Steps.{effects, questions}
-use Rattle.model.specs.Families.Indices.Robust.Reading.{Deed}
+use Rattle.model.specs.Families.Indices.Robust.Reading.{SetAct}
 use Rattle.laws_container.proofs.Allowed.{allowed_by}
 use Rattle.laws_container.proofs.KeptStates.{keeps_states}
 use Rattle.laws_container.proofs.Stages.{any_call}
@@ -181,7 +181,7 @@ module _ {T : Type 0} (t : Trace T) (is : t.world.kind ≡ kinds.TheVariants.Con
     state_is : state_in t.world.kept p ≡ state
     state_is = ap (λ kept. state_in kept p) same_kept
 
-    other_call : (start : ContainerStart T) (flight : ContainerFlight T) (all : List Deed) (done : List (Act T))
+    other_call : (start : ContainerStart T) (flight : ContainerFlight T) (all : List SetAct) (done : List (Act T))
         → At t.world.capacity t.world.coding.size all done start flight → IsNoLook start
         → is_look_of t.world p turn ≡ false → Within (seen_by p t.events) (seen_number state)
         → Comes now_kept (Container start) (flights.TheVariants.Container flight) → Extra (after_turn t turn)
@@ -220,7 +220,7 @@ module _ {T : Type 0} (t : Trace T) (is : t.world.kind ≡ kinds.TheVariants.Con
           (ap (λ kept. state_in kept p) comes.2 ∙ writes_so state refl) comes
 
   -- a call that is no look
-  rests_within : (start : ContainerStart T) (flight : ContainerFlight T) (all : List Deed) (done : List (Act T))
+  rests_within : (start : ContainerStart T) (flight : ContainerFlight T) (all : List SetAct) (done : List (Act T))
       (seen : Seen) (o : Option (ContainerState T))
       → At t.world.capacity t.world.coding.size all done start flight → IsNoLook start → CallSees flight seen o
       → Within seen (seen_number o)
@@ -229,7 +229,7 @@ module _ {T : Type 0} (t : Trace T) (is : t.world.kind ≡ kinds.TheVariants.Con
   rests_within start (calls.TheVariants.Look which call) all done seen o at other sees = absurd at
   rests_within start flight all done seen o at other sees = sees
 
-  not_looking : (start : ContainerStart T) (flight : ContainerFlight T) (all : List Deed) (done : List (Act T))
+  not_looking : (start : ContainerStart T) (flight : ContainerFlight T) (all : List SetAct) (done : List (Act T))
       → At t.world.capacity t.world.coding.size all done start flight → IsNoLook start
       → is_looking {T = T} (Some (flights.TheVariants.Container flight)) ≡ false
   not_looking starts.TheVariants.GetState flight all done at other = absurd other
@@ -259,7 +259,7 @@ module _ {T : Type 0} (t : Trace T) (is : t.world.kind ≡ kinds.TheVariants.Con
         (sym same_words)
         ∙ (counts_changes t is r ∙ sym (changes_are p t.events))))
 
-    step_other : (start : ContainerStart T) (flight : ContainerFlight T) (all : List Deed) (done : List (Act T))
+    step_other : (start : ContainerStart T) (flight : ContainerFlight T) (all : List SetAct) (done : List (Act T))
         → At t.world.capacity t.world.coding.size all done start flight
         → flight_in t.world p ≡ Some (flights.TheVariants.Container flight)
         → IsNoLook start → CallSees flight (seen_by p t.events) (state_of p s.state.states) → StepComes start flight → Extra (after_turn t (Next p))
@@ -269,7 +269,7 @@ module _ {T : Type 0} (t : Trace T) (is : t.world.kind ≡ kinds.TheVariants.Con
         ∙ (ap (λ b. (p == p) && b) (not_looking start flight all done at other) ∙ ap (λ a. a && false) (eq-eqb p p refl)))
         (rests_within start flight all done (seen_by p t.events) (state_of p s.state.states) at other sees) comes
 
-    step_by : (start : ContainerStart T) (flight : ContainerFlight T) (all : List Deed) (done : List (Act T))
+    step_by : (start : ContainerStart T) (flight : ContainerFlight T) (all : List SetAct) (done : List (Act T))
         → At t.world.capacity t.world.coding.size all done start flight
         → flight_in t.world p ≡ Some (flights.TheVariants.Container flight)
         → CallSees flight (seen_by p t.events) (state_of p s.state.states) → StepComes start flight → Extra (after_turn t (Next p))
@@ -340,7 +340,7 @@ module _ {T : Type 0} (t : Trace T) (is : t.world.kind ≡ kinds.TheVariants.Con
     abbrev DecisionComes : Registry T → Start T → Flight T → Type 0
     DecisionComes kept start flight = Comes (Decide p said) free p refl (λ q its. its) (λ q ne. refl) (number_of said) kept start flight
 
-    decided_other : (start : ContainerStart T) (flight : ContainerFlight T) (all : List Deed) (done : List (Act T))
+    decided_other : (start : ContainerStart T) (flight : ContainerFlight T) (all : List SetAct) (done : List (Act T))
         → At t.world.capacity t.world.coding.size all done start flight → IsNoLook start
         → CallSees flight (seen_by p t.events) (state_of p s.state.states)
         → DecisionComes now_kept (Container start) (flights.TheVariants.Container flight)
@@ -350,7 +350,7 @@ module _ {T : Type 0} (t : Trace T) (is : t.world.kind ≡ kinds.TheVariants.Con
         at other refl
         (rests_within start flight all done (seen_by p t.events) (state_of p s.state.states) at other sees) comes
 
-    decided_by : (start : ContainerStart T) (flight : ContainerFlight T) (all : List Deed) (done : List (Act T))
+    decided_by : (start : ContainerStart T) (flight : ContainerFlight T) (all : List SetAct) (done : List (Act T))
         → At t.world.capacity t.world.coding.size all done start flight
         → is_question (want t.world.coding flight) ≡ true
         → CallSees flight (seen_by p t.events) (state_of p s.state.states)

@@ -21,7 +21,7 @@ use Rattle.model.specs.declared.turn.Turn.{Turn}
 use Rattle.model.specs.declared.turn.Turn.TheVariants.{Begin, Next, Decide, Die}
 use Rattle.model.specs.Coding.{one_word}
 use Rattle.model.specs.Families.Indices.Robust.Promises.{IsFilled, asked_of, owned_of}
-use Rattle.model.specs.Families.Indices.Robust.Reading.{Frees, deeds_of, IsOneOf}
+use Rattle.model.specs.Families.Indices.Robust.Reading.{Frees, set_acts_of, IsOneOf}
 use Rattle.model.specs.Parties.{put}
 use Rattle.model.specs.Promises.Turns.{ask_in}
 use Rattle.model.specs.Turns.{after_turn}
@@ -119,18 +119,18 @@ none_filled other filled = go (0 == other) filled
     go true e = cc
     go false e = cc
 
-none_since : (other : ℕ) (part rest : List (Event ℕ)) → last_freed ≡ part ++ rest → IsOneOf (Frees 0 1) (deeds_of 1 part) → IsFilled other part → ⊥
+none_since : (other : ℕ) (part rest : List (Event ℕ)) → last_freed ≡ part ++ rest → IsOneOf (Frees 0 1) (set_acts_of 1 part) → IsFilled other part → ⊥
 none_since other [] rest is frees filled = absurd (no_more frees.before (Frees 0 1) frees.after frees.is)
 none_since other (a ∷ []) rest is frees filled =
     let same : Filled 0 0 1 ≡ a = cc in
-    let none = subst (λ x. IsOneOf (Frees 0 1) (deeds_of 1 (x ∷ []))) (sym same) frees in
+    let none = subst (λ x. IsOneOf (Frees 0 1) (set_acts_of 1 (x ∷ []))) (sym same) frees in
     absurd (no_more none.before (Frees 0 1) none.after none.is)
 none_since other (a ∷ b ∷ []) rest is frees filled =
     let same : Filled 0 0 1 ≡ a = cc in
     let next : Begun 1 locking ≡ b = cc in
     let none =
-    subst (λ x. IsOneOf (Frees 0 1) (deeds_of 1 (x ∷ Begun 1 locking ∷ []))) (sym same)
-    (subst (λ y. IsOneOf (Frees 0 1) (deeds_of 1 (a ∷ y ∷ []))) (sym next) frees) in
+    subst (λ x. IsOneOf (Frees 0 1) (set_acts_of 1 (x ∷ Begun 1 locking ∷ []))) (sym same)
+    (subst (λ y. IsOneOf (Frees 0 1) (set_acts_of 1 (a ∷ y ∷ []))) (sym next) frees) in
     absurd (no_more none.before (Frees 0 1) none.after none.is)
 none_since other (a ∷ b ∷ c ∷ []) rest is frees filled =
     let same : last_freed ≡ a ∷ b ∷ c ∷ [] = cc in

@@ -8,13 +8,13 @@ use Rattle.model.specs.declared.event.Event.TheVariants.{Finished}
 use Rattle.model.specs.declared.event.Start.TheVariants.{Robust}
 use Rattle.model.specs.declared.families.indices.robust.RobustStart.TheVariants.{Recover}
 use Rattle.model.specs.Families.Indices.Robust.Promises.{FilledSinceFreed}
-use Rattle.model.specs.Families.Indices.Robust.Reading.{Frees, deeds_of, IsOneOf}
+use Rattle.model.specs.Families.Indices.Robust.Reading.{Frees, set_acts_of, IsOneOf}
 
 module _ {T : Type 0} where
   -- some index was filled after each that the party's call freed
   abbrev pub FilledSinceEach : ℕ → List (Event T) → Type 0
   FilledSinceEach p events =
-      (index owner : ℕ) → IsOneOf (Frees index owner) (deeds_of p events)
+      (index owner : ℕ) → IsOneOf (Frees index owner) (set_acts_of p events)
       → FilledSinceFreed p owner index events
 
   -- so it was of a recovery in the mode that locks, which answers that it is not locked

@@ -17,7 +17,7 @@ use Rattle.model.specs.declared.turn.Turn.TheVariants.{Begin, Next}
 use Rattle.model.specs.Coding.{one_word}
 use Rattle.model.specs.Families.Indices.Promises.{HoldsRight, AnswersRight}
 use Rattle.model.specs.Families.Indices.Reading.{holder_of, tally_of}
-use Rattle.model.specs.Families.Indices.Spans.{Deeds}
+use Rattle.model.specs.Families.Indices.Spans.{SetActs}
 use Rattle.model.specs.Promises.Families.{promise_of}
 use Rattle.model.specs.Promises.Spans.{Stands}
 use Rattle.model.specs.Reading.{Open}
@@ -179,11 +179,11 @@ no_missed_lock : AnswersRight 1 (Claimed 0 0 ∷ Begun 0 (release_or_lock 0) ∷
     → ⊥
 no_missed_lock h = omega arith
 
-abbrev freed_in : Option Deeds → List ℕ
+abbrev freed_in : Option SetActs → List ℕ
 freed_in None = []
 freed_in (Some d) = d.freed
 
-abbrev claimed_in : Option Deeds → ℕ
+abbrev claimed_in : Option SetActs → ℕ
 claimed_in None = 0
 claimed_in (Some d) = get_or d.claimed 0 0
 

@@ -22,7 +22,7 @@ use Rattle.model.specs.Coding.{one_word}
 use Rattle.model.specs.Families.Indices.Robust.Promises.{IsFilled, IsFilledWith, HeldThroughout, HoldsRight, SetDoes}
 use Rattle.model.specs.Families.Indices.Robust.Promises.{AsksRight, AnswersRight, HasRecovered, IsCount, FreesRight}
 use Rattle.model.specs.Families.Indices.Robust.Promises.{IsWellFormed, count_below}
-use Rattle.model.specs.Families.Indices.Robust.Reading.{Deed, Frees, Asks, Yes, IsOneOf, deeds_of, filled_after, filled_of}
+use Rattle.model.specs.Families.Indices.Robust.Reading.{SetAct, Frees, Asks, Yes, IsOneOf, set_acts_of, filled_after, filled_of}
 use Rattle.model.specs.Families.Indices.Robust.Spans.{may_stand}
 use Rattle.model.specs.Moments.{BeginsNone, HeldSometime}
 use Rattle.model.specs.Reading.{Open}
@@ -218,7 +218,7 @@ no_grant_once_locked : SetDoes {T = ℕ} 1 (Filled 1 0 7 ∷ events.TheVariants.
 no_grant_once_locked unlocked = cc
 
 -- a recovery that frees before a yes
-untold : (before : List Deed) → Asks 0 7 ∷ [] ≡ before ++ Yes 0 7 ∷ [] → ⊥
+untold : (before : List SetAct) → Asks 0 7 ∷ [] ≡ before ++ Yes 0 7 ∷ [] → ⊥
 untold [] e = cc
 untold (a ∷ []) e = cc
 untold (a ∷ b ∷ bs) e = cc
@@ -259,7 +259,7 @@ stays_filled start (a ∷ b ∷ []) rest is within =
     (subst (λ x. filled_of 0 (Filled 1 0 7 ∷ x ∷ []) ≡ Some 7) second refl)
 stays_filled start (a ∷ b ∷ c ∷ cs) rest is within = absurd (cc)
 
-not_asked : (before after : List Deed) → [] ≡ before ++ Asks 0 7 ∷ after → ⊥
+not_asked : (before after : List SetAct) → [] ≡ before ++ Asks 0 7 ∷ after → ⊥
 not_asked [] after e = cc
 not_asked (a ∷ bs) after e = cc
 
@@ -298,9 +298,9 @@ alone = Begun 0 (acquire 7) ∷ []
 no_empty_set : AnswersRight 1 alone (Finished 0 (acquire 7) (NoIndex failures.TheVariants.OutOfIndices)) → ⊥
 no_empty_set right = never_filled 0 0 alone (refl, tt) (right.1 0 (omega arith))
 
-no_deed : (one : Deed) (before after : List Deed) → [] ≡ before ++ one ∷ after → ⊥
-no_deed one [] after e = cc
-no_deed one (a ∷ bs) after e = cc
+no_set_act : (one : SetAct) (before after : List SetAct) → [] ≡ before ++ one ∷ after → ⊥
+no_set_act one [] after e = cc
+no_set_act one (a ∷ bs) after e = cc
 
 -- a release in mode LockIfLastIndex that answers Unlocked though nothing else is filled
 abbrev last_one : List (Event ℕ)
@@ -313,16 +313,16 @@ freed_all (suc i) =
     let seven : Option ℕ = Some 7 in
     subst (λ b. (if b then None else (if b then seven else None)) ≡ None) (sym f) refl
 
-no_moment : (i : ℕ) (part rest : List (Event ℕ)) → last_one ≡ part ++ rest → IsOneOf (Frees 0 7) (deeds_of 1 part) → IsFilled i part → ⊥
+no_moment : (i : ℕ) (part rest : List (Event ℕ)) → last_one ≡ part ++ rest → IsOneOf (Frees 0 7) (set_acts_of 1 part) → IsFilled i part → ⊥
 no_moment i [] rest is one filled = cc
 no_moment i (a ∷ []) rest is one filled =
     let first : a ≡ Filled 1 0 7 = cc in
-    let none = subst (λ x. IsOneOf (Frees 0 7) (deeds_of 1 (x ∷ []))) first one in
-    no_deed (Frees 0 7) none.before none.after none.is
+    let none = subst (λ x. IsOneOf (Frees 0 7) (set_acts_of 1 (x ∷ []))) first one in
+    no_set_act (Frees 0 7) none.before none.after none.is
 no_moment i (a ∷ b ∷ []) rest is one filled =
     let first : a ∷ b ∷ [] ≡ Filled 1 0 7 ∷ Begun 1 (release 0 7 LockIfLastIndex) ∷ [] = cc in
-    let none = subst (λ x. IsOneOf (Frees 0 7) (deeds_of 1 x)) first one in
-    no_deed (Frees 0 7) none.before none.after none.is
+    let none = subst (λ x. IsOneOf (Frees 0 7) (set_acts_of 1 x)) first one in
+    no_set_act (Frees 0 7) none.before none.after none.is
 no_moment i (a ∷ b ∷ c ∷ []) rest is one filled =
     let all : a ∷ b ∷ c ∷ [] ≡ last_one = cc in
     let still = subst (λ x. filled_of i x ≡ None) (sym all) (freed_all i) in

@@ -20,7 +20,7 @@ use Rattle.model.specs.declared.turn.Kind.TheVariants as kinds
 use Rattle.model.specs.Coding.{one_word}
 use Rattle.model.specs.Families.Indices.Calls.{acquire_answer}
 use Rattle.model.specs.Families.Indices.Promises.{AnswersRight, promise}
-use Rattle.model.specs.Families.Indices.Spans.{Deeds, deeds, done_by}
+use Rattle.model.specs.Families.Indices.Spans.{SetActs, set_acts, done_by}
 use Rattle.model.specs.Promises.{IsKeptBy}
 use Rattle.model.specs.Promises.Families.{promise_of}
 use Rattle.model.specs.Promises.Spans.{Stands}
@@ -148,14 +148,14 @@ module _ (base w : View ℕ) (same : w.capacity ≡ base.capacity) (h : IsHistor
         }
 
     -- its answer is one of that call
-    pub fits_call : (done : Deeds) × (done_by start answer ≡ Some done)
+    pub fits_call : (done : SetActs) × (done_by start answer ≡ Some done)
     fits_call =
         let kept = subst (λ P. IsKeptBy P h.trace) (ap (promise_of {T = ℕ}) h.run.of_kind) (kept_on h.trace h.run.of_kind h.run.reached) in
         go (span_of p before) (kept.spans before [] last at_end)
       where
-        go : (span : Span ℕ) → Stands promise h.trace.world.capacity last span → (done : Deeds) × (done_by start answer ≡ Some done)
+        go : (span : Span ℕ) → Stands promise h.trace.world.capacity last span → (done : SetActs) × (done_by start answer ≡ Some done)
         go Never x = absurd x
-        go (Open call es) x = (deeds es, x.1)
+        go (Open call es) x = (set_acts es, x.1)
         go (Ended call other es) x = absurd x
 
   pub at_most : (p number : ℕ) (wrote : List (Event ℕ)) → Called p (Indices BorrowedIndices) (Number number) wrote base w → number ≤ base.capacity
@@ -178,7 +178,7 @@ module _ (base w : View ℕ) (same : w.capacity ≡ base.capacity) (h : IsHistor
         is = append_assoc base.seen c.others (Begun p (Indices Acquire) ∷ c.during);
       }) few.1
 
-never_locks : (index : ℕ) (state : ReleaseState) (done : Deeds) → done_by {T = ℕ} (Release index modes.Default) (State state) ≡ Some done → state ≡ Unlocked
+never_locks : (index : ℕ) (state : ReleaseState) (done : SetActs) → done_by {T = ℕ} (Release index modes.Default) (State state) ≡ Some done → state ≡ Unlocked
 never_locks index Unlocked done e = refl
 never_locks index Locked done e = absurd (cc)
 

@@ -8,8 +8,9 @@ use Rattle.model.specs.declared.families.container.ContainerStart.TheVariants.{G
 use Rattle.model.specs.declared.party.Progress.{Progress}
 use Rattle.model.specs.declared.turn.Turn.{Turn}
 use Rattle.model.specs.declared.turn.Turn.TheVariants.{Begin, Next}
+use Rattle.model.specs.Families.Indices.Robust.Reading.{IsOneOf}
 use Rattle.model.specs.Families.Container.Looks.{state_in, shows, is_looking, EndsLook}
-use Rattle.model.specs.Families.Container.Reading.{Copies, acts_of, Has}
+use Rattle.model.specs.Families.Container.Reading.{Copies, acts_of}
 use Rattle.model.specs.World.{World, Trace, flight_in, progress_in}
 
 -- the steps of a call that has come so far
@@ -53,7 +54,7 @@ module _ {T : Type 0} where
       → EndsLook p GetState answer old new
       → state_in new.world.kept p ≡ Some state
       → shows state i ≡ Some value
-      → Has (Copies i value) (acts_of p new.events)
+      → IsOneOf (Copies i value) (acts_of p new.events)
 
   -- a turn keeps the parties' states
   pub record KeepsStates (old : Trace T) (turn : Turn T) (new : Trace T) : Type 0 where

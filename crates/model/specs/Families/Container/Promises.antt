@@ -25,7 +25,7 @@ use Rattle.model.specs.Families.Container.Bounds.{most_steps}
 use Rattle.model.specs.Families.Container.Keeping.{KeepsStates}
 use Rattle.model.specs.Families.Container.Looks.{state_in, ShowsCopies, IsCurrent, AnswersOfState, MomentsOfState, EndsLook}
 use Rattle.model.specs.Families.Container.Questions.{question_at, AsksCopies, QuestionsRight, EndsFind}
-use Rattle.model.specs.Families.Container.Reading.{contents_of, MayReplace, Copies, Sees, acts, acts_of, places, Has}
+use Rattle.model.specs.Families.Container.Reading.{contents_of, MayReplace, Copies, Sees, acts, acts_of, places}
 use Rattle.model.specs.Families.Container.Recoveries.{VisitsUnlocked, UnlockedAtLast, FilledSinceEach}
 use Rattle.model.specs.Families.Container.Removals.{HidesRight}
 use Rattle.model.specs.Families.Container.Spans.{may_stand, HasDone}
@@ -34,7 +34,7 @@ use Rattle.model.specs.Families.Indices.Robust.Dead.{has_died}
 use Rattle.model.specs.Families.Indices.Robust.Promises.{cell_of, IsFilled, IsFilledWith, IsUnlocked, HeldThroughout}
 use Rattle.model.specs.Families.Indices.Robust.Promises.{SetDoes, FreesRight, HoldsRight, IsCount, FilledSinceFreed}
 use Rattle.model.specs.Families.Indices.Robust.Promises.{StillToFree, IsIn}
-use Rattle.model.specs.Families.Indices.Robust.Reading.{filled_of, is_dead, Asks, Yes, deeds, deeds_of, IsOneOf}
+use Rattle.model.specs.Families.Indices.Robust.Reading.{filled_of, is_dead, Asks, Yes, set_acts, set_acts_of, IsOneOf}
 use Rattle.model.specs.Moments.{HeldSometime}
 use Rattle.model.specs.Parties.{party_of}
 use Rattle.model.specs.Promise.{Promise}
@@ -80,13 +80,13 @@ module _ {T : Type 0} where
 
   -- the recovery was shown that nothing stood at the index
   abbrev pub WasShown : ℕ → ℕ → List (Event T) → Type 0
-  WasShown p index events = Has (Sees index) (acts_of p events)
+  WasShown p index events = IsOneOf (Sees index) (acts_of p events)
 
   -- a recovery frees for its own owner, who is dead, what it was told to free or shown
   abbrev pub FreedRight : ℕ → ℕ → ℕ → List (Event T) → Span T → Type 0
   FreedRight p index owner before (Open (Container (Recover o mode)) wrote) =
       (owner ≡ o) × (is_dead owner before ≡ true)
-      × (IsOneOf (Yes index owner) (deeds_of p before) ⊎ WasShown p index before)
+      × (IsOneOf (Yes index owner) (set_acts_of p before) ⊎ WasShown p index before)
   FreedRight p index owner before span = Unit {0}
 
   abbrev pub RecoversRight : List (Event T) → Event T → Type 0
@@ -98,10 +98,10 @@ module _ {T : Type 0} where
   -- with its owner through the whole call, until the call itself freed it, or was shown it.
   pub record HasRecovered (p owner : ℕ) (events : List (Event T)) : Type 0 where
     pub gone : (index : ℕ)
-        → IsOneOf (Yes index owner) (deeds_of p events) ⊎ WasShown p index events
+        → IsOneOf (Yes index owner) (set_acts_of p events) ⊎ WasShown p index events
         → filled_of index events ≢ Some owner
     pub asked : (index : ℕ) → HeldThroughout p (StillToFree p owner index) events
-        → IsOneOf (Asks index owner) (deeds_of p events) ⊎ WasShown p index events
+        → IsOneOf (Asks index owner) (set_acts_of p events) ⊎ WasShown p index events
 
   -- ---- answers, in every run
 
@@ -231,7 +231,7 @@ module _ {T : Type 0} where
     pub count : IsCount p (IsFilledWith owner) bound number events
     pub copied : (index : ℕ) → index < bound → count.chosen index ≡ true
         → HeldThroughout p (λ part. is_some (contents_of index part) ≡ true) events
-        → (value : T) × Has (Copies index value) (acts_of p events)
+        → (value : T) × IsOneOf (Copies index value) (acts_of p events)
 
   abbrev pub CountsRight : ℕ → ℕ → ℕ → ℕ → List (Event T) → Trace T → Type 0
   CountsRight p owner bound number events new =
@@ -290,7 +290,7 @@ module _ {T : Type 0} where
   -- ---- the promise
 
   abbrev pub wrote : ℕ → Start T → Answer T → List (Event T) → Type 0
-  wrote capacity (Container start) answer events = HasDone start answer (deeds events) (acts events)
+  wrote capacity (Container start) answer events = HasDone start answer (set_acts events) (acts events)
   wrote capacity start answer events = ⊥
 
   abbrev pub most : ℕ → ℕ → Start T → ℕ → ℕ

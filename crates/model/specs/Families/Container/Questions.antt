@@ -15,7 +15,8 @@ use Rattle.model.specs.declared.families.container.calls.ContainerFlight.TheVari
 use Rattle.model.specs.declared.turn.Turn.{Turn}
 use Rattle.model.specs.declared.turn.Turn.TheVariants.{Decide}
 use Rattle.model.specs.Coding.{Coding}
-use Rattle.model.specs.Families.Container.Reading.{Copies, acts_of, HasLatest}
+use Rattle.model.specs.Families.Indices.Robust.Reading.{IsLatest}
+use Rattle.model.specs.Families.Container.Reading.{Copies, acts_of}
 use Rattle.model.specs.Families.Indices.Robust.Promises.{IsFilledWith, IsIn}
 use Rattle.model.specs.Families.Queues.Calls.{read_in}
 use Rattle.model.specs.Moments.{HeldSometime}
@@ -49,7 +50,7 @@ module _ {T : Type 0} where
   abbrev pub AsksCopies : Trace T → Type 0
   AsksCopies t =
       (p index : ℕ) (value : T) → question_at t p ≡ Some (index, value)
-      → HasLatest (Copies index value) (acts_of p t.events)
+      → IsLatest (Copies index value) (acts_of p t.events)
 
   -- ---- what a turn writes of it
 

@@ -96,14 +96,3 @@ module _ {T : Type 0} where
 
   abbrev pub places : List (Act T) → List (ℕ × T)
   places all = flat_map place all
-
--- it is one of them
-pub record Has {T : Type 0} (one : Act T) (all : List (Act T)) : Type 0 where
-  pub before : List (Act T)
-  pub after : List (Act T)
-  pub is : all ≡ before ++ one ∷ after
-
--- it is the latest of them
-pub record HasLatest {T : Type 0} (one : Act T) (all : List (Act T)) : Type 0 where
-  pub before : List (Act T)
-  pub is : all ≡ before ++ one ∷ []

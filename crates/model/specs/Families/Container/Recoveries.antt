@@ -8,7 +8,7 @@ use Rattle.model.specs.declared.event.Event.TheVariants.{FreedOf, Copied, Shown}
 use Rattle.model.specs.declared.event.Start.TheVariants.{Container}
 use Rattle.model.specs.declared.families.container.ContainerStart.TheVariants.{Recover}
 use Rattle.model.specs.Families.Indices.Robust.Promises.{IsUnlocked, FilledSinceFreed}
-use Rattle.model.specs.Families.Indices.Robust.Reading.{Frees, deeds_of, IsOneOf}
+use Rattle.model.specs.Families.Indices.Robust.Reading.{Frees, set_acts_of, IsOneOf}
 use Rattle.model.specs.Moments.{HeldSometime}
 use Rattle.model.specs.Reading.{Span, Open, span_of}
 use Rattle.model.specs.World.{Trace}
@@ -43,11 +43,11 @@ module _ {T : Type 0} where
   -- the container was not locked at a moment of the call after all that the call did to the set
   abbrev pub UnlockedAtLast : ℕ → List (Event T) → Type 0
   UnlockedAtLast p events =
-      HeldSometime p (λ part. IsUnlocked part × (deeds_of p part ≡ deeds_of p events)) events
+      HeldSometime p (λ part. IsUnlocked part × (set_acts_of p part ≡ set_acts_of p events)) events
 
   -- in the mode that locks, some index was filled after each that it freed
   abbrev pub FilledSinceEach : ReleaseMode → ℕ → ℕ → List (Event T) → Type 0
   FilledSinceEach LockIfLastIndex p owner events =
-      (index : ℕ) → IsOneOf (Frees index owner) (deeds_of p events)
+      (index : ℕ) → IsOneOf (Frees index owner) (set_acts_of p events)
       → FilledSinceFreed p owner index events
   FilledSinceEach Default p owner events = Unit {0}

@@ -6,7 +6,7 @@ use Rattle.model.specs.declared.event.Event.TheVariants.{Finished}
 use Rattle.model.specs.declared.event.Start.TheVariants.{Container}
 use Rattle.model.specs.declared.families.container.ContainerStart.TheVariants.{Remove, Recover}
 use Rattle.model.specs.Families.Container.Reading.{contents_of}
-use Rattle.model.specs.Families.Indices.Robust.Reading.{Frees, deeds_of, IsOneOf}
+use Rattle.model.specs.Families.Indices.Robust.Reading.{Frees, set_acts_of, IsOneOf}
 use Rattle.model.specs.Moments.{HeldSometime}
 
 module _ {T : Type 0} where
@@ -14,7 +14,7 @@ module _ {T : Type 0} where
   abbrev pub EmptySinceFreed : ℕ → ℕ → ℕ → List (Event T) → Type 0
   EmptySinceFreed p owner index events =
       HeldSometime p
-      (λ part. IsOneOf (Frees index owner) (deeds_of p part) × (contents_of index part ≡ None))
+      (λ part. IsOneOf (Frees index owner) (set_acts_of p part) × (contents_of index part ≡ None))
       events
 
   -- So it is of the index of a remove that answers a state, and of each index that a recovery has freed,
@@ -23,6 +23,6 @@ module _ {T : Type 0} where
   HidesRight before (Finished p (Container (Remove index owner mode)) (State state)) =
       EmptySinceFreed p owner index before
   HidesRight before (Finished p (Container (Recover owner mode)) (State state)) =
-      (index : ℕ) → IsOneOf (Frees index owner) (deeds_of p before)
+      (index : ℕ) → IsOneOf (Frees index owner) (set_acts_of p before)
       → EmptySinceFreed p owner index before
   HidesRight before e = Unit {0}

@@ -13,8 +13,8 @@ use Rattle.model.specs.declared.families.container.ContainerStart.{ContainerStar
 use Rattle.model.specs.declared.families.container.ContainerStart.TheVariants.{Add, Remove, Replace, Find, Recover}
 use Rattle.model.specs.declared.families.container.ContainerStart.TheVariants.{GetState, UpdateState, Len, IsEmpty}
 use Rattle.model.specs.declared.families.container.ContainerStart.TheVariants.{IsLocked}
-use Rattle.model.specs.Families.Container.Reading.{Act, Hides, Copies, Sees, acts, seen_in, Has, HasLatest}
-use Rattle.model.specs.Families.Indices.Robust.Reading.{Deed, Fills, Grants, Frees, Asks, Yes, Locks, deeds, IsOneOf, IsLatest, asked_in}
+use Rattle.model.specs.Families.Container.Reading.{Act, Hides, Copies, Sees, acts, seen_in}
+use Rattle.model.specs.Families.Indices.Robust.Reading.{SetAct, Fills, Grants, Frees, Asks, Yes, Locks, set_acts, IsOneOf, IsLatest, asked_in}
 use Rattle.model.specs.Families.Indices.Robust.Spans.{HasJustFreed, FilledLate}
 use Rattle.model.specs.Reading.{Span, Open}
 
@@ -22,7 +22,7 @@ module _ {T : Type 0} where
   -- it has copied the index last
   pub record HasJustCopied (index : ℕ) (all : List (Act T)) : Type 0 where
     pub value : T
-    pub latest : HasLatest (Copies index value) all
+    pub latest : IsLatest (Copies index value) all
 
   -- Where an event may stand.
   --
@@ -36,20 +36,20 @@ module _ {T : Type 0} where
   -- it; it frees that one, or the one that it was just shown, and may then hide what stands there.
   abbrev pub may_stand : Event T → Span T → Type 0
   may_stand (Filled p index owner) (Open (Container (Add value o)) wrote) =
-      (owner ≡ o) × (deeds wrote ≡ [])
+      (owner ≡ o) × (set_acts wrote ≡ [])
   may_stand (Granted p index owner) (Open (Container (Add value o)) wrote) =
-      (owner ≡ o) × (deeds wrote ≡ Fills index owner ∷ [])
+      (owner ≡ o) × (set_acts wrote ≡ Fills index owner ∷ [])
   may_stand (Hidden p index) (Open (Container (Add value o)) wrote) =
-      (deeds wrote ≡ Fills index o ∷ Grants index o ∷ []) × (acts wrote ≡ [])
+      (set_acts wrote ≡ Fills index o ∷ Grants index o ∷ []) × (acts wrote ≡ [])
   may_stand (Placed p index new) (Open (Container (Add value o)) wrote) =
-      (new ≡ value) × (deeds wrote ≡ Fills index o ∷ Grants index o ∷ [])
+      (new ≡ value) × (set_acts wrote ≡ Fills index o ∷ Grants index o ∷ [])
       × ((acts wrote ≡ []) ⊎ (acts wrote ≡ Hides index ∷ []))
   may_stand (FreedOf p index owner) (Open (Container (Remove i o mode)) wrote) =
-      (index ≡ i) × (owner ≡ o) × (deeds wrote ≡ [])
+      (index ≡ i) × (owner ≡ o) × (set_acts wrote ≡ [])
   may_stand (Locked p) (Open (Container (Remove i o LockIfLastIndex)) wrote) =
-      deeds wrote ≡ Frees i o ∷ []
+      set_acts wrote ≡ Frees i o ∷ []
   may_stand (Hidden p index) (Open (Container (Remove i o mode)) wrote) =
-      (index ≡ i) × IsOneOf (Frees i o) (deeds wrote) × (acts wrote ≡ [])
+      (index ≡ i) × IsOneOf (Frees i o) (set_acts wrote) × (acts wrote ≡ [])
   may_stand (Hidden p index) (Open (Container (Replace i value o)) wrote) =
       (index ≡ i) × (acts wrote ≡ [])
   may_stand (Placed p index new) (Open (Container (Replace i value o)) wrote) =
@@ -66,21 +66,21 @@ module _ {T : Type 0} where
       AllByRecursion (λ i. i < index) (seen_in (acts wrote))
   may_stand (Asked p index owner) (Open (Container (Recover o mode)) wrote) =
       (owner ≡ o) × HasJustCopied index (acts wrote)
-      × AllByRecursion (λ i. i < index) (asked_in (deeds wrote))
+      × AllByRecursion (λ i. i < index) (asked_in (set_acts wrote))
   may_stand (Told p index owner) (Open (Container (Recover o mode)) wrote) =
-      (owner ≡ o) × IsLatest (Asks index owner) (deeds wrote)
+      (owner ≡ o) × IsLatest (Asks index owner) (set_acts wrote)
   may_stand (FreedOf p index owner) (Open (Container (Recover o mode)) wrote) =
       (owner ≡ o)
-      × (IsLatest (Yes index owner) (deeds wrote) ⊎ HasLatest (Sees index) (acts wrote))
+      × (IsLatest (Yes index owner) (set_acts wrote) ⊎ IsLatest (Sees index) (acts wrote))
   may_stand (Hidden p index) (Open (Container (Recover o mode)) wrote) =
-      IsLatest (Frees index o) (deeds wrote)
+      IsLatest (Frees index o) (set_acts wrote)
   may_stand (Locked p) (Open (Container (Recover o LockIfLastIndex)) wrote) =
-      HasJustFreed (deeds wrote)
+      HasJustFreed (set_acts wrote)
   may_stand e span = ⊥
 
   -- What a finished call has done to the set, by its answer; and a replace that was refused has done
   -- nothing to elements either. Any other answer is none of that call.
-  abbrev pub HasDone : ContainerStart T → Answer T → List Deed → List (Act T) → Type 0
+  abbrev pub HasDone : ContainerStart T → Answer T → List SetAct → List (Act T) → Type 0
   HasDone (Add value owner) (Index index) all done =
       all ≡ Fills index owner ∷ Grants index owner ∷ []
   HasDone (Add value owner) (NoPlace failures.IsLocked) all done = (all ≡ []) ⊎ FilledLate owner all

@@ -17,7 +17,7 @@ use Rattle.model.specs.declared.families.indices.IndexStart.TheVariants.{Acquire
 use Rattle.model.specs.declared.party.Party.{Party}
 use Rattle.model.specs.Families.Indices.Bounds.{most_steps}
 use Rattle.model.specs.Families.Indices.Reading.{holder_of, is_locked, tally_of, in_use}
-use Rattle.model.specs.Families.Indices.Spans.{deeds, done_by, may_stand}
+use Rattle.model.specs.Families.Indices.Spans.{set_acts, done_by, may_stand}
 use Rattle.model.specs.Parties.{party_of}
 use Rattle.model.specs.Promise.{Promise}
 use Rattle.model.specs.Reading.{Each}
@@ -94,7 +94,7 @@ module _ {T : Type 0} where
   -- ---- the promise
 
   abbrev pub wrote : ℕ → Start T → Answer T → List (Event T) → Type 0
-  wrote capacity (Indices start) answer events = done_by start answer ≡ Some (deeds events)
+  wrote capacity (Indices start) answer events = done_by start answer ≡ Some (set_acts events)
   wrote capacity start answer events = ⊥
 
   abbrev pub most : ℕ → ℕ → Start T → ℕ → ℕ

@@ -12,35 +12,35 @@ use Rattle.model.specs.declared.families.indices.IndexStart.TheVariants.{Acquire
 use Rattle.model.specs.Reading.{Span, Open}
 
 -- the indices that a call has claimed and freed, and how often it has locked
-pub record Deeds : Type 0 where
+pub record SetActs : Type 0 where
   pub claimed : List ℕ
   pub freed : List ℕ
   pub locks : ℕ
 
-abbrev pub nothing : Deeds
+abbrev pub nothing : SetActs
 nothing = record { claimed = []; freed = []; locks = 0 }
 
-abbrev pub claimed : ℕ → Deeds
+abbrev pub claimed : ℕ → SetActs
 claimed index = record nothing { claimed = index ∷ [] }
 
-abbrev pub freed : ℕ → Deeds
+abbrev pub freed : ℕ → SetActs
 freed index = record nothing { freed = index ∷ [] }
 
-abbrev pub freed_and_locked : ℕ → Deeds
+abbrev pub freed_and_locked : ℕ → SetActs
 freed_and_locked index = record (freed index) { locks = 1 }
 
 module _ {T : Type 0} where
-  abbrev pub deed : Deeds → Event T → Deeds
-  deed d (Claimed p index) = record d { claimed = d.claimed ++ index ∷ [] }
-  deed d (Freed p index) = record d { freed = d.freed ++ index ∷ [] }
-  deed d (Locked p) = record d { locks = d.locks + 1 }
-  deed d e = d
+  abbrev pub set_act : SetActs → Event T → SetActs
+  set_act d (Claimed p index) = record d { claimed = d.claimed ++ index ∷ [] }
+  set_act d (Freed p index) = record d { freed = d.freed ++ index ∷ [] }
+  set_act d (Locked p) = record d { locks = d.locks + 1 }
+  set_act d e = d
 
-  abbrev pub deeds : List (Event T) → Deeds
-  deeds events = fold deed nothing events
+  abbrev pub set_acts : List (Event T) → SetActs
+  set_acts events = fold set_act nothing events
 
   -- what a finished call has done, by its answer; any other answer is none of that call
-  abbrev pub done_by : IndexStart → Answer T → Option Deeds
+  abbrev pub done_by : IndexStart → Answer T → Option SetActs
   done_by Acquire (Index index) = Some (claimed index)
   done_by Acquire (NoIndex failure) = Some nothing
   done_by (Release index mode) (State states.TheVariants.Unlocked) = Some (freed index)
@@ -53,9 +53,9 @@ module _ {T : Type 0} where
   -- where an event may stand: an acquire claims, a release frees its index
   -- first of all, and one in mode LockIfLastIndex may lock after that
   abbrev pub may_stand : Event T → Span T → Type 0
-  may_stand (Claimed p index) (Open (Indices Acquire) wrote) = deeds wrote ≡ nothing
+  may_stand (Claimed p index) (Open (Indices Acquire) wrote) = set_acts wrote ≡ nothing
   may_stand (Freed p index) (Open (Indices (Release other mode)) wrote) =
-      (index ≡ other) × (deeds wrote ≡ nothing)
+      (index ≡ other) × (set_acts wrote ≡ nothing)
   may_stand (Locked p) (Open (Indices (Release index LockIfLastIndex)) wrote) =
-      deeds wrote ≡ freed index
+      set_acts wrote ≡ freed index
   may_stand e span = ⊥

@@ -29,7 +29,7 @@ use Rattle.model.specs.Families.{want_of}
 use Rattle.model.specs.Families.Indices.Reading.{is_locked}
 use Rattle.model.specs.Families.Indices.Robust.Bounds.{most_steps}
 use Rattle.model.specs.Families.Indices.Robust.Dead.{has_died}
-use Rattle.model.specs.Families.Indices.Robust.Reading.{filled_of, holder_of, settled_of, is_dead, Frees, Asks, Yes, deeds, deeds_of, IsOneOf}
+use Rattle.model.specs.Families.Indices.Robust.Reading.{filled_of, holder_of, settled_of, is_dead, Frees, Asks, Yes, set_acts, set_acts_of, IsOneOf}
 use Rattle.model.specs.Families.Indices.Robust.Spans.{may_stand, HasDone}
 use Rattle.model.specs.Moments.{BeginsNone, HeldSometime, SinceBegin}
 use Rattle.model.specs.Promise.{Promise}
@@ -155,20 +155,20 @@ module _ {T : Type 0} where
   pub record FilledSinceFreed (p owner index : ℕ) (events : List (Event T)) : Type 0 where
     pub other : ℕ
     pub once : HeldSometime p
-        (λ part. IsOneOf (Frees index owner) (deeds_of p part) × IsFilled other part) events
+        (λ part. IsOneOf (Frees index owner) (set_acts_of p part) × IsFilled other part) events
 
   -- the index was filled with this owner, or the recovery has freed it
   abbrev pub StillToFree : ℕ → ℕ → ℕ → List (Event T) → Type 0
   StillToFree p owner index part =
-      IsFilledWith owner index part ⊎ IsOneOf (Frees index owner) (deeds_of p part)
+      IsFilledWith owner index part ⊎ IsOneOf (Frees index owner) (set_acts_of p part)
 
   -- No index that it was told to free has that owner. It asked about each that was filled with one
   -- owner through the whole call, until the call itself freed it.
   pub record HasRecovered (p : ℕ) (events : List (Event T)) : Type 0 where
-    pub gone : (index owner : ℕ) → IsOneOf (Yes index owner) (deeds_of p events)
+    pub gone : (index owner : ℕ) → IsOneOf (Yes index owner) (set_acts_of p events)
         → filled_of index events ≢ Some owner
     pub asked : (index owner : ℕ) → HeldThroughout p (StillToFree p owner index) events
-        → IsOneOf (Asks index owner) (deeds_of p events)
+        → IsOneOf (Asks index owner) (set_acts_of p events)
 
   -- What an answer says of the set as it was at the last step of the call, and at moments of it.
   abbrev pub AnswersRight : ℕ → List (Event T) → Event T → Type 0
@@ -219,7 +219,7 @@ module _ {T : Type 0} where
   -- ---- the promise
 
   abbrev pub wrote : ℕ → Start T → Answer T → List (Event T) → Type 0
-  wrote capacity (Robust start) answer events = HasDone start answer (deeds events)
+  wrote capacity (Robust start) answer events = HasDone start answer (set_acts events)
   wrote capacity start answer events = ⊥
 
   abbrev pub most : ℕ → ℕ → Start T → ℕ → ℕ

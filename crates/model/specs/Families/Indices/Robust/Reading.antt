@@ -65,51 +65,51 @@ module _ {T : Type 0} where
 
 -- to the set: it fills an index for an owner, grants it, frees it; asks whether to free an index
 -- of an owner, and hears yes; or locks the set
-pub data Deed : Type 0 where
-  Fills : (index owner : ℕ) → Deed
-  Grants : (index owner : ℕ) → Deed
-  Frees : (index owner : ℕ) → Deed
-  Asks : (index owner : ℕ) → Deed
-  Yes : (index owner : ℕ) → Deed
-  Locks : Deed
+pub data SetAct : Type 0 where
+  Fills : (index owner : ℕ) → SetAct
+  Grants : (index owner : ℕ) → SetAct
+  Frees : (index owner : ℕ) → SetAct
+  Asks : (index owner : ℕ) → SetAct
+  Yes : (index owner : ℕ) → SetAct
+  Locks : SetAct
 
 module _ {T : Type 0} where
-  abbrev pub deed : Event T → List Deed
-  deed (Filled p index owner) = Fills index owner ∷ []
-  deed (Granted p index owner) = Grants index owner ∷ []
-  deed (FreedOf p index owner) = Frees index owner ∷ []
-  deed (Asked p index owner) = Asks index owner ∷ []
-  deed (Told p index owner) = Yes index owner ∷ []
-  deed (events.TheVariants.Locked p) = Locks ∷ []
-  deed e = []
+  abbrev pub set_act : Event T → List SetAct
+  set_act (Filled p index owner) = Fills index owner ∷ []
+  set_act (Granted p index owner) = Grants index owner ∷ []
+  set_act (FreedOf p index owner) = Frees index owner ∷ []
+  set_act (Asked p index owner) = Asks index owner ∷ []
+  set_act (Told p index owner) = Yes index owner ∷ []
+  set_act (events.TheVariants.Locked p) = Locks ∷ []
+  set_act e = []
 
-  abbrev pub deeds : List (Event T) → List Deed
-  deeds events = flat_map deed events
+  abbrev pub set_acts : List (Event T) → List SetAct
+  set_acts events = flat_map set_act events
 
   abbrev pub wrote_in : Span T → List (Event T)
   wrote_in Never = []
   wrote_in (Open start wrote) = wrote
   wrote_in (Ended start answer wrote) = wrote
 
-  -- the deeds of the party's latest call
-  abbrev pub deeds_of : ℕ → List (Event T) → List Deed
-  deeds_of p events = deeds (wrote_in (span_of p events))
+  -- the acts of the party's latest call
+  abbrev pub set_acts_of : ℕ → List (Event T) → List SetAct
+  set_acts_of p events = set_acts (wrote_in (span_of p events))
 
 -- it is one of them
-pub record IsOneOf (one : Deed) (all : List Deed) : Type 0 where
-  pub before : List Deed
-  pub after : List Deed
+pub record IsOneOf {A : Type 0} (one : A) (all : List A) : Type 0 where
+  pub before : List A
+  pub after : List A
   pub is : all ≡ before ++ one ∷ after
 
 -- it is the latest of them
-pub record IsLatest (one : Deed) (all : List Deed) : Type 0 where
-  pub before : List Deed
+pub record IsLatest {A : Type 0} (one : A) (all : List A) : Type 0 where
+  pub before : List A
   pub is : all ≡ before ++ one ∷ []
 
 -- the indices that a recovery has asked about, in order
-abbrev pub index_asked : Deed → List ℕ
+abbrev pub index_asked : SetAct → List ℕ
 index_asked (Asks index owner) = index ∷ []
 index_asked one = []
 
-abbrev pub asked_in : List Deed → List ℕ
+abbrev pub asked_in : List SetAct → List ℕ
 asked_in all = flat_map index_asked all

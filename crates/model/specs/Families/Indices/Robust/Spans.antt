@@ -11,11 +11,11 @@ use Rattle.model.specs.declared.event.Event.TheVariants.{Filled, Granted, FreedO
 use Rattle.model.specs.declared.event.Start.TheVariants.{Robust}
 use Rattle.model.specs.declared.families.indices.robust.RobustStart.{RobustStart}
 use Rattle.model.specs.declared.families.indices.robust.RobustStart.TheVariants.{Acquire, Release, Find, Recover, BorrowedIndices, IsLocked}
-use Rattle.model.specs.Families.Indices.Robust.Reading.{Deed, Fills, Grants, Frees, Asks, Yes, Locks, deeds, IsLatest, asked_in}
+use Rattle.model.specs.Families.Indices.Robust.Reading.{SetAct, Fills, Grants, Frees, Asks, Yes, Locks, set_acts, IsLatest, asked_in}
 use Rattle.model.specs.Reading.{Span, Open}
 
 -- it has just freed an index
-pub record HasJustFreed (all : List Deed) : Type 0 where
+pub record HasJustFreed (all : List SetAct) : Type 0 where
   pub index : ℕ
   pub owner : ℕ
   pub latest : IsLatest (Frees index owner) all
@@ -27,31 +27,31 @@ module _ {T : Type 0} where
   -- it has freed, in mode LockIfLastIndex alone.
   abbrev pub may_stand : Event T → Span T → Type 0
   may_stand (Filled p index owner) (Open (Robust (Acquire o)) wrote) =
-      (owner ≡ o) × (deeds wrote ≡ [])
+      (owner ≡ o) × (set_acts wrote ≡ [])
   may_stand (Granted p index owner) (Open (Robust (Acquire o)) wrote) =
-      (owner ≡ o) × (deeds wrote ≡ Fills index owner ∷ [])
+      (owner ≡ o) × (set_acts wrote ≡ Fills index owner ∷ [])
   may_stand (FreedOf p index owner) (Open (Robust (Release i o mode)) wrote) =
-      (index ≡ i) × (owner ≡ o) × (deeds wrote ≡ [])
+      (index ≡ i) × (owner ≡ o) × (set_acts wrote ≡ [])
   may_stand (FreedOf p index owner) (Open (Robust (Recover mode)) wrote) =
-      IsLatest (Yes index owner) (deeds wrote)
+      IsLatest (Yes index owner) (set_acts wrote)
   may_stand (Asked p index owner) (Open (Robust (Recover mode)) wrote) =
-      AllByRecursion (λ i. i < index) (asked_in (deeds wrote))
+      AllByRecursion (λ i. i < index) (asked_in (set_acts wrote))
   may_stand (Told p index owner) (Open (Robust (Recover mode)) wrote) =
-      IsLatest (Asks index owner) (deeds wrote)
+      IsLatest (Asks index owner) (set_acts wrote)
   may_stand (Locked p) (Open (Robust (Release i o LockIfLastIndex)) wrote) =
-      deeds wrote ≡ Frees i o ∷ []
-  may_stand (Locked p) (Open (Robust (Recover LockIfLastIndex)) wrote) = HasJustFreed (deeds wrote)
+      set_acts wrote ≡ Frees i o ∷ []
+  may_stand (Locked p) (Open (Robust (Recover LockIfLastIndex)) wrote) = HasJustFreed (set_acts wrote)
   may_stand e span = ⊥
 
 -- an acquire that was not granted an index may have filled one all the same, where the set was
 -- locked meanwhile
-pub record FilledLate (owner : ℕ) (all : List Deed) : Type 0 where
+pub record FilledLate (owner : ℕ) (all : List SetAct) : Type 0 where
   pub index : ℕ
   pub is : all ≡ Fills index owner ∷ []
 
 module _ {T : Type 0} where
   -- what a finished call has done, by its answer; any other answer is none of that call
-  abbrev pub HasDone : RobustStart → Answer T → List Deed → Type 0
+  abbrev pub HasDone : RobustStart → Answer T → List SetAct → Type 0
   HasDone (Acquire owner) (Index index) all =
       all ≡ Fills index owner ∷ Grants index owner ∷ []
   HasDone (Acquire owner) (NoIndex failures.IsLocked) all = (all ≡ []) ⊎ FilledLate owner all

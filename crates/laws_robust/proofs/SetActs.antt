@@ -2,21 +2,21 @@
 use Rattle.std.proofs.Common.{◌≡◌, ℕ, ◌<◌, ◌⊎◌, ⊎_elim, inl, inr, List, [], ◌∷◌, ◌++◌, refl, sym, ap, subst, ◌∙◌, append_assoc, append-nil}
 use Rattle.std.specs.List.{AllByRecursion}
 use Rattle.std.proofs.lemmas.List.Concat.{flat_map-append}
-use Rattle.model.specs.Families.Indices.Robust.Reading.{Deed, Frees, Asks, index_asked, asked_in, IsOneOf, IsLatest}
+use Rattle.model.specs.Families.Indices.Robust.Reading.{SetAct, Frees, Asks, index_asked, asked_in, IsOneOf, IsLatest}
 use Rattle.model.proofs.Readings.{SplitAt, Last, Earlier, split_last}
 
-pub still_one : (one d : Deed) (all : List Deed) → IsOneOf one all → IsOneOf one (all ++ d ∷ [])
+pub still_one : (one d : SetAct) (all : List SetAct) → IsOneOf one all → IsOneOf one (all ++ d ∷ [])
 still_one one d all h =
     record { before = h.before; after = h.after ++ d ∷ []; is = ap (λ a. a ++ d ∷ []) h.is ∙ append_assoc h.before (one ∷ h.after) (d ∷ []) }
 
-pub last_one : (d : Deed) (all : List Deed) → IsOneOf d (all ++ d ∷ [])
+pub last_one : (d : SetAct) (all : List SetAct) → IsOneOf d (all ++ d ∷ [])
 last_one d all = record { before = all; after = []; is = refl }
 
-pub by_latest : (one : Deed) (all : List Deed) → IsLatest one all → IsOneOf one all
+pub by_latest : (one : SetAct) (all : List SetAct) → IsLatest one all → IsOneOf one all
 by_latest one all h = record { before = h.before; after = []; is = h.is }
 
 -- one of them is one of the earlier ones, or the last
-pub was_one : (one d : Deed) (all : List Deed) → IsOneOf one (all ++ d ∷ []) → IsOneOf one all ⊎ (d ≡ one)
+pub was_one : (one d : SetAct) (all : List SetAct) → IsOneOf one (all ++ d ∷ []) → IsOneOf one all ⊎ (d ≡ one)
 was_one one d all h = go (split_last all d h.before one h.after h.is)
   where
     go : SplitAt all d h.before one h.after → IsOneOf one all ⊎ (d ≡ one)
@@ -33,7 +33,7 @@ pub all_so : (P Q : ℕ → Type 0) (xs : List ℕ) → ((x : ℕ) → P x → Q
 all_so P Q [] follows h = tt
 all_so P Q (x ∷ xs) follows h = (follows x h.0, all_so P Q xs follows h.1)
 
-pub asks_more : (n : ℕ) (d : Deed) (all : List Deed) → AllByRecursion (λ i. i < n) (asked_in all)
+pub asks_more : (n : ℕ) (d : SetAct) (all : List SetAct) → AllByRecursion (λ i. i < n) (asked_in all)
     → AllByRecursion (λ i. i < n) (index_asked d) → AllByRecursion (λ i. i < n) (asked_in (all ++ d ∷ []))
 asks_more n d all h k =
     let more = flat_map-append index_asked all (d ∷ []) in
@@ -41,10 +41,10 @@ asks_more n d all h k =
     (all_and (λ i. i < n) (asked_in all) (index_asked d) h k)
 
 -- each that was freed was asked about
-abbrev pub FreedWereAsked : List Deed → Type 0
+abbrev pub FreedWereAsked : List SetAct → Type 0
 FreedWereAsked all = (i owner : ℕ) → IsOneOf (Frees i owner) all → IsOneOf (Asks i owner) all
 
-pub freed_more : (d : Deed) (all : List Deed) → FreedWereAsked all
+pub freed_more : (d : SetAct) (all : List SetAct) → FreedWereAsked all
     → ((i owner : ℕ) → d ≡ Frees i owner → IsOneOf (Asks i owner) all) → FreedWereAsked (all ++ d ∷ [])
 freed_more d all h new i owner freed =
     ⊎_elim (λ was. still_one (Asks i owner) d all (h i owner was)) (λ is. still_one (Asks i owner) d all (new i owner is)) (was_one (Frees i owner) d all freed)
